@@ -8,7 +8,7 @@ use Rattle.nj_text.specs.Units.{cut}
 use Rattle.nj_manifest.specs.LineSteps.{name_next, expect_sign, words_within, words_next, section_next}
 use Rattle.nj_manifest.specs.Statements.{equals_value}
 use Rattle.nj_manifest.specs.Openings.{opening}
-use Rattle.nj_manifest.specs.Dyndeps.{version_line, version_next, word_of_form, no_path, no_section, output_next, added_inputs, entry_line, restat_line, line_too_many, restat_block, next_entry}
+use Rattle.nj_manifest.specs.Dyndeps.{version_line, version_next, word_of_form, no_path, no_section, output_next, added_inputs, entry_line, restat_block, next_entry}
 use Rattle.nj_manifest.proofs.StatementRows.{on_strings, at}
 use Rattle.nj_scope.specs.Readings.{Reading}
 use Rattle.nj_scope.specs.ReadingList.{bounds}
@@ -26,7 +26,7 @@ use Rattle.nj_graph.proofs.ReadingRows.{main_file, file, missing, read_of}
 
 -- what a row unfolds to compute on its files
 unfoldable pub on_dyndeps : ⊤
-unfolding on_strings is_utf8 chars encode_utf8 bounds clean_path_of without_leftmost_pair edges_read pending_read discover variable_cycle_of parsed_in statements_read opened_in main_read cut opening next_entry restat_block line_too_many restat_line entry_line added_inputs output_next no_section no_path word_of_form version_next version_line equals_value name_next expect_sign words_next words_within section_next entries_of entries_joined file_joined files_joined all_joined
+unfolding on_strings is_utf8 chars encode_utf8 bounds clean_path_of without_leftmost_pair edges_read pending_read discover variable_cycle_of parsed_in statements_read opened_in main_read cut opening next_entry restat_block entry_line added_inputs output_next no_section no_path word_of_form version_next version_line equals_value name_next expect_sign words_next words_within section_next entries_of entries_joined file_joined files_joined all_joined
 on_dyndeps = tt
 
 -- ---- what a row shows

@@ -10,7 +10,8 @@ use Rattle.nj_text.specs.Paths.{clean_path_of}
 use Rattle.nj_text.specs.Words.{WordText}
 use Rattle.nj_manifest.specs.Dyndeps.{version_next, next_entry}
 use Rattle.nj_manifest.specs.Faults.{Fault}
-use Rattle.nj_manifest.specs.Statements.{BindingText, Parse, next_statement}
+use Rattle.nj_manifest.specs.Openings.{Parse}
+use Rattle.nj_manifest.specs.Statements.{BindingText, next_statement}
 use Rattle.nj_scope.specs.ReadingList.{ReadStatement, scope_of, rules_read, files_opened}
 use Rattle.nj_edges.specs.Edges.{EdgePaths, first_output, outputs_of, inputs_of}
 use Rattle.nj_faults.specs.declared.fault.GraphFault.{GraphFault}

@@ -3,7 +3,6 @@ use Rattle.std.proofs.Common.{◌≡◌, ℕ, suc, ◌+◌, ◌<◌, ◌≤◌, 
 use Rattle.std.proofs.lemmas.List.{append-nil}
 use Rattle.std.specs.Result.{IsErr, IsErrAnd}
 use Rattle.std.proofs.lemmas.Bool.{false≢true}
-use Rattle.nj_text.specs.declared.fault.UnitFault.{UnitFault}
 use Rattle.nj_text.specs.declared.fault.UnitFault.TheVariants as unit_fault
 use Rattle.nj_text.specs.declared.fault.LexFault.{LexFault}
 use Rattle.nj_text.specs.declared.fault.LexFault.TheVariants as lex
@@ -20,9 +19,9 @@ use Rattle.nj_manifest.specs.declared.fault.ParseFault.TheVariants as fault
 use Rattle.nj_manifest.specs.Faults.{Fault, Bad}
 use Rattle.nj_manifest.specs.LineSteps.{Step, ◌>>=◌}
 use Rattle.nj_manifest.specs.Parsers.{Fails}
-use Rattle.nj_manifest.specs.Statements.{LineText, line_next, lines_from, Parse, block_by, block}
+use Rattle.nj_manifest.specs.Statements.{LineText, line_next, lines_from, block_by, block}
 use Rattle.nj_manifest.specs.Inside.ParserContracts.{IsBetweenStatements, ParsesFrom}
-use Rattle.nj_manifest.specs.Openings.{or_last, without_spaces}
+use Rattle.nj_manifest.specs.Openings.{Parse, or_last, without_spaces}
 use Rattle.nj_manifest.proofs.Choices.{no_lines}
 use Rattle.nj_manifest.proofs.Framing.{line-inside}
 

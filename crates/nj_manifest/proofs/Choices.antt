@@ -1,16 +1,17 @@
 -- Short names for the choices of the steps, each with its cases.
-use Rattle.std.proofs.Common.{ℕ, Bool, cond, Option, Result, Ok, Err, List, []}
+use Rattle.std.proofs.Common.{◌≡◌, ℕ, suc, Bool, cond, Option, None, Result, Ok, Err, List, [], ◌∷◌, length, refl}
 use Rattle.std.specs.Prelude.{ok_or}
+use Rattle.std.specs.Option.{option_map_or}
 use Rattle.nj_text.specs.declared.spot.Spot.{Spot}
 use Rattle.nj_text.specs.Lines.{Line}
 use Rattle.nj_text.specs.Words.{WordText}
-use Rattle.nj_text.specs.Calls.{State, spot_of}
+use Rattle.nj_text.specs.Calls.{State, Between, Inside, Failed, spot_of}
 use Rattle.nj_manifest.specs.declared.fault.Wanted.{Wanted}
 use Rattle.nj_manifest.specs.declared.fault.Wanted.TheVariants as wanted
 use Rattle.nj_manifest.specs.Faults.{Fault, Expected, UnknownKey}
-use Rattle.nj_manifest.specs.LineSteps.{Step, ◌>>=◌, NameText, words_next}
-use Rattle.nj_manifest.specs.Openings.{Opening, Ended}
-use Rattle.nj_manifest.specs.Statements.{LineText, Parse}
+use Rattle.nj_manifest.specs.LineSteps.{Step, ◌>>=◌, NameText, words_within, words_next}
+use Rattle.nj_manifest.specs.Openings.{Parse}
+use Rattle.nj_manifest.specs.Statements.{LineText}
 
 -- ---- along a line
 
@@ -19,6 +20,22 @@ named wanted spot found after = ok_or found (Expected spot wanted) >>= λ name. 
 
 abbrev pub if_there : Wanted → Bool → State → Result State Fault
 if_there wanted there after = cond there (Ok after) (Err (Expected (spot_of after) wanted))
+
+-- a word before those that follow it; none ends them
+abbrev pub words_from : Option WordText → State → Step (List WordText) → Step (List WordText)
+words_from word after others = option_map_or (λ first. others >>= λ more. Ok (first ∷ more.0, more.1)) word (Ok ([], after))
+
+-- Each word has a unit at least.
+abbrev pub units_left : State → ℕ
+units_left (Between ls) = 0
+units_left (Inside l ls) = length l.units
+units_left (Failed f) = 0
+
+pub words_next-is : (s : State) → words_next s ≡ words_within (suc (units_left s)) s
+unfolding words_next
+words_next-is (Between ls) = refl
+words_next-is (Inside l ls) = refl
+words_next-is (Failed f) = refl
 
 abbrev pub words_if : Bool → State → Step (List WordText)
 words_if there after = cond there (words_next after) (Ok ([], after))
@@ -30,8 +47,8 @@ abbrev pub no_lines : List Line → Parse (List LineText)
 no_lines rest = Ok ([], rest)
 
 -- no statement is left
-abbrev pub ended : List Line → Result Opening Fault
-ended rest = Ok (Ended rest)
+abbrev pub ended : List Line → Parse (Option Line)
+ended rest = Ok (None, rest)
 
 abbrev pub if_allowed : {A : Type 0} → Bool → NameText → Result A Fault → Result A Fault
 if_allowed allowed key others = cond allowed others (Err (UnknownKey key.spot key.name))

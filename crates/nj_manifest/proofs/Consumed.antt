@@ -9,9 +9,9 @@ use Rattle.nj_manifest.specs.declared.block.Keys.{Keys}
 use Rattle.nj_manifest.specs.declared.block.Keys.TheVariants as keys
 use Rattle.nj_manifest.specs.Faults.{Fault}
 use Rattle.nj_manifest.specs.LineSteps.{◌>>=◌}
-use Rattle.nj_manifest.specs.Statements.{LineText, lines_from, Parse, line_next, block_by, block, PlacedText, RuleText, PoolText, next_statement}
+use Rattle.nj_manifest.specs.Statements.{LineText, lines_from, line_next, block_by, block, PlacedText, RuleText, PoolText, next_statement}
 use Rattle.nj_manifest.specs.Grammar.{HeadText, Alone, RuleHead, PoolHead, BuildHead}
-use Rattle.nj_manifest.specs.Openings.{or_last, without_spaces}
+use Rattle.nj_manifest.specs.Openings.{Parse, or_last, without_spaces}
 use Rattle.nj_manifest.specs.Inside.Heads.{head_next, whole_rule, whole_pool, with_block, statement_here}
 use Rattle.nj_manifest.proofs.Choices.{no_lines}
 use Rattle.nj_manifest.proofs.NextTurns.{nothing_more, next_by, next-nothing, next-line}

@@ -1,6 +1,5 @@
 -- Where the lines of a dyndep file leave the lexer.
 use Rattle.std.proofs.Common.{◌≡◌, ℕ, Bool, true, false, Option, Some, None, Result, Ok, Err, List, refl, sym, ap, subst, ◌∙◌, codes}
-use Rattle.nj_text.specs.declared.fault.UnitFault.{UnitFault}
 use Rattle.nj_text.specs.declared.sign.Sign.{Sign}
 use Rattle.nj_text.specs.declared.sign.Sign.TheVariants as sign
 use Rattle.nj_text.specs.declared.line_start.LineStart.{LineStart}
@@ -16,10 +15,11 @@ use Rattle.nj_manifest.specs.declared.fault.Wanted.TheVariants as wanted
 use Rattle.nj_manifest.specs.Faults.{Fault, Bad, Expected, DyndepShape}
 use Rattle.nj_manifest.specs.LineSteps.{Step, ◌>>=◌, called, name_next, expect_sign, section_next}
 use Rattle.nj_manifest.specs.Statements.{equals_value, block}
-use Rattle.nj_manifest.specs.Dyndeps.{is_same_spot, version_line, word_of_form, no_path_by, no_path, no_section, first_output, output_next, added_inputs, EntryText, entry_line, restat_line, line_too_many, if_indented, restat_block}
+use Rattle.nj_manifest.specs.Dyndeps.{is_same_spot, version_line, word_of_form, no_path_by, no_path, no_section, output_next, added_inputs, EntryText, entry_line, if_indented, restat_block}
 use Rattle.nj_manifest.specs.Inside.ParserContracts.{IsBetweenStatements}
 use Rattle.nj_manifest.specs.Openings.{without_spaces}
 use Rattle.nj_manifest.proofs.Choices.{unless_missing}
+use Rattle.nj_manifest.proofs.EntryBlocks.{first_output, output-steps, restat_line, line_too_many, block-lines}
 use Rattle.nj_manifest.proofs.FormsKeys.{unless_missing-ok}
 use Rattle.nj_manifest.proofs.BlockLines.{lines_weight, Begins, start-begins}
 use Rattle.nj_manifest.proofs.Framing.{bind-ok, after-is, On, InLine, line_end-inside, colon-inside, name-inside, word-inside, sign-inside, section-inside, ends-line, equals_value-inside}
@@ -82,9 +82,8 @@ module _ (l : Line) (ls : List Line) where
       no_ok (unless_missing-ok _ _ (Err (Expected (spot_of after) wanted.Path)) y pipe.2).1
 
   output_next-inside : (s : State) (y : WordText × State) → On l ls s → output_next s ≡ Ok y → On l ls y.1
-  unfolding output_next
   output_next-inside s y o h =
-      let found = bind-ok (called (path_word_of s)) _ y h in
+      let found = bind-ok (called (path_word_of s)) _ y (sym (output-steps s) ∙ h) in
       let out = bind-ok (first_output found.0.0 found.0.1) _ y found.2 in
       let end = bind-ok (no_path out.0.1) (λ end. Ok (out.0.0, end)) y out.2 in
       let at_word = word-inside l ls s found.0 o found.1 in
@@ -160,13 +159,11 @@ settled ls x m s k h g indented = by_start x (start-begins keys.All ls (Ok (x, m
     by_start start.Plain b g = subst IsBetweenStatements (oks g) b.1
 
 pub too_many-fails : {P : Type 0} (m s : State) → line_too_many m ≡ Ok s → P
-unfolding line_too_many
 too_many-fails m s h = no_ok (bind-ok (name_next wanted.VariableName m) _ s h).2
 
 pub block-ends : (ls : List Line) (s : State) → restat_block (Between ls) ≡ Ok s → IsBetweenStatements s
-unfolding restat_block
 block-ends ls s h =
-    let first = bind-ok (called (start_line_of (Between ls))) _ s h in
+    let first = bind-ok (called (start_line_of (Between ls))) _ s (sym (block-lines (Between ls)) ∙ h) in
     settled ls first.0.0 first.0.1 s _ first.1 first.2 (λ l others is g. in_block l others first.0.1 is g)
   where
     in_block : (l : Line) (others : List Line) (m : State) → m ≡ Inside (without_spaces l) others → (restat_line m >>= λ restat. called (start_line_of restat) >>= λ second. if_indented second.0 second.1 line_too_many) ≡ Ok s → IsBetweenStatements s

@@ -1,7 +1,6 @@
 -- Lines of dyndep files: what is read of them, and their form.
-use Rattle.std.proofs.Common.{◌≡◌, ℕ, Bool, true, false, not, Option, Some, None, Result, Ok, Err, List, [], refl, sym, ap, subst, ◌∙◌, codes}
+use Rattle.std.proofs.Common.{◌≡◌, ℕ, Bool, true, false, not, Option, Some, None, Ok, Err, List, [], refl, sym, ap, subst, ◌∙◌, codes}
 use Rattle.std.proofs.lemmas.Slice.Eq.{bytes_eq-Decides}
-use Rattle.nj_text.specs.declared.fault.UnitFault.{UnitFault}
 use Rattle.nj_text.specs.declared.sign.Sign.{Sign}
 use Rattle.nj_text.specs.declared.sign.Sign.TheVariants as sign
 use Rattle.nj_text.specs.Units.{TextUnit}
@@ -14,7 +13,7 @@ use Rattle.nj_manifest.specs.declared.fault.Wanted.TheVariants as wanted
 use Rattle.nj_manifest.specs.Faults.{Expected}
 use Rattle.nj_manifest.specs.LineSteps.{Step, called, name_next, expect_sign, words_next, section_next}
 use Rattle.nj_manifest.specs.Grammar.{AreBlanks, KeywordForm, WordForm, WordsForm, SectionForm}
-use Rattle.nj_manifest.specs.Dyndeps.{EntryText, word_of_form, no_path_by, no_path, no_section, first_output, output_next, added_inputs, entry_line}
+use Rattle.nj_manifest.specs.Dyndeps.{EntryText, word_of_form, no_path_by, no_path, no_section, output_next, added_inputs, entry_line}
 use Rattle.nj_manifest.specs.DyndepForms.{EntryForm, EntriesAreTheForms}
 use Rattle.nj_manifest.proofs.Framing.{bind-ok}
 use Rattle.nj_manifest.proofs.WordLimits.{words_next-ends}
@@ -24,6 +23,7 @@ use Rattle.nj_manifest.proofs.FormsWords.{fault_after_blanks, word-form, word-re
 use Rattle.nj_manifest.proofs.FormsLines.{section_after-form, section_after-read, colon_after-form, end_after_at-form, end_after-read, keyword_of, at_implicit, pipe_is_not_end, colon_is_not_end}
 use Rattle.nj_manifest.proofs.LeftmostRuns.{none_passed, skip, skip_stops}
 use Rattle.nj_manifest.proofs.DyndepEnds.{oks, no_path-called, first_output-after, called-ok}
+use Rattle.nj_manifest.proofs.EntryBlocks.{first_output, output-steps}
 
 -- ---- blanks that are skipped twice
 
@@ -111,9 +111,8 @@ some_output None after y h =
     no_err e = absurd cc
 
 output-form : (l : Line) (ls : List Line) (us : List TextUnit) (s : State) (y : WordText × State) → s ≡ within l ls us → output_next s ≡ Ok y → (rest : List TextUnit) × WordForm us y.0 rest × (y.1 ≡ within l ls (skip rest))
-unfolding output_next
 output-form l ls us s y e h =
-    let found = bind-ok (called (path_word_of s)) _ y h in
+    let found = bind-ok (called (path_word_of s)) _ y (sym (output-steps s) ∙ h) in
     let first = bind-ok (first_output found.0.0 found.0.1) _ y found.2 in
     let alone = bind-ok (no_path first.0.1) (λ end. Ok (first.0.0, end)) y first.2 in
     output_from found.0 first.0 alone.0 (ap (λ (t : State). called (path_word_of t)) (sym e) ∙ found.1) first.1 alone.1 (oks alone.2)

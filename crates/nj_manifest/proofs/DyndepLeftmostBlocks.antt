@@ -18,9 +18,10 @@ use Rattle.nj_manifest.specs.Faults.{Fault, Bad, Expected, UnexpectedIndent, Mis
 use Rattle.nj_manifest.specs.LineSteps.{Step, ◌>>=◌, called, NameText, name_next, expect_sign}
 use Rattle.nj_manifest.specs.Statements.{equals_value}
 use Rattle.nj_manifest.specs.Leftmost.{continues, element, written, are_plain, NamesThePlaceOf, met_before, offers}
-use Rattle.nj_manifest.specs.Dyndeps.{word_of_form, restat_line, line_too_many, if_indented, restat_block}
+use Rattle.nj_manifest.specs.Dyndeps.{word_of_form, if_indented, restat_block}
 use Rattle.nj_manifest.specs.Grammar.{AreBlanks}
 use Rattle.nj_manifest.specs.DyndepLeftmost.{NamesPlaceInEntry}
+use Rattle.nj_manifest.proofs.EntryBlocks.{restat_line, line_too_many, first_line, block-lines}
 use Rattle.nj_manifest.proofs.Framing.{after-is}
 use Rattle.nj_manifest.proofs.LeftmostRuns.{skip, gap_of, gap_passes, gap_cut}
 use Rattle.nj_manifest.proofs.LeftmostFronts.{front, front-append, element-front}
@@ -231,11 +232,9 @@ many_here l ls fault h place refuses =
     }
 
 many_reads : (s t : State) (name : NameText) → name_next wanted.VariableName s ≡ Ok (name, t) → line_too_many s ≡ Err (DyndepShape name.spot)
-unfolding line_too_many
 many_reads s t name h = ap (λ (r : Step NameText). r >>= λ key. Err (DyndepShape key.0.spot)) h
 
 many_fails : (s : State) (f : Fault) → name_next wanted.VariableName s ≡ Err f → line_too_many s ≡ Err f
-unfolding line_too_many
 many_fails s f h = ap (λ (r : Step NameText). r >>= λ key. Err (DyndepShape key.0.spot)) h
 
 many_stuck : (l : Line) (ls : List Line) (fault : Fault) → kind_of l ≡ IndentedLine → line_too_many (at (after_spaces l.units) l ls) ≡ Err fault → LinesStuck line_too_many (l ∷ ls) fault
@@ -298,13 +297,8 @@ restat_outcome l h = restat_turn l (after_spaces l.units) (begin (Spaced (spaces
 
 -- ---- the block
 
--- after a line of the block
-abbrev pub first_line : State → Result State Fault
-first_line line = restat_line line >>= λ restat. called (start_line_of restat) >>= λ second. if_indented second.0 second.1 line_too_many
-
 pub block_is : (ls : List Line) → restat_block (Between ls) ≡ in_lines first_line ls
-unfolding restat_block
-block_is ls = refl
+block_is ls = block-lines (Between ls)
 
 first_fails : (s : State) (f : Fault) → led_on (restat_line s) ≡ Err f → first_line s ≡ Err f
 first_fails s f h = by_line (restat_line s) h

@@ -9,8 +9,8 @@ use Rattle.nj_text.specs.Lines.{Line, line_spot, with_units, lines_after, Kind, 
 use Rattle.nj_text.specs.Calls.{State, Between, Inside, without_comments}
 use Rattle.nj_manifest.specs.Faults.{Fault, Bad, UnexpectedIndent}
 use Rattle.nj_manifest.specs.LineSteps.{Step, ◌>>=◌, name_next, expect_sign, section_next}
-use Rattle.nj_manifest.specs.Statements.{Parse, lines_from}
-use Rattle.nj_manifest.specs.Openings.{opening_by, opening, front_of}
+use Rattle.nj_manifest.specs.Statements.{lines_from}
+use Rattle.nj_manifest.specs.Openings.{Parse, opening_by, opening, front_of}
 use Rattle.nj_manifest.specs.Leftmost.{continues, element, written, met_before, offers}
 use Rattle.nj_manifest.specs.Dyndeps.{EntryText, word_of_form, no_path, no_section, output_next, added_inputs, entry_line, restat_block, entry_from, next_entry}
 use Rattle.nj_manifest.specs.DyndepLeftmost.{are_apart, NamesPlaceInEntry, SomeEntry, LineTooMany, EntryComesLeftmost, DyndepFaultsAreLeftmost}
@@ -21,7 +21,8 @@ use Rattle.nj_manifest.proofs.LeftmostSteps.{text, Stuck, Outcome, stuck, throug
 use Rattle.nj_manifest.proofs.LeftmostKinds.{spaces_of, after_spaces, spaces_cut, spaces_pass, kind_spaced, kind_replaced, tab_place, unspaced, no_space_same}
 use Rattle.nj_manifest.proofs.DyndepLeftmostMarks.{real}
 use Rattle.nj_manifest.proofs.DyndepLeftmostLines.{EntryPlain, entry_outcome}
-use Rattle.nj_manifest.proofs.DyndepLeftmostBlocks.{real_place, real_before, real_offers, in_lines, in_blank, first_line, block_is, BlockContinues, with_text, with_end, LinesStuck, errs, no_fault, block_stuck}
+use Rattle.nj_manifest.proofs.DyndepLeftmostBlocks.{real_place, real_before, real_offers, in_lines, in_blank, block_is, BlockContinues, with_text, with_end, LinesStuck, errs, no_fault, block_stuck}
+use Rattle.nj_manifest.proofs.EntryBlocks.{first_line}
 
 -- ---- the next entry, by the kind of its first line
 

@@ -1,6 +1,6 @@
 -- The line of an entry in steps. A departure from the form is marked by the fault of an unknown key, which names its place
 -- too.
-use Rattle.std.proofs.Common.{◌≡◌, ℕ, zero, suc, Bool, true, false, not, Option, Some, None, Result, Ok, Err, List, [], refl, ap, ◌∙◌, sym, codes}
+use Rattle.std.proofs.Common.{◌≡◌, ℕ, zero, suc, Bool, true, false, not, Option, Some, None, Result, Ok, Err, List, [], refl, ap, subst, ◌∙◌, sym, codes}
 use Rattle.std.specs.Str.{bytes_eq}
 use Rattle.nj_text.specs.declared.fault.UnitFault.{UnitFault}
 use Rattle.nj_text.specs.declared.sign.Sign.{Sign}
@@ -11,12 +11,13 @@ use Rattle.nj_text.specs.Calls.{State, Reply, skip_blanks_of, ident_of, sign_of,
 use Rattle.nj_manifest.specs.declared.fault.Wanted.{Wanted}
 use Rattle.nj_manifest.specs.declared.fault.Wanted.TheVariants as wanted
 use Rattle.nj_manifest.specs.Faults.{Fault, Bad, Expected, UnknownKey, DyndepShape}
-use Rattle.nj_manifest.specs.LineSteps.{Step, ◌>>=◌, called, NameText, name_next, expect_sign, words_from, words_within, words_next, section_next}
+use Rattle.nj_manifest.specs.LineSteps.{Step, ◌>>=◌, called, NameText, name_next, expect_sign, words_within, words_next, section_next}
 use Rattle.nj_manifest.specs.Statements.{equals_value}
-use Rattle.nj_manifest.specs.Dyndeps.{EntryText, word_of_form, is_same_spot, no_path_by, no_path, no_section, first_output, output_next, added_inputs, entry_line}
-use Rattle.nj_manifest.proofs.Choices.{named, if_there, words_if, unless_missing}
+use Rattle.nj_manifest.specs.Dyndeps.{EntryText, word_of_form, is_same_spot, no_path_by, no_path, no_section, output_next, added_inputs, entry_line}
+use Rattle.nj_manifest.proofs.Choices.{named, if_there, words_if, unless_missing, words_next-is, words_from}
 use Rattle.nj_manifest.proofs.LeftmostSteps.{bind-bind}
 use Rattle.nj_manifest.proofs.LeftmostSigns.{sign_step, led_on, ending}
+use Rattle.nj_manifest.proofs.EntryBlocks.{first_output, output-steps}
 
 -- ---- marks
 
@@ -83,8 +84,7 @@ kept-within (suc limit) s = by_word (called (path_word_of s)) (kept-called (path
     by_word (Err f) k others = k
 
 kept-words : (s : State) → Kept (words_next s)
-unfolding words_next
-kept-words s = kept-within _ s
+kept-words s = subst (λ (r : Step (List WordText)). Kept r) (sym (words_next-is s)) (kept-within _ s)
 
 pub kept-section : (want : Sign) (s : State) → Kept (section_next want s)
 unfolding section_next
@@ -175,8 +175,7 @@ abbrev pub output_word : State → Step WordText
 output_word s = called (path_word_of s) >>= λ found. output_there found.0 found.1
 
 output-reported : {B : Type 0} (s : State) (f g : WordText → State → Result B Fault) → ((w : WordText) (t : State) → reported (f w t) ≡ g w t) → reported (output_word s >>= λ o. path_step o.1 >>= λ c. f o.0 c.1) ≡ (output_next s >>= λ out. g out.0 out.1)
-unfolding output_next
-output-reported {B = B} s f g h = by_word (called (path_word_of s)) (kept-called (path_word_of s))
+output-reported {B = B} s f g h = by_word (called (path_word_of s)) (kept-called (path_word_of s)) ∙ ap (λ (r : Step WordText). r >>= λ out. g out.0 out.1) (sym (output-steps s))
   where
     then : WordText × State → Result B Fault
     then o = path_step o.1 >>= λ c. f o.0 c.1

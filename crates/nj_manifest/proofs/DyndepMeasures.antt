@@ -1,13 +1,12 @@
 -- Each entry of a dyndep file takes a line at least, and so does the version.
-use Rattle.std.proofs.Common.{◌≡◌, ℕ, suc, ◌<◌, ◌≤◌, Bool, true, false, cond, Some, Result, Ok, List, [], ◌∷◌, length, refl, sym, ap, ◌∙◌, arith}
+use Rattle.std.proofs.Common.{◌≡◌, ℕ, suc, ◌<◌, ◌≤◌, Bool, true, false, cond, Option, Some, None, Ok, List, [], ◌∷◌, length, refl, sym, ap, ◌∙◌, arith}
 use Rattle.nj_text.specs.Bytes.{drop_while}
 use Rattle.nj_text.specs.Units.{TextUnit}
 use Rattle.nj_text.specs.Lines.{Line, text_lines, with_units, lines_after, Kind, CommentLine, TabLine, BlankLine, IndentedLine, PlainLine, begins_with_space, kind_after_spaces, is_space_unit, kind_of}
 use Rattle.nj_text.specs.Calls.{State, Inside, is_empty, without_comments}
 use Rattle.nj_manifest.specs.declared.block.Keys.{Keys}
-use Rattle.nj_manifest.specs.Faults.{Fault}
 use Rattle.nj_manifest.specs.Statements.{LineText, lines_from}
-use Rattle.nj_manifest.specs.Openings.{Opening, Begun, Ended, opening_by, opening, or_last}
+use Rattle.nj_manifest.specs.Openings.{Parse, opening_by, opening, or_last}
 use Rattle.nj_manifest.specs.Grammar.{BlockForm}
 use Rattle.nj_manifest.specs.Dyndeps.{EntryText, version_line, version_from, version_next, next_entry, left_entry}
 use Rattle.nj_manifest.specs.DyndepForms.{NextEntryForm}
@@ -64,30 +63,43 @@ entry-takes ls entry rest h = form-takes ((next_entries_are ls (Some entry) rest
 -- ---- the version
 
 -- a line with which a statement begins is plain, and from it on there are no more lines
-abbrev BeginsWithin : List Line → Result Opening Fault → Type 0
-BeginsWithin ls found = (l : Line) (others : List Line) → found ≡ Ok (Begun l others) → (kind_of l ≡ PlainLine) × (ahead (l ∷ others) ≤ ahead ls)
+abbrev BeginsWithin : List Line → Parse (Option Line) → Type 0
+BeginsWithin ls found = (l : Line) (others : List Line) → found ≡ Ok (Some l, others) → (kind_of l ≡ PlainLine) × (ahead (l ∷ others) ≤ ahead ls)
+
+-- where the lines end, no line is begun
+not_begun : {l : Line} {left others : List Line} → ◌≡◌ {A = Parse (Option Line)} (ended left) (Ok (Some l, others)) → ⊥
+not_begun {l = l} h = apart (ap (λ (o : Option Line × List Line). o.0) (oks h))
+  where
+    apart : None ≡ Some l → ⊥
+    apart e = absurd cc
 
 opening-later : (m : Line) (ls left : List Line) → BeginsWithin ls (opening ls) → BeginsWithin (m ∷ ls) (or_last m (ended left) (opening ls))
 opening-later m ls left ih = λ l others h. by_last m.is_last refl l others h
   where
     by_last : (t : Bool) → m.is_last ≡ t → BeginsWithin (m ∷ ls) (cond t (ended left) (opening ls))
-    by_last true e l others g = absurd cc
+    by_last true e l others g = absurd (not_begun g)
     by_last false e l others g =
         let more = ih l others g in
         let one = one_more m ls e in
         let within = more.1 in
         (more.0, omega (arith, one, within))
 
-begun-here : (m : Line) (ls : List Line) → kind_of m ≡ PlainLine → BeginsWithin (m ∷ ls) (Ok (Begun m ls))
+begun-here : (m : Line) (ls : List Line) → kind_of m ≡ PlainLine → BeginsWithin (m ∷ ls) (Ok (Some m, ls))
 begun-here m ls k l others h =
     let same = ap ahead (both h) in
     (sym (ap kind_of (first h)) ∙ k, omega (arith, same))
   where
-    both : ◌≡◌ {A = Result Opening Fault} (Ok (Begun m ls)) (Ok (Begun l others)) → m ∷ ls ≡ l ∷ others
-    both e = cc
+    lines : ◌≡◌ {A = Option Line × List Line} (Some m, ls) (Some l, others) → ls ≡ others
+    lines e = ap (λ (o : Option Line × List Line). o.1) e
 
-    first : ◌≡◌ {A = Result Opening Fault} (Ok (Begun m ls)) (Ok (Begun l others)) → m ≡ l
-    first e = cc
+    line : ◌≡◌ {A = Option Line} (Some m) (Some l) → m ≡ l
+    line e = cc
+
+    first : ◌≡◌ {A = Parse (Option Line)} (Ok (Some m, ls)) (Ok (Some l, others)) → m ≡ l
+    first e = line (ap (λ (o : Option Line × List Line). o.0) (oks e))
+
+    both : ◌≡◌ {A = Parse (Option Line)} (Ok (Some m, ls)) (Ok (Some l, others)) → m ∷ ls ≡ l ∷ others
+    both e = ap (λ (n : Line). n ∷ ls) (first e) ∙ ap (λ (ms : List Line). l ∷ ms) (lines (oks e))
 
 opening-kind : (k : Kind) (m : Line) (ls : List Line) → kind_of m ≡ k → BeginsWithin ls (opening ls) → BeginsWithin (m ∷ ls) (opening_by k m ls (opening ls))
 opening-kind CommentLine m ls k ih = opening-later m ls (lines_after m (without_comments ls)) ih
@@ -98,7 +110,7 @@ opening-kind PlainLine m ls k ih = begun-here m ls k
 
 opening-begins : (ls : List Line) → BeginsWithin ls (opening ls)
 unfolding opening
-opening-begins [] = λ l others h. absurd cc
+opening-begins [] = λ l others h. absurd (not_begun h)
 opening-begins (m ∷ ls) = opening-kind (kind_of m) m ls refl (opening-begins ls)
 
 -- The version takes a line.
@@ -108,9 +120,9 @@ version-takes ls rest h =
     let begun = bind-ok (opening ls) version_from rest h in
     by_opening begun.0 begun.1 begun.2
   where
-    by_opening : (o : Opening) → opening ls ≡ Ok o → version_from o ≡ Ok rest → ahead rest < ahead ls
-    by_opening (Ended left) e g = absurd cc
-    by_opening (Begun l others) e g =
+    by_opening : (o : Option Line × List Line) → opening ls ≡ Ok o → version_from o ≡ Ok rest → ahead rest < ahead ls
+    by_opening (None, left) e g = absurd cc
+    by_opening (Some l, others) e g =
         let line = bind-ok (version_line (Inside l others)) (λ end. Ok (lines_from end)) rest g in
         let there = opening-begins ls l others e in
         let left : lines_from line.0 ≡ rest = oks line.2 in

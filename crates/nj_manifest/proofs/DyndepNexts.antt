@@ -2,7 +2,6 @@
 use Rattle.std.proofs.Common.{◌≡◌, Bool, true, false, cond, Option, Some, None, Result, Ok, Err, ◌⊎◌, inl, inr, List, [], ◌∷◌, refl, sym, ap, subst, ◌∙◌, codes}
 use Rattle.std.specs.Str.{bytes_eq}
 use Rattle.std.proofs.lemmas.Slice.Eq.{bytes_eq-Decides}
-use Rattle.nj_text.specs.declared.fault.UnitFault.{UnitFault}
 use Rattle.nj_text.specs.declared.line_start.LineStart.{LineStart}
 use Rattle.nj_text.specs.declared.line_start.LineStart.TheVariants as start
 use Rattle.nj_text.specs.Words.{WordText}
@@ -12,12 +11,13 @@ use Rattle.nj_manifest.specs.declared.block.Keys.TheVariants as keys
 use Rattle.nj_manifest.specs.declared.fault.Wanted.TheVariants as wanted
 use Rattle.nj_manifest.specs.Faults.{Fault}
 use Rattle.nj_manifest.specs.LineSteps.{◌>>=◌, called, NameText, name_next}
-use Rattle.nj_manifest.specs.Statements.{LineText, Parse, lines_from, equals_value, line_next, block_by, block}
-use Rattle.nj_manifest.specs.Openings.{opening_by, opening, or_last, without_spaces}
-use Rattle.nj_manifest.specs.Dyndeps.{EntryText, entry_line, word_of_form, restat_line, line_too_many, if_indented, restat_block, entry_from, next_entry}
+use Rattle.nj_manifest.specs.Statements.{LineText, lines_from, equals_value, line_next, block_by, block}
+use Rattle.nj_manifest.specs.Openings.{Parse, opening_by, opening, or_last, without_spaces}
+use Rattle.nj_manifest.specs.Dyndeps.{EntryText, entry_line, word_of_form, if_indented, restat_block, entry_from, next_entry}
 use Rattle.nj_manifest.specs.DyndepForms.{RestatForm, NextEntryForm, NextEntriesAreTheForms}
 use Rattle.nj_manifest.specs.Inside.ParserContracts.{entry_here}
 use Rattle.nj_manifest.proofs.Choices.{no_lines, ended}
+use Rattle.nj_manifest.proofs.EntryBlocks.{restat_line, line_too_many, first_line, block-lines}
 use Rattle.nj_manifest.proofs.Framing.{bind-ok, line-inside}
 use Rattle.nj_manifest.proofs.BlockLines.{lines_weight, Begins, start-begins, block-after}
 use Rattle.nj_manifest.proofs.FormsKeys.{unless_missing-ok}
@@ -69,14 +69,10 @@ no_block : (ls : List Line) (m : State) → block keys.All ls ≡ no_lines (line
 no_block ls m e = record { lines = []; block = block-form keys.All ls [] (lines_from m) e; one_at_most = inl refl }
 
 restat-form : (ls : List Line) (s : State) → restat_block (Between ls) ≡ Ok s → RestatForm ls (lines_from s)
-unfolding restat_block
 restat-form ls s h =
-    let first = bind-ok (called (start_line_of (Between ls))) _ s h in
+    let first = bind-ok (called (start_line_of (Between ls))) _ s (sym (block-lines (Between ls)) ∙ h) in
     by_start first.0.0 first.0.1 (begins ls first.0.0 first.0.1 first.1) first.2
   where
-    then : State → Result State Fault
-    then line = restat_line line >>= λ restat. called (start_line_of restat) >>= λ second. if_indented second.0 second.1 line_too_many
-
     by_second : (l : Line) (others : List Line) (m t : State) (line : LineText) → m ≡ Inside (without_spaces l) others → block keys.All ls ≡ block_by keys.All IndentedLine l others (block keys.All others) → line_next keys.All m ≡ Ok (line, t) → line.name ≡ codes "restat"
         → (y : LineStart) (n : State) → Begins keys.All (lines_weight (lines_after l others)) (block keys.All (lines_after l others)) (Ok (y, n)) → if_indented y n line_too_many ≡ Ok s → RestatForm ls (lines_from s)
     by_second l others m t line is reads read key y n b g = by_kind y b g
@@ -93,7 +89,7 @@ restat-form ls s h =
         by_kind start.Blank b g = ended_there b.0 (oks g)
         by_kind start.Plain b g = ended_there b.0 (oks g)
 
-    in_block : (l : Line) (others : List Line) (m : State) → m ≡ Inside (without_spaces l) others → block keys.All ls ≡ block_by keys.All IndentedLine l others (block keys.All others) → then m ≡ Ok s → RestatForm ls (lines_from s)
+    in_block : (l : Line) (others : List Line) (m : State) → m ≡ Inside (without_spaces l) others → block keys.All ls ≡ block_by keys.All IndentedLine l others (block keys.All others) → first_line m ≡ Ok s → RestatForm ls (lines_from s)
     in_block l others m is reads g =
         let restat = bind-ok (restat_line m) _ s g in
         let second = bind-ok (called (start_line_of restat.0)) _ s restat.2 in
@@ -102,7 +98,7 @@ restat-form ls s h =
         let begun = ap (λ (t : State). called (start_line_of t)) (sym end) ∙ second.1 in
         by_second l others m restat.0 line.0 is reads line.2 line.1 second.0.0 second.0.1 (begins (lines_after l others) second.0.0 second.0.1 begun) second.2
 
-    by_start : (x : LineStart) (m : State) → Begins keys.All (lines_weight ls) (block keys.All ls) (Ok (x, m)) → if_indented x m then ≡ Ok s → RestatForm ls (lines_from s)
+    by_start : (x : LineStart) (m : State) → Begins keys.All (lines_weight ls) (block keys.All ls) (Ok (x, m)) → if_indented x m first_line ≡ Ok s → RestatForm ls (lines_from s)
     by_start start.Indented m b g = in_block b.0 b.1 m b.2 b.3 g
     by_start start.Middle m b g = absurd b
     by_start start.End m b g = subst (λ (u : State). RestatForm ls (lines_from u)) (oks g) (no_block ls m b.0)
@@ -195,23 +191,19 @@ spoken ls rest line h = by_reply (start_line_of (Between ls)) refl (start-begins
     by_reply (Ok (start.Plain, m)) e b = empty m b.0
 
 restat-read : (ls rest : List Line) → RestatForm ls rest → (s : State) × (restat_block (Between ls) ≡ Ok s) × (lines_from s ≡ rest)
-unfolding restat_block
 restat-read ls rest f = by_lines f.one_at_most
   where
-    then : State → Result State Fault
-    then line = restat_line line >>= λ restat. called (start_line_of restat) >>= λ second. if_indented second.0 second.1 line_too_many
-
     by_lines : (f.lines ≡ []) ⊎ ((line : LineText) × (f.lines ≡ line ∷ []) × (line.name ≡ codes "restat")) → (s : State) × (restat_block (Between ls) ≡ Ok s) × (lines_from s ≡ rest)
     by_lines (inl e) =
         let q = quiet ls rest (block-read f.block ∙ ap (λ (xs : List LineText). Ok (xs, rest)) e) in
-        (q.after, ap (λ r. r >>= λ first. if_indented first.0 first.1 then) q.starts ∙ q.stays then, q.left)
+        (q.after, block-lines (Between ls) ∙ (ap (λ r. r >>= λ first. if_indented first.0 first.1 first_line) q.starts ∙ q.stays first_line), q.left)
     by_lines (inr g) =
         let p = spoken ls rest g.0 (block-read f.block ∙ ap (λ (xs : List LineText). Ok (xs, rest)) g.1) in
         let q = quiet (lines_after p.first p.others) rest p.none in
         let restat = line-restat p.after p.end g.0 p.reads g.2 in
         let end : p.end ≡ Between (lines_after p.first p.others) = line-inside keys.All (without_spaces p.first) p.others g.0 p.end (ap (line_next keys.All) (sym p.is) ∙ p.reads) in
         let second : called (start_line_of p.end) ≡ Ok (q.begun, q.after) = ap (λ (t : State). called (start_line_of t)) end ∙ q.starts in
-        (q.after, ap (λ r. r >>= λ first. if_indented first.0 first.1 then) p.starts ∙ rw (restat, second) (q.stays line_too_many), q.left)
+        (q.after, block-lines (Between ls) ∙ (ap (λ r. r >>= λ first. if_indented first.0 first.1 first_line) p.starts ∙ rw (restat, second) (q.stays line_too_many)), q.left)
 
 -- ---- the next entry
 

@@ -8,14 +8,14 @@ use Rattle.nj_text.specs.Words.{WordText, Text, Name}
 use Rattle.nj_manifest.specs.declared.fault.Wanted.TheVariants as wanted
 use Rattle.nj_manifest.specs.Faults.{Fault, Bad, Expected, UnexpectedIndent, DyndepVersion, DyndepShape}
 use Rattle.nj_manifest.specs.LineSteps.{name_next, expect_sign, words_within, words_next, section_next}
-use Rattle.nj_manifest.specs.Statements.{Parse, equals_value}
-use Rattle.nj_manifest.specs.Openings.{opening}
-use Rattle.nj_manifest.specs.Dyndeps.{EntryText, version_line, version_next, word_of_form, no_path, no_section, output_next, added_inputs, entry_line, restat_line, line_too_many, restat_block, next_entry, WholeFile, entry_of}
+use Rattle.nj_manifest.specs.Statements.{equals_value}
+use Rattle.nj_manifest.specs.Openings.{Parse, opening}
+use Rattle.nj_manifest.specs.Dyndeps.{EntryText, version_line, version_next, word_of_form, no_path, no_section, output_next, added_inputs, entry_line, restat_block, next_entry, WholeFile, entry_of}
 use Rattle.nj_manifest.proofs.StatementRows.{at}
 
 -- what a row unfolds to compute on its text
 unfoldable on_dyndeps : ⊤
-unfolding cut opening next_entry restat_block line_too_many restat_line entry_line added_inputs output_next no_section no_path word_of_form version_next version_line equals_value name_next expect_sign words_next words_within section_next
+unfolding cut opening next_entry restat_block entry_line added_inputs output_next no_section no_path word_of_form version_next version_line equals_value name_next expect_sign words_next words_within section_next
 on_dyndeps = tt
 
 -- ---- what a row shows

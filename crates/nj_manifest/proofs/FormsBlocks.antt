@@ -10,9 +10,9 @@ use Rattle.nj_manifest.specs.declared.fault.Wanted.TheVariants as wanted
 use Rattle.nj_manifest.specs.declared.block.Keys.{Keys}
 use Rattle.nj_manifest.specs.Faults.{Fault}
 use Rattle.nj_manifest.specs.LineSteps.{Step, ◌>>=◌, NameText, name_next}
-use Rattle.nj_manifest.specs.Statements.{LineText, allows, equals_value, line_next, Parse, block_by, block}
+use Rattle.nj_manifest.specs.Statements.{LineText, allows, equals_value, line_next, block_by, block}
 use Rattle.nj_manifest.specs.Grammar.{BindingForm, BlockForm}
-use Rattle.nj_manifest.specs.Openings.{or_last}
+use Rattle.nj_manifest.specs.Openings.{Parse, or_last}
 use Rattle.nj_manifest.proofs.Choices.{if_allowed, no_lines}
 use Rattle.nj_manifest.proofs.Framing.{bind-ok}
 use Rattle.nj_manifest.proofs.BlockLines.{block-after}

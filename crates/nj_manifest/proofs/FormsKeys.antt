@@ -9,9 +9,9 @@ use Rattle.std.proofs.lemmas.Slice.Eq.{bytes_eq-Decides}
 use Rattle.nj_text.specs.declared.spot.Spot.{Spot}
 use Rattle.nj_text.specs.Calls.{is_empty}
 use Rattle.nj_manifest.specs.Faults.{Fault}
-use Rattle.nj_manifest.specs.Statements.{LineText, gives, names}
+use Rattle.nj_manifest.specs.Statements.{LineText, gives}
 use Rattle.nj_manifest.specs.Grammar.{Gives}
-use Rattle.nj_manifest.specs.Inside.Heads.{whole_rule, whole_pool}
+use Rattle.nj_manifest.specs.Inside.Heads.{whole_rule, whole_pool, names}
 use Rattle.nj_manifest.proofs.Choices.{unless_missing}
 use Rattle.nj_manifest.proofs.FormsLines.{same_bytes}
 use Rattle.nj_manifest.proofs.GivenKeys.{gives-cons}

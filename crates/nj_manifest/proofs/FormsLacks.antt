@@ -12,12 +12,12 @@ use Rattle.nj_manifest.specs.declared.block.Keys.{Keys}
 use Rattle.nj_manifest.specs.declared.block.Keys.TheVariants as keys
 use Rattle.nj_manifest.specs.Faults.{Fault, Bad, Expected, UnexpectedIndent, MissingCommand, RspPair, UnknownKey, MissingDepth, DyndepVersion, DyndepShape, OutOfMemory, is_syntax}
 use Rattle.nj_manifest.specs.LineSteps.{◌>>=◌, NameText}
-use Rattle.nj_manifest.specs.Statements.{LineText, StatementText, RuleText, PoolText, BuildText, Parse, gives, names, block, next_statement}
+use Rattle.nj_manifest.specs.Statements.{LineText, StatementText, RuleText, PoolText, BuildText, gives, block, next_statement}
 use Rattle.nj_manifest.specs.Grammar.{BlockForm, Gives, LackForm, NextLacks, HeadText, Alone, RuleHead, PoolHead, BuildHead}
 use Rattle.nj_manifest.specs.Laws.{MissingLinesAreLacking}
 use Rattle.nj_manifest.specs.Leftmost.{NamesThePlaceOf}
-use Rattle.nj_manifest.specs.Openings.{front_of}
-use Rattle.nj_manifest.specs.Inside.Heads.{whole_rule, whole_pool, with_block}
+use Rattle.nj_manifest.specs.Openings.{Parse, front_of}
+use Rattle.nj_manifest.specs.Inside.Heads.{whole_rule, whole_pool, with_block, names}
 use Rattle.nj_manifest.proofs.NextTurns.{nothing_more, next-nothing, next-kind}
 use Rattle.nj_manifest.proofs.Choices.{unless_missing}
 use Rattle.nj_manifest.proofs.FormsLines.{head-form, head-read}

@@ -4,7 +4,8 @@ use Rattle.nj_text.specs.declared.spot.Spot.{Spot}
 use Rattle.nj_text.specs.Lines.{Line, line_spot, lines_after, Kind, CommentLine, TabLine, BlankLine, IndentedLine, PlainLine, kind_of}
 use Rattle.nj_text.specs.Calls.{State, Between, Inside, without_comments}
 use Rattle.nj_manifest.specs.declared.block.Keys.TheVariants as keys
-use Rattle.nj_manifest.specs.Statements.{StatementText, RuleText, PoolText, BuildText, PlacedText, Parse, lines_from, block, next_statement}
+use Rattle.nj_manifest.specs.Openings.{Parse}
+use Rattle.nj_manifest.specs.Statements.{StatementText, RuleText, PoolText, BuildText, PlacedText, lines_from, block, next_statement}
 use Rattle.nj_manifest.specs.Grammar.{BlockForm, StatementForm, NextForm, HeadText, Alone, RuleHead, PoolHead, BuildHead}
 use Rattle.nj_manifest.specs.Laws.{StatementsAreTheForms}
 use Rattle.nj_manifest.specs.Inside.Heads.{whole_rule, whole_pool, head_next, with_block, statement_here}

@@ -14,9 +14,9 @@ use Rattle.nj_text.specs.Calls as calls
 use Rattle.nj_text.specs.Inside.States.{reply}
 use Rattle.nj_text.specs.Calls.{State, begins_word, is_sign, sign_of, path_word_of}
 use Rattle.nj_text.proofs.Lists.{take_while-cons_yes}
-use Rattle.nj_manifest.specs.LineSteps.{Step, ◌>>=◌, called, words_from, words_next, section_next}
+use Rattle.nj_manifest.specs.LineSteps.{Step, ◌>>=◌, called, words_next, section_next}
 use Rattle.nj_manifest.specs.Grammar.{WordForm, WordsForm, none, more, SectionForm, left_out, there}
-use Rattle.nj_manifest.proofs.Choices.{words_if}
+use Rattle.nj_manifest.proofs.Choices.{words_if, words_from}
 use Rattle.nj_manifest.proofs.Framing.{bind-ok, after-is, value-is}
 use Rattle.nj_manifest.proofs.WordLimits.{opening_is_within, words_next-fails, words_next-ends, words_next-more}
 use Rattle.nj_manifest.proofs.FormsGaps.{both_parts, front_passes, after_stops, run_passed, run_taken, skip, skip_gap, gap_of, gap_passes, gap_cut}

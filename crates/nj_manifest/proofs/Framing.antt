@@ -18,11 +18,11 @@ use Rattle.nj_manifest.specs.declared.fault.Wanted.{Wanted}
 use Rattle.nj_manifest.specs.declared.fault.Wanted.TheVariants as wanted
 use Rattle.nj_manifest.specs.declared.block.Keys.{Keys}
 use Rattle.nj_manifest.specs.Faults.{Fault, Expected}
-use Rattle.nj_manifest.specs.LineSteps.{Step, ◌>>=◌, called, NameText, name_next, expect_sign, words_from, words_within, units_left, words_next, section_next}
+use Rattle.nj_manifest.specs.LineSteps.{Step, ◌>>=◌, called, NameText, name_next, expect_sign, words_within, words_next, section_next}
 use Rattle.nj_manifest.specs.Statements.{LineText, allows, equals_value, line_next, OutputsText, InputsText, BindingText, DefaultText, IncludeText, SubninjaText, outputs_next, inputs_next, targets_next, file_next}
 use Rattle.nj_manifest.specs.Grammar.{HeadText, Alone, RuleHead, PoolHead, BuildHead}
 use Rattle.nj_manifest.specs.Inside.Heads.{build_head, as_head, head_after, head_next, name_alone}
-use Rattle.nj_manifest.proofs.Choices.{named, if_there, words_if, if_allowed, unless_none}
+use Rattle.nj_manifest.proofs.Choices.{named, if_there, words_if, if_allowed, unless_none, units_left, words_next-is, words_from}
 
 -- ---- steps
 
@@ -125,8 +125,7 @@ words_within-inside l ls (suc limit) s y o h =
     words_from-inside l ls b.0.0 b.0.1 (words_within limit b.0.1) y p (λ z e. words_within-inside l ls limit b.0.1 z p e) b.2
 
 words-inside : (l : Line) (ls : List Line) (s : State) (y : List WordText × State) → On l ls s → words_next s ≡ Ok y → On l ls y.1
-unfolding words_next
-words-inside l ls s y o h = words_within-inside l ls (suc (units_left s)) s y o h
+words-inside l ls s y o h = words_within-inside l ls (suc (units_left s)) s y o (sym (words_next-is s) ∙ h)
 
 words_if-inside : (l : Line) (ls : List Line) (t : Bool) (s : State) (y : List WordText × State) → On l ls s → words_if t s ≡ Ok y → On l ls y.1
 words_if-inside l ls true s y o h = words-inside l ls s y o h

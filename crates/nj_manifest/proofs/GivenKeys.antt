@@ -12,8 +12,9 @@ use Rattle.nj_text.specs.declared.word.Part.{Part}
 use Rattle.nj_text.specs.Words.{part_text}
 use Rattle.nj_text.specs.Calls.{is_empty}
 use Rattle.nj_manifest.specs.declared.statement.Line.{Line}
-use Rattle.nj_manifest.specs.Statements.{LineText, last_line, gives, names}
+use Rattle.nj_manifest.specs.Statements.{LineText, last_line, gives}
 use Rattle.nj_manifest.specs.Contents.{line_text, lines_text}
+use Rattle.nj_manifest.specs.Inside.Heads.{names}
 
 -- ---- the last line of a key
 

@@ -10,9 +10,9 @@ use Rattle.nj_text.proofs.Lists.{AllIn}
 use Rattle.nj_manifest.specs.declared.block.Keys.{Keys}
 use Rattle.nj_manifest.specs.Faults.{Fault, Bad}
 use Rattle.nj_manifest.specs.LineSteps.{Step, ◌>>=◌}
-use Rattle.nj_manifest.specs.Statements.{LineText, line_next, Parse, block_by, block}
+use Rattle.nj_manifest.specs.Statements.{LineText, line_next, block_by, block}
 use Rattle.nj_manifest.specs.Leftmost.{continues, element, written_unit, written, are_plain, NamesThePlaceOf, met_before, offers}
-use Rattle.nj_manifest.specs.Openings.{or_last}
+use Rattle.nj_manifest.specs.Openings.{Parse, or_last}
 use Rattle.nj_manifest.proofs.Choices.{no_lines}
 use Rattle.nj_manifest.proofs.BlockLines.{in_front}
 use Rattle.nj_manifest.proofs.LeftmostFronts.{front, element-front}

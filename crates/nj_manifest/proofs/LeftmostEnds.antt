@@ -12,10 +12,11 @@ use Rattle.nj_manifest.specs.declared.block.Keys.{Keys}
 use Rattle.nj_manifest.specs.declared.block.Keys.TheVariants as keys
 use Rattle.nj_manifest.specs.Faults.{Fault, MissingCommand, RspPair, MissingDepth, is_syntax}
 use Rattle.nj_manifest.specs.LineSteps.{◌>>=◌, NameText, name_next, expect_sign}
-use Rattle.nj_manifest.specs.Statements.{LineText, equals_value, line_next, Parse, block, OutputsText, InputsText, StatementText, RuleText, PoolText, BuildText, gives, names}
+use Rattle.nj_manifest.specs.Openings.{Parse}
+use Rattle.nj_manifest.specs.Statements.{LineText, equals_value, line_next, block, OutputsText, InputsText, StatementText, RuleText, PoolText, BuildText, gives}
 use Rattle.nj_manifest.specs.Leftmost.{written, are_plain}
 use Rattle.nj_manifest.specs.Grammar.{HeadText, Alone, RuleHead, PoolHead, BuildHead}
-use Rattle.nj_manifest.specs.Inside.Heads.{whole_rule, whole_pool, with_block}
+use Rattle.nj_manifest.specs.Inside.Heads.{whole_rule, whole_pool, with_block, names}
 use Rattle.nj_manifest.proofs.Choices.{unless_missing}
 use Rattle.nj_manifest.proofs.BlockLines.{in_front}
 use Rattle.nj_manifest.proofs.GivenKeys.{gives-cons}

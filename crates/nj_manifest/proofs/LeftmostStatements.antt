@@ -9,10 +9,10 @@ use Rattle.nj_text.proofs.Lists.{AllIn}
 use Rattle.nj_manifest.specs.declared.block.Keys.{Keys}
 use Rattle.nj_manifest.specs.Faults.{Fault, Bad, UnexpectedIndent, is_syntax}
 use Rattle.nj_manifest.specs.LineSteps.{Step, ◌>>=◌, name_next, expect_sign}
-use Rattle.nj_manifest.specs.Statements.{LineText, PlacedText, StatementText, Parse, lines_from, equals_value, block, statement_after, next_statement}
+use Rattle.nj_manifest.specs.Statements.{LineText, PlacedText, StatementText, lines_from, equals_value, block, statement_after, next_statement}
 use Rattle.nj_manifest.specs.Leftmost.{continues, element, written, NamesThePlaceOf, met_before, offers, ComesLeftmost}
 use Rattle.nj_manifest.specs.Grammar.{Alone, HeadText}
-use Rattle.nj_manifest.specs.Openings.{front_of, opening}
+use Rattle.nj_manifest.specs.Openings.{Parse, front_of, opening}
 use Rattle.nj_manifest.specs.Inside.Heads.{head_next, with_block, statement_here}
 use Rattle.nj_manifest.proofs.NextTurns.{nothing_more, next-nothing, next-kind}
 use Rattle.nj_manifest.proofs.BlockLines.{in_front}

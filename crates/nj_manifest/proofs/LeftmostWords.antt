@@ -13,8 +13,9 @@ use Rattle.nj_text.specs.Calls.{State, unless_fault, begins_word, path_word_of}
 use Rattle.nj_text.specs.Inside.States.{reply}
 use Rattle.nj_text.proofs.Lists.{AllIn, AllIn-take_while, take_while-cons_yes}
 use Rattle.nj_manifest.specs.Faults.{Fault, Bad}
-use Rattle.nj_manifest.specs.LineSteps.{Step, called, words_from, words_next}
+use Rattle.nj_manifest.specs.LineSteps.{Step, called, words_next}
 use Rattle.nj_manifest.specs.Leftmost.{written_unit, offers}
+use Rattle.nj_manifest.proofs.Choices.{words_from}
 use Rattle.nj_manifest.proofs.WordLimits.{words_next-fails, words_next-ends, words_next-more}
 use Rattle.nj_manifest.proofs.LeftmostRuns.{begins, both_parts, after_stops, none_passed, run_passed, run_taken, skip, skip_stops, skip_gap, gap_of, gap_passes, gap_cut, not_byte}
 use Rattle.nj_manifest.proofs.LeftmostFronts.{front, begins-same, fault-same, front-append, element-front}

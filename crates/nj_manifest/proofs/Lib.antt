@@ -17,6 +17,7 @@ pub mod DyndepRows
 pub mod DyndepUnits
 pub mod DyndepValues
 pub mod DyndepVersionForms
+pub mod EntryBlocks
 pub mod FaultRows
 pub mod FormRows
 pub mod FormsBlocks

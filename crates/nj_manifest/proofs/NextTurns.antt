@@ -11,11 +11,11 @@ use Rattle.nj_manifest.specs.declared.fault.Wanted.TheVariants as wanted
 use Rattle.nj_manifest.specs.declared.block.Keys.TheVariants as keys
 use Rattle.nj_manifest.specs.Faults.{Fault, Bad, UnexpectedIndent, MissingCommand, RspPair, MissingDepth}
 use Rattle.nj_manifest.specs.LineSteps.{Step, ◌>>=◌, NameText, name_next, expect_sign, whole_line}
-use Rattle.nj_manifest.specs.Openings.{or_last, front_of, Begun, opening_by, opening}
-use Rattle.nj_manifest.specs.Statements.{LineText, lines_from, Parse, block, OutputsText, InputsText, StatementText, RuleText, PoolText, BuildText, BindingText, DefaultText, IncludeText, SubninjaText, PlacedText, equals_value, outputs_next, inputs_next}
-use Rattle.nj_manifest.specs.Statements.{targets_next, file_next, gives, names, rule_next, pool_next, build_next, alone, statement_after, statement_from, next_statement}
+use Rattle.nj_manifest.specs.Openings.{Parse, or_last, front_of, opening_by, opening}
+use Rattle.nj_manifest.specs.Statements.{LineText, lines_from, block, OutputsText, InputsText, StatementText, RuleText, PoolText, BuildText, BindingText, DefaultText, IncludeText, SubninjaText, PlacedText, equals_value, outputs_next, inputs_next}
+use Rattle.nj_manifest.specs.Statements.{targets_next, file_next, gives, rule_next, pool_next, build_next, alone, statement_after, statement_from, next_statement}
 use Rattle.nj_manifest.specs.Grammar.{HeadText, Alone, RuleHead, PoolHead, BuildHead}
-use Rattle.nj_manifest.specs.Inside.Heads.{build_head, as_head, head_after, head_next, whole_rule, whole_pool, with_block, statement_here, name_alone}
+use Rattle.nj_manifest.specs.Inside.Heads.{build_head, as_head, head_after, head_next, whole_rule, whole_pool, with_block, statement_here, name_alone, names}
 use Rattle.nj_manifest.proofs.Choices.{ended}
 
 -- ---- two steps
@@ -102,7 +102,7 @@ after-steps word spot s = by_word (bytes_eq word (codes "build")) (bytes_eq word
     by_word false false false false false false = alone-steps spot (BindingText word) (equals_value s)
 
 -- A statement is its first line, and then its block.
-pub statement-steps : (l : Line) (ls : List Line) → statement_from (Begun l ls) ≡ statement_here l ls
+pub statement-steps : (l : Line) (ls : List Line) → statement_from (Some l, ls) ≡ statement_here l ls
 unfolding statement_here head_next
 statement-steps l ls = by_name (name_next wanted.Statement (Inside l ls))
   where

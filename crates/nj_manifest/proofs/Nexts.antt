@@ -1,11 +1,11 @@
 -- What is read where the next statement begins.
-use Rattle.std.proofs.Common.{◌≡◌, true, false, Option, None, Result, Ok, Err, List, refl, sym, ap, subst, ◌∙◌}
+use Rattle.std.proofs.Common.{◌≡◌, true, false, Option, Some, None, Result, Ok, Err, List, refl, sym, ap, subst, ◌∙◌}
 use Rattle.nj_text.specs.Lines.{Line}
 use Rattle.nj_text.specs.Calls.{State, Between, Inside, Failed}
 use Rattle.nj_manifest.specs.declared.fault.ParseFault.{ParseFault}
 use Rattle.nj_manifest.specs.LineSteps.{◌>>=◌}
-use Rattle.nj_manifest.specs.Statements.{Parse, lines_from, statement_from, next_statement}
-use Rattle.nj_manifest.specs.Openings.{Opening, Begun, Ended, opening}
+use Rattle.nj_manifest.specs.Statements.{lines_from, statement_from, next_statement}
+use Rattle.nj_manifest.specs.Openings.{Parse, opening}
 use Rattle.nj_manifest.specs.Parsers.{Fails}
 use Rattle.nj_manifest.specs.Inside.ParserContracts.{ParsesAt, ParsesNext, FindsOpening}
 use Rattle.nj_manifest.proofs.Heres.{fails-on}
@@ -19,11 +19,11 @@ next-opens ls = refl
 -- ---- reading on from there
 
 -- what is read from an opening on
-module _ {A : Type 0} (from : Opening → Parse (Option A)) (whole : List Line → Parse (Option A)) (is : (ls : List Line) → whole ls ≡ (opening ls >>= from)) where
+module _ {A : Type 0} (from : Option Line × List Line → Parse (Option A)) (whole : List Line → Parse (Option A)) (is : (ls : List Line) → whole ls ≡ (opening ls >>= from)) where
   pub fails-opening : (f : ParseFault) (before after : State) → FindsOpening before after (Err f) → Fails f (whole (lines_from before))
   fails-opening f before after h = subst (Fails f) (sym (is (lines_from before))) (fails-on f (opening (lines_from before)) from h)
 
-  pub none-left : ((ls : List Line) → from (Ended ls) ≡ Ok (None, ls)) → (before after : State) → FindsOpening before after (Ok false) → whole (lines_from before) ≡ Ok (None, lines_from after)
+  pub none-left : ((ls : List Line) → from (None, ls) ≡ Ok (None, ls)) → (before after : State) → FindsOpening before after (Ok false) → whole (lines_from before) ≡ Ok (None, lines_from after)
   none-left n before (Between ls) h = is (lines_from before) ∙ (ap (λ o. o >>= from) h.0 ∙ n ls)
   none-left n before (Inside l ls) h = absurd (apart h.2)
     where
@@ -31,7 +31,7 @@ module _ {A : Type 0} (from : Opening → Parse (Option A)) (whole : List Line �
       apart e = absurd cc
   none-left n before (Failed f) h = absurd h.1
 
-  pub read-on : {X : Type 0} (view : X → Option A) (at : Line → List Line → Parse (Option A)) → ((l : Line) (ls : List Line) → from (Begun l ls) ≡ at l ls) → (before middle after : State) (result : Result X ParseFault)
+  pub read-on : {X : Type 0} (view : X → Option A) (at : Line → List Line → Parse (Option A)) → ((l : Line) (ls : List Line) → from (Some l, ls) ≡ at l ls) → (before middle after : State) (result : Result X ParseFault)
       → FindsOpening before middle (Ok true) → ParsesAt view middle after at result → ParsesNext view before after whole result
   read-on view at n before (Between ls) after result h p = absurd (apart h.2)
     where

@@ -1,7 +1,6 @@
 -- Where the next statement of lines begins, by what the lexer returns at their start.
-use Rattle.std.proofs.Common.{◌≡◌, ℕ, suc, ◌<◌, ◌≤◌, Bool, true, false, cond, ◌&&◌, Result, Ok, Err, List, [], ◌∷◌, refl, sym, ap, subst, ◌∙◌, arith}
+use Rattle.std.proofs.Common.{◌≡◌, ℕ, suc, ◌<◌, ◌≤◌, Bool, true, false, cond, ◌&&◌, Option, Some, Ok, Err, List, [], ◌∷◌, refl, sym, ap, subst, ◌∙◌, arith}
 use Rattle.std.proofs.lemmas.Bool.{false≢true}
-use Rattle.nj_text.specs.declared.fault.UnitFault.{UnitFault}
 use Rattle.nj_text.specs.declared.fault.UnitFault.TheVariants as unit_fault
 use Rattle.nj_text.specs.declared.fault.LexFault.{LexFault}
 use Rattle.nj_text.specs.declared.fault.LexFault.TheVariants as lex
@@ -13,22 +12,22 @@ use Rattle.nj_text.specs.Lines.{Line, with_units, lines_after, Kind, CommentLine
 use Rattle.nj_text.specs.Inside.States.{reply}
 use Rattle.nj_text.specs.Calls.{State, Reply, Between, Inside, Failed, Answers, start_line_of, begun, begun_by, is_comment, is_empty, without_comments, spot_of}
 use Rattle.nj_manifest.specs.declared.fault.ParseFault.TheVariants as fault
-use Rattle.nj_manifest.specs.Faults.{Fault, Bad, UnexpectedIndent}
+use Rattle.nj_manifest.specs.Faults.{Bad, UnexpectedIndent}
 use Rattle.nj_manifest.specs.Parsers.{Fails}
 use Rattle.nj_manifest.specs.Statements.{lines_from}
-use Rattle.nj_manifest.specs.Openings.{Opening, Begun, opening_by, opening, or_last}
+use Rattle.nj_manifest.specs.Openings.{Parse, opening_by, opening, or_last}
 use Rattle.nj_manifest.specs.Inside.ParserContracts.{IsBetweenStatements, FindsOpening}
 use Rattle.nj_manifest.proofs.Choices.{ended}
 
 abbrev Next : Type 0
-Next = Result Opening Fault
+Next = Parse (Option Line)
 
 abbrev pub front_at : Spot → Spot
 front_at spot = record { line = spot.line; column = 1 }
 
 -- The lexer is at the first unit of a line with which a statement begins.
 abbrev pub BeginsHere : Next → State → Type 0
-BeginsHere next s = (l : Line) × (ls : List Line) × (s ≡ Inside l ls) × (kind_of l ≡ PlainLine) × (next ≡ Ok (Begun l ls))
+BeginsHere next s = (l : Line) × (ls : List Line) × (s ≡ Inside l ls) × (kind_of l ≡ PlainLine) × (next ≡ Ok (Some l, ls))
 
 -- what the start of a line tells about the next statement
 abbrev pub Begins : Next → Reply LineStart → Type 0
@@ -100,7 +99,7 @@ start-begins ls r h = subst (Begins (opening ls)) h (begun-next ls)
 middle-begins : (l : Line) (ls : List Line) (r : Reply LineStart) → kind_of l ≡ PlainLine → start_line_of (Inside l ls) ≡ r → Begins (opening (l ∷ ls)) r
 unfolding opening
 middle-begins l ls r e h =
-    let here : opening_by (kind_of l) l ls (opening ls) ≡ Ok (Begun l ls) = rw e refl in
+    let here : opening_by (kind_of l) l ls (opening ls) ≡ Ok (Some l, ls) = rw e refl in
     let begun : BeginsHere (opening_by (kind_of l) l ls (opening ls)) (Inside l ls) = (l, ls, refl, e, here) in
     subst (Begins (opening_by (kind_of l) l ls (opening ls))) h begun
 

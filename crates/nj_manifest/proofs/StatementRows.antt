@@ -7,8 +7,8 @@ use Rattle.nj_text.specs.Lines.{Line, text_lines}
 use Rattle.nj_text.specs.Words.{WordText, Text, Name}
 use Rattle.nj_manifest.specs.Faults.{Fault, UnexpectedIndent}
 use Rattle.nj_manifest.specs.LineSteps.{NameText, name_next, expect_sign, words_within, words_next, section_next}
-use Rattle.nj_manifest.specs.Openings.{opening}
-use Rattle.nj_manifest.specs.Statements.{LineText, Parse, OutputsText, InputsText, PlacedText, StatementText, BindingText, RuleText, PoolText, BuildText, DefaultText, IncludeText, SubninjaText, equals_value, line_next, outputs_next, inputs_next, build_next, rule_next, pool_next, targets_next, file_next, statement_after, block, next_statement}
+use Rattle.nj_manifest.specs.Openings.{Parse, opening}
+use Rattle.nj_manifest.specs.Statements.{LineText, OutputsText, InputsText, PlacedText, StatementText, BindingText, RuleText, PoolText, BuildText, DefaultText, IncludeText, SubninjaText, equals_value, line_next, outputs_next, inputs_next, build_next, rule_next, pool_next, targets_next, file_next, statement_after, block, next_statement}
 
 -- what a row unfolds to compute on its text
 unfoldable pub on_strings : ⊤

@@ -10,7 +10,8 @@ use Rattle.nj_text.specs.Inside.Meanings.{in_word_meaning, opens_word_meaning}
 use Rattle.nj_text.specs.Calls.{State, Between, Inside, Failed, unless_fault, after_blanks, begins_word, word_here, path_word_of}
 use Rattle.nj_text.specs.Inside.States.{reply}
 use Rattle.nj_manifest.specs.Faults.{Fault}
-use Rattle.nj_manifest.specs.LineSteps.{Step, ◌>>=◌, called, words_from, words_within, units_left, words_next}
+use Rattle.nj_manifest.specs.LineSteps.{Step, ◌>>=◌, called, words_within, words_next}
+use Rattle.nj_manifest.proofs.Choices.{units_left, words_next-is, words_from}
 
 drop_while_shortens : {X : Type 0} (p : X → Bool) (xs : List X) → length (drop_while p xs) ≤ length xs
 drop_while_shortens p [] = omega arith
@@ -86,18 +87,19 @@ words_within-limits (suc m) (suc n) s h g = by_word (called (path_word_of s)) re
         ap (words_from (Some w) after) (rest after (omega arith) (omega arith))
 
 pub words_next-fails : (s : State) (f : Fault) → called (path_word_of s) ≡ Err f → words_next s ≡ Err f
-unfolding words_next words_within
-words_next-fails s f h = rw h refl
+unfolding words_within
+words_next-fails s f h = words_next-is s ∙ (let w : words_within (suc (units_left s)) s ≡ Err f = rw h refl in w)
 
 pub words_next-ends : (s after : State) → called (path_word_of s) ≡ Ok (None, after) → words_next s ≡ Ok ([], after)
-unfolding words_next words_within
-words_next-ends s after h = rw h refl
+unfolding words_within
+words_next-ends s after h = words_next-is s ∙ (let w : words_within (suc (units_left s)) s ≡ Ok ([], after) = rw h refl in w)
 
 pub words_next-more : (s : State) (w : WordText) (after : State) → called (path_word_of s) ≡ Ok (Some w, after) → words_next s ≡ words_from (Some w) after (words_next after)
-unfolding words_next words_within
+unfolding words_within
 words_next-more s w after h =
     let shorter = units_left-word s w after h in
-    rw h (ap (words_from (Some w) after) (words_within-limits (units_left s) (suc (units_left after)) after (omega arith) (omega arith)))
+    let first : words_within (suc (units_left s)) s ≡ words_from (Some w) after (words_within (units_left s) after) = rw h refl in
+    words_next-is s ∙ (first ∙ ap (words_from (Some w) after) (words_within-limits (units_left s) (suc (units_left after)) after (omega arith) (omega arith) ∙ sym (words_next-is after)))
 
 -- ---- turns of a loop
 

@@ -5,10 +5,10 @@ use Rattle.nj_text.specs.Words.{word_text}
 use Rattle.nj_manifest.specs.declared.fault.ParseFault.{ParseFault}
 use Rattle.nj_manifest.specs.declared.entries.Entry.{Entry}
 use Rattle.nj_manifest.specs.Faults.{Fault, fault_text}
-use Rattle.nj_manifest.specs.Statements.{Parse}
 use Rattle.nj_manifest.specs.Parsers.{Fails}
 use Rattle.nj_manifest.specs.Contents.{words_text}
 use Rattle.nj_manifest.specs.Dyndeps.{EntryText, DyndepLeft, Entries, Refusing, entry_of}
+use Rattle.nj_manifest.specs.Openings.{Parse}
 
 abbrev pub entry_text : Entry → EntryText
 entry_text e = record { out = word_text e.out; outs = words_text e.outs.items; ins = words_text e.ins.items }

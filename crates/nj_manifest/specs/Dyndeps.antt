@@ -1,5 +1,6 @@
 -- Dyndep files ("Dyndep file reference" in the Ninja manual): the version, and then a statement for each entry.
 use Rattle.std.specs.Prelude.{ℕ, Bool, true, false, ◌&&◌, not, ◌==◌, if◌then◌else◌, Option, Some, None, Result, Ok, Err, List, codes}
+use Rattle.std.specs.Option.{option_map_or}
 use Rattle.std.specs.Str.{bytes_eq}
 use Rattle.nj_text.specs.declared.sign.Sign.{Sign}
 use Rattle.nj_text.specs.declared.sign.Sign.TheVariants as sign
@@ -16,8 +17,8 @@ use Rattle.nj_manifest.specs.declared.fault.Wanted.TheVariants as wanted
 use Rattle.nj_manifest.specs.Faults.{Fault, Bad, Expected, DyndepVersion, DyndepShape}
 use Rattle.nj_manifest.specs.LineSteps.{Step, ◌>>=◌, called, name_next, expect_sign, whole_line, section_next}
 use Rattle.nj_manifest.specs.Expansion.{expanded, no_values}
-use Rattle.nj_manifest.specs.Statements.{Parse, lines_from, equals_value}
-use Rattle.nj_manifest.specs.Openings.{Opening, Begun, Ended, opening}
+use Rattle.nj_manifest.specs.Statements.{lines_from, equals_value}
+use Rattle.nj_manifest.specs.Openings.{Parse, opening}
 
 -- ---- the version
 
@@ -32,9 +33,9 @@ version_line s = do
   value ← if bytes_eq name.0.name (codes "ninja_dyndep_version") then equals_value name.1 else Err (DyndepVersion name.0.spot)
   if is_first_version (version_pair_of (expanded no_values value.0.parts)) then Ok value.1 else Err (DyndepVersion name.0.spot)
 
-abbrev pub version_from : Opening → Result (List Line) Fault
-version_from (Begun l ls) = version_line (Inside l ls) >>= λ end. Ok (lines_from end)
-version_from (Ended ls) = Err (DyndepVersion (first_line_spot ls))
+abbrev pub version_from : Option Line × List Line → Result (List Line) Fault
+version_from (Some l, ls) = version_line (Inside l ls) >>= λ end. Ok (lines_from end)
+version_from (None, ls) = Err (DyndepVersion (first_line_spot ls))
 
 -- the lines after the version, with which a dyndep file begins
 unfoldable pub version_next : List Line → Result (List Line) Fault
@@ -72,20 +73,14 @@ no_section want s = do
   there ← called (sign_of want (skip_blanks_of s))
   if not there.0 then Ok there.1 else Err (DyndepShape (spot_of (skip_blanks_of s)))
 
--- The first output. Where there is none, implicit outputs depart from the form at their `|`.
-abbrev pub first_output : Option WordText → State → Step WordText
-first_output (Some word) after = Ok (word, after)
-first_output None after = do
-  pipe ← called (sign_of sign.Pipe after)
-  if not pipe.0 then Err (Expected (spot_of after) wanted.Path) else Err (DyndepShape (spot_of after))
-
--- after `build`: the one explicit output
+-- After `build`: the one explicit output. Where there is none, implicit outputs depart from the form at their `|`.
 unfoldable pub output_next : State → Step WordText
 output_next s = do
   found ← called (path_word_of s)
-  out ← first_output found.0 found.1
-  end ← no_path out.1
-  Ok (out.0, end)
+  out ← option_map_or Ok found.0 (called (sign_of sign.Pipe found.1) >>= λ pipe.
+      Err (if pipe.0 then DyndepShape (spot_of found.1) else Expected (spot_of found.1) wanted.Path))
+  end ← no_path found.1
+  Ok (out, end)
 
 -- after the rule's name: no explicit inputs, and of the other sections only the implicit inputs
 unfoldable pub added_inputs : State → Step (List WordText)
@@ -107,38 +102,27 @@ entry_line s = do
   ins ← added_inputs rule
   Ok (record { out = out.0; outs = outs.0; ins = ins.0 }, ins.1)
 
--- `restat = VALUE`
-unfoldable pub restat_line : State → Result State Fault
-restat_line s = do
-  key ← word_of_form (codes "restat") wanted.VariableName s
-  value ← equals_value key
-  Ok value.1
-
--- a second line of a block, which departs from the form at its key
-unfoldable pub line_too_many : State → Result State Fault
-line_too_many s = do
-  key ← name_next wanted.VariableName s
-  Err (DyndepShape key.0.spot)
-
 abbrev pub if_indented : LineStart → State → (indented : State → Result State Fault) → Result State Fault
 if_indented start.Indented s indented = indented s
 if_indented other s indented = Ok s
 
--- the block: a line at most
-unfoldable pub restat_block : State → Result State Fault
-restat_block s = do
-  first ← called (start_line_of s)
-  if_indented first.0 first.1 (λ line. do
-    restat ← restat_line line
-    second ← called (start_line_of restat)
-    if_indented second.0 second.1 line_too_many)
+-- what the next line of a block is read as; where the block ends, it is the end
+abbrev pub in_block : State → (line : State → Result State Fault) → Result State Fault
+in_block s line = called (start_line_of s) >>= λ first. if_indented first.0 first.1 line
 
-abbrev pub entry_from : Opening → Parse (Option EntryText)
-entry_from (Begun l ls) = do
+-- the block: `restat = VALUE` at most; a second line departs from the form at its key
+unfoldable pub restat_block : State → Result State Fault
+restat_block s = in_block s (λ line. do
+  key ← word_of_form (codes "restat") wanted.VariableName line
+  value ← equals_value key
+  in_block value.1 (λ extra. name_next wanted.VariableName extra >>= λ name. Err (DyndepShape name.0.spot)))
+
+abbrev pub entry_from : Option Line × List Line → Parse (Option EntryText)
+entry_from (Some l, ls) = do
   entry ← entry_line (Inside l ls)
   end ← restat_block entry.1
   Ok (Some entry.0, lines_from end)
-entry_from (Ended ls) = Ok (None, ls)
+entry_from (None, ls) = Ok (None, ls)
 
 -- the next entry of the lines, if there is one, and the lines after it
 unfoldable pub next_entry : List Line → Parse (Option EntryText)

@@ -1,11 +1,12 @@
 -- Reading on along a line, call by call of the lexer.
-use Rattle.std.specs.Prelude.{ℕ, zero, suc, if◌then◌else◌, Option, Some, None, ok_or, Result, Ok, Err, List, [], ◌∷◌, length}
+use Rattle.std.specs.Prelude.{ℕ, zero, suc, if◌then◌else◌, ok_or, Result, Ok, Err, List, [], ◌∷◌, length}
+use Rattle.std.specs.Option.{option_map_or}
 use Rattle.std.specs.Result.{result_map_both}
 use Rattle.nj_text.specs.declared.sign.Sign.{Sign}
 use Rattle.nj_text.specs.declared.sign.Sign.TheVariants as sign
 use Rattle.nj_text.specs.declared.spot.Spot.{Spot}
 use Rattle.nj_text.specs.Words.{WordText}
-use Rattle.nj_text.specs.Calls.{State, Between, Inside, Failed, Reply, skip_blanks_of, ident_of, sign_of, path_word_of, spot_of}
+use Rattle.nj_text.specs.Calls.{State, Inside, Reply, skip_blanks_of, ident_of, sign_of, path_word_of, spot_of}
 use Rattle.nj_manifest.specs.declared.fault.Wanted.{Wanted}
 use Rattle.nj_manifest.specs.declared.fault.Wanted.TheVariants as wanted
 use Rattle.nj_manifest.specs.Faults.{Fault, Bad, Expected}
@@ -45,29 +46,17 @@ expect_sign want wanted s = do
 abbrev pub whole_line : {A : Type 0} → Step A → Step A
 whole_line step = step >>= λ x. expect_sign sign.LineEnd wanted.Newline x.1 >>= λ end. Ok (x.0, end)
 
--- a word before those that follow it; none ends them
-abbrev pub words_from : Option WordText → State → Step (List WordText) → Step (List WordText)
-words_from None after others = Ok ([], after)
-words_from (Some word) after others = do
-  more ← others
-  Ok (word ∷ more.0, more.1)
-
 -- the words from here on, where the limit is above their number
 unfoldable pub words_within : (limit : ℕ) → State → Step (List WordText)
 words_within zero s = Ok ([], s)
 words_within (suc limit) s = do
   word ← called (path_word_of s)
-  words_from word.0 word.1 (words_within limit word.1)
+  option_map_or (λ first. words_within limit word.1 >>= λ more. Ok (first ∷ more.0, more.1)) word.0 (Ok ([], word.1))
 
--- Each word has a unit at least.
-abbrev pub units_left : State → ℕ
-units_left (Between ls) = 0
-units_left (Inside l ls) = length l.units
-units_left (Failed f) = 0
-
--- the words from here on, up to what is not a word
+-- the words from here on, up to what is not a word; each has a unit at least
 unfoldable pub words_next : State → Step (List WordText)
-words_next s = words_within (suc (units_left s)) s
+words_next (Inside l ls) = words_within (suc (length l.units)) (Inside l ls)
+words_next s = words_within (suc zero) s
 
 -- the words of a section that begins with this sign, and none where the sign is not there
 unfoldable pub section_next : Sign → State → Step (List WordText)

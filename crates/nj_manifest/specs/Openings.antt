@@ -1,5 +1,5 @@
 -- Where the next statement of some lines begins.
-use Rattle.std.specs.Prelude.{if◌then◌else◌, Result, Ok, Err, List, [], ◌∷◌}
+use Rattle.std.specs.Prelude.{if◌then◌else◌, Option, Some, None, Result, Ok, Err, List, [], ◌∷◌}
 use Rattle.nj_text.specs.declared.fault.UnitFault.TheVariants as unit_fault
 use Rattle.nj_text.specs.declared.spot.Spot.{Spot}
 use Rattle.nj_text.specs.Bytes.{drop_while}
@@ -8,10 +8,9 @@ use Rattle.nj_text.specs.Lines.{kind_of, is_space_unit}
 use Rattle.nj_text.specs.Calls.{without_comments}
 use Rattle.nj_manifest.specs.Faults.{Fault, Bad, UnexpectedIndent}
 
--- the line with which it begins, and the lines after that; or the lines that are left at the end
-pub data Opening : Type 0 where
-  Begun : (line : Line) (lines : List Line) → Opening
-  Ended : (lines : List Line) → Opening
+-- what is read of lines, and the lines after it
+abbrev pub Parse : Type 0 → Type 0
+Parse A = Result (A × List Line) Fault
 
 -- after the last line of a text nothing is read
 abbrev pub or_last : {A : Type 0} → Line → (last others : A) → A
@@ -24,14 +23,14 @@ without_spaces l = with_units (drop_while is_space_unit l.units) l
 abbrev pub front_of : Line → Spot
 front_of l = record { line = (line_spot (without_spaces l)).line; column = 1 }
 
-abbrev pub opening_by : Kind → Line → List Line → Result Opening Fault → Result Opening Fault
-opening_by CommentLine l ls others = or_last l (Ok (Ended (lines_after l (without_comments ls)))) others
+abbrev pub opening_by : Kind → Line → List Line → Parse (Option Line) → Parse (Option Line)
+opening_by CommentLine l ls others = or_last l (Ok (None, lines_after l (without_comments ls))) others
 opening_by (TabLine tab) l ls others = Err (Bad (unit_fault.Tab tab))
 opening_by IndentedLine l ls others = Err (UnexpectedIndent (front_of l))
-opening_by BlankLine l ls others = or_last l (Ok (Ended (lines_after l ls))) others
-opening_by PlainLine l ls others = Ok (Begun l ls)
+opening_by BlankLine l ls others = or_last l (Ok (None, lines_after l ls)) others
+opening_by PlainLine l ls others = Ok (Some l, ls)
 
 -- the first line that is neither a comment nor blank; an indented one belongs to no statement
-unfoldable pub opening : List Line → Result Opening Fault
-opening [] = Ok (Ended [])
+unfoldable pub opening : List Line → Parse (Option Line)
+opening [] = Ok (None, [])
 opening (l ∷ ls) = opening_by (kind_of l) l ls (opening ls)

@@ -7,7 +7,8 @@ use Rattle.nj_manifest.specs.declared.fault.ParseFault.TheVariants as fault
 use Rattle.nj_manifest.specs.declared.statement.Placed.{Placed}
 use Rattle.nj_manifest.specs.declared.statement.Statement.{Statement}
 use Rattle.nj_manifest.specs.Faults.{Fault, fault_text}
-use Rattle.nj_manifest.specs.Statements.{Parse, PlacedText, next_statement, Left, Lines, Refused}
+use Rattle.nj_manifest.specs.Openings.{Parse}
+use Rattle.nj_manifest.specs.Statements.{PlacedText, next_statement, Left, Lines, Refused}
 use Rattle.nj_manifest.specs.Contents.{placed_text}
 
 -- the expected fault; or out of memory, which does not depend on the text

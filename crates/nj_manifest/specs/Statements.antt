@@ -1,21 +1,20 @@
 -- The statements of a text, read from its lines.
-use Rattle.std.specs.Prelude.{ℕ, Bool, true, false, ◌&&◌, not, if◌then◌else◌, Option, Some, None, ok_or, option_map, unwrap_or, Result, Ok, Err, List, [], ◌∷◌, find, reverse, codes}
+use Rattle.std.specs.Prelude.{ℕ, Bool, true, false, ◌&&◌, not, if◌then◌else◌, Option, Some, None, ok_or, option_map, unwrap_or, Ok, Err, List, [], ◌∷◌, find, reverse, codes}
 use mathlib.Core.Bool.{beq}
 use Rattle.std.specs.List.{list_any}
 use Rattle.std.specs.Str.{bytes_eq}
 use Rattle.nj_text.specs.declared.fault.UnitFault.TheVariants as lex
 use Rattle.nj_text.specs.declared.sign.Sign.TheVariants as sign
 use Rattle.nj_text.specs.declared.spot.Spot.{Spot}
-use Rattle.nj_text.specs.Bytes.{drop_while}
-use Rattle.nj_text.specs.Lines.{Line, line_spot, with_units, lines_after, Kind, CommentLine, TabLine, BlankLine, IndentedLine}
-use Rattle.nj_text.specs.Lines.{PlainLine, kind_of, is_space_unit}
+use Rattle.nj_text.specs.Lines.{Line, line_spot, lines_after, Kind, CommentLine, TabLine, BlankLine, IndentedLine}
+use Rattle.nj_text.specs.Lines.{PlainLine, kind_of}
 use Rattle.nj_text.specs.Words.{WordText}
 use Rattle.nj_text.specs.Calls.{State, Between, Inside, Failed, is_empty, path_word_of, value_of, spot_of, without_comments}
 use Rattle.nj_manifest.specs.declared.fault.Wanted.TheVariants as wanted
 use Rattle.nj_manifest.specs.declared.block.Keys.{Keys}
 use Rattle.nj_manifest.specs.declared.block.Keys.TheVariants as keys
 use Rattle.nj_manifest.specs.Faults.{Fault, Bad, Expected, MissingCommand, RspPair, UnknownKey, MissingDepth}
-use Rattle.nj_manifest.specs.Openings.{or_last, without_spaces, Opening, Begun, Ended, opening}
+use Rattle.nj_manifest.specs.Openings.{Parse, or_last, without_spaces, opening}
 use Rattle.nj_manifest.specs.LineSteps.{Step, ◌>>=◌, called, NameText, name_next, expect_sign, whole_line, words_next, section_next}
 
 -- ---- block lines
@@ -55,10 +54,6 @@ abbrev pub lines_from : State → List Line
 lines_from (Between ls) = ls
 lines_from (Inside l ls) = l ∷ ls
 lines_from (Failed f) = []
-
--- what is read of lines, and the lines after it
-abbrev pub Parse : Type 0 → Type 0
-Parse A = Result (A × List Line) Fault
 
 abbrev pub block_by : Keys → Kind → Line → List Line → Parse (List LineText) → Parse (List LineText)
 block_by allowed CommentLine l ls others = or_last l (Ok ([], lines_after l (without_comments ls))) others
@@ -144,10 +139,6 @@ last_line name_of lines name = find (λ l. bytes_eq name (name_of l)) (reverse l
 abbrev pub gives : (key : List ℕ) → List LineText → Bool
 gives key lines = unwrap_or (option_map (λ l. not (is_empty l.value.parts)) (last_line (λ l. l.name) lines key)) false
 
--- whether a line has this key
-abbrev pub names : (key : List ℕ) → List LineText → Bool
-names key ls = list_any (λ l. bytes_eq l.name key) ls
-
 -- ---- statements with a block
 
 -- `rule NAME`, and its block: a rule needs its command, and of the two keys of a response file both or neither
@@ -164,7 +155,7 @@ unfoldable pub pool_next : Spot → State → Parse StatementText
 pool_next spot s = do
   name ← whole_line (name_next wanted.PoolName s)
   lines ← block keys.OfPool (lines_from name.1)
-  if names (codes "depth") lines.0 then Ok (PoolText name.0 lines.0, lines.1) else Err (MissingDepth spot)
+  if list_any (λ l. bytes_eq l.name (codes "depth")) lines.0 then Ok (PoolText name.0 lines.0, lines.1) else Err (MissingDepth spot)
 
 -- `build OUTPUTS : RULE INPUTS`, and its block
 unfoldable pub build_next : State → Parse StatementText
@@ -193,12 +184,12 @@ statement_after word spot s =
     else (if bytes_eq word (codes "subninja") then alone SubninjaText (file_next s)
     else alone (BindingText word) (equals_value s))))))
 
-abbrev pub statement_from : Opening → Parse (Option PlacedText)
-statement_from (Begun l ls) = do
+abbrev pub statement_from : Option Line × List Line → Parse (Option PlacedText)
+statement_from (Some l, ls) = do
   word ← name_next wanted.Statement (Inside l ls)
   item ← statement_after word.0.name (line_spot l) word.1
   Ok (Some (record { spot = line_spot l; item = item.0 }), item.1)
-statement_from (Ended ls) = Ok (None, ls)
+statement_from (None, ls) = Ok (None, ls)
 
 -- the next statement of the lines, if there is one, and the lines after it
 unfoldable pub next_statement : List Line → Parse (Option PlacedText)

@@ -3,8 +3,8 @@
 ghost use Rattle.std.specs.Prelude.{◌≡◌, map, OnOk, ◌++◌, ◌∷◌, []};
 ghost use Rattle.nj_text.specs.Words.{word_text};
 ghost use Rattle.nj_manifest.specs.Inside.ParserContracts.{TakesStep};
-ghost use Rattle.nj_manifest.specs.Statements.{allows, equals_value, line_next, block, names, gives};
-ghost use Rattle.nj_manifest.specs.Inside.Heads.{whole_rule, whole_pool};
+ghost use Rattle.nj_manifest.specs.Statements.{allows, equals_value, line_next, block, gives};
+ghost use Rattle.nj_manifest.specs.Inside.Heads.{names, whole_rule, whole_pool};
 ghost use Rattle.nj_manifest.specs.Contents.{line_text, lines_text};
 ghost use Rattle.nj_manifest.specs.Inside.ParserContracts.{ParsesFrom, Wholes};
 

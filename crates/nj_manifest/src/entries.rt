@@ -5,7 +5,7 @@ ghost use Rattle.nj_text.specs.Words.{word_text, part_text};
 ghost use Rattle.nj_manifest.specs.Contents.{words_text};
 ghost use Rattle.nj_manifest.specs.Expansion.{expanded, no_values};
 ghost use Rattle.nj_manifest.specs.Inside.ParserContracts.{TakesStep, LeadsTo};
-ghost use Rattle.nj_manifest.specs.Dyndeps.{version_line, word_of_form, no_path, no_section, output_next, added_inputs, entry_line, restat_line, line_too_many, restat_block};
+ghost use Rattle.nj_manifest.specs.Dyndeps.{version_line, word_of_form, no_path, no_section, output_next, added_inputs, entry_line, restat_block};
 ghost use Rattle.nj_manifest.specs.DyndepParsers.{entry_text};
 
 use crate::block::equals_value;
@@ -151,18 +151,8 @@ pub fn entry_line<'a>(alloc: Global, lexer: &mut Lexer<'a>) -> Result<Entry<'a>,
     Ok(Entry { out, outs, ins })
 }
 
-/// `restat = VALUE`
-#[tactic(auto, unfolding(crate::specs::Dyndeps::restat_line))]
-fn restat_line<'a>(alloc: Global, lexer: &mut Lexer<'a>) -> Result<(), ParseFault<'a>>
-    ensures { LeadsTo result lexer.new (restat_line lexer.old) }
-{
-    word_of_form(lexer, b"restat", Wanted::VariableName)?;
-    let _value = equals_value(alloc, lexer)?;
-    Ok(())
-}
-
-/// The block: a line at most.
-#[tactic(auto, unfolding(crate::specs::Dyndeps::restat_block, crate::specs::Dyndeps::line_too_many))]
+/// The block: `restat = VALUE` at most.
+#[tactic(auto, unfolding(crate::specs::Dyndeps::restat_block))]
 pub fn restat_block<'a>(alloc: Global, lexer: &mut Lexer<'a>) -> Result<(), ParseFault<'a>>
     ensures { LeadsTo result lexer.new (restat_block lexer.old) }
 {
@@ -170,7 +160,8 @@ pub fn restat_block<'a>(alloc: Global, lexer: &mut Lexer<'a>) -> Result<(), Pars
         LineStart::Indented => {}
         _ => return Ok(()),
     }
-    restat_line(alloc, lexer)?;
+    word_of_form(lexer, b"restat", Wanted::VariableName)?;
+    let _value = equals_value(alloc, lexer)?;
     match lexer.start_line()? {
         LineStart::Indented => {
             let key = name_next(lexer, Wanted::VariableName)?;

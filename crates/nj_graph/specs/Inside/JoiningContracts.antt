@@ -4,7 +4,7 @@ use Rattle.std.specs.Str.{is_utf8}
 use Rattle.nj_text.specs.Lines.{Line}
 use Rattle.nj_manifest.specs.declared.entries.Entry as text
 use Rattle.nj_manifest.specs.Faults.{Fault}
-use Rattle.nj_manifest.specs.Statements.{Parse}
+use Rattle.nj_manifest.specs.Openings.{Parse}
 use Rattle.nj_manifest.specs.Dyndeps.{EntryText, DyndepLeft, Refusing, entry_of}
 use Rattle.nj_manifest.specs.DyndepParsers.{entry_text}
 use Rattle.nj_manifest.specs.Inside.ParserContracts.{left_by}

@@ -1,6 +1,7 @@
 -- A statement in two steps, as the code reads it: its first line, and then its block.
-use Rattle.std.specs.Prelude.{ℕ, if◌then◌else◌, Option, Some, Result, Ok, Err, List, codes}
+use Rattle.std.specs.Prelude.{ℕ, Bool, if◌then◌else◌, Option, Some, Result, Ok, Err, List, codes}
 use mathlib.Core.Bool.{beq}
+use Rattle.std.specs.List.{list_any}
 use Rattle.std.specs.Str.{bytes_eq}
 use Rattle.nj_text.specs.declared.sign.Sign.TheVariants as sign
 use Rattle.nj_text.specs.declared.spot.Spot.{Spot}
@@ -10,8 +11,9 @@ use Rattle.nj_manifest.specs.declared.fault.Wanted.TheVariants as wanted
 use Rattle.nj_manifest.specs.declared.block.Keys.TheVariants as keys
 use Rattle.nj_manifest.specs.Faults.{Fault, MissingCommand, RspPair, MissingDepth}
 use Rattle.nj_manifest.specs.LineSteps.{Step, ◌>>=◌, NameText, name_next, expect_sign, whole_line}
-use Rattle.nj_manifest.specs.Statements.{LineText, equals_value, lines_from, Parse, block, StatementText, BindingText, RuleText, PoolText, BuildText, DefaultText, IncludeText, SubninjaText}
-use Rattle.nj_manifest.specs.Statements.{PlacedText, outputs_next, inputs_next, targets_next, file_next, gives, names}
+use Rattle.nj_manifest.specs.Openings.{Parse}
+use Rattle.nj_manifest.specs.Statements.{LineText, equals_value, lines_from, block, StatementText, BindingText, RuleText, PoolText, BuildText, DefaultText, IncludeText, SubninjaText}
+use Rattle.nj_manifest.specs.Statements.{PlacedText, outputs_next, inputs_next, targets_next, file_next, gives}
 use Rattle.nj_manifest.specs.Grammar.{HeadText, Alone, RuleHead, PoolHead, BuildHead}
 
 -- ---- the first line
@@ -56,8 +58,12 @@ head_next s = do
 unfoldable pub whole_rule : Spot → List LineText → Result (List LineText) Fault
 whole_rule spot lines =
     if beq (gives (codes "rspfile") lines) (gives (codes "rspfile_content") lines)
-    then (if gives (codes "command") lines then Ok lines else Err (MissingCommand spot))
-    else Err (RspPair spot)
+        then (if gives (codes "command") lines then Ok lines else Err (MissingCommand spot))
+        else Err (RspPair spot)
+
+-- whether a line has this key
+abbrev pub names : (key : List ℕ) → List LineText → Bool
+names key ls = list_any (λ l. bytes_eq l.name key) ls
 
 -- a pool needs its depth
 unfoldable pub whole_pool : Spot → List LineText → Result (List LineText) Fault

@@ -5,8 +5,8 @@ use Rattle.nj_text.specs.Calls.{State, Between, Inside, Failed, is_inside}
 use Rattle.nj_manifest.specs.declared.fault.ParseFault.{ParseFault}
 use Rattle.nj_manifest.specs.Faults.{Fault, fault_text}
 use Rattle.nj_manifest.specs.LineSteps.{Step}
-use Rattle.nj_manifest.specs.Statements.{LineText, Parse, lines_from, Left, Lines, Refused}
-use Rattle.nj_manifest.specs.Openings.{Opening, Begun, Ended, opening}
+use Rattle.nj_manifest.specs.Statements.{LineText, lines_from, Left, Lines, Refused}
+use Rattle.nj_manifest.specs.Openings.{Parse, opening}
 use Rattle.nj_manifest.specs.Parsers.{Fails}
 use Rattle.nj_text.specs.declared.word.Word.{Word}
 use Rattle.nj_manifest.specs.declared.steps.PlacedName.{PlacedName}
@@ -81,12 +81,12 @@ ParsesAt view other after parse result = Unit {0}
 
 -- the entry that begins here
 abbrev pub entry_here : lines.Line → List lines.Line → Parse (Option EntryText)
-entry_here l ls = entry_from (Begun l ls)
+entry_here l ls = entry_from (Some l, ls)
 
 -- where the next statement begins, if the lexer is there
-abbrev pub opening_at : State → Opening
-opening_at (Inside l ls) = Begun l ls
-opening_at s = Ended (lines_from s)
+abbrev pub opening_at : State → Option lines.Line × List lines.Line
+opening_at (Inside l ls) = (Some l, ls)
+opening_at s = (None, lines_from s)
 
 -- It finds where the next statement begins, and leaves the lexer there: whether there is one.
 abbrev pub FindsOpening : (before after : State) → Result Bool ParseFault → Type 0

@@ -1,6 +1,7 @@
 use Rattle.std.proofs.Common.{◌≡◌, map}
 use Rattle.nj_text.specs.Words.{word_text}
-use Rattle.nj_manifest.specs.LineSteps.{words_next, units_left}
+use Rattle.nj_manifest.specs.LineSteps.{words_next}
+use Rattle.nj_manifest.proofs.Choices.{units_left}
 use Rattle.nj_manifest.proofs.WordLimits.{in_front}
 use Rattle.nj_manifest.proofs.steps.words_next.Given as goal
 
