@@ -7,7 +7,7 @@ use Rattle.clap.specs.declared.parser.matches.Found.{Found}
 use Rattle.clap.proofs.WalkLemmas.{raw_values-rows}
 use Rattle.nj_manifest.specs.LineSteps.{◌>>=◌}
 use Rattle.nj_args.specs.CommandLine.{command}
-use Rattle.nj_args.specs.Fields.{FieldStrings, fields_in, is_refused, words_in}
+use Rattle.nj_args.specs.Fields.{is_refused, words_in}
 use Rattle.nj_args.specs.Inside.Held.{word_strings}
 use Rattle.nj_args.specs.Requests.{RequestText, given_request, request_in, request_of, wordless}
 use Rattle.nj_args.specs.declared.faults.UsageFault.{UsageFault}
@@ -19,21 +19,21 @@ pub words_held : (words : Option (Bor (List (Bor (List ℕ))))) (found : Found)
     → word_strings words ≡ words_in (rows_of found)
 words_held words found e = ap (λ strings. unwrap_or strings []) (e ∙ raw_values-rows found (codes "words"))
 
-abbrev asked_of : (refused : Bool) → FieldStrings → Result RequestText UsageFault
-asked_of refused fields = ok_or (if refused then None else Some fields) Unparsed >>= request_in
+abbrev asked_of : (refused : Bool) → List Row → Result RequestText UsageFault
+asked_of refused rows = ok_or (if refused then None else Some rows) Unparsed >>= request_in
 
-not_refused : (refused : Bool) (fields : FieldStrings) → refused ≡ false → asked_of refused fields ≡ request_in fields
-not_refused false fields e = refl
-not_refused true fields e = absurd (cc)
+not_refused : (refused : Bool) (rows : List Row) → refused ≡ false → asked_of refused rows ≡ request_in rows
+not_refused false rows e = refl
+not_refused true rows e = absurd (cc)
 
-is_unparsed : (refused : Bool) (fields : FieldStrings) → refused ≡ true → asked_of refused fields ≡ Err Unparsed
-is_unparsed true fields e = refl
-is_unparsed false fields e = absurd (cc)
+is_unparsed : (refused : Bool) (rows : List Row) → refused ≡ true → asked_of refused rows ≡ Err Unparsed
+is_unparsed true rows e = refl
+is_unparsed false rows e = absurd (cc)
 
 pub given : (words : List (List ℕ)) (rows : List Row) → is_refused words ≡ false → rows ≡ matches_of command words
-    → given_request words ≡ request_in (fields_in rows)
+    → given_request words ≡ request_in rows
 given words rows read same =
-    not_refused (is_refused words) (fields_in (matches_of command words)) read ∙ ap (λ rows. request_in (fields_in rows)) (sym same)
+    not_refused (is_refused words) (matches_of command words) read ∙ ap request_in (sym same)
 
 unparsed_fault : (words : List (List ℕ)) (fault : UsageFault) → fault ≡ Unparsed → given_request words ≡ Err Unparsed → given_request words ≡ Err fault
 unparsed_fault words fault e asked = asked ∙ ap Err (sym e)
@@ -43,7 +43,7 @@ pub unparsed : (words : List (List ℕ)) (fault : UsageFault)
     → (fault ≡ OutOfMemory) ⊎ (given_request words ≡ Err fault)
 unparsed words fault (inl e) = inl e
 unparsed words fault (inr e) =
-    inr (unparsed_fault words fault e.0 (is_unparsed (is_refused words) (fields_in (matches_of command words)) e.1))
+    inr (unparsed_fault words fault e.0 (is_unparsed (is_refused words) (matches_of command words) e.1))
 
 pub of_none : (words : List (String Global)) → length words < 1 → request_of (map string_bytes words) ≡ Ok wordless
 unfolding request_of

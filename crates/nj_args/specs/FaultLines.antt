@@ -1,5 +1,6 @@
 -- The line that reports why words are not a valid request.
-use Rattle.std.specs.Prelude.{ℕ, List, [], ◌∷◌, ◌++◌, codes}
+use Rattle.std.specs.Prelude.{ℕ, List, ◌++◌, codes}
+use Rattle.nj_tools.specs.Lines.{line}
 use Rattle.nj_args.specs.declared.faults.ToolOption.{ToolOption}
 use Rattle.nj_args.specs.declared.faults.ToolOption.TheVariants as option
 use Rattle.nj_args.specs.declared.faults.UsageFault.{UsageFault}
@@ -31,8 +32,5 @@ fault_text (fault.BadWords tool) = quoting (codes "wrong words for tool ") tool
 fault_text fault.OutOfMemory = codes "out of memory"
 
 -- `ninja-explain: TEXT`, and its line end
-abbrev pub line_of : (text : List ℕ) → List ℕ
-line_of text = codes "ninja-explain: " ++ text ++ 10 ∷ []
-
 abbrev pub fault_line : UsageFault → List ℕ
-fault_line fault = line_of (fault_text fault)
+fault_line fault = line (codes "ninja-explain: " ++ fault_text fault)

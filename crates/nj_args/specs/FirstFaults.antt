@@ -1,6 +1,7 @@
 -- Which fault of a command line is reported: the fault of its first mistake, in a fixed order.
 use Rattle.std.specs.Prelude.{◌≡◌, ◌≢◌, ◌↔◌, ⊤, IsTrue, IsOk, MatchOption, ℕ, List, [], ◌∷◌, ◌++◌, map, codes, Some, None, Err}
-use Rattle.nj_args.specs.Fields.{FieldStrings, fields_of}
+use Rattle.clap.specs.Words.{Row, first_of}
+use Rattle.nj_args.specs.Fields.{given_rows, is_on, words_in}
 use Rattle.nj_args.specs.Numbers.{given_number, given_depth}
 use Rattle.nj_args.specs.Requests.{request_of}
 use Rattle.nj_args.specs.RunMarks.{given_run_mark}
@@ -11,7 +12,7 @@ use Rattle.nj_args.specs.declared.faults.UsageFault.TheVariants.{Unparsed, Unkno
 use Rattle.nj_args.specs.declared.tools.Tool.{Tool}
 use Rattle.nj_args.specs.declared.tools.Tool.TheVariants.{Commands, Inputs, Targets, Query, Rules, Compdb}
 
--- what can be wrong with the fields that `clap` reads in the words
+-- what can be wrong with the rows that `clap` reads in the words
 pub data Mistake : Type 0 where
   no_tool : Mistake
   unknown_tool : Mistake
@@ -43,45 +44,47 @@ TakesWords Query words = words ≢ []
 TakesWords Rules words = words ≡ []
 TakesWords Compdb words = ⊤
 
--- the fields ask for this tool, by its name
-pub record NamesTool (fields : FieldStrings) (name : List ℕ) (tool : Tool) : Type 0 where
-  pub asked : fields.tool ≡ Some name
+-- the rows ask for this tool, by its name
+pub record NamesTool (rows : List Row) (name : List ℕ) (tool : Tool) : Type 0 where
+  pub asked : first_of (codes "-t") rows ≡ Some name
   pub known : tool_named name ≡ Some tool
 
--- the fields have this mistake, whatever else is wrong with them, and the fault reports it
-pub data HasMistake (fields : FieldStrings) : Mistake → UsageFault → Type 0 where
-  toolless : fields.tool ≡ None → HasMistake fields no_tool Unparsed
-  unknown : (name : List ℕ) → fields.tool ≡ Some name → tool_named name ≡ None → HasMistake fields unknown_tool (UnknownTool name)
-  foreign : (name : List ℕ) (tool : Tool) (option : ToolOption) → NamesTool fields name tool → IsTrue (is_foreign tool fields option)
-      → HasMistake fields (foreign_option option) (ForeignOption option name)
-  no_number : (text : List ℕ) → fields.take ≡ Some text → given_number text ≡ None → HasMistake fields bad_take (BadNumber text)
-  no_mark : (text : List ℕ) → fields.resume ≡ Some text → given_run_mark fields.validations text ≡ None
-      → HasMistake fields bad_mark (BadMark text)
-  wrong_words : (name : List ℕ) (tool : Tool) → NamesTool fields name tool → ¬ TakesWords tool fields.words
-      → HasMistake fields bad_words (BadWords name)
-  no_depth : (name text : List ℕ) → NamesTool fields name Targets → fields.words ≡ codes "depth" ∷ text ∷ [] → given_depth text ≡ None
-      → HasMistake fields bad_depth (BadNumber text)
+-- the rows have this mistake, whatever else is wrong with them, and the fault reports it
+pub data HasMistake (rows : List Row) : Mistake → UsageFault → Type 0 where
+  toolless : first_of (codes "-t") rows ≡ None → HasMistake rows no_tool Unparsed
+  unknown : (name : List ℕ) → first_of (codes "-t") rows ≡ Some name → tool_named name ≡ None
+      → HasMistake rows unknown_tool (UnknownTool name)
+  foreign : (name : List ℕ) (tool : Tool) (option : ToolOption) → NamesTool rows name tool → IsTrue (is_foreign tool rows option)
+      → HasMistake rows (foreign_option option) (ForeignOption option name)
+  no_number : (text : List ℕ) → first_of (codes "--take") rows ≡ Some text → given_number text ≡ None
+      → HasMistake rows bad_take (BadNumber text)
+  no_mark : (text : List ℕ) → first_of (codes "--resume") rows ≡ Some text → given_run_mark (is_on (codes "--validations") rows) text ≡ None
+      → HasMistake rows bad_mark (BadMark text)
+  wrong_words : (name : List ℕ) (tool : Tool) → NamesTool rows name tool → ¬ TakesWords tool (words_in rows)
+      → HasMistake rows bad_words (BadWords name)
+  no_depth : (name text : List ℕ) → NamesTool rows name Targets → words_in rows ≡ codes "depth" ∷ text ∷ [] → given_depth text ≡ None
+      → HasMistake rows bad_depth (BadNumber text)
 
-abbrev pub Lacks : FieldStrings → Mistake → Type 0
-Lacks fields mistake = (fault : UsageFault) → ¬ HasMistake fields mistake fault
+abbrev pub Lacks : List Row → Mistake → Type 0
+Lacks rows mistake = (fault : UsageFault) → ¬ HasMistake rows mistake fault
 
-abbrev pub HasNoMistake : FieldStrings → Type 0
-HasNoMistake fields = (mistake : Mistake) → Lacks fields mistake
+abbrev pub HasNoMistake : List Row → Type 0
+HasNoMistake rows = (mistake : Mistake) → Lacks rows mistake
 
--- the fault reports the first of these mistakes that the fields have
-pub data IsFirstOf (fields : FieldStrings) : List Mistake → UsageFault → Type 0 where
-  first : {mistake : Mistake} {mistakes : List Mistake} {fault : UsageFault} → HasMistake fields mistake fault
-      → IsFirstOf fields (mistake ∷ mistakes) fault
-  later : {mistake : Mistake} {mistakes : List Mistake} {fault : UsageFault} → Lacks fields mistake → IsFirstOf fields mistakes fault
-      → IsFirstOf fields (mistake ∷ mistakes) fault
+-- the fault reports the first of these mistakes that the rows have
+pub data IsFirstOf (rows : List Row) : List Mistake → UsageFault → Type 0 where
+  first : {mistake : Mistake} {mistakes : List Mistake} {fault : UsageFault} → HasMistake rows mistake fault
+      → IsFirstOf rows (mistake ∷ mistakes) fault
+  later : {mistake : Mistake} {mistakes : List Mistake} {fault : UsageFault} → Lacks rows mistake → IsFirstOf rows mistakes fault
+      → IsFirstOf rows (mistake ∷ mistakes) fault
 
 -- of words that `clap` refuses only that is reported
 abbrev pub IsFirstFault : (words : List (List ℕ)) → UsageFault → Type 0
-IsFirstFault words fault = MatchOption (fields_of words) (fault ≡ Unparsed) (λ fields. IsFirstOf fields all_mistakes fault)
+IsFirstFault words fault = MatchOption (given_rows words) (fault ≡ Unparsed) (λ rows. IsFirstOf rows all_mistakes fault)
 
 -- `clap` reads the words, and nothing is wrong with what it reads
 abbrev pub AreFaultless : (words : List (List ℕ)) → Type 0
-AreFaultless words = MatchOption (fields_of words) ⊥ HasNoMistake
+AreFaultless words = MatchOption (given_rows words) ⊥ HasNoMistake
 
 -- no words at all are a request too
 abbrev pub FirstFaultIsReported : Type 0

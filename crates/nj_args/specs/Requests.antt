@@ -7,7 +7,8 @@ use Rattle.nj_manifest.specs.LineSteps.{◌>>=◌}
 use Rattle.nj_tools.specs.declared.style.InputsStyle.{InputsStyle}
 use Rattle.nj_tools.specs.declared.view.TargetsView.{TargetsView}
 use Rattle.nj_tools.specs.declared.view.TargetsView.TheVariants.{OfRule, Sources, Depth, All}
-use Rattle.nj_args.specs.Fields.{FieldStrings, fields_of}
+use Rattle.clap.specs.Words.{Row, first_of}
+use Rattle.nj_args.specs.Fields.{given_rows, is_on, words_in}
 use Rattle.nj_args.specs.Numbers.{given_number, given_depth}
 use Rattle.nj_args.specs.RunMarks.{given_run_mark}
 use Rattle.nj_args.specs.Tools.{tool_named, first_foreign}
@@ -65,58 +66,41 @@ start_of validations None = Ok []
 start_of validations (Some text) = ok_or (given_run_mark validations text) (BadMark text)
 
 -- the commands of the edges that the targets need, from a mark on, up to a limit; or with `-s` the commands of the edges that make them
-abbrev pub commands_of : FieldStrings → Result ActionText UsageFault
-commands_of fields = if fields.is_single then Ok (single_commands fields.words) else do
-  take ← take_of fields.take
-  start ← start_of fields.validations fields.resume
-  Ok (commands fields.words fields.validations take start)
+abbrev pub commands_of : List Row → Result ActionText UsageFault
+commands_of rows = if is_on (codes "-s") rows then Ok (single_commands (words_in rows)) else do
+  take ← take_of (first_of (codes "--take") rows)
+  start ← start_of (is_on (codes "--validations") rows) (first_of (codes "--resume") rows)
+  Ok (commands (words_in rows) (is_on (codes "--validations") rows) take start)
 
 -- ---- `targets`
-
--- `depth`, `all` or `rule` alone
-abbrev pub view_of_word : (name word : List ℕ) → Result TargetsView UsageFault
-view_of_word name word =
-    if bytes_eq word (codes "depth") then Ok (Depth 1)
-    else if bytes_eq word (codes "all") then Ok All
-    else if bytes_eq word (codes "rule") then Ok Sources
-    else Err (BadWords name)
 
 -- this many levels
 abbrev pub depth_of : (text : List ℕ) → Result TargetsView UsageFault
 depth_of text = ok_or (option_map Depth (given_depth text)) (BadNumber text)
 
--- `depth N` or `rule NAME`
-abbrev pub view_of_pair : (name word value : List ℕ) → Result TargetsView UsageFault
-view_of_pair name word value =
+-- `depth`, `depth N`, `all`, `rule` or `rule NAME`; without words as `depth 1`
+abbrev pub view_of : (name : List ℕ) (words : List (List ℕ)) → Result TargetsView UsageFault
+view_of name [] = Ok (Depth 1)
+view_of name (word ∷ []) =
+    if bytes_eq word (codes "depth") then Ok (Depth 1)
+    else if bytes_eq word (codes "all") then Ok All
+    else if bytes_eq word (codes "rule") then Ok Sources
+    else Err (BadWords name)
+view_of name (word ∷ value ∷ []) =
     if bytes_eq word (codes "depth") then depth_of value
     else if bytes_eq word (codes "rule") then Ok (OfRule value)
     else Err (BadWords name)
-
--- without words as `depth 1`
-abbrev pub view_of : (name : List ℕ) (words : List (List ℕ)) → Result TargetsView UsageFault
-view_of name [] = Ok (Depth 1)
-view_of name (word ∷ []) = view_of_word name word
-view_of name (word ∷ value ∷ []) = view_of_pair name word value
 view_of name (word ∷ value ∷ more ∷ words) = Err (BadWords name)
-
-abbrev pub targets_of : (name : List ℕ) → FieldStrings → Result ActionText UsageFault
-targets_of name fields = do
-  view ← view_of name fields.words
-  Ok (targets view)
 
 -- ---- the other tools
 
 -- the list is sorted and quoted for a shell, one path a line, unless an option changes that
-abbrev pub style_of : FieldStrings → InputsStyle
-style_of fields = record {
-  dependency_order = fields.dependency_order;
-  shell_escape = not fields.no_shell_escape;
-  zero = fields.print0;
+abbrev pub style_of : List Row → InputsStyle
+style_of rows = record {
+  dependency_order = is_on (codes "--dependency-order") rows;
+  shell_escape = not (is_on (codes "--no-shell-escape") rows);
+  zero = is_on (codes "--print0") rows;
 }
-
--- any number of targets
-abbrev pub inputs_of : FieldStrings → Result ActionText UsageFault
-inputs_of fields = Ok (inputs fields.words fields.validations (style_of fields))
 
 -- one file or more
 abbrev pub query_of : (name : List ℕ) (words : List (List ℕ)) → Result ActionText UsageFault
@@ -128,44 +112,43 @@ abbrev pub rules_of : (name : List ℕ) (descriptions : Bool) (words : List (Lis
 rules_of name descriptions [] = Ok (rules descriptions)
 rules_of name descriptions (word ∷ words) = Err (BadWords name)
 
--- the working folder
-abbrev pub here : List ℕ
-here = codes "."
-
--- any number of rules
-abbrev pub compdb_of : FieldStrings → Result ActionText UsageFault
-compdb_of fields = Ok (compdb fields.words (unwrap_or fields.directory here) fields.expand)
-
 -- ---- the request
 
--- what the tool of this name is asked for, by options that go with it
-abbrev pub asked_of : Tool → (name : List ℕ) → FieldStrings → Result ActionText UsageFault
-asked_of tool.Commands name fields = commands_of fields
-asked_of tool.Inputs name fields = inputs_of fields
-asked_of tool.Targets name fields = targets_of name fields
-asked_of tool.Query name fields = query_of name fields.words
-asked_of tool.Rules name fields = rules_of name fields.descriptions fields.words
-asked_of tool.Compdb name fields = compdb_of fields
+-- What the tool of this name is asked for, by options that go with it. `inputs` takes any number of targets, and `compdb` any number of
+-- rules; the working folder is its directory where no other is given.
+abbrev pub asked_of : Tool → (name : List ℕ) → List Row → Result ActionText UsageFault
+asked_of tool.Commands name rows = commands_of rows
+asked_of tool.Inputs name rows = Ok (inputs (words_in rows) (is_on (codes "--validations") rows) (style_of rows))
+asked_of tool.Targets name rows = view_of name (words_in rows) >>= (λ view. Ok (targets view))
+asked_of tool.Query name rows = query_of name (words_in rows)
+asked_of tool.Rules name rows = rules_of name (is_on (codes "-d") rows) (words_in rows)
+asked_of tool.Compdb name rows =
+    Ok (compdb (words_in rows) (unwrap_or (first_of (codes "--directory") rows) (codes ".")) (is_on (codes "-x") rows))
 
 -- an option that does not go with the tool is a fault
-abbrev pub action_of : (name : List ℕ) → FieldStrings → Result ActionText UsageFault
-action_of name fields = do
+abbrev pub action_of : (name : List ℕ) → List Row → Result ActionText UsageFault
+action_of name rows = do
   tool ← ok_or (tool_named name) (UnknownTool name)
-  option_map_or (λ option. Err (ForeignOption option name)) (first_foreign tool fields) (asked_of tool name fields)
+  option_map_or (λ option. Err (ForeignOption option name)) (first_foreign tool rows) (asked_of tool name rows)
 
 abbrev pub main_file : List ℕ
 main_file = codes "build.ninja"
 
 -- a tool is required
-abbrev pub request_in : FieldStrings → Result RequestText UsageFault
-request_in fields = do
-  name ← ok_or fields.tool Unparsed
-  action ← action_of name fields
-  Ok (record { file = unwrap_or fields.file main_file; from_stdin = fields.from_stdin; dyndep = fields.dyndep; action = action })
+abbrev pub request_in : List Row → Result RequestText UsageFault
+request_in rows = do
+  name ← ok_or (first_of (codes "-t") rows) Unparsed
+  action ← action_of name rows
+  Ok (record {
+    file = unwrap_or (first_of (codes "-f") rows) main_file;
+    from_stdin = is_on (codes "--stdin") rows;
+    dyndep = is_on (codes "--dyndep") rows;
+    action = action;
+  })
 
--- the fields are those that `clap` reads in the words
+-- the rows are those that `clap` reads in the words
 abbrev pub given_request : (words : List (List ℕ)) → Result RequestText UsageFault
-given_request words = ok_or (fields_of words) Unparsed >>= request_in
+given_request words = ok_or (given_rows words) Unparsed >>= request_in
 
 -- without any words: all commands of a file that standard input gives
 abbrev pub wordless : RequestText

@@ -1,7 +1,10 @@
 -- The tools, and which options go with which.
 use Rattle.std.specs.Prelude.{ℕ, ◌&&◌, Bool, true, false, not, if◌then◌else◌, List, [], ◌∷◌, find, codes, Option, Some, None, is_some}
+use Rattle.std.specs.List.{list_any}
 use Rattle.std.specs.Str.{bytes_eq}
-use Rattle.nj_args.specs.Fields.{FieldStrings}
+use Rattle.clap.specs.Words.{Row, first_of}
+use Rattle.nj_args.specs.FaultLines.{option_text}
+use Rattle.nj_args.specs.Fields.{is_on}
 use Rattle.nj_args.specs.declared.faults.ToolOption.{ToolOption}
 use Rattle.nj_args.specs.declared.faults.ToolOption.TheVariants.{Single, Descriptions, Expand, Directory, Take, Resume, Validations, DependencyOrder, NoShellEscape, Print0}
 use Rattle.nj_args.specs.declared.tools.Tool.{Tool}
@@ -17,35 +20,27 @@ tool_named name =
     else if bytes_eq name (codes "compdb") then Some Compdb
     else None
 
--- `--take`, `--resume` and `--validations` go with `commands`, but not with `-s`
-abbrev pub goes_with : Tool → (is_single : Bool) → ToolOption → Bool
-goes_with Commands is_single Single = true
-goes_with Commands is_single Take = not is_single
-goes_with Commands is_single Resume = not is_single
-goes_with Commands is_single Validations = not is_single
-goes_with Inputs is_single Validations = true
-goes_with Inputs is_single DependencyOrder = true
-goes_with Inputs is_single NoShellEscape = true
-goes_with Inputs is_single Print0 = true
-goes_with Rules is_single Descriptions = true
-goes_with Compdb is_single Expand = true
-goes_with Compdb is_single Directory = true
-goes_with _ _ _ = false
+-- the options that go with a tool, beside those that go with each; with `-s`, `commands` takes no other
+abbrev pub options_of : Tool → (is_single : Bool) → List ToolOption
+options_of Commands true = Single ∷ []
+options_of Commands false = Single ∷ Take ∷ Resume ∷ Validations ∷ []
+options_of Inputs is_single = Validations ∷ DependencyOrder ∷ NoShellEscape ∷ Print0 ∷ []
+options_of Rules is_single = Descriptions ∷ []
+options_of Compdb is_single = Expand ∷ Directory ∷ []
+options_of tool is_single = []
 
-abbrev pub is_given : FieldStrings → ToolOption → Bool
-is_given fields Single = fields.is_single
-is_given fields Descriptions = fields.descriptions
-is_given fields Expand = fields.expand
-is_given fields Directory = is_some fields.directory
-is_given fields Take = is_some fields.take
-is_given fields Resume = is_some fields.resume
-is_given fields Validations = fields.validations
-is_given fields DependencyOrder = fields.dependency_order
-is_given fields NoShellEscape = fields.no_shell_escape
-is_given fields Print0 = fields.print0
+-- an option with a value is given if it has one
+abbrev pub is_given : List Row → ToolOption → Bool
+is_given rows Directory = is_some (first_of (codes "--directory") rows)
+is_given rows Take = is_some (first_of (codes "--take") rows)
+is_given rows Resume = is_some (first_of (codes "--resume") rows)
+is_given rows option = is_on (option_text option) rows
 
-abbrev pub is_foreign : Tool → FieldStrings → ToolOption → Bool
-is_foreign tool fields option = is_given fields option && not (goes_with tool fields.is_single option)
+-- an option is given, and is none of those that go with the tool
+abbrev pub is_foreign : Tool → List Row → ToolOption → Bool
+is_foreign tool rows option =
+    let own = options_of tool (is_on (codes "-s") rows) in
+    is_given rows option && not (list_any (λ one. bytes_eq (option_text one) (option_text option)) own)
 
 -- in the order in which they are reported
 abbrev pub all_options : List ToolOption
@@ -54,5 +49,5 @@ all_options =
     ∷ DependencyOrder ∷ NoShellEscape ∷ Print0 ∷ []
 
 -- the first option that was given and does not go with the tool
-abbrev pub first_foreign : Tool → FieldStrings → Option ToolOption
-first_foreign tool fields = find (is_foreign tool fields) all_options
+abbrev pub first_foreign : Tool → List Row → Option ToolOption
+first_foreign tool rows = find (is_foreign tool rows) all_options

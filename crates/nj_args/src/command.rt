@@ -2,15 +2,8 @@
 
 ghost use Rattle.std.specs.Prelude.{◌≡◌, false, IfOk, Some, codes};
 ghost use Rattle.clap.specs.Words.{app_of, rule_of, new_rule, with_rule};
-ghost use Rattle.nj_args.specs.CommandLine.{
-  command,
-  nothing_yet,
-  short_option,
-  long_option,
-  short_flag,
-  long_flag,
-  all_words,
-};
+ghost use Rattle.nj_args.specs.CommandLine.{command, nothing_yet, long_flag, all_words};
+ghost use Rattle.nj_args.specs.Inside.Held.{with_letter, with_name, as_flag};
 
 use clap::{Arg, ArgAction, Command};
 use std::alloc::{AllocError, Global};
@@ -19,16 +12,16 @@ use std::alloc::{AllocError, Global};
 pub fn command<'a>(alloc: Global) -> Result<Command<'a>, AllocError>
     ensures { IfOk result (λ made. app_of made ≡ command) }
 {
-    let tool = short_option(alloc, "tool", 't');
-    let file = short_option(alloc, "file", 'f');
-    let take = long_option(alloc, "take");
-    let resume = long_option(alloc, "resume");
-    let single = short_flag(alloc, "single", 's');
-    let input = long_flag(alloc, "stdin");
-    let descriptions = short_flag(alloc, "descriptions", 'd');
-    let expand = short_flag(alloc, "expand", 'x');
-    let directory = long_option(alloc, "directory");
-    let dyndep = long_flag(alloc, "dyndep");
+    let tool = short_option(alloc, "-t", 't');
+    let file = short_option(alloc, "-f", 'f');
+    let take = long_option(alloc, "--take", "take");
+    let resume = long_option(alloc, "--resume", "resume");
+    let single = short_flag(alloc, "-s", 's');
+    let input = long_flag(alloc, "--stdin", "stdin");
+    let descriptions = short_flag(alloc, "-d", 'd');
+    let expand = short_flag(alloc, "-x", 'x');
+    let directory = long_option(alloc, "--directory", "directory");
+    let dyndep = long_flag(alloc, "--dyndep", "dyndep");
     let options = with(with(nothing_yet(alloc), tool)?, file)?;
     let numbers = with(with(options, take)?, resume)?;
     let flags = with(with(numbers, single)?, input)?;
@@ -42,14 +35,20 @@ pub fn command<'a>(alloc: Global) -> Result<Command<'a>, AllocError>
 // The command with the flags that go with `inputs`.
 fn with_flags_of_inputs<'a>(alloc: Global, command: Command<'a>) -> Result<Command<'a>, AllocError>
     ensures { IfOk result (λ more. app_of more ≡ with_rule (with_rule (with_rule (with_rule
-        (app_of command.entry) (long_flag (codes "validations")))
-        (long_flag (codes "dependency-order"))) (long_flag (codes "no-shell-escape")))
-        (long_flag (codes "print0"))) }
+        (app_of command.entry) (long_flag (codes "--validations")))
+        (long_flag (codes "--dependency-order"))) (long_flag (codes "--no-shell-escape")))
+        (long_flag (codes "--print0"))) }
 {
-    let validations = with(command, long_flag(alloc, "validations"))?;
-    let order = with(validations, long_flag(alloc, "dependency-order"))?;
-    let escape = with(order, long_flag(alloc, "no-shell-escape"))?;
-    with(escape, long_flag(alloc, "print0"))
+    let validations = with(command, long_flag(alloc, "--validations", "validations"))?;
+    let order = with(
+        validations,
+        long_flag(alloc, "--dependency-order", "dependency-order"),
+    )?;
+    let escape = with(
+        order,
+        long_flag(alloc, "--no-shell-escape", "no-shell-escape"),
+    )?;
+    with(escape, long_flag(alloc, "--print0", "print0"))
 }
 
 // The command without options and words. It knows neither help nor a version.
@@ -70,36 +69,36 @@ fn with<'a>(command: Command<'a>, arg: Arg<'a>) -> Result<Command<'a>, AllocErro
     command.arg(arg)
 }
 
-// `-L VALUE`
-fn short_option<'a>(alloc: Global, id: &'a str, letter: char) -> Arg<'a>
-    ensures rule { rule_of result ≡ short_option id.entry.now letter }
+// `-L VALUE`, kept under this text.
+fn short_option<'a>(alloc: Global, text: &'a str, letter: char) -> Arg<'a>
+    ensures rule { rule_of result ≡ with_letter text.entry.now letter }
     ensures local { result.global ≡ false }
 {
-    Arg::new(alloc, id).short(letter)
+    Arg::new(alloc, text).short(letter)
 }
 
-// `--ID VALUE`
-fn long_option<'a>(alloc: Global, id: &'a str) -> Arg<'a>
-    ensures rule { rule_of result ≡ long_option id.entry.now }
+// `--NAME VALUE`, kept under this text.
+fn long_option<'a>(alloc: Global, text: &'a str, name: &'a str) -> Arg<'a>
+    ensures rule { rule_of result ≡ with_name text.entry.now name.entry.now }
     ensures local { result.global ≡ false }
 {
-    Arg::new(alloc, id).long(id)
+    Arg::new(alloc, text).long(name)
 }
 
-// `-L`
-fn short_flag<'a>(alloc: Global, id: &'a str, letter: char) -> Arg<'a>
-    ensures rule { rule_of result ≡ short_flag id.entry.now letter }
+// `-L`, kept under this text.
+fn short_flag<'a>(alloc: Global, text: &'a str, letter: char) -> Arg<'a>
+    ensures rule { rule_of result ≡ as_flag (with_letter text.entry.now letter) }
     ensures local { result.global ≡ false }
 {
-    short_option(alloc, id, letter).action(ArgAction::SetTrue)
+    short_option(alloc, text, letter).action(ArgAction::SetTrue)
 }
 
-// `--ID`
-fn long_flag<'a>(alloc: Global, id: &'a str) -> Arg<'a>
-    ensures rule { rule_of result ≡ long_flag id.entry.now }
+// `--NAME`, kept under this text.
+fn long_flag<'a>(alloc: Global, text: &'a str, name: &'a str) -> Arg<'a>
+    ensures rule { rule_of result ≡ as_flag (with_name text.entry.now name.entry.now) }
     ensures local { result.global ≡ false }
 {
-    long_option(alloc, id).action(ArgAction::SetTrue)
+    long_option(alloc, text, name).action(ArgAction::SetTrue)
 }
 
 // The words that are not options.

@@ -1,6 +1,6 @@
 //! Requests: what the words of a command line ask for.
 
-ghost use Rattle.std.specs.Prelude.{◌≡◌, ◌⊎◌, None, Ok, Err, IfOk, IfErr, IfSome, IfNone, map, string_bytes};
+ghost use Rattle.std.specs.Prelude.{◌≡◌, ◌⊎◌, None, Ok, Err, [], ◌∷◌, IfOk, IfErr, IfSome, IfNone, map, string_bytes};
 ghost use Rattle.nj_marks.specs.Marks.{given_mark};
 ghost use Rattle.std.specs.Option.{option_copied};
 ghost use Rattle.nj_args.specs.Requests.{
@@ -14,27 +14,29 @@ ghost use Rattle.nj_args.specs.Requests.{
   commands_of,
   take_of,
   start_of,
-  inputs_of,
   style_of,
-  targets_of,
   view_of,
-  view_of_word,
-  view_of_pair,
   depth_of,
   query_of,
   rules_of,
-  compdb_of,
   main_file,
   wordless,
 };
-ghost use Rattle.nj_args.specs.Inside.Held.{field_strings, word_strings};
+ghost use Rattle.nj_args.specs.Inside.Held.{
+  rows_in,
+  word_strings,
+  inputs_of,
+  targets_of,
+  compdb_of,
+};
 ghost use Rattle.nj_args.specs.RunMarks.{given_run_mark};
 ghost use Rattle.nj_args.specs.declared.faults.UsageFault.TheVariants.{OutOfMemory};
 
 use crate::faults::{UsageFault, Word};
-use crate::fields::{Fields, fields_in, parse};
+use crate::fields::{is_on, parse, text_of, words_in};
 use crate::numbers::{depth_in, number_in};
 use crate::tools::{Tool, first_foreign, tool_named};
+use clap::ArgMatches;
 use nj_graph::Name;
 use nj_marks::{Mark, MarkFault};
 use nj_tools::{InputsStyle, TargetsView};
@@ -152,42 +154,42 @@ fn given_request(alloc: Global, words: &[String]) -> Result<Request, UsageFault>
         ⊎ (given_request (map string_bytes words.now) ≡ Err fault)) }
 {
     match parse(alloc, words) {
-        Ok(matches) => request_in(alloc, &fields_in(&matches)),
+        Ok(matches) => request_in(alloc, &matches),
         Err(fault) => Err(fault),
     }
 }
 
-// What the fields ask for.
-fn request_in(alloc: Global, fields: &Fields<'_, '_>) -> Result<Request, UsageFault>
+// What the matches ask for.
+fn request_in(alloc: Global, matches: &ArgMatches<'_>) -> Result<Request, UsageFault>
     ensures ok { IfOk result (λ request.
-        request_in (field_strings fields.now) ≡ Ok (request_text request)) }
+        request_in (rows_in matches.now) ≡ Ok (request_text request)) }
     ensures err { IfErr result (λ fault. (fault ≡ OutOfMemory)
-        ⊎ (request_in (field_strings fields.now) ≡ Err fault)) }
+        ⊎ (request_in (rows_in matches.now) ≡ Err fault)) }
 {
-    let Some(name) = fields.tool else {
+    let Some(name) = text_of(matches, "-t") else {
         return Err(UsageFault::Unparsed);
     };
-    let action = action_of(alloc, name, fields)?;
+    let action = action_of(alloc, name, matches)?;
     Ok(Request {
-        file: String::from_str(alloc, fields.file.unwrap_or(MAIN_FILE))?,
-        from_stdin: fields.from_stdin,
-        dyndep: fields.dyndep,
+        file: String::from_str(alloc, text_of(matches, "-f").unwrap_or(MAIN_FILE))?,
+        from_stdin: is_on(matches, "--stdin"),
+        dyndep: is_on(matches, "--dyndep"),
         action,
     })
 }
 
 // What the tool of this name is asked for.
-fn action_of(alloc: Global, name: &str, fields: &Fields<'_, '_>) -> Result<Action, UsageFault>
+fn action_of(alloc: Global, name: &str, matches: &ArgMatches<'_>) -> Result<Action, UsageFault>
     ensures ok { IfOk result (λ action.
-        action_of name.now (field_strings fields.now) ≡ Ok (action_text action)) }
+        action_of name.now (rows_in matches.now) ≡ Ok (action_text action)) }
     ensures err { IfErr result (λ fault. (fault ≡ OutOfMemory)
-        ⊎ (action_of name.now (field_strings fields.now) ≡ Err fault)) }
+        ⊎ (action_of name.now (rows_in matches.now) ≡ Err fault)) }
 {
     let Some(tool) = tool_named(name) else {
         return Err(UsageFault::UnknownTool(Word::new(alloc, name)?));
     };
-    match first_foreign(tool, fields) {
-        None => asked_of(alloc, tool, name, fields),
+    match first_foreign(tool, matches) {
+        None => asked_of(alloc, tool, name, matches),
         Some(option) => {
             let tool = Word::new(alloc, name)?;
             Err(UsageFault::ForeignOption { option, tool })
@@ -200,39 +202,40 @@ fn asked_of(
     alloc: Global,
     tool: Tool,
     name: &str,
-    fields: &Fields<'_, '_>,
+    matches: &ArgMatches<'_>,
 ) -> Result<Action, UsageFault>
     ensures ok { IfOk result (λ action.
-        asked_of tool name.now (field_strings fields.now) ≡ Ok (action_text action)) }
+        asked_of tool name.now (rows_in matches.now) ≡ Ok (action_text action)) }
     ensures err { IfErr result (λ fault. (fault ≡ OutOfMemory)
-        ⊎ (asked_of tool name.now (field_strings fields.now) ≡ Err fault)) }
+        ⊎ (asked_of tool name.now (rows_in matches.now) ≡ Err fault)) }
 {
     match tool {
-        Tool::Commands => commands_of(alloc, fields),
-        Tool::Inputs => inputs_of(alloc, fields),
-        Tool::Targets => targets_of(alloc, name, fields),
-        Tool::Query => query_of(alloc, name, fields.words),
-        Tool::Rules => rules_of(alloc, name, fields),
-        Tool::Compdb => compdb_of(alloc, fields),
+        Tool::Commands => commands_of(alloc, matches),
+        Tool::Inputs => inputs_of(alloc, matches),
+        Tool::Targets => targets_of(alloc, name, matches),
+        Tool::Query => query_of(alloc, name, words_in(matches)),
+        Tool::Rules => rules_of(alloc, name, is_on(matches, "-d"), words_in(matches)),
+        Tool::Compdb => compdb_of(alloc, matches),
     }
 }
 
 // The action of `commands`.
-fn commands_of(alloc: Global, fields: &Fields<'_, '_>) -> Result<Action, UsageFault>
+fn commands_of(alloc: Global, matches: &ArgMatches<'_>) -> Result<Action, UsageFault>
     ensures ok { IfOk result (λ action.
-        commands_of (field_strings fields.now) ≡ Ok (action_text action)) }
+        commands_of (rows_in matches.now) ≡ Ok (action_text action)) }
     ensures err { IfErr result (λ fault. (fault ≡ OutOfMemory)
-        ⊎ (commands_of (field_strings fields.now) ≡ Err fault)) }
+        ⊎ (commands_of (rows_in matches.now) ≡ Err fault)) }
 {
-    if fields.is_single {
-        let targets = owned(alloc, fields.words)?;
+    if is_on(matches, "-s") {
+        let targets = owned(alloc, words_in(matches))?;
         return Ok(Action::SingleCommands { targets });
     }
-    let take = take_of(alloc, fields.take)?;
-    let start = start_of(alloc, fields.validations, fields.resume)?;
+    let validations = is_on(matches, "--validations");
+    let take = take_of(alloc, text_of(matches, "--take"))?;
+    let start = start_of(alloc, validations, text_of(matches, "--resume"))?;
     Ok(Action::Commands {
-        targets: owned(alloc, fields.words)?,
-        validations: fields.validations,
+        targets: owned(alloc, words_in(matches))?,
+        validations,
         take,
         start,
     })
@@ -288,38 +291,38 @@ fn mark_in(validations: bool, text: &str) -> Option<&str>
 }
 
 // The action of `inputs`.
-fn inputs_of(alloc: Global, fields: &Fields<'_, '_>) -> Result<Action, UsageFault>
+fn inputs_of(alloc: Global, matches: &ArgMatches<'_>) -> Result<Action, UsageFault>
     ensures ok { IfOk result (λ action.
-        inputs_of (field_strings fields.now) ≡ Ok (action_text action)) }
+        inputs_of (rows_in matches.now) ≡ Ok (action_text action)) }
     ensures err { IfErr result (λ fault. fault ≡ OutOfMemory) }
 {
     Ok(Action::Inputs {
-        targets: owned(alloc, fields.words)?,
-        validations: fields.validations,
-        style: style_of(fields),
+        targets: owned(alloc, words_in(matches))?,
+        validations: is_on(matches, "--validations"),
+        style: style_of(matches),
     })
 }
 
 // How `inputs` writes its list.
-fn style_of(fields: &Fields<'_, '_>) -> InputsStyle
-    ensures { result ≡ style_of (field_strings fields.now) }
+fn style_of(matches: &ArgMatches<'_>) -> InputsStyle
+    ensures { result ≡ style_of (rows_in matches.now) }
 {
     InputsStyle {
-        dependency_order: fields.dependency_order,
-        shell_escape: !fields.no_shell_escape,
-        zero: fields.print0,
+        dependency_order: is_on(matches, "--dependency-order"),
+        shell_escape: !is_on(matches, "--no-shell-escape"),
+        zero: is_on(matches, "--print0"),
     }
 }
 
 // The action of `targets`.
-fn targets_of(alloc: Global, name: &str, fields: &Fields<'_, '_>) -> Result<Action, UsageFault>
+fn targets_of(alloc: Global, name: &str, matches: &ArgMatches<'_>) -> Result<Action, UsageFault>
     ensures ok { IfOk result (λ action.
-        targets_of name.now (field_strings fields.now) ≡ Ok (action_text action)) }
+        targets_of name.now (rows_in matches.now) ≡ Ok (action_text action)) }
     ensures err { IfErr result (λ fault. (fault ≡ OutOfMemory)
-        ⊎ (targets_of name.now (field_strings fields.now) ≡ Err fault)) }
+        ⊎ (targets_of name.now (rows_in matches.now) ≡ Err fault)) }
 {
     Ok(Action::Targets {
-        view: view_of(alloc, name, fields.words)?,
+        view: view_of(alloc, name, words_in(matches))?,
     })
 }
 
@@ -339,9 +342,9 @@ fn view_of(alloc: Global, name: &str, words: Option<&[&str]>) -> Result<TargetsV
 
 // What `targets` lists by one word.
 fn view_of_word(alloc: Global, name: &str, word: &str) -> Result<TargetsView, UsageFault>
-    ensures ok { IfOk result (λ view. view_of_word name.now word.now ≡ Ok view) }
+    ensures ok { IfOk result (λ view. view_of name.now (word.now ∷ []) ≡ Ok view) }
     ensures err { IfErr result (λ fault. (fault ≡ OutOfMemory)
-        ⊎ (view_of_word name.now word.now ≡ Err fault)) }
+        ⊎ (view_of name.now (word.now ∷ []) ≡ Err fault)) }
 {
     match word {
         "depth" => Ok(TargetsView::Depth(1)),
@@ -358,9 +361,10 @@ fn view_of_pair(
     word: &str,
     value: &str,
 ) -> Result<TargetsView, UsageFault>
-    ensures ok { IfOk result (λ view. view_of_pair name.now word.now value.now ≡ Ok view) }
+    ensures ok { IfOk result (λ view.
+        view_of name.now (word.now ∷ value.now ∷ []) ≡ Ok view) }
     ensures err { IfErr result (λ fault. (fault ≡ OutOfMemory)
-        ⊎ (view_of_pair name.now word.now value.now ≡ Err fault)) }
+        ⊎ (view_of name.now (word.now ∷ value.now ∷ []) ≡ Err fault)) }
 {
     match word {
         "depth" => depth_of(alloc, value),
@@ -397,30 +401,33 @@ fn query_of(alloc: Global, name: &str, words: Option<&[&str]>) -> Result<Action,
 }
 
 // The action of `rules`.
-fn rules_of(alloc: Global, name: &str, fields: &Fields<'_, '_>) -> Result<Action, UsageFault>
+fn rules_of(
+    alloc: Global,
+    name: &str,
+    descriptions: bool,
+    words: Option<&[&str]>,
+) -> Result<Action, UsageFault>
     ensures ok { IfOk result (λ action.
-        rules_of name.now fields.now.descriptions (word_strings fields.now.words)
-        ≡ Ok (action_text action)) }
+        rules_of name.now descriptions (word_strings words.entry) ≡ Ok (action_text action)) }
     ensures err { IfErr result (λ fault. (fault ≡ OutOfMemory)
-        ⊎ (rules_of name.now fields.now.descriptions (word_strings fields.now.words) ≡ Err fault)) }
+        ⊎ (rules_of name.now descriptions (word_strings words.entry) ≡ Err fault)) }
 {
-    let descriptions = fields.descriptions;
-    match fields.words {
+    match words {
         None | Some([]) => Ok(Action::Rules { descriptions }),
         Some([_, ..]) => Err(UsageFault::BadWords(Word::new(alloc, name)?)),
     }
 }
 
 // The action of `compdb`.
-fn compdb_of(alloc: Global, fields: &Fields<'_, '_>) -> Result<Action, UsageFault>
+fn compdb_of(alloc: Global, matches: &ArgMatches<'_>) -> Result<Action, UsageFault>
     ensures ok { IfOk result (λ action.
-        compdb_of (field_strings fields.now) ≡ Ok (action_text action)) }
+        compdb_of (rows_in matches.now) ≡ Ok (action_text action)) }
     ensures err { IfErr result (λ fault. fault ≡ OutOfMemory) }
 {
     Ok(Action::Compdb {
-        rules: owned(alloc, fields.words)?,
-        directory: String::from_str(alloc, fields.directory.unwrap_or(HERE))?,
-        expand: fields.expand,
+        rules: owned(alloc, words_in(matches))?,
+        directory: String::from_str(alloc, text_of(matches, "--directory").unwrap_or(HERE))?,
+        expand: is_on(matches, "-x"),
     })
 }
 

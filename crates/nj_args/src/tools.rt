@@ -1,17 +1,12 @@
 //! The tools, and which options go with which.
 
 ghost use Rattle.std.specs.Prelude.{◌≡◌, find};
-ghost use Rattle.nj_args.specs.Inside.Held.{field_strings};
-ghost use Rattle.nj_args.specs.Tools.{
-  tool_named,
-  goes_with,
-  is_given,
-  is_foreign,
-  first_foreign,
-};
+ghost use Rattle.nj_args.specs.Inside.Held.{goes_with, rows_in};
+ghost use Rattle.nj_args.specs.Tools.{tool_named, is_given, is_foreign, first_foreign};
 
 use crate::faults::ToolOption;
-use crate::fields::Fields;
+use crate::fields::{is_on, text_of};
+use clap::ArgMatches;
 
 /// A tool ("Extra tools").
 #[derive(Clone, Copy)]
@@ -40,8 +35,8 @@ pub fn tool_named(name: &str) -> Option<Tool>
 }
 
 /// The first option, in the order of [`ToolOption`], that was given and does not go with the tool.
-pub fn first_foreign(tool: Tool, fields: &Fields<'_, '_>) -> Option<ToolOption>
-    ensures { result ≡ first_foreign tool (field_strings fields.now) }
+pub fn first_foreign(tool: Tool, matches: &ArgMatches<'_>) -> Option<ToolOption>
+    ensures { result ≡ first_foreign tool (rows_in matches.now) }
 {
     let options = [
         ToolOption::Single,
@@ -55,45 +50,40 @@ pub fn first_foreign(tool: Tool, fields: &Fields<'_, '_>) -> Option<ToolOption>
         ToolOption::NoShellEscape,
         ToolOption::Print0,
     ];
-    first_foreign_of(&options, tool, fields)
+    first_foreign_of(&options, tool, matches)
 }
 
 // The first of the options that was given and does not go with the tool.
 fn first_foreign_of(
     options: &[ToolOption],
     tool: Tool,
-    fields: &Fields<'_, '_>,
+    matches: &ArgMatches<'_>,
 ) -> Option<ToolOption>
-    ensures { result ≡ find (is_foreign tool (field_strings fields.now)) options.now }
+    ensures { result ≡ find (is_foreign tool (rows_in matches.now)) options.now }
 {
     options
         .iter()
         .copied()
-        .find(|option| is_foreign(tool, fields, *option))
+        .find(|option| is_foreign(tool, matches, *option))
 }
 
 // Whether an option was given and does not go with the tool.
-fn is_foreign(tool: Tool, fields: &Fields<'_, '_>, option: ToolOption) -> bool
-    ensures { result ≡ is_foreign tool (field_strings fields.now) option }
+fn is_foreign(tool: Tool, matches: &ArgMatches<'_>, option: ToolOption) -> bool
+    ensures { result ≡ is_foreign tool (rows_in matches.now) option }
 {
-    is_given(fields, option) && !goes_with(tool, fields.is_single, option)
+    is_given(matches, option) && !goes_with(tool, is_on(matches, "-s"), option)
 }
 
 // Whether an option was given.
-fn is_given(fields: &Fields<'_, '_>, option: ToolOption) -> bool
-    ensures { result ≡ is_given (field_strings fields.now) option }
+fn is_given(matches: &ArgMatches<'_>, option: ToolOption) -> bool
+    ensures { result ≡ is_given (rows_in matches.now) option }
 {
     match option {
-        ToolOption::Single => fields.is_single,
-        ToolOption::Descriptions => fields.descriptions,
-        ToolOption::Expand => fields.expand,
-        ToolOption::Directory => fields.directory.is_some(),
-        ToolOption::Take => fields.take.is_some(),
-        ToolOption::Resume => fields.resume.is_some(),
-        ToolOption::Validations => fields.validations,
-        ToolOption::DependencyOrder => fields.dependency_order,
-        ToolOption::NoShellEscape => fields.no_shell_escape,
-        ToolOption::Print0 => fields.print0,
+        ToolOption::Directory | ToolOption::Take | ToolOption::Resume => text_of(
+            matches,
+            option.text(),
+        ).is_some(),
+        _ => is_on(matches, option.text()),
     }
 }
 

@@ -1,35 +1,40 @@
 -- How the code represents what the words give. Nothing here has to be believed.
-use Rattle.std.specs.Prelude.{ℕ, ◌==◌, Bool, true, false, if◌then◌else◌, List, [], ◌∷◌, map, Option, option_map, unwrap_or}
+use Rattle.std.specs.Prelude.{ℕ, ◌==◌, Bool, true, false, if◌then◌else◌, List, [], ◌∷◌, map, Option, Some, option_map, unwrap_or, codes, Result, Ok}
 use Rattle.std.specs.Borrow.{Bor}
-use Rattle.std.specs.Option.{option_copied}
+use Rattle.std.specs.List.{list_any}
+use Rattle.std.specs.Str.{bytes_eq}
+use Rattle.clap.specs.Words.{Row, Rule, first_of, found_of, new_rule, rows_of}
+use Rattle.clap.specs.declared.builder.ArgAction.TheVariants.{SetTrue}
+use Rattle.clap.specs.declared.parser.matches.ArgMatches.{ArgMatches}
 use Rattle.clap.specs.declared.error.kind.ErrorKind.{ErrorKind}
 use Rattle.clap.specs.declared.error.kind.ErrorKind.TheVariants as kind
-use Rattle.nj_args.specs.Fields.{FieldStrings}
-use Rattle.nj_args.specs.declared.fields.Fields.{Fields}
+use Rattle.nj_manifest.specs.LineSteps.{◌>>=◌}
+use Rattle.nj_args.specs.FaultLines.{option_text}
+use Rattle.nj_args.specs.Fields.{is_on, words_in}
+use Rattle.nj_args.specs.Requests.{ActionText, inputs, targets, compdb, style_of, view_of}
+use Rattle.nj_args.specs.Tools.{options_of}
+use Rattle.nj_args.specs.declared.faults.ToolOption.{ToolOption}
+use Rattle.nj_args.specs.declared.tools.Tool.{Tool}
 use Rattle.nj_args.specs.declared.faults.UsageFault.{UsageFault}
 use Rattle.nj_args.specs.declared.faults.UsageFault.TheVariants.{Unparsed, OutOfMemory}
 
 abbrev pub word_strings : Option (Bor (List (Bor (List ℕ)))) → List (List ℕ)
 word_strings words = unwrap_or (option_map (λ strings. map (λ text. text.now) strings.now) words) []
 
-abbrev pub field_strings : Fields → FieldStrings
-field_strings fields = record {
-  tool = option_copied fields.tool;
-  file = option_copied fields.file;
-  take = option_copied fields.take;
-  resume = option_copied fields.resume;
-  directory = option_copied fields.directory;
-  is_single = fields.is_single;
-  descriptions = fields.descriptions;
-  expand = fields.expand;
-  from_stdin = fields.from_stdin;
-  dyndep = fields.dyndep;
-  validations = fields.validations;
-  dependency_order = fields.dependency_order;
-  no_shell_escape = fields.no_shell_escape;
-  print0 = fields.print0;
-  words = word_strings fields.words;
-}
+-- what was given, under the texts of options
+abbrev pub rows_in : ArgMatches → List Row
+rows_in matches = rows_of (found_of matches)
+
+-- an option that is kept under this text: `-L VALUE`, and `--NAME VALUE`
+abbrev pub with_letter : (text : List ℕ) (letter : ℕ) → Rule
+with_letter text letter = record (new_rule text) { short = Some letter }
+
+abbrev pub with_name : (text name : List ℕ) → Rule
+with_name text name = record (new_rule text) { long = Some name }
+
+-- without a value
+abbrev pub as_flag : Rule → Rule
+as_flag rule = record rule { action = Some SetTrue }
 
 -- a sign that the standard library's reading of numbers takes
 abbrev pub begins_with_plus : List ℕ → Bool
@@ -43,3 +48,17 @@ is_memory _ = false
 -- what an error of `clap` is reported as
 abbrev pub refusal : ErrorKind → UsageFault
 refusal kind = if is_memory kind then OutOfMemory else Unparsed
+
+-- an option goes with a tool
+abbrev pub goes_with : Tool → (is_single : Bool) → ToolOption → Bool
+goes_with tool is_single option = list_any (λ one. bytes_eq (option_text one) (option_text option)) (options_of tool is_single)
+
+-- what `inputs`, `targets` and `compdb` are asked for
+abbrev pub inputs_of : List Row → Result ActionText UsageFault
+inputs_of rows = Ok (inputs (words_in rows) (is_on (codes "--validations") rows) (style_of rows))
+
+abbrev pub targets_of : (name : List ℕ) → List Row → Result ActionText UsageFault
+targets_of name rows = view_of name (words_in rows) >>= (λ view. Ok (targets view))
+
+abbrev pub compdb_of : List Row → Result ActionText UsageFault
+compdb_of rows = Ok (compdb (words_in rows) (unwrap_or (first_of (codes "--directory") rows) (codes ".")) (is_on (codes "-x") rows))

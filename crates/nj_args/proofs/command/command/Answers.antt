@@ -1,34 +1,35 @@
 use Rattle.std.proofs.Common.{◌≡◌, ap, ap₂, ◌∙◌, refl, codes}
 use Rattle.std.proofs.lemmas.Result.{IfOk-weaker}
 use Rattle.clap.specs.Words.{App, app_of, with_rule}
-use Rattle.nj_args.specs.CommandLine.{command, nothing_yet, short_option, long_option, short_flag, long_flag, all_words}
+use Rattle.nj_args.specs.CommandLine.{command, nothing_yet, long_flag, all_words}
+use Rattle.nj_args.specs.Inside.Held.{with_letter, with_name, as_flag}
 use Rattle.nj_args.proofs.command.command.Goals as goal
 
 abbrev options : App
-options = with_rule (with_rule nothing_yet (short_option (codes "tool") 116)) (short_option (codes "file") 102)
+options = with_rule (with_rule nothing_yet (with_letter (codes "-t") 116)) (with_letter (codes "-f") 102)
 
 abbrev numbers : App
-numbers = with_rule (with_rule options (long_option (codes "take"))) (long_option (codes "resume"))
+numbers = with_rule (with_rule options (with_name (codes "--take") (codes "take"))) (with_name (codes "--resume") (codes "resume"))
 
 abbrev flags : App
-flags = with_rule (with_rule numbers (short_flag (codes "single") 115)) (long_flag (codes "stdin"))
+flags = with_rule (with_rule numbers (as_flag (with_letter (codes "-s") 115))) (as_flag (with_name (codes "--stdin") (codes "stdin")))
 
 abbrev of_rules : App
-of_rules = with_rule flags (short_flag (codes "descriptions") 100)
+of_rules = with_rule flags (as_flag (with_letter (codes "-d") 100))
 
 abbrev of_compdb : App
-of_compdb = with_rule (with_rule of_rules (short_flag (codes "expand") 120)) (long_option (codes "directory"))
+of_compdb = with_rule (with_rule of_rules (as_flag (with_letter (codes "-x") 120))) (with_name (codes "--directory") (codes "directory"))
 
 abbrev joined : App
-joined = with_rule of_compdb (long_flag (codes "dyndep"))
+joined = with_rule of_compdb (as_flag (with_name (codes "--dyndep") (codes "dyndep")))
 
 abbrev of_inputs : App
 of_inputs =
-    with_rule (with_rule (with_rule (with_rule joined (long_flag (codes "validations"))) (long_flag (codes "dependency-order"))) (long_flag (codes "no-shell-escape"))) (long_flag (codes "print0"))
+    with_rule (with_rule (with_rule (with_rule joined (long_flag (codes "--validations"))) (long_flag (codes "--dependency-order"))) (long_flag (codes "--no-shell-escape"))) (long_flag (codes "--print0"))
 
 abbrev with_flags : App → App
 with_flags app =
-    with_rule (with_rule (with_rule (with_rule app (long_flag (codes "validations"))) (long_flag (codes "dependency-order"))) (long_flag (codes "no-shell-escape"))) (long_flag (codes "print0"))
+    with_rule (with_rule (with_rule (with_rule app (long_flag (codes "--validations"))) (long_flag (codes "--dependency-order"))) (long_flag (codes "--no-shell-escape"))) (long_flag (codes "--print0"))
 
 whole : with_rule of_inputs all_words ≡ command
 unfolding command

@@ -4,4 +4,4 @@ use Rattle.clap.proofs.WalkLemmas.{first_value-rows}
 use Rattle.nj_args.proofs.fields.text_of.Goals as goal
 
 pub returns : goal.returns
-returns c = c.get_str.ensures ∙ first_value-rows (found_of c.args.matches.now) c.args.id.now
+returns c = c.get_str.ensures ∙ first_value-rows (found_of c.args.matches.now) c.args.option.now

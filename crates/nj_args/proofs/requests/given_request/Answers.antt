@@ -1,7 +1,6 @@
-use Rattle.std.proofs.Common.{◌≡◌, List, ℕ, ap, sym, ◌∙◌, map, string_bytes}
+use Rattle.std.proofs.Common.{◌≡◌, List, ℕ, ◌∙◌, map, string_bytes}
 use Rattle.std.proofs.lemmas.Result.{IfOk-weaker, IfErr-weaker}
-use Rattle.clap.specs.Words.{found_of, rows_of}
-use Rattle.nj_args.specs.Inside.Held.{field_strings}
+use Rattle.nj_args.specs.Inside.Held.{rows_in}
 use Rattle.nj_args.specs.Requests.{given_request, request_in}
 use Rattle.nj_args.proofs.Given.{given, unparsed, same_fault}
 use Rattle.nj_args.proofs.requests.given_request.Goals as goal
@@ -12,8 +11,7 @@ returns-in-Err-clause-err c = unparsed (map string_bytes c.args.words.now) c.in-
 pub returns-in-Ok : goal.returns-in-Ok
 returns-in-Ok c =
     let words : List (List ℕ) = map string_bytes c.args.words.now in
-    let same : given_request words ≡ request_in (field_strings c.fields_in.result) =
-    given words (rows_of (found_of c.in-Ok.matches)) c.in-Ok.ensures.ok c.in-Ok.ensures.rows ∙ ap request_in (sym c.fields_in.ensures) in
+    let same : given_request words ≡ request_in (rows_in c.in-Ok.matches) = given words (rows_in c.in-Ok.matches) c.in-Ok.ensures.ok c.in-Ok.ensures.rows in
     record {
       ok = IfOk-weaker c.request_in.result _ _ (λ request meant. same ∙ meant) c.request_in.ensures.ok;
       err = IfErr-weaker c.request_in.result _ _ (λ fault meant. same_fault _ _ fault same meant) c.request_in.ensures.err;
