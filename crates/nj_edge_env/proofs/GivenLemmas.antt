@@ -1,5 +1,6 @@
 -- What names give: late strings, where no variable of a rule refers back to itself.
 use Rattle.std.proofs.Common.{◌≡◌, ℕ, zero, suc, ◌<◌, ◌≤◌, Bool, true, false, ◌||◌, if◌then◌else◌, List, [], ◌∷◌, ◌++◌, length, Option, None, Some, unwrap_or, option_map, bytes_eq, refl, sym, ap, subst, ◌∙◌, true≢false, arith}
+use Rattle.nj_edges.specs.Edges.{is_among}
 use Rattle.std.specs.Option.{option_or}
 use Rattle.std.specs.Prelude.{is_some, codes, find, reverse, ◌⊎◌}
 use Rattle.std.proofs.Common.{inl, inr}
@@ -10,7 +11,7 @@ use Rattle.nj_text.specs.Words.{PartText, Text, Name}
 use Rattle.nj_scope.specs.Rules.{RuleLineText, given}
 use Rattle.nj_scope.specs.RulesHeld.{has_key}
 use Rattle.nj_scope.specs.Scopes.{expanded}
-use Rattle.nj_edge_env.specs.LateStrings.{LateNames, text_of_paths, paths_text, names_paths, is_one_of, value_given, unless_empty, is_of_command, rule_value, file_value, refers, Denotes, late_in, late_text}
+use Rattle.nj_edge_env.specs.LateStrings.{LateNames, text_of_paths, paths_text, names_paths, value_given, unless_empty, is_of_command, rule_value, file_value, refers, Denotes, late_in, late_text}
 use Rattle.nj_edge_env.specs.LateStrings.Denotes.{by_paths, by_block, by_rule, by_file}
 use Rattle.nj_edge_env.specs.VariableCycles.{RefersTo, Reaches, IsOnCycle, HasNoCycle}
 use Rattle.nj_cycles.specs.Cycles.Chain.{one, more}
@@ -133,7 +134,7 @@ given_within quoting n (suc depth) name s = elim (way quoting n name) [
 -- the lines of other keys than these
 pub unseen : (seen : List (List ℕ)) → List RuleLineText → ℕ
 unseen seen [] = zero
-unseen seen (l ∷ lines) = if is_one_of seen l.key then unseen seen lines else suc (unseen seen lines)
+unseen seen (l ∷ lines) = if is_among seen l.key then unseen seen lines else suc (unseen seen lines)
 
 unseen_all : (lines : List RuleLineText) → unseen [] lines ≡ length lines
 unfolding unseen
@@ -143,7 +144,7 @@ unseen_all (l ∷ lines) = ap suc (unseen_all lines)
 unseen_longer : (seen : List (List ℕ)) (name : List ℕ) (lines : List RuleLineText) → unseen (name ∷ seen) lines ≤ unseen seen lines
 unfolding unseen
 unseen_longer seen name [] = omega arith
-unseen_longer seen name (l ∷ lines) = by (bytes_eq l.key name) (is_one_of seen l.key) (unseen_longer seen name lines)
+unseen_longer seen name (l ∷ lines) = by (bytes_eq l.key name) (is_among seen l.key) (unseen_longer seen name lines)
   where
     by : (a b : Bool) → unseen (name ∷ seen) lines ≤ unseen seen lines
         → (if a || b then unseen (name ∷ seen) lines else suc (unseen (name ∷ seen) lines)) ≤ (if b then unseen seen lines else suc (unseen seen lines))
@@ -152,7 +153,7 @@ unseen_longer seen name (l ∷ lines) = by (bytes_eq l.key name) (is_one_of seen
     by false true h = h
     by false false h = omega arith
 
-unseen_fewer : (seen : List (List ℕ)) (name : List ℕ) (lines : List RuleLineText) → is_one_of seen name ≡ false → has_key lines name ≡ true → unseen (name ∷ seen) lines < unseen seen lines
+unseen_fewer : (seen : List (List ℕ)) (name : List ℕ) (lines : List RuleLineText) → is_among seen name ≡ false → has_key lines name ≡ true → unseen (name ∷ seen) lines < unseen seen lines
 unfolding unseen
 unseen_fewer seen name [] new has = absurd (true≢false (sym has))
 unseen_fewer seen name (l ∷ lines) new has = by (bytes_eq name l.key) (unseen_fewer seen name lines new) refl has
@@ -165,18 +166,18 @@ unseen_fewer seen name (l ∷ lines) new has = by (bytes_eq name l.key) (unseen_
     at false false h = omega arith
 
     by : (c : Bool) → (has_key lines name ≡ true → unseen (name ∷ seen) lines < unseen seen lines) → bytes_eq name l.key ≡ c → (c || has_key lines name) ≡ true
-        → (if bytes_eq l.key name || is_one_of seen l.key then unseen (name ∷ seen) lines else suc (unseen (name ∷ seen) lines)) < (if is_one_of seen l.key then unseen seen lines else suc (unseen seen lines))
+        → (if bytes_eq l.key name || is_among seen l.key then unseen (name ∷ seen) lines else suc (unseen (name ∷ seen) lines)) < (if is_among seen l.key then unseen seen lines else suc (unseen seen lines))
     by true rest e h =
         let k : l.key ≡ name = sym (same_name name l.key e) in
-        subst (λ x. (if bytes_eq x name || is_one_of seen x then unseen (name ∷ seen) lines else suc (unseen (name ∷ seen) lines)) < (if is_one_of seen x then unseen seen lines else suc (unseen seen lines))) (sym k)
-        (here (bytes_eq name name) (is_one_of seen name) (own_name name) new (unseen_longer seen name lines))
+        subst (λ x. (if bytes_eq x name || is_among seen x then unseen (name ∷ seen) lines else suc (unseen (name ∷ seen) lines)) < (if is_among seen x then unseen seen lines else suc (unseen seen lines))) (sym k)
+        (here (bytes_eq name name) (is_among seen name) (own_name name) new (unseen_longer seen name lines))
       where
         here : (a b : Bool) → a ≡ true → b ≡ false → unseen (name ∷ seen) lines ≤ unseen seen lines
             → (if a || b then unseen (name ∷ seen) lines else suc (unseen (name ∷ seen) lines)) < (if b then unseen seen lines else suc (unseen seen lines))
         here true false p q h = omega arith
         here true true p q h = absurd (true≢false q)
         here false b p q h = absurd (true≢false (sym p))
-    by false rest e h = at (bytes_eq l.key name) (is_one_of seen l.key) (rest h)
+    by false rest e h = at (bytes_eq l.key name) (is_among seen l.key) (rest h)
 
 pub given_at : (lines : List RuleLineText) (key : List ℕ) (parts : List PartText) → value_given lines key ≡ Some parts → given lines key ≡ Some parts
 given_at lines key parts h = by (is_of_command key) (given lines key) h
@@ -217,17 +218,17 @@ counts_in_line block lines name parts h =
     sym (has_reversed lines name) ∙ found_last (reverse lines) name parts (given_at lines name parts (rule_value_is block lines name parts h).given)
 
 pub settled : (block : List ℕ → Option (List ℕ)) (lines : List RuleLineText) → HasNoCycle block lines → (depth : ℕ) (seen : List (List ℕ)) (name : List ℕ)
-    → ((s : List ℕ) → is_one_of seen s ≡ true → Reaches block lines s name) → unseen seen lines < depth → Settles block lines depth name
+    → ((s : List ℕ) → is_among seen s ≡ true → Reaches block lines s name) → unseen seen lines < depth → Settles block lines depth name
 settled block lines none zero seen name comes lt = absurd (omega arith)
 settled block lines none (suc depth) seen name comes lt = λ other r.
-    let fewer = unseen_fewer seen name lines (new (is_one_of seen name) refl) (counts_in_line block lines name r.0 r.1) in
+    let fewer = unseen_fewer seen name lines (new (is_among seen name) refl) (counts_in_line block lines name r.0 r.1) in
     settled block lines none depth (name ∷ seen) other (λ s among. onward other r s (bytes_eq s name) refl among) (omega arith)
   where
-    new : (b : Bool) → is_one_of seen name ≡ b → is_one_of seen name ≡ false
+    new : (b : Bool) → is_among seen name ≡ b → is_among seen name ≡ false
     new true h = absurd (none name (comes name h))
     new false h = h
 
-    onward : (other : List ℕ) → RefersTo block lines name other → (s : List ℕ) (b : Bool) → bytes_eq s name ≡ b → (b || is_one_of seen s) ≡ true → Reaches block lines s other
+    onward : (other : List ℕ) → RefersTo block lines name other → (s : List ℕ) (b : Bool) → bytes_eq s name ≡ b → (b || is_among seen s) ≡ true → Reaches block lines s other
     onward other r s true e h = subst (λ x. Reaches block lines x other) (sym (same_name s name e)) (one r)
     onward other r s false e h = reached_push block lines s name other (comes s h) r
 

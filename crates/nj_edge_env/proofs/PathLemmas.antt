@@ -1,7 +1,6 @@
 -- Lemmas on the paths of an edge, as byte strings.
-use Rattle.std.proofs.Common.{◌≡◌, ◌<◌, ◌+◌, ◌⊎◌, inl, inr, ℕ, zero, suc, Bool, List, [], ◌∷◌, ◌++◌, map, take, slice_get, Some, is_some, unwrap_or, if◌then◌else◌, sym, ap, ◌∙◌, true≢false, arith, add-one, append_assoc, Result, Ok, Err, OnErr}
-use Rattle.std.specs.List.{flat_map}
-use Rattle.std.proofs.lemmas.Grind.{flat_map-append}
+use Rattle.std.proofs.Common.{◌≡◌, ◌<◌, ◌+◌, ◌⊎◌, inl, inr, ℕ, zero, suc, Bool, List, [], ◌∷◌, ◌++◌, map, take, slice_get, Some, is_some, unwrap_or, if◌then◌else◌, refl, sym, ap, ◌∙◌, true≢false, arith, add-one, append_assoc, Result, Ok, Err, OnErr}
+use Rattle.std.specs.List.{join_with_byte}
 use Rattle.std.proofs.lemmas.List.{append-nil, map_push}
 use Rattle.std.proofs.lemmas.Option.{slice_get_within, get_or_from_slice_get}
 use Rattle.std.proofs.Math.Seq.{take-suc}
@@ -9,12 +8,13 @@ use Rattle.nj_text.specs.Quotes.{quoted}
 use Rattle.nj_scope.specs.Readings.{IsPrefix}
 use Rattle.nj_edges.specs.declared.files.FileNo.{FileNo}
 use Rattle.nj_edges.specs.Files.{path_at}
-use Rattle.nj_edge_env.specs.LateStrings.{joined, paths_text}
+use Rattle.nj_edge_env.specs.LateStrings.{paths_text}
 
-joined_last : (separator : ℕ) (x : List ℕ) (xs : List (List ℕ)) (t : List ℕ) → joined separator (x ∷ (xs ++ t ∷ [])) ≡ joined separator (x ∷ xs) ++ (separator ∷ t)
-joined_last separator x xs t =
-    ap (λ r. x ++ r) (flat_map-append (λ u. separator ∷ u) xs (t ∷ []) ∙ ap (λ r. flat_map (λ u. separator ∷ u) xs ++ r) (append-nil (separator ∷ t)))
-    ∙ sym (append_assoc x (flat_map (λ u. separator ∷ u) xs) (separator ∷ t))
+joined_last : (separator : ℕ) (x : List ℕ) (xs : List (List ℕ)) (t : List ℕ)
+    → join_with_byte separator (x ∷ (xs ++ t ∷ [])) ≡ join_with_byte separator (x ∷ xs) ++ (separator ∷ t)
+joined_last separator x [] t = refl
+joined_last separator x (y ∷ ys) t =
+    ap (λ r. x ++ (separator ∷ r)) (joined_last separator y ys t) ∙ sym (append_assoc x (separator ∷ join_with_byte separator (y ∷ ys)) (separator ∷ t))
 
 abbrev shown : Bool → List ℕ → List ℕ
 shown quoting path = if quoting then quoted path else path
@@ -38,16 +38,16 @@ paths_turn files paths quoting separator i file path start before pushed after h
     step [] k h so cases = absurd (true≢false (sym (ap is_some h)))
     step (p ∷ ps) zero h so (inl c) = absurd (omega (arith, c.0))
     step (p ∷ ps) zero h so (inr c) =
-        ap (λ x. x ++ shown quoting path) (c.1 ∙ so ∙ append-nil start) ∙ ap (λ x. start ++ x) (ap (shown quoting) (sym its_path) ∙ sym (append-nil (shown quoting (path_at files file))))
+        ap (λ x. x ++ shown quoting path) (c.1 ∙ so ∙ append-nil start) ∙ ap (λ x. start ++ shown quoting x) (sym its_path)
     step (p ∷ ps) (suc k) h so (inr c) = absurd (omega (arith, c.0))
     step (p ∷ ps) (suc k) h so (inl c) =
         let ts = map (shown quoting) (map (path_at files) (take k ps)) in
         let x = shown quoting (path_at files p) in
         ap (λ y. y ++ shown quoting path) (c.1 ∙ ap (λ y. y ++ separator ∷ []) so)
-        ∙ append_assoc (start ++ joined separator (x ∷ ts)) (separator ∷ []) (shown quoting path)
-        ∙ append_assoc start (joined separator (x ∷ ts)) (separator ∷ shown quoting path)
+        ∙ append_assoc (start ++ join_with_byte separator (x ∷ ts)) (separator ∷ []) (shown quoting path)
+        ∙ append_assoc start (join_with_byte separator (x ∷ ts)) (separator ∷ shown quoting path)
         ∙ ap (λ y. start ++ y) (sym (joined_last separator x ts (shown quoting path)))
-        ∙ ap (λ us. start ++ joined separator (x ∷ us))
+        ∙ ap (λ us. start ++ join_with_byte separator (x ∷ us))
         (ap (λ y. ts ++ shown quoting y ∷ []) (sym its_path) ∙ sym (map_push (shown quoting) (map (path_at files) (take k ps)) (path_at files file))
         ∙ ap (map (shown quoting)) (sym (map_push (path_at files) (take k ps) file)))
 

@@ -2,11 +2,12 @@
 use Rattle.std.specs.Prelude.{◌≡◌, ℕ, zero, suc, Bool, true, false, not, ◌&&◌, ◌||◌, if◌then◌else◌, Option, Some, None, is_some}
 use Rattle.std.specs.Option.{option_or}
 use Rattle.std.specs.Prelude.{unwrap_or, option_map, List, [], ◌∷◌, ◌++◌, map, length, codes, bytes_eq}
-use Rattle.std.specs.List.{list_any, flat_map}
+use Rattle.std.specs.List.{list_any, join_with_byte}
 use Rattle.nj_text.specs.Quotes.{quoted}
 use Rattle.nj_text.specs.Words.{PartText, Text, Name}
 use Rattle.nj_scope.specs.Rules.{RuleLineText, given}
 use Rattle.nj_scope.specs.Scopes.{expanded}
+use Rattle.nj_edges.specs.Edges.{is_among}
 
 -- What an edge's names depend on: the paths of its explicit inputs and outputs, the values that its block binds, the lines of
 -- its rule, whether that is `phony`, and the values of names in the file that has the edge.
@@ -20,14 +21,9 @@ pub record LateNames : Type 0 where
 
 -- ---- paths
 
--- strings with a byte between each two
-abbrev pub joined : (separator : ℕ) → List (List ℕ) → List ℕ
-joined separator [] = []
-joined separator (text ∷ strings) = text ++ flat_map (λ t. separator ∷ t) strings
-
--- paths, joined; each is quoted for a shell by itself
+-- paths, with a byte between each two; each is quoted for a shell by itself
 abbrev pub paths_text : (quoting : Bool) → (separator : ℕ) → List (List ℕ) → List ℕ
-paths_text quoting separator paths = joined separator (map (λ path. if quoting then quoted path else path) paths)
+paths_text quoting separator paths = join_with_byte separator (map (λ path. if quoting then quoted path else path) paths)
 
 -- the names of paths: separated by spaces, and by line feeds in `in_newline`
 abbrev pub text_of_paths : (quoting : Bool) → (inputs outputs : List (List ℕ)) → (name : List ℕ) → Option (List ℕ)
@@ -36,17 +32,14 @@ text_of_paths quoting inputs outputs name =
     else (if bytes_eq name (codes "in_newline") then Some (paths_text quoting 10 inputs)
     else (if bytes_eq name (codes "out") then Some (paths_text quoting 32 outputs) else None))
 
-abbrev pub is_one_of : List (List ℕ) → (name : List ℕ) → Bool
-is_one_of names name = list_any (bytes_eq name) names
-
 abbrev pub names_paths : (name : List ℕ) → Bool
-names_paths name = is_one_of (codes "in" ∷ codes "in_newline" ∷ codes "out" ∷ []) name
+names_paths name = is_among (codes "in" ∷ codes "in_newline" ∷ codes "out" ∷ []) name
 
 -- ---- lines of the rule
 
 -- the names that determine what an edge runs
 abbrev pub is_of_command : (name : List ℕ) → Bool
-is_of_command name = is_one_of (codes "command" ∷ codes "rspfile" ∷ codes "rspfile_content" ∷ []) name
+is_of_command name = is_among (codes "command" ∷ codes "rspfile" ∷ codes "rspfile_content" ∷ []) name
 
 -- a value without any part
 abbrev pub unless_empty : Bool → Option (List PartText) → Option (List PartText)
@@ -101,7 +94,7 @@ late_text quoting n name = late_in (suc (length n.lines)) quoting n name
 -- The name that is asked for decides whether paths are quoted, also in what it refers to: the names of files are no part of a
 -- shell's command.
 abbrev pub is_quoted : (asked : List ℕ) → Bool
-is_quoted asked = not (is_one_of (codes "rspfile" ∷ codes "depfile" ∷ codes "dyndep" ∷ []) asked)
+is_quoted asked = not (is_among (codes "rspfile" ∷ codes "depfile" ∷ codes "dyndep" ∷ []) asked)
 
 abbrev pub asked_text : LateNames → (asked : List ℕ) → List ℕ
 asked_text n asked = late_text (is_quoted asked) n asked

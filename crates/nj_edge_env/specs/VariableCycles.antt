@@ -7,7 +7,8 @@ use Rattle.std.specs.Cmp.Lexicographic.{slice_cmp}
 use Rattle.nj_text.specs.Words.{PartText}
 use Rattle.nj_cycles.specs.Cycles.{Chain}
 use Rattle.nj_scope.specs.Rules.{RuleLineText}
-use Rattle.nj_edge_env.specs.LateStrings.{rule_value, refers, is_one_of}
+use Rattle.nj_edge_env.specs.LateStrings.{rule_value, refers}
+use Rattle.nj_edges.specs.Edges.{is_among}
 
 -- the rule's value of this key counts, since the block does not bind it, and a part of it is a reference to the other name
 abbrev pub RefersTo : (block : List ℕ → Option (List ℕ)) → List RuleLineText → (key other : List ℕ) → Type 0
@@ -49,7 +50,7 @@ reaching (suc steps) block lines name = referring block lines (name ∷ reaching
 
 -- the keys that reach themselves; a shortest way back to a key takes no more references than there are lines
 abbrev pub keys_on_cycles : (block : List ℕ → Option (List ℕ)) → List RuleLineText → List (List ℕ)
-keys_on_cycles block lines = filter (λ key. is_one_of (reaching (length lines) block lines key) key) (keys_of lines)
+keys_on_cycles block lines = filter (λ key. is_among (reaching (length lines) block lines key) key) (keys_of lines)
 
 -- the least of them, by bytes
 unfoldable pub variable_cycle_of : (block : List ℕ → Option (List ℕ)) → List RuleLineText → Option (List ℕ)
