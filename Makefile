@@ -15,11 +15,9 @@ HEAP = $(shell find "$$(dirname "$$(dirname "$$(readlink -f "$$(which rt)")")")"
 LIBRARY := lib/libninja_explain
 PROJECT := examples/project
 FILES := $(shell cd $(PROJECT) && find * -type f)
-# How many crates are proved at once, each on one processor and in at most 3 GB, and how many runs of
-# the sweeps.
+# How many crates are proved at once, each on one processor and in at most 3 GB, and how many checks
+# run at once.
 JOBS ?= $(shell nproc)
-# The sweeps that `make smoke` runs too. docs/RELIABILITY.md describes them.
-SWEEPS := memory calls bytes sizes
 
 # Where `make install` puts things, with DESTDIR in front of every path.
 PREFIX ?= /usr/local
@@ -33,7 +31,7 @@ INSTALLED_HEADER := $(DESTDIR)$(PREFIX)/include/ninja_explain.h
 INSTALLED_LIBRARY := $(DESTDIR)$(PREFIX)/$(LIBRARY)
 INSTALLED_PC := $(DESTDIR)$(PREFIX)/lib/pkgconfig/ninja_explain.pc
 
-.PHONY: all c run test smoke c-test sweep install install-c uninstall clean
+.PHONY: all c run test lint smoke c-test sweep install install-c uninstall clean
 
 # Proves and builds the program as bin/ninja-explain. `rt all` proves the program and the crates below
 # it, several at once; `rt run` then builds the program from what was proved.
@@ -84,33 +82,14 @@ endif
 test:
 	rt ci
 
-# Runs the built program on real files, and the short sweeps. It also checks that
-# docs/ARCHITECTURE.md names every module, that each type with a private field has a model, that what
-# must be believed is apart from plumbing, that the code in README.md and docs/LIBRARY.md is the code of
-# library_example, that include/ninja_explain.h declares what nj_c exports, that the man page and the
-# completions have every tool and option, that the completions work, that runs change no file, that a
-# long walk has as many allocations as a short one, and that names which collide under a known number
-# cost no more than others. The programs on the library are run too.
+# Checks what is read from files alone: docs/GATE.md lists it. It takes seconds, and needs no program.
+lint:
+	@python3 scripts/lint --jobs $(JOBS) $(CHECKS)
+
+# Runs the built programs on real files, and the short sweeps. With CHECKS='NAME..' it runs the checks
+# of these names alone, as lint and sweep do.
 smoke: $(BUILT) $(AFFECTED) $(DRAW) $(KEYS) $(AUDIT)
-	@status=0; \
-	python3 scripts/check_docs.py || status=1; \
-	python3 scripts/check_models.py || status=1; \
-	python3 scripts/check_specs.py || status=1; \
-	python3 scripts/check_snippets.py || status=1; \
-	python3 scripts/check_header.py || status=1; \
-	python3 scripts/check_words.py $(BUILT) || status=1; \
-	python3 scripts/check_completions.py $(BUILT) || status=1; \
-	python3 scripts/check_flood.py $(BUILT) || status=1; \
-	python3 scripts/smoke.py $(BUILT) || status=1; \
-	python3 scripts/smoke_memory.py $(BUILT) || status=1; \
-	python3 scripts/smoke_system.py $(BUILT) || status=1; \
-	python3 scripts/smoke_reach.py $(AFFECTED) $(DRAW) || status=1; \
-	python3 scripts/smoke_keys.py $(BUILT) $(KEYS) || status=1; \
-	python3 scripts/smoke_audit.py $(AUDIT) $(BUILT) || status=1; \
-	for sweep in $(SWEEPS); do \
-	python3 scripts/sweep_$$sweep.py --jobs $(JOBS) $(BUILT) || status=1; \
-	done; \
-	exit $$status
+	@python3 scripts/smoke --jobs $(JOBS) $(CHECKS)
 
 # Runs the library for C and the examples on it beside the program, and on what it must refuse.
 c-test: $(BUILT) $(AFFECTED) $(LIBRARY).so
@@ -119,14 +98,7 @@ c-test: $(BUILT) $(AFFECTED) $(LIBRARY).so
 # Makes everything that can fail do so once, changes each byte of small projects, runs every tool on
 # 100,000 edges, and runs the program on 100,000 hostile manifests.
 sweep: $(BUILT) $(SINKS)/out/memory_sinks
-	@status=0; \
-	python3 scripts/sweep_memory.py --sinks $(SINKS)/out/memory_sinks --jobs $(JOBS) $(BUILT) \
-	|| status=1; \
-	for sweep in $(filter-out memory,$(SWEEPS)); do \
-	python3 scripts/sweep_$$sweep.py --jobs $(JOBS) $(BUILT) || status=1; \
-	done; \
-	python3 scripts/sweep_strangers.py --cases 100000 --jobs $(JOBS) $(BUILT) || status=1; \
-	exit $$status
+	@python3 scripts/sweep --jobs $(JOBS) $(CHECKS)
 
 # `make` and `make test` build it.
 $(BUILT): $(wildcard crates/*/src/*.rt)

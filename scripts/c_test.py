@@ -5,13 +5,14 @@ Both examples on the library, examples/c and examples/python, have to give what 
 on examples/project, on what CMake writes for examples/cmake, and on a manifest of 2,000 included
 files; whole, in pages, and where there is a fault. So have runs of the program's words by the
 library, tool by tool. Names that collide under a known key may take at most four times as long as
-others. c_calls.c makes every call on N manifests with changes (strangers.py makes them), and while
+others. c_calls.c makes every call on N manifests with changes (lib/strangers.py makes them), and while
 allocations are refused, with 256 KB of stack. Where valgrind is installed, it may find nothing in
 the C example, nor in some of these cases.
 
 Prints how much was tried, and what is wrong. The status is 1 if anything is wrong.
 """
 
+import argparse
 import json
 import os
 import random
@@ -23,13 +24,13 @@ import tempfile
 from functools import partial
 from pathlib import Path
 
-import check_flood
-import check_header
-import sweeps
-from strangers import Maker
-from sweeps import DONE, FAULT, MAIN, PROJECTS, USAGE
+from lib.programs import DONE, EXAMPLES, FAULT, ROOT, USAGE, Ending, Program
+from lib.projects import MAIN, PROJECTS, as_bytes, write_cmake, write_files
+from lib.strangers import Maker
+from lib.sweeps import Sweep
+from lint import header
+from smoke import flood
 
-ROOT = sweeps.SCRIPTS.parent
 LIBRARY = ROOT / "lib/libninja_explain.so.1"
 ARCHIVE = ROOT / "lib/libninja_explain.a"
 PYTHON = ROOT / "examples/python"
@@ -52,7 +53,7 @@ FILES, PER_GROUP, MOST_DEEP = 2000, 40, 32
 TASK, UNDER_VALGRIND, PER_QUERY = 50, 6, 500
 AROUND = 50
 REFUSED = ["dyndep file", "response file", "validation", "cycle", "generated"]
-KINDS = dict(re.findall(r"NX_FAULT_(\w+) = (\d+)", check_header.HEADER.read_text()))
+KINDS = dict(re.findall(r"NX_FAULT_(\w+) = (\d+)", header.HEADER.read_text()))
 
 RULE = "rule r\n  command = c\n"
 POOL = "pool p\n  depth = 1\n"
@@ -97,10 +98,10 @@ class Tests:
     """What was built for the tests, and what was found."""
 
     def __init__(self, folder, program, affected, cases):
-        self.sweep, self.folder = sweeps.Sweep("c_test"), Path(folder)
-        self.program, self.affected = sweeps.Program(program), sweeps.Program(affected)
+        self.sweep, self.folder = Sweep("c_test"), Path(folder)
+        self.program, self.affected = Program(program), Program(affected)
         self.cases = cases
-        source, driver = ROOT / "examples/c/commands.c", sweeps.SCRIPTS / "c_calls.c"
+        source, driver = ROOT / "examples/c/commands.c", ROOT / "scripts/c_calls.c"
         self.static = self.compiled("static", source, ARCHIVE)
         self.shared = self.compiled("shared", source, LIBRARY, f"-Wl,-rpath,{LIBRARY.parent}")
         self.driver = self.compiled("driver", driver, ARCHIVE, *WRAPPED)
@@ -108,7 +109,7 @@ class Tests:
     def compiled(self, name, *words):
         path = self.folder / name
         subprocess.run([*COMPILER, *words, "-o", path], check=True)
-        return sweeps.Program(path)
+        return Program(path)
 
     def expect(self, kind, name, found, wanted):
         """Counts a comparison, and keeps a difference."""
@@ -133,12 +134,12 @@ def exported_names():
 
 
 def try_names(tests):
-    header = check_header.HEADER.read_text()
-    declared = sorted(dict(check_header.declared(header)))
+    text = header.HEADER.read_text()
+    declared = sorted(dict(header.declared(text)))
     tests.expect("comparisons", "nm", exported_names(), declared)
-    (tests.folder / "example.c").write_text(check_header.example(header))
+    (tests.folder / "example.c").write_text(header.example(text))
     example = tests.compiled("example", tests.folder / "example.c", ARCHIVE)
-    wanted = sweeps.Ending(DONE, b"cc -c a.c -o a.o\n", b"")
+    wanted = Ending(DONE, b"cc -c a.c -o a.o\n", b"")
     tests.expect("comparisons", "the header's example", example.run([], tests.folder), wanted)
 
 
@@ -254,7 +255,7 @@ def try_runs(tests, name, folder, word):
         count = len(list(graph.edges))
         for words in requests(word):
             ran = graph.run(words, folder)
-            found = sweeps.Ending(ran.status, encoded(ran.output), encoded(ran.errors))
+            found = Ending(ran.status, encoded(ran.output), encoded(ran.errors))
             tests.expect("runs", f"{name}, run {words}", found, tests.program.run(words, folder))
         tests.expect("runs", f"{name}, edges after runs", len(list(graph.edges)), count)
 
@@ -262,7 +263,7 @@ def try_runs(tests, name, folder, word):
 def try_affected(tests, folder, words, paths):
     """Compares affected.py with crates/affected_tests."""
     given = "".join(f"{path}\n" for path in paths).encode()
-    python = sweeps.Program(sys.executable)
+    python = Program(sys.executable)
     found = python.run([str(PYTHON / "affected.py"), *words], folder, given)
     wanted = tests.affected.run(words, folder, given)
     tests.expect("comparisons", f"affected {words} {paths[:5]}", found, wanted)
@@ -302,22 +303,21 @@ def try_project(tests, name, folder, words, sizes):
 
 
 def try_projects(tests):
-    project = sweeps.EXAMPLES / "project"
+    project = EXAMPLES / "project"
     try_project(tests, "project", project, ["test", "main.c^", "./out//count"], [1, 2, 3, 4, 5, 9])
     changed = ["text/lines.c", "README.md", "./main.c", "text/words.c"]
     for words in [], ["--rule", "check"], ["--prefix", "out/"], ["--source-dir", "text/.."]:
         try_affected(tests, project, words, changed)
     many = tests.folder / "many"
-    sweeps.write_files(many, many_files())
+    write_files(many, many_files())
     lines = try_project(tests, "2,000 files", many, ["out/7.20", "out/3.9.check"], [97, 1900, 3899])
     tests.expect("comparisons", "2,000 files, commands", lines.count(b"\n") > 1900, True)
     try_affected(tests, many, [], ["src/1.1", "common", "src/none", "out/1.1"])
     if shutil.which("cmake") and shutil.which("ninja"):
         build = Path(os.path.realpath(tests.folder)) / "build"
-        words = ["cmake", "-G", "Ninja", "-S", str(sweeps.EXAMPLES / "cmake"), "-B", str(build)]
-        subprocess.run(words, stdout=subprocess.DEVNULL, check=True)
+        write_cmake(build)
         try_project(tests, "CMake", build, ["count", "text"], [1, 2, 3])
-        here = ["--source-dir", str(sweeps.EXAMPLES / "cmake")]
+        here = ["--source-dir", str(EXAMPLES / "cmake")]
         try_affected(tests, build, here, ["src/words.c", "include/text/words.h"])
 
 
@@ -336,7 +336,7 @@ def fault_of(folder, joins):
 def try_fault(tests, kind, files, joins):
     folder = tests.folder / "faults"
     shutil.rmtree(folder, ignore_errors=True)
-    sweeps.write_files(folder, {name: sweeps.as_bytes(text) for name, text in files.items()})
+    write_files(folder, {name: as_bytes(text) for name, text in files.items()})
     options = ["--dyndep"] if joins else []
     line = plain(tests.program.run([*options, *COMMANDS], folder)).error.rstrip(b"\n")
     text = line.decode("utf-8", "surrogateescape")
@@ -345,7 +345,7 @@ def try_fault(tests, kind, files, joins):
     wanted = int(KINDS[kind]), place, text
     tests.expect("faults", f"fault {kind}", fault_of(folder, joins), wanted)
     if not joins:
-        ending = sweeps.Ending(FAULT, b"", line + b"\n")
+        ending = Ending(FAULT, b"", line + b"\n")
         tests.expect("faults", f"fault {kind}, C", tests.static.run([], folder), ending)
 
 
@@ -354,12 +354,12 @@ def try_faults(tests):
         try_fault(tests, kind, {MAIN: text}, False)
     for kind, text in DYNDEP_FAULTS.items():
         try_fault(tests, kind, {MAIN: BOUND, "d": text}, True)
-    project = sweeps.EXAMPLES / "project"
+    project = EXAMPLES / "project"
     for words in ["nothing"], ["out/count^"], [""]:
         ran = plain(tests.program.run([*COMMANDS, *words], project))
         tests.expect("faults", f"target {words}", tests.static.run(words, project), ran)
     for words in ["--resume", "x"], ["--resume", "9.9"]:
-        ending = sweeps.Ending(FAULT, b"", b"commands: bad mark\n")
+        ending = Ending(FAULT, b"", b"commands: bad mark\n")
         tests.expect("faults", f"{words}", tests.static.run(words, project), ending)
     for words in ["--take", "x"], ["--nothing"]:
         tests.expect("faults", f"{words}", tests.static.run(words, project).status, USAGE)
@@ -372,7 +372,7 @@ def try_flood(tests):
     """Checks that the key is used: names which collide under a known one cost little more."""
     folder = tests.folder / "flood"
     folder.mkdir()
-    for reason in check_flood.slow_tables([str(tests.static.path)], str(folder)):
+    for reason in flood.slow_tables([str(tests.static.path)], str(folder)):
         tests.sweep.take({"tables of names": 1}, [reason] if reason else [])
 
 
@@ -435,18 +435,20 @@ def driver_tasks(tests):
 
 def try_valgrind(tests):
     """Runs the C example under valgrind."""
-    project = sweeps.EXAMPLES / "project"
+    project = EXAMPLES / "project"
     for words in [], ["--take", "2", "test"], ["--resume", "9"], ["nothing"], ["-f", "nothing"]:
         wanted = tests.static.run(words, project)
-        example = sweeps.Program(shutil.which("valgrind"))
+        example = Program(shutil.which("valgrind"))
         found = example.run([*VALGRIND[1:], tests.static.path, *words], project)
         tests.expect("runs under valgrind", f"valgrind {words}", found, wanted)
 
 
 def main():
-    parser = sweeps.parser_of(__doc__.split("\n")[0])
+    parser = argparse.ArgumentParser(description=__doc__.split("\n")[0])
+    parser.add_argument("program", help="the built program")
     parser.add_argument("affected", help="the built program affected_tests")
     parser.add_argument("--cases", type=int, default=1000, help="how many changed manifests")
+    parser.add_argument("--jobs", type=int, default=os.cpu_count(), help="how many run at once")
     words = parser.parse_args()
     with tempfile.TemporaryDirectory() as folder:
         tests = Tests(folder, words.program, words.affected, words.cases)
@@ -457,8 +459,11 @@ def main():
         if shutil.which("valgrind"):
             try_valgrind(tests)
         run = partial(run_driver, tests.driver)
-        sweeps.in_parallel(tests.sweep, words.jobs, run, driver_tasks(tests))
-        return tests.sweep.end()
+        tests.sweep.in_parallel(words.jobs, run, driver_tasks(tests))
+        wrong = tests.sweep.problems()
+    for case in wrong:
+        print(f"c_test: {case}")
+    return 1 if wrong else 0
 
 
 if __name__ == "__main__":

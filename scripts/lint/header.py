@@ -1,23 +1,20 @@
-#!/usr/bin/env python3
 """Compares include/ninja_explain.h with the exports of the crate nj_c.
 
-Each export has to be declared with the C types of its parameters, and each declaration has to be an
-export. The numbers of `enum nx_status`, `enum nx_fault` and `enum nx_kind` have to be those that the
+Each export has to be declared with the C types of its parameters, and each declaration has to be
+an export. The numbers of `enum nx_status`, `enum nx_fault` and `enum nx_kind` have to be those that the
 crate gives. Where there is a compiler, the header has to compile as C11 and as C++17 without a
-warning, and so has the program at its top. Prints what differs, and nothing else. The
-status is 1 if anything differs.
+warning, and so has the program at its top.
 """
 
 import re
-import shutil
 import subprocess
-import sys
 import textwrap
-from pathlib import Path
 
-ROOT = Path(__file__).resolve().parent.parent
+from lib.checks import check
+from lib.programs import CRATES, ROOT
+
 HEADER = ROOT / "include/ninja_explain.h"
-SOURCES = ROOT / "crates/nj_c/src"
+SOURCES = CRATES / "nj_c/src"
 
 EXPORT = re.compile(r'^pub extern "C" fn (\w+)\((.*?)\)(?: -> (\w+))?$', re.M | re.S)
 DECLARATION = re.compile(r"^(\w+) (\w+)\(([^)]*)\);", re.M)
@@ -84,11 +81,12 @@ def is_same(call, wanted):
     return len(call[1]) == len(wanted[1]) and (call[0], named) == wanted
 
 
-def check_calls(header):
+@check
+def calls_are_declared():
     exports = {}
     for file in sorted(SOURCES.rglob("*.rt")):
         exports.update(exported(file.read_text()))
-    declarations = dict(declared(header))
+    declarations = dict(declared(HEADER.read_text()))
     for name in sorted(exports.keys() | declarations.keys()):
         if name not in declarations:
             yield f"it does not declare {name}: {shown(exports[name])}"
@@ -106,15 +104,23 @@ def constant(variant, prefix):
     return prefix + re.sub(r"(?<=[a-z0-9])(?=[A-Z])", "_", variant).upper()
 
 
-def check_numbers(header, name):
+def differences(name):
+    """The numbers of an enumeration that are not those of the crate."""
     prefix, file, kind = ENUMERATIONS[name]
-    body = re.search(rf"enum {name} {{(.*?)}};", without_comments(header), re.S)[1]
+    header = without_comments(HEADER.read_text())
+    body = re.search(rf"enum {name} {{(.*?)}};", header, re.S)[1]
     found = dict(re.findall(r"(\w+) = (\d+)", body))
     arms = re.findall(rf"{kind}::(\w+)(?:\([^)]*\))? => (\d+)", (SOURCES / file).read_text())
     wanted = {constant(variant, prefix): number for variant, number in arms}
     for word in sorted(found.keys() | wanted.keys()):
         if found.get(word) != wanted.get(word):
             yield f"{word} is {found.get(word)}, and {wanted.get(word)} in {file}"
+
+
+@check
+def numbers_are_the_same():
+    for name in ENUMERATIONS:
+        yield from differences(name)
 
 
 # ---- compiling
@@ -135,23 +141,16 @@ def refusal(compiler, text):
     return ran.stderr if ran.returncode or ran.stderr else None
 
 
-def check_compiling(header):
-    for compiler in filter(shutil.which, LANGUAGES):
-        if refused := refusal(compiler, "#include <ninja_explain.h>\n"):
-            yield f"{compiler} does not take it: {refused}"
-    if shutil.which("cc") and (refused := refusal("cc", example(header))):
-        yield f"cc does not take its example: {refused}"
+@check(needs=["cc"])
+def compiles_as_c():
+    yield from filter(None, [refusal("cc", "#include <ninja_explain.h>\n")])
 
 
-def main():
-    header = HEADER.read_text()
-    faults = [*check_calls(header), *check_compiling(header)]
-    for name in ENUMERATIONS:
-        faults += check_numbers(header, name)
-    for fault in faults:
-        print(f"{HEADER.relative_to(ROOT)}: {fault}")
-    return 1 if faults else 0
+@check(needs=["c++"])
+def compiles_as_cpp():
+    yield from filter(None, [refusal("c++", "#include <ninja_explain.h>\n")])
 
 
-if __name__ == "__main__":
-    sys.exit(main())
+@check(needs=["cc"])
+def its_example_compiles():
+    yield from filter(None, [refusal("cc", example(HEADER.read_text()))])

@@ -1,25 +1,25 @@
-#!/usr/bin/env python3
-"""Runs the program on hostile manifests: sweep_strangers.py [--cases N] [--seed S] PROGRAM
+"""Runs the program on hostile manifests.
 
-The cases have the seeds S, S + 1 and so on (strangers.py makes them). Each run gets 256 MB, 10
+Each case has a seed (lib/strangers.py makes it of that). Each run gets 256 MB, 10
 seconds, and an output that takes 16 MB, or in one run of ten nothing. It has to end by itself, with
 a status of the man page. A fault has to be one that exists, and its place has to contain what such
 a fault is about. Only trees of targets, and manifests with values that grow without bound, may run
 out of time.
 
-Prints how many runs ended with each status, and each run that did not end as it should, with its
-seed. The status is 1 if there is one.
+A run that did not end as it should is printed with its seed.
 """
 
 import collections
 import resource
-import sys
 import tempfile
 from functools import partial
 
-import sweeps
-from strangers import Maker
-from sweeps import OUTPUT_FAILED
+from lib.checks import check, expect
+from lib.faults import ending_is_wrong
+from lib.programs import OUTPUT_FAILED
+from lib.projects import write_files
+from lib.strangers import Maker, colliding_names, flood
+from lib.sweeps import Sweep
 
 MOST_MEMORY = 256 << 20
 MOST_OUTPUT = 16 << 20
@@ -31,7 +31,7 @@ TASK = 250
 def try_case(program, case, folder, is_full):
     """Runs the program on a case. Returns how it ended, and what is wrong with that."""
     files, words, may_take_any_time = case
-    sweeps.write_files(folder, files)
+    write_files(folder, files)
     with open("/dev/full", "wb") as full:
         ran = program.run(words, folder, seconds=SECONDS, output=full if is_full else None)
     if ran.status is None and may_take_any_time:
@@ -39,7 +39,7 @@ def try_case(program, case, folder, is_full):
     how = f"ended with {ran.status}"
     if ran.status == OUTPUT_FAILED and (is_full or len(ran.output) == MOST_OUTPUT):
         return how, "the output failed, and there is an error line" if ran.error else None
-    return how, sweeps.ending_is_wrong(ran, files)
+    return how, ending_is_wrong(ran, files)
 
 
 def try_cases(program, maker, seeds):
@@ -57,17 +57,16 @@ def try_cases(program, maker, seeds):
     return counts, wrong
 
 
-def main():
-    parser = sweeps.parser_of(__doc__.split("\n")[0])
-    parser.add_argument("--cases", type=int, default=1000, help="how many cases")
-    parser.add_argument("--seed", type=int, default=0, help="the seed of the first one")
-    words = parser.parse_args()
-    program, sweep = sweeps.Program(words.program), sweeps.Sweep("sweep_strangers")
-    last = words.seed + words.cases
-    tasks = [range(at, min(at + TASK, last)) for at in range(words.seed, last, TASK)]
-    sweeps.in_parallel(sweep, words.jobs, partial(try_cases, program, Maker()), tasks)
-    return sweep.end()
+@check(needs=["cc"])
+def names_collide():
+    """Without `cc`, which finds them, the cases have other names."""
+    yield from expect("tables", set(colliding_names()), set(flood.TABLES))
 
 
-if __name__ == "__main__":
-    sys.exit(main())
+@check(alone=True)
+def hostile_manifests(program, seeds, jobs):
+    sweep = Sweep("strangers")
+    starts = range(seeds.start, seeds.stop, TASK)
+    tasks = [range(at, min(at + TASK, seeds.stop)) for at in starts]
+    sweep.in_parallel(jobs, partial(try_cases, program, Maker()), tasks)
+    return sweep.problems()

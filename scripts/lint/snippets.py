@@ -1,19 +1,18 @@
-#!/usr/bin/env python3
 """Compares the Rattle code in README.md and docs/LIBRARY.md with the crate library_example.
 
 README.md has to show the whole of its `main.rt`, but for the lines that are marked as not in it, and
 each block of docs/LIBRARY.md lines of one of its files that follow one another, indented or not. The
 crates that docs/LIBRARY.md copies have to be those that the client's calls need, by crates.txt.
-Prints what differs, and nothing else. The status is 1 if anything differs.
 """
 
 import re
-import sys
 import textwrap
-from pathlib import Path
 
-ROOT = Path(__file__).resolve().parent.parent
-SOURCES = ROOT / "crates/library_example/src"
+from lib.checks import check, expect
+from lib.programs import CRATES, ROOT
+
+PAGE = ROOT / "docs/LIBRARY.md"
+SOURCES = CRATES / "library_example/src"
 # what a client may name in its own crates.txt
 NAMED = ["nj_graph", "nj_needs", "nj_tools", "nj_disk"]
 HIDDEN = "// not in README.md"
@@ -56,24 +55,22 @@ def needed(names):
     return found
 
 
-def main():
-    faults = []
-    sources = [file.read_text() for file in sorted(SOURCES.glob("**/*.rt"))]
+@check
+def block_of_readme():
     shown = [block for _, block in blocks(ROOT / "README.md")]
     if shown != [plain((SOURCES / "main.rt").read_text())]:
-        faults.append("README.md: its block is not the whole of library_example/src/main.rt")
-    page = ROOT / "docs/LIBRARY.md"
-    for line, block in blocks(page):
+        yield "its block is not the whole of library_example/src/main.rt"
+
+
+@check
+def blocks_of_library():
+    sources = [file.read_text() for file in sorted(SOURCES.glob("**/*.rt"))]
+    for line, block in blocks(PAGE):
         if not any(has(source, block) for source in sources):
-            faults.append(f"docs/LIBRARY.md:{line}: no file of library_example has this block")
-    copied = re.search(r"^for name in ([^;]*);", page.read_text().replace("\\\n", ""), re.M)
-    if not copied or set(copied[1].split()) != needed(NAMED):
-        wanted = " ".join(sorted(needed(NAMED)))
-        faults.append(f"docs/LIBRARY.md: a client has to copy these crates: {wanted}")
-    for fault in faults:
-        print(fault)
-    return 1 if faults else 0
+            yield f"docs/LIBRARY.md:{line}: no file of library_example has this block"
 
 
-if __name__ == "__main__":
-    sys.exit(main())
+@check
+def crates_to_copy():
+    copied = re.search(r"^for name in ([^;]*);", PAGE.read_text().replace("\\\n", ""), re.M)
+    yield from expect("the crates that a client has to copy", set(copied[1].split()), needed(NAMED))

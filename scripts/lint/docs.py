@@ -1,15 +1,13 @@
-#!/usr/bin/env python3
 """Compares the table "Where things are found" in docs/ARCHITECTURE.md with the files of the crates.
 
 Each definition file and module that it names has to exist, and it has to name each one that exists.
-Prints the differences. The status is 1 if there is one.
 """
 
 import re
-import sys
-from pathlib import Path
 
-ROOT = Path(__file__).resolve().parent.parent
+from lib.checks import check
+from lib.programs import CRATES, ROOT
+
 TABLE = ROOT / "docs/ARCHITECTURE.md"
 # Files that every crate may have, and that need no entry.
 PLAIN = {"src/lib.rt", "src/main.rt", "specs/Lib.antt", "specs/Inside.antt"}
@@ -54,21 +52,15 @@ def present(crate):
     return {str(file.relative_to(crate)) for file in files} - PLAIN - test_modules(crate)
 
 
-def main():
-    faults, table = [], named()
+@check
+def table_of_crates():
+    """docs/ARCHITECTURE.md names every module, and no other."""
+    table = named()
     if not table:
-        faults.append("it has no table of crates")
-    for crate in sorted((ROOT / "crates").iterdir()):
-        listed = table.pop(crate.name, set())
-        there = present(crate)
-        faults += [f"it does not name {crate.name}/{it}" for it in sorted(there - listed)]
+        yield "it has no table of crates"
+    for crate in sorted(CRATES.iterdir()):
+        listed, there = table.pop(crate.name, set()), present(crate)
+        yield from (f"it does not name {crate.name}/{it}" for it in sorted(there - listed))
         missing = (it for it in sorted(listed) if not (crate / it).is_file())
-        faults += [f"there is no {crate.name}/{it}" for it in missing]
-    faults += [f"there is no crate {name}" for name in table]
-    for fault in faults:
-        print(f"{TABLE.relative_to(ROOT)}: {fault}")
-    return 1 if faults else 0
-
-
-if __name__ == "__main__":
-    sys.exit(main())
+        yield from (f"there is no {crate.name}/{it}" for it in missing)
+    yield from (f"there is no crate {name}" for name in table)

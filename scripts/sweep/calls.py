@@ -1,24 +1,23 @@
-#!/usr/bin/env python3
-"""Makes each system call of the program fail once: sweep_calls.py PROGRAM
+"""Makes each system call of the program fail once.
 
 In runs of every tool, each `open`, `read`, `statx`, `close`, `getentropy` and `write` in turn fails
 with one of several errors, or transfers fewer bytes than asked for. In some runs every call
 transfers fewer bytes. (This is done by fail_calls.c, which is compiled with `cc`.) How such a run
 may differ from a normal one is in `wanted_open` and the functions after it.
 
-Prints in how many runs each call was made to fail, and each run that did not end as it should. The
-status is 1 if there is one, or if a call was never made to fail.
+It is wrong too if a call was never made to fail.
 """
 
 import errno
-import shutil
-import sys
 import tempfile
 from functools import partial
 from pathlib import Path
 
-import sweeps
-from sweeps import FAULT, MAIN, OUTPUT_FAILED, STOPPED, Ending
+from lib import projects
+from lib.checks import check
+from lib.programs import FAULT, OUTPUT_FAILED, STOPPED, Ending, compiled, shown
+from lib.projects import MAIN, Project, runs_of
+from lib.sweeps import Sweep
 
 # The errors with which a call fails, and the numbers of bytes to which it is cut short.
 ERRORS = {
@@ -39,12 +38,12 @@ LONG = "long"
 def long_project():
     """A chain of edges, whose files are read and written in many pieces."""
     edges = "".join(f"build e{i}: mk e{i - 1}\n" for i in range(1, EDGES))
-    return sweeps.Project({MAIN: f"rule mk\n  command = mk $in $out\nbuild e0: mk\n{edges}"}, {})
+    return Project({MAIN: f"rule mk\n  command = mk $in $out\nbuild e0: mk\n{edges}"}, {})
 
 
-PROJECTS = {**sweeps.PROJECTS, LONG: long_project()}
+PROJECTS = {**projects.PROJECTS, LONG: long_project()}
 RUNS = {
-    **sweeps.RUNS,
+    **projects.RUNS,
     LONG: [
         "",
         "-t commands",
@@ -172,24 +171,15 @@ def try_run(program, library, task):
                 counts[call] += 1
                 if is_wrong(runs.project, words, call, way, opened, ran, runs.usual):
                     case = f"{name}, {words}, {call} {number} by {way}"
-                    wrong.append(f"{case}: it ends with {sweeps.shown(ran)}")
+                    wrong.append(f"{case}: it ends with {shown(ran)}")
     return counts, wrong
 
 
-def main():
-    words = sweeps.parser_of(__doc__.split("\n")[0]).parse_args()
-    if not shutil.which("cc"):
-        print("sweep_calls: skipped, since there is no cc")
-        return 0
-    program, sweep = sweeps.Program(words.program), sweeps.Sweep("sweep_calls")
-    with tempfile.TemporaryDirectory() as place:
-        library = sweeps.compiled("fail_calls", place)
-        task = partial(try_run, program, library)
-        sweeps.in_parallel(sweep, words.jobs, task, sweeps.runs_of(RUNS))
+@check(needs=["cc"], alone=True)
+def every_call(program, folder, jobs):
+    sweep = Sweep("calls")
+    library = compiled("fail_calls", folder)
+    sweep.in_parallel(jobs, partial(try_run, program, library), runs_of(RUNS))
     never = [call for call in ERRORS if not sweep.counts[call]]
     sweep.wrong += [f"{call} was never made to fail" for call in never]
-    return sweep.end()
-
-
-if __name__ == "__main__":
-    sys.exit(main())
+    return sweep.problems()

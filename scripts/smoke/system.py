@@ -1,21 +1,17 @@
-#!/usr/bin/env python3
-"""Watches what runs ask of the system: smoke_system.py PROGRAM
+"""Watches what runs ask of the system.
 
 Where there is `strace`, runs of every tool are traced, which no contract can state: a run opens
 files for reading alone, writes to its two outputs alone, and starts no program.
-
-Prints each run that does anything else. The status is 1 if there is one.
 """
 
 import itertools
 import re
-import shutil
 import subprocess
-import sys
 import tempfile
 
-import sweeps
-from sweeps import PROJECTS, RUNS
+from lib.checks import Skipped, check
+from lib.programs import Program, shown
+from lib.projects import PROJECTS, RUNS, runs_of
 
 # ---- system calls
 
@@ -52,50 +48,27 @@ def changes(trace):
             yield line
 
 
-def lacks_strace():
-    """Why no run can be traced, or `None`."""
-    if not shutil.which("strace"):
-        return "there is no strace"
-    words = [*TRACE, "-o", "/dev/null", "true"]
-    refused = subprocess.run(words, stderr=subprocess.DEVNULL).returncode
-    return "strace may not trace here" if refused else None
-
-
 def traced(program, words, folder, text):
     """How a run under `strace` ends, and its trace."""
     with tempfile.NamedTemporaryFile("r", errors="replace") as trace:
-        strace = sweeps.Program(shutil.which(TRACE[0]))
-        ran = strace.run([*TRACE[1:], "-o", trace.name, program.path, *words], folder, text)
-        return ran, trace.read()
+        words = [*TRACE[1:], "-o", trace.name, program.path, *words]
+        return Program(TRACE[0]).run(words, folder, text), trace.read()
 
 
-def try_calls(program):
-    """Each run that could change something, with the first such call."""
-    for name, words in sweeps.runs_of(RUNS):
-        project, case = PROJECTS[name], f"{name}, {words}"
-        with tempfile.TemporaryDirectory() as folder:
-            project.write_to(folder)
-            usual = program.run(words, folder, project.input_for(words))
-            ran, trace = traced(program, words, folder, project.input_for(words))
+@check(needs=["strace"])
+def runs_change_nothing(program, folder):
+    """No run opens a file but for reading, or starts a program."""
+    words = [*TRACE, "-o", "/dev/null", "true"]
+    if subprocess.run(words, stderr=subprocess.DEVNULL).returncode:
+        raise Skipped("strace may not trace here")
+    for number, (name, words) in enumerate(runs_of(RUNS)):
+        project, case, place = PROJECTS[name], f"{name}, {words}", folder / str(number)
+        project.write_to(place)
+        usual = program.run(words, place, project.input_for(words))
+        ran, trace = traced(program, words, place, project.input_for(words))
         if ran != usual:
-            yield f"{case}: traced it ends with {sweeps.shown(ran)}"
+            yield f"{case}: traced it ends with {shown(ran)}"
         if "open" not in trace:
             yield f"{case}: there is no trace"
         for line in itertools.islice(changes(trace), 1):
             yield f"{case}: {line[:200]}"
-
-
-def main():
-    program, wrong = sweeps.Program(sys.argv[1]), []
-    if why := lacks_strace():
-        count = len(sweeps.runs_of(RUNS))
-        print(f"smoke_system: skipped: {count} runs are not traced, since {why}")
-    else:
-        wrong += try_calls(program)
-    for line in wrong:
-        print(f"smoke_system: {line}")
-    return 1 if wrong else 0
-
-
-if __name__ == "__main__":
-    sys.exit(main())

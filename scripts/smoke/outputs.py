@@ -1,9 +1,10 @@
 """What each tool writes for examples/project, written by hand, and each usage fault."""
 
 import re
-from pathlib import Path
 
-PAGE = Path(__file__).resolve().parent.parent / "man/ninja-explain.1"
+from lib.programs import ROOT
+
+PAGE = ROOT / "man/ninja-explain.1"
 
 # Words, and the output. The words are split at spaces.
 OUTPUTS = {

@@ -1,21 +1,17 @@
-#!/usr/bin/env python3
-"""Runs every tool, with each of its options, over 100,000 edges: sweep_sizes.py PROGRAM
+"""Runs every tool, with each of its options, over 100,000 edges.
 
 There are three manifests. In the first, each edge needs the one before it. In the second, the next
 edge is a validation of each edge. In the third, a dyndep file makes each edge need the one before
 it. What each run has to write is computed here, and not taken from a run of the program.
-
-Prints how many runs were tried, and each run that did not end as it should. The status is 1 if
-there is one.
 """
 
 import json
-import sys
-import tempfile
 from functools import partial
 
-import sweeps
-from sweeps import DONE, MAIN, STOPPED, Ending
+from lib.checks import check
+from lib.programs import DONE, STOPPED, Ending, shown
+from lib.projects import MAIN, write_files
+from lib.sweeps import Sweep
 
 EDGES = 100_000
 HALF = EDGES // 2
@@ -203,7 +199,7 @@ def try_run(program, folders, task):
         return {"runs": 1}, []
     about = " ".join(word if len(word) < 40 else f"{word[:40]}.." for word in words)
     parts = [part for part, it, its in zip(Ending._fields, ran, wanted) if it != its]
-    return {"runs": 1}, [f"{name}, {about}: {', '.join(parts)} differ: {sweeps.shown(ran)}"]
+    return {"runs": 1}, [f"{name}, {about}: {', '.join(parts)} differ: {shown(ran)}"]
 
 
 def tasks_of(manifests):
@@ -213,17 +209,11 @@ def tasks_of(manifests):
             yield name, line.split(), wanted
 
 
-def main():
-    words = sweeps.parser_of(__doc__.split("\n")[0]).parse_args()
-    program, sweep = sweeps.Program(words.program), sweeps.Sweep("sweep_sizes")
-    with tempfile.TemporaryDirectory() as place:
-        folders = {name: f"{place}/{name}" for name in FILES}
-        for name, files in FILES.items():
-            sweeps.write_files(folders[name], {file: text.encode() for file, text in files.items()})
-        task = partial(try_run, program, folders)
-        sweeps.in_parallel(sweep, words.jobs, task, tasks_of(MANIFESTS))
-    return sweep.end()
-
-
-if __name__ == "__main__":
-    sys.exit(main())
+@check(alone=True)
+def large_graphs(program, folder, jobs):
+    folders = {name: folder / name for name in FILES}
+    for name, files in FILES.items():
+        write_files(folders[name], {file: text.encode() for file, text in files.items()})
+    sweep = Sweep("sizes")
+    sweep.in_parallel(jobs, partial(try_run, program, folders), tasks_of(MANIFESTS))
+    return sweep.problems()

@@ -1,4 +1,4 @@
-/* sweep_memory.py and smoke_memory.py preload this. The allocation with the number FAIL_ALLOC,
+/* sweep/memory.py and smoke/memory.py preload this. The allocation with the number FAIL_ALLOC,
    counted from 1, fails; if FAIL_ALLOC_AFTER is set, so does every later one. When the first one
    fails, the file FAIL_ALLOC_REPORT is created. At the end the number of allocations, 0 if
    FAIL_ALLOC is not set, is written to the file FAIL_ALLOC_COUNT. The program calls only `malloc`

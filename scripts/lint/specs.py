@@ -1,19 +1,16 @@
-#!/usr/bin/env python3
-"""Checks that each library keeps what must be believed apart from plumbing: check_specs.py
+"""Checks that each library keeps what must be believed apart from plumbing.
 
 A definition must be believed if it is named in the contract of a public function, in the value of a
 public type, in what a type provides for a trait, or in another definition that must be believed. In
 crates/*/specs such definitions are in the files that Lib.antt lists, and all others are in the
 folder Inside. How fields represent a value (`view`) is plumbing.
-
-Prints each definition on the wrong side. The status is 1 if there is one.
 """
 
 import re
-import sys
 
 import believed
 from believed import CRATES, Definition, block_at, members, module, reached, rust
+from lib.checks import check
 
 FUNCTION = re.compile(r'^( *)pub (?:extern "C" )?fn (\w+)', re.M)
 IMPL = re.compile(r"^impl\b[^{]*\{", re.M)
@@ -78,18 +75,12 @@ def definitions(crate):
             yield definition, path[0] == "Inside"
 
 
-def main():
+@check
+def plumbing_is_inside():
     believed.MODEL = r"ghost Value ="
     found = set(reached(start for crate in libraries() for start in contracts(crate)))
-    wrong = 0
     for crate in libraries():
         for definition, is_inside in definitions(crate):
             if (definition in found) == is_inside:
-                wrong += 1
                 side = "must be believed" if is_inside else "is plumbing"
-                print(f"{definition.module.file.relative_to(CRATES)}: {definition.name} {side}")
-    return 1 if wrong else 0
-
-
-if __name__ == "__main__":
-    sys.exit(main())
+                yield f"{definition.module.file.relative_to(CRATES)}: {definition.name} {side}"

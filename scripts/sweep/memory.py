@@ -1,5 +1,4 @@
-#!/usr/bin/env python3
-"""Refuses the program memory: sweep_memory.py [--sinks PROGRAM] PROGRAM
+"""Refuses the program memory.
 
 In runs of every tool, each allocation in turn is refused: in one run that allocation alone, in
 another one it and all after it. (This is done by fail_alloc.c, which is compiled with `cc`.) Then
@@ -7,23 +6,20 @@ runs get a limited address space, as by `ulimit -v`, from the least in which the
 what the run needs. A run has to end as it does with ample memory, or to write a prefix of its
 output and the line `ninja-explain: out of memory`, with status 1.
 
-With --sinks allocations are also refused to crates/memory_sinks, which writes to sinks in memory. A
+Allocations are also refused to crates/memory_sinks, which writes to sinks in memory. A
 sink without memory fails like any other sink: a failed output is status 4 with nothing on the error
 output, a lost mark line is status 4, and a lost fault line does not change the status.
-
-Prints how often memory was refused, and each run that did not end as it should. The status is 1 if
-there is one.
 """
 
-import shutil
-import sys
 import tempfile
 from collections import Counter
 from functools import partial
 from pathlib import Path
 
-import sweeps
-from sweeps import FAULT, LACKS_MEMORY, MAIN, OUTPUT_FAILED, PROJECTS, RUNS, STOPPED, USAGE
+from lib.checks import check
+from lib.programs import FAULT, LACKS_MEMORY, OUTPUT_FAILED, STOPPED, USAGE, compiled, shown
+from lib.projects import MAIN, PROJECTS, RUNS, Project, runs_of
+from lib.sweeps import Sweep
 
 # In KB: the steps, and the most that a run of one of the small projects can need.
 STEP, LARGE_STEP = 4, 64
@@ -34,7 +30,7 @@ EDGES = 20_000
 LARGE = "rule mk\n  command = mk $out\nbuild e0: mk\n" + "".join(
     f"build e{number}: mk e{number - 1}\n" for number in range(1, EDGES)
 )
-LARGE_PROJECT = sweeps.Project({MAIN: LARGE}, {})
+LARGE_PROJECT = Project({MAIN: LARGE}, {})
 LARGE_RUNS = ["", "-t commands", "-t inputs", "-t targets depth 0", "-t compdb", "-t query e7"]
 SMALL_RUNS = {"generated": RUNS["generated"], "dyndep file": RUNS["dyndep file"]}
 
@@ -85,17 +81,34 @@ def try_allocations(program, library, has_sinks, task):
                 sinks[sink] += 1
             elif is_wrong(ran, ample):
                 case = f"{name}, {words}, allocation {refused} {what}"
-                wrong.append(f"{case}: it ends with {sweeps.shown(ran)}")
+                wrong.append(f"{case}: it ends with {shown(ran)}")
     return {f"allocations refused {what}": refused, **sinks}, wrong
 
 
 def allocation_tasks(has_sinks):
     """Each run twice: refusing one allocation, and refusing that one and all after it. The program
     with sinks in memory has no standard input."""
-    for name, words in sweeps.runs_of(RUNS):
+    for name, words in runs_of(RUNS):
         if words and "--stdin" not in words or not has_sinks:
             yield name, words, False
             yield name, words, True
+
+
+@check(needs=["cc"], alone=True)
+def allocations(program, folder, jobs):
+    sweep = Sweep("memory")
+    task = partial(try_allocations, program, compiled("fail_alloc", folder), False)
+    sweep.in_parallel(jobs, task, allocation_tasks(False))
+    return sweep.problems()
+
+
+@check(needs=["cc"], alone=True)
+def allocations_by_sinks(sinks, folder, jobs):
+    sweep = Sweep("memory of sinks")
+    task = partial(try_allocations, sinks, compiled("fail_alloc", folder), True)
+    sweep.in_parallel(jobs, task, allocation_tasks(True))
+    sweep.wants("outputs failed", "mark lines lost", "fault lines lost")
+    return sweep.problems()
 
 
 # ---- address space
@@ -103,8 +116,7 @@ def allocation_tasks(has_sinks):
 
 def run_within(program, kilobytes, words, folder, text):
     """How a run ends with this much address space."""
-    shell = ["-c", f'ulimit -v {kilobytes}; exec "$0" "$@"', program.path, *words]
-    return sweeps.Program("/bin/sh").run(shell, folder, text)
+    return program.run_by_shell(words, folder, text, before=f"ulimit -v {kilobytes};")
 
 
 def starts_within(program, kilobytes, folder):
@@ -136,7 +148,7 @@ def try_spaces(program, task):
             tried += 1
             if is_wrong(ran, ample):
                 case = f"{name}, {words}, in {kilobytes} KB"
-                wrong.append(f"{case}: it ends with {sweeps.shown(ran)}")
+                wrong.append(f"{case}: it ends with {shown(ran)}")
             kilobytes += step
         if ran != ample:
             wrong.append(f"{name}, {words}: it does not end as usual in {MOST_KB} KB")
@@ -146,33 +158,14 @@ def try_spaces(program, task):
 def space_tasks(program):
     with tempfile.TemporaryDirectory() as folder:
         least = least_space(program, folder)
-    for name, words in sweeps.runs_of(SMALL_RUNS):
+    for name, words in runs_of(SMALL_RUNS):
         yield name, PROJECTS[name], words, least, STEP
     for words in LARGE_RUNS:
         yield "a chain", LARGE_PROJECT, words.split(), least, LARGE_STEP
 
 
-def main():
-    parser = sweeps.parser_of(__doc__.split("\n")[0])
-    parser.add_argument("--sinks", help="the built program with sinks in memory")
-    words = parser.parse_args()
-    program, sweep = sweeps.Program(words.program), sweeps.Sweep("sweep_memory")
-    if shutil.which("cc"):
-        with tempfile.TemporaryDirectory() as place:
-            library = sweeps.compiled("fail_alloc", place)
-            programs = {False: program}
-            if words.sinks:
-                programs[True] = sweeps.Program(words.sinks)
-            for has_sinks, each in programs.items():
-                task = partial(try_allocations, each, library, has_sinks)
-                sweeps.in_parallel(sweep, words.jobs, task, allocation_tasks(has_sinks))
-        if words.sinks:
-            sweep.wants("outputs failed", "mark lines lost", "fault lines lost")
-    else:
-        print("sweep_memory: no allocation is refused, since there is no cc")
-    sweeps.in_parallel(sweep, words.jobs, partial(try_spaces, program), space_tasks(program))
-    return sweep.end()
-
-
-if __name__ == "__main__":
-    sys.exit(main())
+@check(alone=True)
+def address_space(program, jobs):
+    sweep = Sweep("address space")
+    sweep.in_parallel(jobs, partial(try_spaces, program), space_tasks(program))
+    return sweep.problems()

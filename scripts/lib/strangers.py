@@ -10,11 +10,11 @@ import shutil
 import sys
 import tempfile
 
-import sweeps
-from smoke_project import project
-from sweeps import EXAMPLES, MAIN, PROJECTS, files_below
+from lib.generated import project
+from lib.programs import EXAMPLES, ROOT
+from lib.projects import MAIN, PROJECTS, files_below
 
-sys.path.insert(0, str(sweeps.SCRIPTS.parent / "bench"))
+sys.path.append(str(ROOT / "bench"))
 import flood  # noqa: E402
 
 COLLIDING, BITS = 400, 6

@@ -1,4 +1,4 @@
-/* sweep_calls.py preloads this. Among the calls of the kind FAIL_CALL, the one with the number
+/* sweep/calls.py preloads this. Among the calls of the kind FAIL_CALL, the one with the number
    FAIL_AT, counted from 1, fails with the error FAIL_ERRNO, or transfers at most FAIL_MOST bytes if
    that is set. If FAIL_AT is 0, every call does so. The kinds are `open`, `read`, `statx`, `close`,
    `getentropy`, and `output` and `error`, which are the calls of `write` to the two outputs.

@@ -1,21 +1,19 @@
-#!/usr/bin/env python3
-"""Changes each byte of small projects: sweep_bytes.py PROGRAM
+"""Changes each byte of small projects.
 
 There are two projects of two files: one with a dyndep file, and one with lines that end in CR LF.
 Each file is cut off after each of its bytes, and each byte is replaced in turn by NUL, a tab, CR
 and `$`. A run on the project has to succeed or to report one fault, and the place of the fault has
 to contain what such a fault is about.
-
-Prints how many changed files and runs were tried, and each run that did not end as it should. The status is
-1 if there is one.
 """
 
-import sys
 import tempfile
 from functools import partial
 
-import sweeps
-from sweeps import FAULT, MAIN, PROJECTS, Ending
+from lib.checks import check
+from lib.faults import ending_is_wrong
+from lib.programs import FAULT, Ending, shown
+from lib.projects import MAIN, PROJECTS, write_files
+from lib.sweeps import Sweep
 
 BYTES = {"NUL": b"\0", "a tab": b"\t", "CR": b"\r", "$": b"$"}
 WORDS = {
@@ -54,16 +52,16 @@ def try_file(program, task):
     name, changed_file = task
     files, tried, wrong = dict(PROJECTS[name].files), 0, []
     with tempfile.TemporaryDirectory() as folder:
-        sweeps.write_files(folder, files)
+        write_files(folder, files)
         for tried, (what, text) in enumerate(changed(files[changed_file]), start=1):
-            sweeps.write_files(folder, {changed_file: text})
+            write_files(folder, {changed_file: text})
             for words in WORDS[name]:
                 ran = program.run(words.split(), folder)
-                fault = sweeps.ending_is_wrong(ran, {**files, changed_file: text})
+                fault = ending_is_wrong(ran, {**files, changed_file: text})
                 if fault or ran.status > FAULT:
                     wrong.append(
                         f"{name}, {changed_file}, {what}, {words}: "
-                        f"{fault or 'the status is wrong'}: {sweeps.shown(ran)}"
+                        f"{fault or 'the status is wrong'}: {shown(ran)}"
                     )
     return {"changed files": tried, "runs": tried * len(WORDS[name])}, wrong
 
@@ -71,20 +69,16 @@ def try_file(program, task):
 def try_last_dollar(program):
     """A text that ends in `$` has a bad escape there."""
     with tempfile.TemporaryDirectory() as folder:
-        sweeps.write_files(folder, {MAIN: b"x = $"})
+        write_files(folder, {MAIN: b"x = $"})
         ran = program.run(["-t", "commands"], folder)
     wrong = [] if ran == Ending(FAULT, b"", BAD_ESCAPE) else [f"x = $: it ends with {ran}"]
     return {"changed files": 1, "runs": 1}, wrong
 
 
-def main():
-    words = sweeps.parser_of(__doc__.split("\n")[0]).parse_args()
-    program, sweep = sweeps.Program(words.program), sweeps.Sweep("sweep_bytes")
+@check(alone=True)
+def every_byte(program, jobs):
+    sweep = Sweep("bytes")
     tasks = [(name, file) for name in WORDS for file in PROJECTS[name].files]
-    sweeps.in_parallel(sweep, words.jobs, partial(try_file, program), tasks)
+    sweep.in_parallel(jobs, partial(try_file, program), tasks)
     sweep.take(*try_last_dollar(program))
-    return sweep.end()
-
-
-if __name__ == "__main__":
-    sys.exit(main())
+    return sweep.problems()

@@ -1,16 +1,12 @@
-#!/usr/bin/env python3
 """Checks that each public struct with a private field has an `impl Model`, so that contracts, and
 proofs of other crates, are about its value and not about its fields. No crate is above a static
 library, so that may do without.
-
-Prints each struct without one. The status is 1 if there is one.
 """
 
 import re
-import sys
-from pathlib import Path
 
-ROOT = Path(__file__).resolve().parent.parent
+from lib.checks import check
+from lib.programs import CRATES, ROOT
 
 STRUCT = re.compile(r"^pub struct (\w+).*?(?:\{(.*?)^\}|\(([^;]*)\);|;$)", re.M | re.S)
 NAMED_FIELD = re.compile(r"^    (?!pub |ghost )\w[\w()]* ?\w*:", re.M)
@@ -25,19 +21,11 @@ def without_model(text):
             yield name
 
 
-def main():
-    faults = []
+@check
+def private_fields_have_models():
     static = re.findall(r"^(\w+) staticlib:", (ROOT / "crates.txt").read_text(), re.M)
-    for crate in sorted((ROOT / "crates").iterdir()):
-        if crate.name in static:
-            continue
-        sources = (file.read_text() for file in sorted(crate.glob("src/**/*.rt")))
-        found = {name for source in sources for name in without_model(source)}
-        faults += [f"{crate.name}: {name} has no model" for name in sorted(found)]
-    for fault in faults:
-        print(fault)
-    return 1 if faults else 0
-
-
-if __name__ == "__main__":
-    sys.exit(main())
+    for crate in sorted(CRATES.iterdir()):
+        if crate.name not in static:
+            sources = (file.read_text() for file in sorted(crate.glob("src/**/*.rt")))
+            found = {name for source in sources for name in without_model(source)}
+            yield from (f"{crate.name}: {name} has no model" for name in sorted(found))

@@ -1,0 +1,78 @@
+"""The tools and options of the program, and how shells complete them."""
+
+import os
+import re
+import subprocess
+
+from lib.programs import CRATES, ROOT, SECONDS
+
+COMMAND_LINE = CRATES / "nj_args/specs/CommandLine.antt"
+BASH = ROOT / "completions/ninja-explain.bash"
+FISH = ROOT / "completions/ninja-explain.fish"
+ZSH = ROOT / "completions/_ninja-explain"
+
+# The options of each tool that not every tool has, and words that it takes.
+TOOLS = {
+    "commands": ({"-s", "--take", "--resume", "--validations"}, []),
+    "inputs": ({"--validations", "--dependency-order", "--no-shell-escape", "--print0"}, []),
+    "targets": (set(), ["all"]),
+    "query": (set(), ["file"]),
+    "rules": ({"-d"}, []),
+    "compdb": ({"-x", "--directory"}, []),
+}
+EVERY_TOOL = {"-t", "-f", "--stdin", "--dyndep"}
+# `--` ends the options, and is not one itself.
+END = "--"
+
+
+def options_of(tool):
+    return TOOLS[tool][0]
+
+
+def compare(where, what, found, wanted):
+    """What is wrong if a place has other words than it should."""
+    for word in sorted(found - wanted):
+        yield f"{where}: the program does not have {what} {word}"
+    for word in sorted(wanted - found):
+        yield f"{where}: {what} {word} is missing"
+
+
+def options_of_clap():
+    """The options that the definition passes to `clap`."""
+    kinds = r'(short|long)_(?:option|flag) \(codes "([\w-]+)"\)(?: (\d+))?'
+    found = re.findall(kinds, COMMAND_LINE.read_text())
+    return {f"-{chr(int(code))}" if kind == "short" else f"--{name}" for kind, name, code in found}
+
+
+# ---- shells
+
+BASH_SCRIPT = """\
+source "$1"; shift
+COMP_WORDS=("$@"); COMP_CWORD=$(($# - 1))
+_ninja_explain
+printf '%s\\n' "${COMPREPLY[@]}"
+"""
+FISH_SCRIPT = 'source $argv[1]; complete -C "$argv[2]"'
+
+
+def ask(shell, folder, programs):
+    """What a shell prints; `programs` is a folder in which it finds programs first."""
+    path = os.pathsep.join(filter(None, [programs, os.environ["PATH"]]))
+    environment = {**os.environ, "PATH": path}
+    how = {"cwd": folder, "env": environment, "stdin": subprocess.DEVNULL, "timeout": SECONDS}
+    ran = subprocess.run(shell, capture_output=True, text=True, **how)
+    if ran.returncode or ran.stderr:
+        raise RuntimeError(f"the completion of {shell[0]} fails: {ran.stderr.rstrip()}")
+    return list(filter(None, ran.stdout.split("\n")))
+
+
+def offered_by_bash(words, folder, programs=None):
+    """What bash offers in place of the last of the words."""
+    return ask(["bash", "-c", BASH_SCRIPT, "bash", BASH, "ninja-explain", *words], folder, programs)
+
+
+def offered_by_fish(words, folder, programs=None):
+    """The same, without descriptions."""
+    line = " ".join(["ninja-explain", *words])
+    found = ask(["fish", "--no-config", "-c", FISH_SCRIPT, FISH, line], folder, programs)
+    return [offer.split("\t")[0].rstrip("/") for offer in found]

@@ -1,0 +1,112 @@
+"""The places of the repository, and runs of built programs."""
+
+import collections
+import os
+import shutil
+import signal
+import subprocess
+from pathlib import Path
+
+ROOT = Path(__file__).resolve().parents[2]
+EXAMPLES = ROOT / "examples"
+CRATES = ROOT / "crates"
+
+# The statuses of ninja-explain.
+DONE, FAULT, USAGE, STOPPED, OUTPUT_FAILED = range(5)
+LACKS_MEMORY = b"ninja-explain: out of memory\n"
+SECONDS = 60
+
+
+def built(crate):
+    """Where `rt run` leaves the program of a crate."""
+    return CRATES / crate / "out" / crate
+
+
+class Ending(collections.namedtuple("Ending", "status output error")):
+    """How a run ended. The status is `None` if the time ran out."""
+
+    def as_text(self):
+        return Ending(self.status, self.output.decode(), self.error.decode())
+
+
+def shown(ending):
+    """How a run ended, with at most 200 bytes of each output."""
+    return tuple(
+        part[:200] + b".." if isinstance(part, bytes) and len(part) > 200 else part
+        for part in ending
+    )
+
+
+class NoProgram(Exception):
+    """A program that was not built."""
+
+
+class OutOfTime(Exception):
+    pass
+
+
+def stop_waiting(*_):
+    raise OutOfTime
+
+
+class Program:
+    """A built program, or one that is on the PATH."""
+
+    def __init__(self, path):
+        self.path = shutil.which(path) or os.path.abspath(path)
+
+    def run(
+        self, words, folder, text=b"", seconds=SECONDS, output=None, error=None, **environment
+    ):
+        """Runs the program in the folder to its end, with the text as its standard input. If files
+        are given, the outputs go there."""
+        if not os.path.isfile(self.path):
+            raise NoProgram(f"there is no program {self.path}")
+        with memory_file(text) as input, memory_file() as out, memory_file() as err:
+            how = {"stdin": input, "stdout": output or out, "stderr": error or err, "cwd": folder}
+            # Signals that Python ignores remain ignored. So `write` returns an error when a file
+            # gets too large.
+            how |= {"env": {**os.environ, **environment}, "restore_signals": False}
+            status = wait_for(subprocess.Popen([self.path, *words], **how), seconds)
+            return Ending(status, all_bytes(out), all_bytes(err))
+
+    def run_by_shell(self, words, folder, text=b"", before="", after=""):
+        """Runs the program in a shell, after a command and with redirections."""
+        script = f'{before} exec "$0" "$@" {after}'
+        return Program("sh").run(["-c", script, self.path, *words], folder, text)
+
+
+def memory_file(text=b""):
+    """A file in memory with this text, to be read from its start."""
+    file = open(os.memfd_create("run"), "wb+", buffering=0)
+    if text:
+        file.write(text)
+        file.seek(0)
+    return file
+
+
+def all_bytes(file):
+    return os.pread(file.fileno(), os.fstat(file.fileno()).st_size, 0)
+
+
+def wait_for(program, seconds):
+    """The exit status of the program, or `None` if it had to be killed."""
+    signal.signal(signal.SIGALRM, stop_waiting)
+    signal.setitimer(signal.ITIMER_REAL, seconds)
+    try:
+        return program.wait()
+    except OutOfTime:
+        program.kill()
+        program.wait()
+        return None
+    finally:
+        signal.setitimer(signal.ITIMER_REAL, 0)
+
+
+def compiled(name, folder):
+    """Compiles a C file of this folder into a library in another one. Returns its path."""
+    library = Path(folder) / f"{name}.so"
+    source = Path(__file__).with_name(f"{name}.c")
+    compiler = ["cc", "-O2", "-Wall", "-shared", "-fPIC", "-o", library, source]
+    subprocess.run(compiler, check=True)
+    return str(library)

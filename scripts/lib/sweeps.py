@@ -1,0 +1,32 @@
+"""What sweeps share. A sweep tries one thing on many cases, several at once."""
+
+import collections
+import multiprocessing
+
+
+class Sweep:
+    """What a sweep tried, by kind, and which cases are wrong."""
+
+    def __init__(self, name):
+        self.name, self.counts, self.wrong = name, collections.Counter(), []
+
+    def take(self, counts, wrong):
+        self.counts.update(counts)
+        self.wrong += wrong
+
+    def wants(self, *kinds):
+        """It is wrong if one of these kinds never occurred."""
+        self.wrong += [f"no {kind}" for kind in kinds if not self.counts[kind]]
+
+    def in_parallel(self, jobs, function, tasks):
+        """Takes the counts and the wrong cases that the function returns for each task."""
+        with multiprocessing.get_context("fork").Pool(jobs) as pool:
+            for counts, wrong in pool.imap(function, list(tasks)):
+                self.take(counts, wrong)
+
+    def problems(self):
+        """Prints what was tried, and returns what is wrong. A sweep that tried nothing shows
+        nothing."""
+        counts = ", ".join(f"{count:,} {what}" for what, count in self.counts.items())
+        print(f"{self.name}: {counts or 'nothing was tried'}", flush=True)
+        return self.wrong if self.counts.total() else [*self.wrong, "nothing was tried"]

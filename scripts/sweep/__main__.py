@@ -1,0 +1,31 @@
+"""Makes everything fail once, and runs hostile manifests:
+
+    python3 scripts/sweep [--program PROGRAM] [--sinks PROGRAM] [--seed S] [--cases N] [NAME..]
+
+docs/RELIABILITY.md describes the sweeps. Prints what each tried, what is wrong, and last how many
+checks passed. The exit status is 1 if one failed.
+"""
+
+import sys
+from pathlib import Path
+
+sys.path[0] = str(Path(__file__).resolve().parents[1])
+
+from lib import checks  # noqa: E402
+from lib.programs import Program, built  # noqa: E402
+
+if __name__ == "__main__":
+    checks.load("sweep")
+    parser = checks.parser_of(__doc__)
+    parser.add_argument("--program", default=built("ninja_explain"), help="ninja-explain")
+    parser.add_argument("--sinks", default=built("memory_sinks"), help="that with sinks in memory")
+    parser.add_argument("--seed", type=int, default=0, help="of the first hostile manifest")
+    parser.add_argument("--cases", type=int, default=100_000, help="how many hostile manifests")
+    words = parser.parse_args()
+    given = {
+        "program": Program(words.program),
+        "sinks": Program(words.sinks),
+        "seeds": range(words.seed, words.seed + words.cases),
+        "jobs": words.jobs,
+    }
+    sys.exit(checks.run(words.names, given, words.jobs))
