@@ -14,8 +14,6 @@ MB = 1_000_000
 # that `time` starts does not.
 TIME = shutil.which("time")
 
-NINJA_RULES = "ninja -t rules"
-
 
 class Run:
     """A run of a program in a folder, with a file as its standard input. The output goes to the
@@ -49,31 +47,6 @@ def measure(programs, rounds, stdin=os.devnull, folder=None, status=0, out=None)
         for name, words in programs.items():
             runs[name].append(Run(words, stdin, folder, status, out))
     return runs
-
-
-def measure_in_turn(cases, rounds):
-    """The best figures of each program in each case. A case is the programs, and further arguments
-    of `measure`. The cases are taken in turn, so that each meets the same load."""
-    runs = {case: {} for case in cases}
-    for _ in range(rounds):
-        for case, (programs, how) in cases.items():
-            for name, more in measure(programs, 1, **how).items():
-                runs[case].setdefault(name, []).extend(more)
-    return {
-        case: {name: best(all_runs) for name, all_runs in of_case.items()}
-        for case, of_case in runs.items()
-    }
-
-
-def programs_beside(program, before, ninja=None):
-    """The words of the program and of the programs with which it is compared: `before`, which is
-    from an earlier commit, and `ninja -t rules`, whose words are `ninja`. Both may be left out."""
-    programs = {"program": [program]}
-    if before:
-        programs["before"] = [os.path.abspath(before)]
-    if ninja and shutil.which("ninja"):
-        programs[NINJA_RULES] = ninja
-    return programs
 
 
 def best(runs):
