@@ -39,9 +39,8 @@ def compare(where, what, found, wanted):
 
 def options_of_clap():
     """The options that the definition passes to `clap`."""
-    kinds = r'(short|long)_(?:option|flag) \(codes "([\w-]+)"\)(?: (\d+))?'
-    found = re.findall(kinds, COMMAND_LINE.read_text())
-    return {f"-{chr(int(code))}" if kind == "short" else f"--{name}" for kind, name, code in found}
+    kinds = r'(?:short|long)_(?:option|flag) \(codes "(--?[\w-]+)"\)'
+    return set(re.findall(kinds, COMMAND_LINE.read_text()))
 
 
 # ---- shells
