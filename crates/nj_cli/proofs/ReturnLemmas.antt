@@ -1,5 +1,6 @@
 -- The outcome of a run, by the graph of its files.
 use Rattle.std.proofs.Common.{◌≡◌, ◌≢◌, ◌⊎◌, inl, inr, ℕ, Bool, true, false, if◌then◌else◌, Option, Some, None, Result, Ok, Err, IsErrAnd, List, [], length, map, filter, not, refl, sym, ap, subst, ◌∙◌}
+use Rattle.std.specs.Prelude.{nat_eq}
 use Rattle.std.specs.List.{flat_map}
 use Rattle.std.specs.Prelude.{slice_get}
 use Rattle.nj_scope.specs.ReadingList.{ReadStatement}
@@ -17,7 +18,8 @@ use Rattle.nj_edges.specs.Needs.{makers_of_inputs}
 use Rattle.nj_needs.specs.Growing.{grown_targets}
 use Rattle.nj_needs.specs.Graphs.{row_of_paths, is_phony_in, row_of, makers_of, count_of}
 use Rattle.nj_needs.specs.Marks.{is_valid, rest}
-use Rattle.nj_needs.specs.Order.{made_by, first_occurrences}
+use Rattle.nj_needs.specs.Order.{made_by}
+use Rattle.nj_edges.specs.Repeats.{each_once}
 use Rattle.nj_needs.specs.Pages.{IsMarkAfter}
 use Rattle.nj_needs.specs.Resuming.{ResumeIs}
 use Rattle.nj_marks.specs.declared.fault.MarkFault.{MarkFault}
@@ -184,8 +186,8 @@ module _ (entries : List ReadStatement) (g : GraphText) (is : IsGraphOf g entrie
 
     own-are : own_commands g.built.graph numbers ≡ own_commands_in (edges_by_path entries) targets
     own-are =
-        ap (λ (row : List (Option ℕ)). filter (λ e. not (is_phony_in (edges_of g) e)) (first_occurrences (flat_map (made_by single) row))) row-is
-        ∙ ap (λ (es : List EdgePaths). filter (λ e. not (is_phony_in es e)) (first_occurrences (flat_map (made_by single) (row_of_paths (edges_by_path entries) targets)))) edges-are
+        ap (λ (row : List (Option ℕ)). filter (λ e. not (is_phony_in (edges_of g) e)) (each_once nat_eq (flat_map (made_by single) row))) row-is
+        ∙ ap (λ (es : List EdgePaths). filter (λ e. not (is_phony_in es e)) (each_once nat_eq (flat_map (made_by single) (row_of_paths (edges_by_path entries) targets)))) edges-are
 
     module _ (words : List (List ℕ)) (named : targets_of entries false words ≡ Ok targets) where
       singles-text : command_lines entries (own_commands g.built.graph numbers) ≡ output_of entries (single_commands words)

@@ -4,6 +4,7 @@ pub mod Files
 pub mod EdgeGraphs
 pub mod Graph
 pub mod Needs
+pub mod Repeats
 pub mod Changes
 pub mod Joining
 pub mod EdgeTables

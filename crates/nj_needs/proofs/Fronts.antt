@@ -5,7 +5,7 @@ use Rattle.std.specs.List.{flat_map}
 use Rattle.std.proofs.lemmas.List.{append-nil, map-append, nil_from_length, take-append-le, take_all}
 use Rattle.std.proofs.lemmas.List.Concat.{flat_map-append}
 use Rattle.std.proofs.lemmas.List.Elements.{filter-append}
-use Rattle.nj_needs.specs.Order.{first_occurrences}
+use Rattle.nj_edges.specs.Repeats.{each_once}
 use Rattle.nj_needs.specs.Marks.{without}
 use Rattle.nj_needs.proofs.Striking.{without-none, without-cons}
 
@@ -52,13 +52,13 @@ front-take xs ys h n is =
 -- ---- without repeats
 
 -- a longer list without its repeats begins with the shorter one without its
-pub first-append : (xs ys : List ℕ) → first_occurrences (xs ++ ys) ≡ first_occurrences xs ++ without xs (first_occurrences ys)
-first-append [] ys = sym (without-none (first_occurrences ys))
+pub first-append : (xs ys : List ℕ) → each_once nat_eq (xs ++ ys) ≡ each_once nat_eq xs ++ without xs (each_once nat_eq ys)
+first-append [] ys = sym (without-none (each_once nat_eq ys))
 first-append (x ∷ xs) ys =
     let q : ℕ → Bool = λ y. not (nat_eq y x) in
     ap (λ (es : List ℕ). x ∷ filter q es) (first-append xs ys)
-    ∙ ap (λ (es : List ℕ). x ∷ es) (filter-append q (first_occurrences xs) (without xs (first_occurrences ys)))
-    ∙ ap (λ (es : List ℕ). x ∷ (filter q (first_occurrences xs) ++ es)) (sym (without-cons x xs (first_occurrences ys)))
+    ∙ ap (λ (es : List ℕ). x ∷ es) (filter-append q (each_once nat_eq xs) (without xs (each_once nat_eq ys)))
+    ∙ ap (λ (es : List ℕ). x ∷ (filter q (each_once nat_eq xs) ++ es)) (sym (without-cons x xs (each_once nat_eq ys)))
 
-pub front-first : (xs ys : List ℕ) → IsFront xs ys → IsFront (first_occurrences xs) (first_occurrences ys)
-front-first xs ys h = (without xs (first_occurrences h.0), ap first_occurrences h.1 ∙ first-append xs h.0)
+pub front-first : (xs ys : List ℕ) → IsFront xs ys → IsFront (each_once nat_eq xs) (each_once nat_eq ys)
+front-first xs ys h = (without xs (each_once nat_eq h.0), ap (each_once nat_eq) h.1 ∙ first-append xs h.0)

@@ -8,7 +8,8 @@ use Rattle.std.proofs.lemmas.List.Concat.{flat_map-append}
 use Rattle.std.proofs.lemmas.Option.{slice_get_within}
 use Rattle.nj_cycles.specs.Cycles.{IsRank}
 use Rattle.nj_needs.specs.Marks.{without}
-use Rattle.nj_needs.specs.Order.{made_by, unfolded, unfolded_row, first_occurrences}
+use Rattle.nj_needs.specs.Order.{made_by, unfolded, unfolded_row}
+use Rattle.nj_edges.specs.Repeats.{each_once}
 use Rattle.nj_needs.specs.Inside.Paths.{top_row, done_at, turns_left, IsLinked, IsStanding}
 use Rattle.nj_needs.specs.declared.frame.Frame.{Frame}
 use Rattle.nj_needs.proofs.Fronts.{IsFront, front-map, front-first, front-get, front-take, front-same, first-append}
@@ -48,7 +49,7 @@ bottom-pass (g ∷ path) place n le lt = le
 pub record IsGrowing (X : Type 0) (makers : ℕ → List (Option ℕ)) (count : ℕ) (maker : X → Option ℕ) (checks : ℕ → List X) (targets all : List X)
     (files : List X) (path : List Frame) (place : ℕ) (flags : List Bool) : Type 0 where
   pub standing : IsStanding makers count (map maker all) path place flags
-  pub grown : files ≡ with_checks X makers count maker checks targets (first_occurrences (done_at makers count (map maker all) path place))
+  pub grown : files ≡ with_checks X makers count maker checks targets (each_once nat_eq (done_at makers count (map maker all) path place))
   pub bottom : bottom path place ≤ length files
 
 module _ (X : Type 0) (makers : ℕ → List (Option ℕ)) (count : ℕ) (rank : ℕ → ℕ) (ranked : IsRank makers count rank) (maker : X → Option ℕ) (checks : ℕ → List X) (targets all : List X)
@@ -66,10 +67,10 @@ module _ (X : Type 0) (makers : ℕ → List (Option ℕ)) (count : ℕ) (rank :
   Growing files path place flags = IsGrowing X makers count maker checks targets all files path place flags
 
   -- the list is a prefix of the grown targets
-  front-all : (path : List Frame) (place : ℕ) → IsLinked makers row path → IsFront (listed (first_occurrences (done path place))) all
+  front-all : (path : List Frame) (place : ℕ) → IsLinked makers row path → IsFront (listed (each_once nat_eq (done path place))) all
   front-all path place linked =
       let r = done_front makers count rank ranked row inside path place linked in
-      let f = front-checks X makers count maker checks targets (first_occurrences (done path place)) (first_occurrences (unfolded_row makers count row))
+      let f = front-checks X makers count maker checks targets (each_once nat_eq (done path place)) (each_once nat_eq (unfolded_row makers count row))
       (front-first (done path place) (unfolded_row makers count row) r) in
       (f.0, fixed ∙ f.1)
 
@@ -103,15 +104,15 @@ module _ (X : Type 0) (makers : ℕ → List (Option ℕ)) (count : ℕ) (rank :
       passed-same : (y : ℕ) → list_any (nat_eq y) (done path place) ≡ list_any (nat_eq y) (done path (place + 1))
       passed-same = same-pass makers count rank ranked row inside path place x (found-all x at) all-done
 
-      passed-first : first_occurrences (done path (place + 1)) ≡ first_occurrences (done path place)
+      passed-first : each_once nat_eq (done path (place + 1)) ≡ each_once nat_eq (done path place)
       passed-first =
           let D = done path place in
           let us = made_by (unfolded makers count) x in
           let is = done_at-pass makers count row path place x (found-all x at) in
           let known : (y : ℕ) → In us y → In D y = λ y i. passed-same y ∙ ap (list_any (nat_eq y)) is ∙ In-append_right D us y i in
-          ap first_occurrences is ∙ first-append D us
-          ∙ ap (λ (es : List ℕ). first_occurrences D ++ es) (without-done D (first_occurrences us) (λ y i. known y (In-first us y i)))
-          ∙ append-nil (first_occurrences D)
+          ap (each_once nat_eq) is ∙ first-append D us
+          ∙ ap (λ (es : List ℕ). each_once nat_eq D ++ es) (without-done D (each_once nat_eq us) (λ y i. known y (In-first us y i)))
+          ∙ append-nil (each_once nat_eq D)
 
       pub growing-pass : Growing files path (place + 1) flags
       growing-pass = record {
@@ -134,7 +135,7 @@ module _ (X : Type 0) (makers : ℕ → List (Option ℕ)) (count : ℕ) (rank :
       pub growing-open : Growing files (path ++ f ∷ []) 0 flags
       growing-open = record {
         standing = open-comes makers count rank ranked row inside path f flags at-all undone (subst (λ p. IsStanding makers count row path p flags) (sym here) h.standing);
-        grown = h.grown ∙ ap (λ (es : List ℕ). listed (first_occurrences es)) (sym (done_at-open makers count row path f ∙ ap (done path) here));
+        grown = h.grown ∙ ap (λ (es : List ℕ). listed (each_once nat_eq es)) (sym (done_at-open makers count row path f ∙ ap (done path) here));
         bottom = bottom-push path f place 0 here (length files) h.bottom (found-in (Some f.edge) at);
       }
 
@@ -149,7 +150,7 @@ module _ (X : Type 0) (makers : ℕ → List (Option ℕ)) (count : ℕ) (rank :
         let is : place ≡ length (map maker files) = omega (arith, over, low, length-map files maker) in
         let taken : take place row ≡ map maker files = front-take (map maker files) row (front-map maker files all front-files) place is in
         let whole : done path place ≡ unfolded_row makers count (map maker files) = ap (λ (fs : List Frame). done fs place) empty ∙ ap (unfolded_row makers count) taken in
-        let closed : files ≡ next_round X makers count maker checks targets files = h.grown ∙ ap (λ (es : List ℕ). listed (first_occurrences es)) whole in
+        let closed : files ≡ next_round X makers count maker checks targets files = h.grown ∙ ap (λ (es : List ℕ). listed (each_once nat_eq es)) whole in
         front-same files all front-files (least files closed)
       where
         past-end : (r : List (Option ℕ)) (p : ℕ) → slice_get r p ≡ None → length r ≤ p
@@ -171,15 +172,15 @@ module _ (X : Type 0) (makers : ℕ → List (Option ℕ)) (count : ℕ) (rank :
         let D = done (path ++ f ∷ []) place in
         let e = f.edge in
         let fresh : list_any (nat_eq e) D ≡ false = closed-fresh makers count rank ranked row inside path f place flags h.standing past-all in
-        let single : without D (first_occurrences (e ∷ [])) ≡ e ∷ [] = rw fresh refl in
-        let firsts : first_occurrences (done path (f.at + 1)) ≡ first_occurrences D ++ e ∷ [] =
-        ap first_occurrences (closed-done makers count rank ranked row inside path f place flags h.standing past-all) ∙ first-append D (e ∷ []) ∙ ap (λ (es : List ℕ). first_occurrences D ++ es) single in
+        let single : without D (each_once nat_eq (e ∷ [])) ≡ e ∷ [] = rw fresh refl in
+        let firsts : each_once nat_eq (done path (f.at + 1)) ≡ each_once nat_eq D ++ e ∷ [] =
+        ap (each_once nat_eq) (closed-done makers count rank ranked row inside path f place flags h.standing past-all) ∙ first-append D (e ∷ []) ∙ ap (λ (es : List ℕ). each_once nat_eq D ++ es) single in
         record {
           standing = close-comes makers count rank ranked row inside path f place flags h.standing past-all;
           grown = ap (λ (xs : List X). xs ++ checks e) h.grown
-              ∙ append_assoc targets (flat_map checks (first_occurrences D)) (checks e)
-              ∙ ap (λ (xs : List X). targets ++ (flat_map checks (first_occurrences D) ++ xs)) (sym (append-nil (checks e)))
-              ∙ ap (λ (xs : List X). targets ++ xs) (sym (flat_map-append checks (first_occurrences D) (e ∷ [])))
+              ∙ append_assoc targets (flat_map checks (each_once nat_eq D)) (checks e)
+              ∙ ap (λ (xs : List X). targets ++ (flat_map checks (each_once nat_eq D) ++ xs)) (sym (append-nil (checks e)))
+              ∙ ap (λ (xs : List X). targets ++ xs) (sym (flat_map-append checks (each_once nat_eq D) (e ∷ [])))
               ∙ ap listed (sym firsts);
           bottom = omega (arith, bottom-pop path f place (length files) h.bottom, length-append files (checks e));
         }

@@ -8,7 +8,8 @@ use Rattle.nj_cycles.specs.Cycles.{NeedsByChain, IsRank}
 use Rattle.nj_needs.specs.Needs.{Reached, AreWithin}
 use Rattle.nj_cycles.specs.Cycles.Chain.{one as directly, more as through}
 use Rattle.nj_needs.specs.Needs.Reached.{target, needed}
-use Rattle.nj_needs.specs.Order.{made_by, unfolded, unfolded_row, first_occurrences, order, needed_commands}
+use Rattle.nj_needs.specs.Order.{made_by, unfolded, unfolded_row, order, needed_commands}
+use Rattle.nj_edges.specs.Repeats.{each_once}
 use Rattle.nj_needs.specs.Laws.{CommandsAreTheReached, CommandsComeOnce, CommandsComeAfterNeeds}
 use Rattle.nj_needs.proofs.Members.{In, In-from_Contains, Contains-from_In, In-head, In-tail, In-append_left, In-append_right, In-append_cases, In-cons_cases, In-single, Among, Among-from_Contains, Contains-from_Among}
 use Rattle.nj_needs.proofs.Striking.{Differ, Differ-first, Differ-filter, In-filter, In-filter_from, In-first, In-first_from}
@@ -55,10 +56,10 @@ commands-reached makers count phony targets acyclic inside e =
     let np : ℕ → Bool = λ x. not (phony x) in
     let row = unfolded_row makers count targets in (
       (λ c.
-          let i = In-filter np (first_occurrences row) e (In-from_Contains (filter np (first_occurrences row)) e c) in
+          let i = In-filter np (each_once nat_eq row) e (In-from_Contains (filter np (each_once nat_eq row)) e c) in
           (Reached-from_row makers targets count e (In-first row e i.0), not-not (phony e) i.1)),
-      (λ r. Contains-from_In (filter np (first_occurrences row)) e
-          (In-filter_from np (first_occurrences row) e (In-first_from row e (row_has makers targets count acyclic.0 acyclic.1 inside e r.0)) (ap not r.1))),
+      (λ r. Contains-from_In (filter np (each_once nat_eq row)) e
+          (In-filter_from np (each_once nat_eq row) e (In-first_from row e (row_has makers targets count acyclic.0 acyclic.1 inside e r.0)) (ap not r.1))),
     )
 
 -- ---- none twice
@@ -121,12 +122,12 @@ module _ (want : ℕ → ℕ → Type 0) where
       by_test true is kept dropped = ((λ f w. keeps f e w (o.0 f w)), kept)
       by_test false is kept dropped = dropped is
 
-  Ordered-first : (es seen : List ℕ) → Ordered want seen es → Ordered want seen (first_occurrences es)
+  Ordered-first : (es seen : List ℕ) → Ordered want seen es → Ordered want seen (each_once nat_eq es)
   unfolding Ordered
   Ordered-first [] seen o = tt
   Ordered-first (e ∷ es) seen o = (
     o.0,
-    Ordered-filter (λ x. not (nat_eq x e)) (first_occurrences es) (e ∷ seen) (e ∷ seen) (λ x d w i. i)
+    Ordered-filter (λ x. not (nat_eq x e)) (each_once nat_eq es) (e ∷ seen) (e ∷ seen) (λ x d w i. i)
         (λ x is. inr (struck x e (e ∷ seen) (In-head e seen) is)) (Ordered-first es (e ∷ seen) o.1),
   )
     where

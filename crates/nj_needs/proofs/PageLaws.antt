@@ -7,7 +7,8 @@ use Rattle.std.proofs.lemmas.List.{append-nil}
 use Rattle.std.proofs.lemmas.List.Elements.{filter-append}
 use Rattle.nj_cycles.specs.Cycles.{IsAcyclic}
 use Rattle.nj_needs.specs.Needs.{AreWithin}
-use Rattle.nj_needs.specs.Order.{unfolded_row, first_occurrences, needed_commands}
+use Rattle.nj_needs.specs.Order.{unfolded_row, needed_commands}
+use Rattle.nj_edges.specs.Repeats.{each_once}
 use Rattle.nj_needs.specs.Marks.{is_valid, done, without, rest, IsFirstPlace}
 use Rattle.nj_needs.specs.Pages.{IsMarkAfter, MarkKeepsTheRest, ArePages, PagesJoin, RestIsSuffix}
 use Rattle.nj_needs.specs.Pages.ArePages.{no_runs, ends, stops}
@@ -18,14 +19,14 @@ use Rattle.nj_needs.proofs.PlaceLaws.{valid-from_edge, done-front}
 -- ---- lists
 
 -- the first occurrences in two lists: those in the first, and then those in the second that are not in the first
-first-append : (xs ys : List ℕ) → first_occurrences (xs ++ ys) ≡ first_occurrences xs ++ without xs (first_occurrences ys)
-first-append [] ys = sym (without-none (first_occurrences ys))
+first-append : (xs ys : List ℕ) → each_once nat_eq (xs ++ ys) ≡ each_once nat_eq xs ++ without xs (each_once nat_eq ys)
+first-append [] ys = sym (without-none (each_once nat_eq ys))
 first-append (x ∷ xs) ys =
     let q : ℕ → Bool = λ y. not (nat_eq y x) in
-    let F = first_occurrences xs in
-    let more = without xs (first_occurrences ys) in
+    let F = each_once nat_eq xs in
+    let more = without xs (each_once nat_eq ys) in
     ap (λ (es : List ℕ). x ∷ filter q es) (first-append xs ys)
-    ∙ ap (λ (es : List ℕ). x ∷ es) (filter-append q F more ∙ ap (λ (es : List ℕ). filter q F ++ es) (sym (without-cons x xs (first_occurrences ys))))
+    ∙ ap (λ (es : List ℕ). x ∷ es) (filter-append q F more ∙ ap (λ (es : List ℕ). filter q F ++ es) (sym (without-cons x xs (each_once nat_eq ys))))
 
 -- an element occurs once where all differ
 differ-front : (xs : List ℕ) (e : ℕ) (ys : List ℕ) → Differ (xs ++ e ∷ ys) → list_any (nat_eq e) xs ≡ false
@@ -67,23 +68,23 @@ module _ (phony : ℕ → Bool) where
 
   -- where some of an unfolded order is done, what is left is an end of its commands
   left-is_end : (whole front more : List ℕ) → whole ≡ front ++ more
-      → filter plain (first_occurrences whole) ≡ filter plain (first_occurrences front) ++ without front (filter plain (first_occurrences whole))
+      → filter plain (each_once nat_eq whole) ≡ filter plain (each_once nat_eq front) ++ without front (filter plain (each_once nat_eq whole))
   left-is_end whole front more is =
-      let F = first_occurrences front in
-      let left : without front (first_occurrences whole) ≡ without front (first_occurrences more) = ap (λ (us : List ℕ). without front (first_occurrences us)) is ∙ without-front front more in
-      ap (λ (us : List ℕ). filter plain (first_occurrences us)) is
+      let F = each_once nat_eq front in
+      let left : without front (each_once nat_eq whole) ≡ without front (each_once nat_eq more) = ap (λ (us : List ℕ). without front (each_once nat_eq us)) is ∙ without-front front more in
+      ap (λ (us : List ℕ). filter plain (each_once nat_eq us)) is
       ∙ ap (filter plain) (first-append front more ∙ ap (λ (es : List ℕ). F ++ es) (sym left))
-      ∙ filter-append plain F (without front (first_occurrences whole))
-      ∙ ap (λ (es : List ℕ). filter plain F ++ es) (filter_comm plain (λ e. not (list_any (nat_eq e) front)) (first_occurrences whole))
+      ∙ filter-append plain F (without front (each_once nat_eq whole))
+      ∙ ap (λ (es : List ℕ). filter plain F ++ es) (filter_comm plain (λ e. not (list_any (nat_eq e) front)) (each_once nat_eq whole))
 
   -- and what is left after the first occurrence of an edge with a command comes after the edge
   left-after : (whole before : List ℕ) (e : ℕ) (more : List ℕ) → whole ≡ before ++ e ∷ more → list_any (nat_eq e) before ≡ false → plain e ≡ true
-      → filter plain (first_occurrences whole) ≡ filter plain (first_occurrences before) ++ e ∷ without (before ++ e ∷ []) (filter plain (first_occurrences whole))
+      → filter plain (each_once nat_eq whole) ≡ filter plain (each_once nat_eq before) ++ e ∷ without (before ++ e ∷ []) (filter plain (each_once nat_eq whole))
   left-after whole before e more is fresh command =
       let done : List ℕ = before ++ e ∷ [] in
-      let N = first_occurrences whole in
-      let P = filter plain (first_occurrences before) in
-      let next : without before N ≡ e ∷ without done N = subst (λ (us : List ℕ). without before (first_occurrences us) ≡ e ∷ without done (first_occurrences us)) (sym is) (without-next before e more fresh) in
+      let N = each_once nat_eq whole in
+      let P = filter plain (each_once nat_eq before) in
+      let next : without before N ≡ e ∷ without done N = subst (λ (us : List ℕ). without before (each_once nat_eq us) ≡ e ∷ without done (each_once nat_eq us)) (sym is) (without-next before e more fresh) in
       left-is_end whole before (e ∷ more) is
       ∙ ap (λ (es : List ℕ). P ++ es) (filter_comm (λ x. not (list_any (nat_eq x) before)) plain N
       ∙ ap (filter plain) next
@@ -92,17 +93,17 @@ module _ (phony : ℕ → Bool) where
 
   -- so it is what comes after the edge wherever the edge is in a suffix of the commands
   same-left : (whole before : List ℕ) (e : ℕ) (more taken front left : List ℕ) → whole ≡ before ++ e ∷ more → list_any (nat_eq e) before ≡ false
-      → filter plain (first_occurrences whole) ≡ taken ++ (front ++ e ∷ left) → without (before ++ e ∷ []) (filter plain (first_occurrences whole)) ≡ left
+      → filter plain (each_once nat_eq whole) ≡ taken ++ (front ++ e ∷ left) → without (before ++ e ∷ []) (filter plain (each_once nat_eq whole)) ≡ left
   same-left whole before e more taken front left is fresh split =
-      let C = filter plain (first_occurrences whole) in
+      let C = filter plain (each_once nat_eq whole) in
       let joined : C ≡ (taken ++ front) ++ e ∷ left = split ∙ sym (append_assoc taken front (e ∷ left)) in
       let has : In C e = subst (λ es. In es e) (sym joined) (In-append_right (taken ++ front) (e ∷ left) e (In-head e left)) in
-      let command : plain e ≡ true = (In-filter plain (first_occurrences whole) e has).1 in
+      let command : plain e ≡ true = (In-filter plain (each_once nat_eq whole) e has).1 in
       let after = left-after whole before e more is fresh command in
-      let once : list_any (nat_eq e) (taken ++ front) ≡ false = differ-front (taken ++ front) e left (subst Differ joined (Differ-filter plain (first_occurrences whole) (Differ-first whole))) in
-      let first : list_any (nat_eq e) (filter plain (first_occurrences before)) ≡ false =
-      false_from_ne_true (list_any (nat_eq e) (filter plain (first_occurrences before))) (λ i. let j : In before e = In-first before e (In-filter plain (first_occurrences before) e i).0 in cc) in
-      same-after e (filter plain (first_occurrences before)) (taken ++ front) (without (before ++ e ∷ []) C) left (sym after ∙ joined) first once
+      let once : list_any (nat_eq e) (taken ++ front) ≡ false = differ-front (taken ++ front) e left (subst Differ joined (Differ-filter plain (each_once nat_eq whole) (Differ-first whole))) in
+      let first : list_any (nat_eq e) (filter plain (each_once nat_eq before)) ≡ false =
+      false_from_ne_true (list_any (nat_eq e) (filter plain (each_once nat_eq before))) (λ i. let j : In before e = In-first before e (In-filter plain (each_once nat_eq before) e i).0 in cc) in
+      same-after e (filter plain (each_once nat_eq before)) (taken ++ front) (without (before ++ e ∷ []) C) left (sym after ∙ joined) first once
 
 -- ---- marks
 
@@ -119,7 +120,7 @@ module _ (makers : ℕ → List (Option ℕ)) (count : ℕ) (phony : ℕ → Boo
   suffix : (mark : List ℕ) → is_valid makers targets mark ≡ true → (taken : List ℕ) × (needed_commands makers count phony targets ≡ taken ++ rest makers count phony targets mark)
   suffix mark valid =
       let f = front-of mark valid in
-      (filter (plain phony) (first_occurrences (done makers count targets mark)), left-is_end phony (unfolded_row makers count targets) (done makers count targets mark) f.0 f.1)
+      (filter (plain phony) (each_once nat_eq (done makers count targets mark)), left-is_end phony (unfolded_row makers count targets) (done makers count targets mark) f.0 f.1)
 
   -- an edge was returned last
   keeps-last : (begun front : List ℕ) (e : ℕ) (left mark : List ℕ) → is_valid makers targets begun ≡ true → rest makers count phony targets begun ≡ front ++ e ∷ left

@@ -7,7 +7,8 @@ use Rattle.std.proofs.lemmas.List.{map_push, length-set, get_or-set_same, get_or
 use Rattle.std.proofs.lemmas.List.Folds.{list_any-append}
 use Rattle.std.proofs.lemmas.Option.{slice_get_within}
 use Rattle.nj_cycles.specs.Cycles.{IsRank}
-use Rattle.nj_needs.specs.Order.{made_by, unfolded, unfolded_row, order, needed_commands, first_occurrences}
+use Rattle.nj_needs.specs.Order.{made_by, unfolded, unfolded_row, order, needed_commands}
+use Rattle.nj_edges.specs.Repeats.{each_once}
 use Rattle.nj_needs.specs.Marks.{without}
 use Rattle.nj_needs.specs.Inside.Paths.{top_row, IsLinked, done_at, opened, turns_left, left_at, IsStanding}
 use Rattle.nj_needs.specs.declared.frame.Frame.{Frame}
@@ -139,7 +140,7 @@ module _ (makers : ℕ → List (Option ℕ)) (count : ℕ) (rank : ℕ → ℕ)
         let is : unfolded_row makers count row ≡ D ++ f.edge ∷ r.0 =
         r.1 ∙ ap (λ (es : List ℕ). es ++ r.0) closed-done ∙ append_assoc D (f.edge ∷ []) r.0 in
         let next : without D N ≡ f.edge ∷ without E N =
-        subst (λ (us : List ℕ). without D (first_occurrences us) ≡ f.edge ∷ without (D ++ f.edge ∷ []) (first_occurrences us)) (sym is) (without-next D f.edge r.0 closed-fresh)
+        subst (λ (us : List ℕ). without D (each_once nat_eq us) ≡ f.edge ∷ without (D ++ f.edge ∷ []) (each_once nat_eq us)) (sym is) (without-next D f.edge r.0 closed-fresh)
         ∙ ap (λ (es : List ℕ). f.edge ∷ without es N) (sym closed-done) in
         filter_comm (λ e. not (list_any (nat_eq e) D)) np N ∙ ap (filter np) next ∙ by_test (phony f.edge) f.edge (filter np (without E N))
         ∙ ap (λ (es : List ℕ). cond (phony f.edge) es (f.edge ∷ es)) (filter_comm np (λ e. not (list_any (nat_eq e) E)) N)

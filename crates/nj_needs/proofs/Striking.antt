@@ -6,7 +6,7 @@ use Rattle.std.proofs.lemmas.Bool.{eq-eqb, eqb-true, false_from_ne_true}
 use Rattle.std.proofs.lemmas.List.{append-nil}
 use Rattle.std.proofs.lemmas.List.Elements.{filter_agree}
 use Rattle.std.proofs.lemmas.List.Folds.{list_any-append}
-use Rattle.nj_needs.specs.Order.{first_occurrences}
+use Rattle.nj_edges.specs.Repeats.{each_once}
 use Rattle.nj_needs.specs.Marks.{without}
 use Rattle.nj_needs.proofs.Members.{In, In-head, In-tail, In-cons_cases}
 
@@ -58,17 +58,17 @@ without-struck x xs es =
     ∙ sym (without-cons x xs es)
 
 -- what is done need not be in front
-pub without-front : (xs ys : List ℕ) → without xs (first_occurrences (xs ++ ys)) ≡ without xs (first_occurrences ys)
+pub without-front : (xs ys : List ℕ) → without xs (each_once nat_eq (xs ++ ys)) ≡ without xs (each_once nat_eq ys)
 without-front [] ys = refl
 without-front (x ∷ xs) ys =
-    without-struck x xs (first_occurrences (xs ++ ys))
-    ∙ without-cons x xs (first_occurrences (xs ++ ys))
+    without-struck x xs (each_once nat_eq (xs ++ ys))
+    ∙ without-cons x xs (each_once nat_eq (xs ++ ys))
     ∙ ap (filter (λ y. not (nat_eq y x))) (without-front xs ys)
-    ∙ sym (without-cons x xs (first_occurrences ys))
+    ∙ sym (without-cons x xs (each_once nat_eq ys))
 
 -- nothing is left of a list that is done
-pub without-all : (xs : List ℕ) → without xs (first_occurrences xs) ≡ []
-without-all xs = ap (λ ys. without xs (first_occurrences ys)) (sym (append-nil xs)) ∙ without-front xs []
+pub without-all : (xs : List ℕ) → without xs (each_once nat_eq xs) ≡ []
+without-all xs = ap (λ ys. without xs (each_once nat_eq ys)) (sym (append-nil xs)) ∙ without-front xs []
 
 -- nothing is struck where nothing is done
 pub without-none : (es : List ℕ) → without [] es ≡ es
@@ -81,17 +81,17 @@ without-same xs ys es same = filter_agree (λ y. not (list_any (nat_eq y) xs)) (
 
 -- one more is done that was not
 pub without-next : (xs : List ℕ) (m : ℕ) (more : List ℕ) → list_any (nat_eq m) xs ≡ false
-    → without xs (first_occurrences (xs ++ m ∷ more)) ≡ m ∷ without (xs ++ m ∷ []) (first_occurrences (xs ++ m ∷ more))
+    → without xs (each_once nat_eq (xs ++ m ∷ more)) ≡ m ∷ without (xs ++ m ∷ []) (each_once nat_eq (xs ++ m ∷ more))
 without-next xs m more fresh =
     let q : ℕ → Bool = λ y. not (nat_eq y m) in
-    let N = first_occurrences more in
-    let left : without xs (first_occurrences (xs ++ m ∷ more)) ≡ m ∷ without xs (filter q N) =
+    let N = each_once nat_eq more in
+    let left : without xs (each_once nat_eq (xs ++ m ∷ more)) ≡ m ∷ without xs (filter q N) =
     without-front xs (m ∷ more) ∙ ap (λ b. cond (not b) (m ∷ without xs (filter q N)) (without xs (filter q N))) fresh in
     let swapped : (y : ℕ) → list_any (nat_eq y) (xs ++ m ∷ []) ≡ list_any (nat_eq y) (m ∷ xs) =
     λ y. list_any-append (nat_eq y) xs (m ∷ []) ∙ or_swap (list_any (nat_eq y) xs) (nat_eq y m) in
-    let right : without (xs ++ m ∷ []) (first_occurrences (xs ++ m ∷ more)) ≡ without xs (filter q N) =
-    without-same (xs ++ m ∷ []) (m ∷ xs) (first_occurrences (xs ++ m ∷ more)) swapped
-    ∙ without-cons m xs (first_occurrences (xs ++ m ∷ more))
+    let right : without (xs ++ m ∷ []) (each_once nat_eq (xs ++ m ∷ more)) ≡ without xs (filter q N) =
+    without-same (xs ++ m ∷ []) (m ∷ xs) (each_once nat_eq (xs ++ m ∷ more)) swapped
+    ∙ without-cons m xs (each_once nat_eq (xs ++ m ∷ more))
     ∙ ap (filter q) (without-front xs (m ∷ more) ∙ ap (λ b. cond (not b) (m ∷ without xs (filter q N)) (without xs (filter q N))) fresh)
     ∙ ap (λ b. cond (not b) (m ∷ filter q (without xs (filter q N))) (filter q (without xs (filter q N)))) (eq-eqb m m refl)
     ∙ ap (filter q) (filter_comm (λ y. not (list_any (nat_eq y) xs)) q N)
@@ -142,29 +142,29 @@ Differ-filter p (x ∷ xs) h = by_test (Differ-filter p xs h.1) (p x)
     by_test later true = (false_from_ne_true (list_any (nat_eq x) (filter p xs)) (λ i. let r = In-filter p xs x i in let f : list_any (nat_eq x) xs ≡ false = h.0 in cc), later)
     by_test later false = later
 
-pub Differ-first : (xs : List ℕ) → Differ (first_occurrences xs)
+pub Differ-first : (xs : List ℕ) → Differ (each_once nat_eq xs)
 Differ-first [] = tt
 Differ-first (x ∷ xs) = (
-  false_from_ne_true (list_any (nat_eq x) (filter (λ y. not (nat_eq y x)) (first_occurrences xs)))
-      (λ i. let r = In-filter (λ y. not (nat_eq y x)) (first_occurrences xs) x i in let t : not (nat_eq x x) ≡ true = r.1 in let s : nat_eq x x ≡ true = eq-eqb x x refl in
+  false_from_ne_true (list_any (nat_eq x) (filter (λ y. not (nat_eq y x)) (each_once nat_eq xs)))
+      (λ i. let r = In-filter (λ y. not (nat_eq y x)) (each_once nat_eq xs) x i in let t : not (nat_eq x x) ≡ true = r.1 in let s : nat_eq x x ≡ true = eq-eqb x x refl in
       let n : not (nat_eq x x) ≡ false = ap not s in cc),
-  Differ-filter (λ y. not (nat_eq y x)) (first_occurrences xs) (Differ-first xs),
+  Differ-filter (λ y. not (nat_eq y x)) (each_once nat_eq xs) (Differ-first xs),
 )
 
 -- the members stay
-pub In-first_from : (xs : List ℕ) (x : ℕ) → In xs x → In (first_occurrences xs) x
+pub In-first_from : (xs : List ℕ) (x : ℕ) → In xs x → In (each_once nat_eq xs) x
 In-first_from [] x i = absurd cc
-In-first_from (y ∷ xs) x i = by_test (filter (λ z. not (nat_eq z y)) (first_occurrences xs)) (nat_eq x y) refl (In-cons_cases y xs x i)
-    (λ at t. In-filter_from (λ z. not (nat_eq z y)) (first_occurrences xs) x (In-first_from xs x t) (ap not at))
+In-first_from (y ∷ xs) x i = by_test (filter (λ z. not (nat_eq z y)) (each_once nat_eq xs)) (nat_eq x y) refl (In-cons_cases y xs x i)
+    (λ at t. In-filter_from (λ z. not (nat_eq z y)) (each_once nat_eq xs) x (In-first_from xs x t) (ap not at))
   where
     by_test : (rest : List ℕ) (b : Bool) → nat_eq x y ≡ b → (x ≡ y) ⊎ In xs x → (nat_eq x y ≡ false → In xs x → In rest x) → In (y ∷ rest) x
     by_test rest true is h later = subst (In (y ∷ rest)) (sym (eqb-true x y is)) (In-head y rest)
     by_test rest false is (inl e) later = subst (In (y ∷ rest)) (sym e) (In-head y rest)
     by_test rest false is (inr t) later = In-tail y rest x (later is t)
 
-pub In-first : (xs : List ℕ) (x : ℕ) → In (first_occurrences xs) x → In xs x
+pub In-first : (xs : List ℕ) (x : ℕ) → In (each_once nat_eq xs) x → In xs x
 In-first [] x i = absurd cc
-In-first (y ∷ xs) x i = elim (In-cons_cases y (filter (λ z. not (nat_eq z y)) (first_occurrences xs)) x i) [
+In-first (y ∷ xs) x i = elim (In-cons_cases y (filter (λ z. not (nat_eq z y)) (each_once nat_eq xs)) x i) [
   | inl e ↦ subst (In (y ∷ xs)) (sym e) (In-head y xs)
-  | inr t ↦ In-tail y xs x (In-first xs x (In-filter (λ z. not (nat_eq z y)) (first_occurrences xs) x t).0)
+  | inr t ↦ In-tail y xs x (In-first xs x (In-filter (λ z. not (nat_eq z y)) (each_once nat_eq xs) x t).0)
 ]

@@ -1,6 +1,7 @@
 -- The needed edges in the order in which they are first completed, from left to right.
 use Rattle.std.specs.Prelude.{ℕ, zero, suc, Bool, not, Option, Some, None, List, [], ◌∷◌, ◌++◌, nat_eq, filter}
 use Rattle.std.specs.List.{flat_map}
+use Rattle.nj_edges.specs.Repeats.{each_once}
 
 -- what an input leads to: nothing for a source
 abbrev pub made_by : (ℕ → List ℕ) → Option ℕ → List ℕ
@@ -17,14 +18,9 @@ unfolded makers (suc fuel) e = flat_map (made_by (unfolded makers fuel)) (makers
 abbrev pub unfolded_row : (makers : ℕ → List (Option ℕ)) → (count : ℕ) → List (Option ℕ) → List ℕ
 unfolded_row makers count row = flat_map (made_by (unfolded makers count)) row
 
--- the list without its repeats: of each element the first is kept
-abbrev pub first_occurrences : List ℕ → List ℕ
-first_occurrences [] = []
-first_occurrences (e ∷ es) = e ∷ filter (λ x. not (nat_eq x e)) (first_occurrences es)
-
 -- the targets' makers and what they need, each edge once, where it is first completed
 abbrev pub order : (makers : ℕ → List (Option ℕ)) → (count : ℕ) → (targets : List (Option ℕ)) → List ℕ
-order makers count targets = first_occurrences (unfolded_row makers count targets)
+order makers count targets = each_once nat_eq (unfolded_row makers count targets)
 
 -- the ones among them that have a command
 abbrev pub needed_commands : (makers : ℕ → List (Option ℕ)) → (count : ℕ) → (phony : ℕ → Bool) → (targets : List (Option ℕ)) → List ℕ

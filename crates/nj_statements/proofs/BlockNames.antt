@@ -8,7 +8,7 @@ use Rattle.nj_manifest.specs.Statements.{LineText}
 use Rattle.nj_manifest.specs.Contents.{line_text, lines_text}
 use Rattle.nj_edges.specs.Edges.{is_among}
 use Rattle.nj_edge_env.specs.Blocks.{BlocksText, bound_in, names_in}
-use Rattle.nj_statements.specs.EdgeList.{each_once}
+use Rattle.nj_edges.specs.Repeats.{each_once}
 use Rattle.nj_statements.proofs.OnceLemmas.{once-known, once-new}
 
 abbrev pub line_names : List Line → List (List ℕ)
@@ -16,7 +16,7 @@ line_names ls = map (λ (l : LineText). l.name) (lines_text ls)
 
 -- the block of the edge binds these names, which its lines so far have
 pub record AreNamesSoFar (blocks : BlocksText) (edge : ℕ) (names : List (List ℕ)) : Type 0 where
-  pub are : names_in blocks edge ≡ each_once names
+  pub are : names_in blocks edge ≡ each_once bytes_eq names
   pub bound : (x : List ℕ) → is_some (bound_in blocks edge x) ≡ is_among names x
 
 pub names-none : (blocks : BlocksText) (edge : ℕ) → ((x : List ℕ) → bound_in blocks edge x ≡ None) → names_in blocks edge ≡ [] → AreNamesSoFar blocks edge []
@@ -47,7 +47,7 @@ names-turn old new edge names name value so_far binds lists = record {
       ∙ sym (list_any-append (bytes_eq x) names (name ∷ []));
 }
   where
-    listed : (b : Bool) → is_among names name ≡ b → cond (not b) (each_once names ++ name ∷ []) (each_once names) ≡ each_once (names ++ name ∷ [])
+    listed : (b : Bool) → is_among names name ≡ b → cond (not b) (each_once bytes_eq names ++ name ∷ []) (each_once bytes_eq names) ≡ each_once bytes_eq (names ++ name ∷ [])
     listed true h = sym (once-known names name h)
     listed false h = sym (once-new names name h)
 

@@ -4,7 +4,7 @@ use Rattle.std.specs.Prelude.{filter}
 use Rattle.std.proofs.lemmas.List.Elements.{filter-append, filter_agree}
 use Rattle.nj_scope.specs.Readings.{IsPrefix}
 use Rattle.nj_edges.specs.Edges.{is_among}
-use Rattle.nj_statements.specs.EdgeList.{each_once}
+use Rattle.nj_edges.specs.Repeats.{each_once}
 
 filter-filter : {X : Type 0} (p q : X → Bool) (xs : List X) → filter p (filter q xs) ≡ filter (λ x. q x && p x) xs
 filter-filter p q [] = refl
@@ -35,19 +35,19 @@ fresh-cons x xs ps =
     ∙ sym (filter_agree (λ y. not (bytes_eq y x || is_among xs y)) (λ y. not (is_among xs y) && not (bytes_eq y x)) (λ y. not_or (bytes_eq y x) (is_among xs y)) ps)
 
 -- of two lists after each other, the first without its repeats, and then what is new in the second
-once-append : (xs ys : List (List ℕ)) → each_once (xs ++ ys) ≡ each_once xs ++ fresh xs (each_once ys)
-once-append [] ys = sym (fresh-none (each_once ys))
+once-append : (xs ys : List (List ℕ)) → each_once bytes_eq (xs ++ ys) ≡ each_once bytes_eq xs ++ fresh xs (each_once bytes_eq ys)
+once-append [] ys = sym (fresh-none (each_once bytes_eq ys))
 once-append (x ∷ xs) ys =
     let p : List ℕ → Bool = λ y. not (bytes_eq y x) in
     ap (λ ps. x ∷ filter p ps) (once-append xs ys)
-    ∙ ap (λ ps. x ∷ ps) (filter-append p (each_once xs) (fresh xs (each_once ys)) ∙ ap (λ ps. filter p (each_once xs) ++ ps) (fresh-cons x xs (each_once ys)))
+    ∙ ap (λ ps. x ∷ ps) (filter-append p (each_once bytes_eq xs) (fresh xs (each_once bytes_eq ys)) ∙ ap (λ ps. filter p (each_once bytes_eq xs) ++ ps) (fresh-cons x xs (each_once bytes_eq ys)))
 
 -- with more after it, a list without its repeats continues
-pub once-front : (xs ys : List (List ℕ)) → IsPrefix (each_once xs) (each_once (xs ++ ys))
-once-front xs ys = (fresh xs (each_once ys), once-append xs ys)
+pub once-front : (xs ys : List (List ℕ)) → IsPrefix (each_once bytes_eq xs) (each_once bytes_eq (xs ++ ys))
+once-front xs ys = (fresh xs (each_once bytes_eq ys), once-append xs ys)
 
-pub once-known : (xs : List (List ℕ)) (x : List ℕ) → is_among xs x ≡ true → each_once (xs ++ x ∷ []) ≡ each_once xs
-once-known xs x h = once-append xs (x ∷ []) ∙ ap (λ b. each_once xs ++ cond (not b) (x ∷ []) []) h ∙ append-nil (each_once xs)
+pub once-known : (xs : List (List ℕ)) (x : List ℕ) → is_among xs x ≡ true → each_once bytes_eq (xs ++ x ∷ []) ≡ each_once bytes_eq xs
+once-known xs x h = once-append xs (x ∷ []) ∙ ap (λ b. each_once bytes_eq xs ++ cond (not b) (x ∷ []) []) h ∙ append-nil (each_once bytes_eq xs)
 
-pub once-new : (xs : List (List ℕ)) (x : List ℕ) → is_among xs x ≡ false → each_once (xs ++ x ∷ []) ≡ each_once xs ++ x ∷ []
-once-new xs x h = once-append xs (x ∷ []) ∙ ap (λ b. each_once xs ++ cond (not b) (x ∷ []) []) h
+pub once-new : (xs : List (List ℕ)) (x : List ℕ) → is_among xs x ≡ false → each_once bytes_eq (xs ++ x ∷ []) ≡ each_once bytes_eq xs ++ x ∷ []
+once-new xs x h = once-append xs (x ∷ []) ∙ ap (λ b. each_once bytes_eq xs ++ cond (not b) (x ∷ []) []) h

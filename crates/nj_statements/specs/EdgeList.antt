@@ -11,6 +11,7 @@ use Rattle.nj_manifest.specs.Statements.{LineText, last_line, OutputsText, Input
 use Rattle.nj_scope.specs.Rules.{RuleText, RuleLineText}
 use Rattle.nj_scope.specs.Scopes.{expanded}
 use Rattle.nj_scope.specs.ReadingList.{Discovered, ReadStatement, scope_of, value_after, rule_in_force, rules_read}
+use Rattle.nj_edges.specs.Repeats.{each_once}
 use Rattle.nj_edges.specs.Edges.{EdgePaths, outputs_of, is_among}
 use Rattle.nj_edge_env.specs.LateStrings.{LateNames, asked_text}
 
@@ -32,14 +33,9 @@ no_block name = None
 abbrev pub block_of : Values → List LineText → Block
 block_of values lines name = option_map (λ l. expanded values l.value.parts) (last_line (λ l. l.name) lines name)
 
--- the list without its repeats: of each text the first is kept
-abbrev pub each_once : List (List ℕ) → List (List ℕ)
-each_once [] = []
-each_once (text ∷ strings) = text ∷ filter (λ other. not (bytes_eq other text)) (each_once strings)
-
 -- the names that a block binds, each once, in the order of their first lines
 abbrev pub names_bound : List LineText → List (List ℕ)
-names_bound lines = each_once (map (λ l. l.name) lines)
+names_bound lines = each_once bytes_eq (map (λ l. l.name) lines)
 
 -- A name on a build line is the block's, else the scope's.
 abbrev pub on_line : Values → Block → Values

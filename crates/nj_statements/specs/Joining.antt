@@ -9,6 +9,7 @@ use Rattle.nj_manifest.specs.Dyndeps.{EntryText}
 use Rattle.nj_scope.specs.ReadingList.{Discovered, ReadStatement}
 use Rattle.nj_edges.specs.Edges.{first_output, maker_of}
 use Rattle.nj_faults.specs.declared.fault.GraphFault.{GraphFault}
+use Rattle.nj_edges.specs.Repeats.{each_once}
 use Rattle.nj_faults.specs.declared.fault.Cause.TheVariants.{DyndepExtra, DyndepTwice, DyndepNoStatement}
 use Rattle.nj_faults.specs.Faults.{fault_at}
 use Rattle.nj_statements.specs.EdgeList.{EdgeText, Pending, path_given, paths_given, edges_read, paths_of_edges, pending_read}
@@ -82,5 +83,4 @@ lacking_fault file joined =
 
 -- the dyndep files in the order of their first edges, each with that edge
 abbrev pub dyndep_files : List Pending → List Pending
-dyndep_files [] = []
-dyndep_files (p ∷ others) = p ∷ filter (λ q. not (bytes_eq q.file p.file)) (dyndep_files others)
+dyndep_files edges = each_once (λ q p. bytes_eq q.file p.file) edges

@@ -12,7 +12,7 @@ use Rattle.nj_edges.specs.Files.{path_at}
 use Rattle.nj_edges.proofs.EdgeLemmas.{get-path, has-among}
 use Rattle.nj_tools.specs.Inside.Collections.{is_collected, with_file, with_files, AreOf}
 use Rattle.nj_statements.proofs.OnceLemmas.{once-known, once-new}
-use Rattle.nj_tools.specs.Listings.{each_once}
+use Rattle.nj_edges.specs.Repeats.{each_once}
 
 -- ---- lists without their repeats
 
@@ -33,13 +33,13 @@ among-others y x (z ∷ zs) h = by (bytes_eq z x) refl (among-others y x zs h)
     by true k rest = rest ∙ sym (ap (λ c. c || is_among zs y) (apart (bytes_eq y z) refl k))
 
 -- the same are in the list without its repeats
-pub among-once : (xs : List (List ℕ)) (y : List ℕ) → is_among (each_once xs) y ≡ is_among xs y
+pub among-once : (xs : List (List ℕ)) (y : List ℕ) → is_among (each_once bytes_eq xs) y ≡ is_among xs y
 among-once [] y = refl
 among-once (x ∷ xs) y = by (bytes_eq y x) refl (among-once xs y)
   where
-    by : (b : Bool) → bytes_eq y x ≡ b → is_among (each_once xs) y ≡ is_among xs y → (b || is_among (filter (λ o. not (bytes_eq o x)) (each_once xs)) y) ≡ (b || is_among xs y)
+    by : (b : Bool) → bytes_eq y x ≡ b → is_among (each_once bytes_eq xs) y ≡ is_among xs y → (b || is_among (filter (λ o. not (bytes_eq o x)) (each_once bytes_eq xs)) y) ≡ (b || is_among xs y)
     by true k rest = refl
-    by false k rest = among-others y x (each_once xs) k ∙ rest
+    by false k rest = among-others y x (each_once bytes_eq xs) k ∙ rest
 
 -- ---- files and their paths
 

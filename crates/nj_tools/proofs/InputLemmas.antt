@@ -10,7 +10,7 @@ use Rattle.nj_edges.specs.Files.{path_at, AreFiles}
 use Rattle.nj_tools.specs.declared.fault.ToolFault.{ToolFault}
 use Rattle.nj_tools.specs.Inside.Blocks.{IsUnderway, PutsText}
 use Rattle.nj_tools.specs.Inside.Collections.{is_collected, with_file, with_files, new_file, new_files, AreOf}
-use Rattle.nj_tools.specs.Listings.{each_once}
+use Rattle.nj_edges.specs.Repeats.{each_once}
 use Rattle.nj_tools.specs.Sinks.{SinkState}
 use Rattle.nj_tools.specs.Texts.{StopsWithin}
 use Rattle.nj_tools.proofs.BlockLemmas.{StopsWithin-whole, puts-then, puts-stop, puts-with}
@@ -101,7 +101,7 @@ module _ (print : List ℕ → List ℕ) (paths : List (List ℕ)) where
   file_text file = print (path_at paths file)
 
   -- the files that were collected have the paths of the list
-  pub strings-are : (files : List FileNo) (listed : List (List ℕ)) → AreOf paths files listed → flat_map file_text files ≡ flat_map print (each_once listed)
+  pub strings-are : (files : List FileNo) (listed : List (List ℕ)) → AreOf paths files listed → flat_map file_text files ≡ flat_map print (each_once bytes_eq listed)
   strings-are files listed are = sym (flat_map-map print (path_at paths) files) ∙ ap (flat_map print) are.paths_are
 
   row-text : (row files : List FileNo) → flat_map file_text files ++ flat_map file_text (new_files files row) ≡ flat_map file_text (with_files files row)
@@ -118,16 +118,16 @@ module _ (print : List ℕ → List ℕ) (paths : List (List ℕ)) where
   module _ (distinct : IsDistinct bytes_eq paths) (inputs : ℕ → List (List ℕ)) (edges : List ℕ) (e : ℕ) (row files : List FileNo)
       (row_are : AreFiles paths row (inputs e)) (known : All (λ file. file.0 < length paths) row) (are : AreOf paths files (flat_map inputs edges)) where
     -- they are a front of all
-    row-front : (all left : List ℕ) → all ≡ edges ++ e ∷ left → IsPrefix (flat_map file_text (with_files files row)) (flat_map print (each_once (flat_map inputs all)))
+    row-front : (all left : List ℕ) → all ≡ edges ++ e ∷ left → IsPrefix (flat_map file_text (with_files files row)) (flat_map print (each_once bytes_eq (flat_map inputs all)))
     row-front all left is =
         let now = flat_map inputs (edges ++ e ∷ []) in
         let front = once-front now (flat_map inputs left) in
-        let so_far : flat_map file_text (with_files files row) ≡ flat_map print (each_once now) =
+        let so_far : flat_map file_text (with_files files row) ≡ flat_map print (each_once bytes_eq now) =
         strings-are (with_files files row) now (AreOf-row paths distinct inputs edges e row files (with_files files row) row_are known are refl) in
         let whole : flat_map inputs all ≡ now ++ flat_map inputs left =
         ap (flat_map inputs) (is ∙ sym (append_assoc edges (e ∷ []) left)) ∙ flat_map-append inputs (edges ++ e ∷ []) left in (
           flat_map print front.0,
-          ap (λ ps. flat_map print (each_once ps)) whole ∙ ap (flat_map print) front.1 ∙ flat_map-append print (each_once now) front.0
+          ap (λ ps. flat_map print (each_once bytes_eq ps)) whole ∙ ap (flat_map print) front.1 ∙ flat_map-append print (each_once bytes_eq now) front.0
               ∙ ap (λ t. t ++ flat_map print front.0) (sym so_far),
         )
 
@@ -136,11 +136,11 @@ module _ (print : List ℕ → List ℕ) (paths : List (List ℕ)) where
         → (old between new : SinkState) (before unjoined after : List ℕ) (fault : ToolFault) (result : Result R ToolFault)
         → IsErrAnd result (λ e. e ≡ fault) → IsUnderway old between (before ++ flat_map file_text files) unjoined
         → StopsWithin between new (unjoined ++ flat_map file_text (new_files files row)) fault
-        → PutsText old new before after (flat_map print (each_once (flat_map inputs all))) result
+        → PutsText old new before after (flat_map print (each_once bytes_eq (flat_map inputs all))) result
     row-stops all left is old between new before unjoined after fault result err first stops =
         let front = row-front all left is in
-        puts-with old new before after (flat_map print (each_once (flat_map inputs all))) fault result err
-        (StopsWithin-whole old new (before ++ flat_map file_text (with_files files row)) (before ++ flat_map print (each_once (flat_map inputs all))) fault
+        puts-with old new before after (flat_map print (each_once bytes_eq (flat_map inputs all))) fault result err
+        (StopsWithin-whole old new (before ++ flat_map file_text (with_files files row)) (before ++ flat_map print (each_once bytes_eq (flat_map inputs all))) fault
         (front.0, ap (λ t. before ++ t) front.1 ∙ sym (append_assoc before (flat_map file_text (with_files files row)) front.0))
         (subst (λ t. StopsWithin old new (before ++ t) fault) (row-text row files)
         (puts-then {X = Unit} old between new before unjoined [] (flat_map file_text files) (flat_map file_text (new_files files row)) (Err fault) first stops)))
@@ -148,9 +148,9 @@ module _ (print : List ℕ → List ℕ) (paths : List (List ℕ)) where
   -- the files of all edges
   pub rows-put : (inputs : ℕ → List (List ℕ)) (all edges left : List ℕ) (files : List FileNo) → all ≡ edges ++ left → left ≡ [] → AreOf paths files (flat_map inputs edges)
       → (old new : SinkState) (before after : List ℕ) → IsUnderway old new (before ++ flat_map file_text files) after
-      → IsUnderway old new (before ++ flat_map print (each_once (flat_map inputs all))) after
+      → IsUnderway old new (before ++ flat_map print (each_once bytes_eq (flat_map inputs all))) after
   rows-put inputs all edges left files is none are old new before after put =
       subst (λ t. IsUnderway old new (before ++ t) after)
       (strings-are files (flat_map inputs edges) are
-      ∙ ap (λ es. flat_map print (each_once (flat_map inputs es))) (sym (is ∙ ap (λ es. edges ++ es) none ∙ append-nil edges)))
+      ∙ ap (λ es. flat_map print (each_once bytes_eq (flat_map inputs es))) (sym (is ∙ ap (λ es. edges ++ es) none ∙ append-nil edges)))
       put

@@ -16,7 +16,8 @@ use Rattle.nj_text.specs.Quotes.{quoted}
 use Rattle.nj_text.specs.QuoteLaws.{shell_word}
 use Rattle.nj_text.proofs.QuotedStrings.{takes_the_path}
 use Rattle.nj_tools.specs.declared.style.InputsStyle.{InputsStyle}
-use Rattle.nj_tools.specs.Listings.{each_once, sorted, printed, printed_strings, inputs_text, LinesRise, ListedHaveLines}
+use Rattle.nj_tools.specs.Listings.{sorted, printed, printed_strings, inputs_text, LinesRise, ListedHaveLines}
+use Rattle.nj_edges.specs.Repeats.{each_once}
 use Rattle.nj_tools.specs.Listings.{PlainInputsAreSortedQuotes}
 use Rattle.nj_tools.proofs.CollectedLemmas.{among-once}
 
@@ -57,13 +58,13 @@ others-differ x (y ∷ ys) = by (bytes_eq y x) refl (others-differ x ys)
     by true h rest = rest
     by false h rest = (differ-back y x h, rest)
 
-distinct-once : (paths : List (List ℕ)) → IsDistinct bytes_eq (each_once paths)
+distinct-once : (paths : List (List ℕ)) → IsDistinct bytes_eq (each_once bytes_eq paths)
 unfolding IsDistinct
 distinct-once [] = tt
-distinct-once (path ∷ paths) = (others-differ path (each_once paths), distinct-others (λ other. not (bytes_eq other path)) (each_once paths) (distinct-once paths))
+distinct-once (path ∷ paths) = (others-differ path (each_once bytes_eq paths), distinct-others (λ other. not (bytes_eq other path)) (each_once bytes_eq paths) (distinct-once paths))
 
 pub lines-rise : LinesRise
-lines-rise paths = strict-sorted (each_once paths) (distinct-once paths)
+lines-rise paths = strict-sorted (each_once bytes_eq paths) (distinct-once paths)
 
 -- ---- which they are
 
@@ -89,7 +90,7 @@ among-contains (p ∷ paths) path c = by (contains-cases p path paths c) (among-
 
 pub listed-have_lines : ListedHaveLines
 listed-have_lines paths path =
-    let once = each_once paths in
+    let once = each_once bytes_eq paths in
     let moved = permuted-sorted is_before once in (
       λ h. contains-among paths path (sym (among-once paths path) ∙ among-contains once path (Contains-permutation (sorted once) once path (IsPermutation-sym once (sorted once) moved) h)),
       λ h. Contains-permutation once (sorted once) path moved (contains-among once path (among-once paths path ∙ among-contains paths path h)),
@@ -167,29 +168,29 @@ bytes-alike : IsEquivalence bytes_eq
 bytes-alike = nat_list_eq_equiv
 
 module _ (style : InputsStyle) (paths : List (List ℕ)) where
-  distinct : IsDistinct bytes_eq (map (printed style) (each_once paths))
-  distinct = distinct-strings style (each_once paths) (distinct-once paths)
+  distinct : IsDistinct bytes_eq (map (printed style) (each_once bytes_eq paths))
+  distinct = distinct-strings style (each_once bytes_eq paths) (distinct-once paths)
 
   pub sorted-rise : style.dependency_order ≡ false → IsStrictlySortedBy (slice_cmp nat_cmp) (printed_strings style paths)
   sorted-rise h = by style.dependency_order h
     where
       by : (b : Bool) → b ≡ false
-          → IsStrictlySortedBy (slice_cmp nat_cmp) (if b then map (printed style) (each_once paths) else sorted (map (printed style) (each_once paths)))
+          → IsStrictlySortedBy (slice_cmp nat_cmp) (if b then map (printed style) (each_once bytes_eq paths) else sorted (map (printed style) (each_once bytes_eq paths)))
       by true in_order = absurd (true≢false in_order)
-      by false in_order = strict-sorted (map (printed style) (each_once paths)) distinct
+      by false in_order = strict-sorted (map (printed style) (each_once bytes_eq paths)) distinct
 
   pub printed-differ : IsDistinct bytes_eq (printed_strings style paths)
   printed-differ = by style.dependency_order
     where
-      by : (b : Bool) → IsDistinct bytes_eq (if b then map (printed style) (each_once paths) else sorted (map (printed style) (each_once paths)))
+      by : (b : Bool) → IsDistinct bytes_eq (if b then map (printed style) (each_once bytes_eq paths) else sorted (map (printed style) (each_once bytes_eq paths)))
       by true = distinct
       by false =
-          let all = map (printed style) (each_once paths) in
+          let all = map (printed style) (each_once bytes_eq paths) in
           IsDistinct-IsPermutation bytes_eq bytes-alike.symm all (sorted all) (permuted-sorted is_before all) distinct
 
   pub listed-printed : (text : List ℕ) → Contains (printed_strings style paths) text ↔ ((path : List ℕ) × Contains paths path × (printed style path ≡ text))
   listed-printed text =
-      let once = each_once paths in
+      let once = each_once bytes_eq paths in
       let same = either style.dependency_order in (
         λ h.
             let of = path-of style once text (same.0 h) in
@@ -199,11 +200,11 @@ module _ (style : InputsStyle) (paths : List (List ℕ)) where
             (has-text style once h.0 (contains-among once h.0 (among-once paths h.0 ∙ among-contains paths h.0 h.1)))),
       )
     where
-      either : (b : Bool) → Contains (if b then map (printed style) (each_once paths) else sorted (map (printed style) (each_once paths))) text
-          ↔ Contains (map (printed style) (each_once paths)) text
+      either : (b : Bool) → Contains (if b then map (printed style) (each_once bytes_eq paths) else sorted (map (printed style) (each_once bytes_eq paths))) text
+          ↔ Contains (map (printed style) (each_once bytes_eq paths)) text
       either true = (λ h. h, λ h. h)
       either false =
-          let all = map (printed style) (each_once paths) in
+          let all = map (printed style) (each_once bytes_eq paths) in
           let moved = permuted-sorted is_before all in
           (λ h. Contains-permutation (sorted all) all text (IsPermutation-sym all (sorted all) moved) h, λ h. Contains-permutation all (sorted all) text moved h)
 

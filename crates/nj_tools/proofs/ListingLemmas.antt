@@ -17,7 +17,8 @@ use Rattle.nj_graph.specs.Graph.{GraphText, edges_of, files_of, IsGraphOf, rule_
 use Rattle.nj_graph.proofs.EdgeStrings.{there}
 use Rattle.nj_tools.specs.Inside.Collections.{with_files, AreOf}
 use Rattle.nj_tools.specs.declared.style.InputsStyle.{InputsStyle}
-use Rattle.nj_tools.specs.Listings.{each_once, sorted, needed_inputs, printed, terminated, inputs_text, outputs_text, made_line}
+use Rattle.nj_tools.specs.Listings.{sorted, needed_inputs, printed, terminated, inputs_text, outputs_text, made_line}
+use Rattle.nj_edges.specs.Repeats.{each_once}
 use Rattle.nj_tools.proofs.CollectedLemmas.{AreOf-files}
 use Rattle.nj_tools.proofs.ItemLemmas.{flat_map-map}
 
@@ -124,18 +125,18 @@ printed-as_they_are style unquoted (path ∷ paths) =
     ap (λ b. (if b then quoted path else path) ∷ map (printed style) paths) unquoted ∙ ap (λ ps. path ∷ ps) (printed-as_they_are style unquoted paths)
 
 pub inputs-as_needed : (style : InputsStyle) (edges : List EdgePaths) (targets : List (List ℕ)) → style.dependency_order ≡ true
-    → flat_map (λ path. terminated style (printed style path)) (each_once (needed_inputs edges targets)) ≡ inputs_text style edges targets
+    → flat_map (λ path. terminated style (printed style path)) (each_once bytes_eq (needed_inputs edges targets)) ≡ inputs_text style edges targets
 unfolding inputs_text
 inputs-as_needed style edges targets in_order =
-    let strings = map (printed style) (each_once (needed_inputs edges targets)) in
-    sym (flat_map-map (terminated style) (printed style) (each_once (needed_inputs edges targets)))
+    let strings = map (printed style) (each_once bytes_eq (needed_inputs edges targets)) in
+    sym (flat_map-map (terminated style) (printed style) (each_once bytes_eq (needed_inputs edges targets)))
     ∙ ap (λ b. flat_map (terminated style) (if b then strings else sorted strings)) (sym in_order)
 
-pub inputs-sorted : (style : InputsStyle) (edges : List EdgePaths) (targets paths : List (List ℕ)) → style.dependency_order ≡ false → paths ≡ each_once (needed_inputs edges targets)
+pub inputs-sorted : (style : InputsStyle) (edges : List EdgePaths) (targets paths : List (List ℕ)) → style.dependency_order ≡ false → paths ≡ each_once bytes_eq (needed_inputs edges targets)
     → flat_map (terminated style) (sorted (map (printed style) paths)) ≡ inputs_text style edges targets
 unfolding inputs_text
 inputs-sorted style edges targets paths in_order are =
-    let strings = map (printed style) (each_once (needed_inputs edges targets)) in
+    let strings = map (printed style) (each_once bytes_eq (needed_inputs edges targets)) in
     ap (λ ps. flat_map (terminated style) (sorted (map (printed style) ps))) are
     ∙ ap (λ b. flat_map (terminated style) (if b then strings else sorted strings)) (sym in_order)
 

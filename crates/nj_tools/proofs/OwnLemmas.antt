@@ -13,7 +13,8 @@ use Rattle.nj_edges.specs.Edges.{maker_of}
 use Rattle.nj_edges.specs.Files.{path_at}
 use Rattle.nj_needs.specs.Graphs.{row_of, is_phony}
 use Rattle.nj_needs.specs.Marks.{without}
-use Rattle.nj_needs.specs.Order.{made_by, first_occurrences}
+use Rattle.nj_needs.specs.Order.{made_by}
+use Rattle.nj_edges.specs.Repeats.{each_once}
 use Rattle.nj_needs.proofs.Striking.{filter-filter, without-none}
 use Rattle.nj_tools.specs.CommandStrings.{command_lines, single, own_makers_in, own_commands}
 use Rattle.nj_tools.specs.Inside.Collections.{own_makers}
@@ -35,12 +36,12 @@ without-cons x xs es =
     ∙ sym (filter_agree (λ y. not (nat_eq y x || list_any (nat_eq y) xs)) (λ y. not (list_any (nat_eq y) xs) && not (nat_eq y x)) (λ y. not_or (nat_eq y x) (list_any (nat_eq y) xs)) es)
 
 -- of two lists after each other, the first without its repeats, and then what is new in the second
-first-append : (xs ys : List ℕ) → first_occurrences (xs ++ ys) ≡ first_occurrences xs ++ without xs (first_occurrences ys)
-first-append [] ys = sym (without-none (first_occurrences ys))
+first-append : (xs ys : List ℕ) → each_once nat_eq (xs ++ ys) ≡ each_once nat_eq xs ++ without xs (each_once nat_eq ys)
+first-append [] ys = sym (without-none (each_once nat_eq ys))
 first-append (x ∷ xs) ys =
     let p : ℕ → Bool = λ y. not (nat_eq y x) in
     ap (λ es. x ∷ filter p es) (first-append xs ys)
-    ∙ ap (λ es. x ∷ es) (filter-append p (first_occurrences xs) (without xs (first_occurrences ys)) ∙ ap (λ es. filter p (first_occurrences xs) ++ es) (without-cons x xs (first_occurrences ys)))
+    ∙ ap (λ es. x ∷ es) (filter-append p (each_once nat_eq xs) (without xs (each_once nat_eq ys)) ∙ ap (λ es. filter p (each_once nat_eq xs) ++ es) (without-cons x xs (each_once nat_eq ys)))
 
 -- ---- makers
 
@@ -51,17 +52,17 @@ makers-append g files more =
     ∙ flat_map-append (made_by single) (row_of g files) (row_of g more)
 
 pub own-append : (g : EdgeGraph) (files more : List FileNo)
-    → own_commands g (files ++ more) ≡ own_commands g files ++ new_commands g (own_makers g files) (first_occurrences (own_makers g more))
+    → own_commands g (files ++ more) ≡ own_commands g files ++ new_commands g (own_makers g files) (each_once nat_eq (own_makers g more))
 own-append g files more =
-    ap (λ es. filter (λ e. not (is_phony g e)) (first_occurrences es)) (makers-append g files more)
+    ap (λ es. filter (λ e. not (is_phony g e)) (each_once nat_eq es)) (makers-append g files more)
     ∙ ap (filter (λ e. not (is_phony g e))) (first-append (own_makers g files) (own_makers g more))
-    ∙ filter-append (λ e. not (is_phony g e)) (first_occurrences (own_makers g files)) (without (own_makers g files) (first_occurrences (own_makers g more)))
+    ∙ filter-append (λ e. not (is_phony g e)) (each_once nat_eq (own_makers g files)) (without (own_makers g files) (each_once nat_eq (own_makers g more)))
 
 -- the maker of one file has no repeats
-first-single : (g : EdgeGraph) (file : FileNo) → first_occurrences (own_makers g (file ∷ [])) ≡ own_makers g (file ∷ [])
+first-single : (g : EdgeGraph) (file : FileNo) → each_once nat_eq (own_makers g (file ∷ [])) ≡ own_makers g (file ∷ [])
 first-single g file = by_maker (maker_of g.edges (path_at g.files file))
   where
-    by_maker : (o : Option ℕ) → first_occurrences (flat_map (made_by single) (o ∷ [])) ≡ flat_map (made_by single) (o ∷ [])
+    by_maker : (o : Option ℕ) → each_once nat_eq (flat_map (made_by single) (o ∷ [])) ≡ flat_map (made_by single) (o ∷ [])
     by_maker None = refl
     by_maker (Some e) = refl
 

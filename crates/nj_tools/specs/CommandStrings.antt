@@ -1,5 +1,6 @@
 -- What `commands` writes: for each edge its command, as a line.
 use Rattle.std.specs.Prelude.{◌≡◌, ◌≢◌, ℕ, not, Option, Some, None, List, [], ◌∷◌, map, take, drop, filter, codes}
+use Rattle.std.specs.Prelude.{nat_eq}
 use Rattle.std.specs.List.{flat_map}
 use Rattle.nj_scope.specs.ReadingList.{ReadStatement}
 use Rattle.nj_edges.specs.declared.files.FileNo.{FileNo}
@@ -8,7 +9,8 @@ use Rattle.nj_edges.specs.Edges.{EdgePaths}
 use Rattle.nj_edges.specs.Files.{path_at}
 use Rattle.nj_marks.specs.Marks.{ReadsBack}
 use Rattle.nj_needs.specs.Graphs.{row_of_paths, is_phony_in, row_of, makers_of, count_of}
-use Rattle.nj_needs.specs.Order.{made_by, first_occurrences}
+use Rattle.nj_needs.specs.Order.{made_by}
+use Rattle.nj_edges.specs.Repeats.{each_once}
 use Rattle.nj_needs.specs.Pages.{IsMarkAfter}
 use Rattle.nj_needs.specs.Walks.{WalkState}
 use Rattle.nj_graph.specs.Graph.{late_text_of}
@@ -50,7 +52,7 @@ own_makers_in edges paths = flat_map (made_by single) (row_of_paths edges paths)
 
 -- the makers of the targets, each once, where it comes first, except the phony ones, which have no command
 abbrev pub own_commands_in : List EdgePaths → (targets : List (List ℕ)) → List ℕ
-own_commands_in edges targets = filter (λ e. not (is_phony_in edges e)) (first_occurrences (own_makers_in edges targets))
+own_commands_in edges targets = filter (λ e. not (is_phony_in edges e)) (each_once nat_eq (own_makers_in edges targets))
 
 abbrev pub own_commands : EdgeGraph → (targets : List FileNo) → List ℕ
 own_commands g targets = own_commands_in g.edges (map (path_at g.files) targets)

@@ -13,7 +13,7 @@ use Rattle.nj_edges.specs.Needs.{makers_of_inputs}
 use Rattle.nj_needs.specs.Graphs.{row_of_paths, is_phony_in}
 use Rattle.nj_needs.specs.Order.{needed_commands}
 use Rattle.nj_statements.specs.EdgeList.{edges_read, paths_of_edges}
-pub use Rattle.nj_statements.specs.EdgeList.{each_once}
+pub use Rattle.nj_edges.specs.Repeats.{each_once}
 use Rattle.nj_graph.specs.Graph.{sorted_by, is_before, rule_name_of, rule_name_at}
 use Rattle.nj_tools.specs.Lines.{line, lines}
 use Rattle.nj_tools.specs.declared.style.InputsStyle.{InputsStyle}
@@ -48,7 +48,7 @@ arranged style strings = if style.dependency_order then strings else sorted stri
 
 -- the printed form of a list of paths, of each path once
 abbrev pub printed_strings : InputsStyle → (paths : List (List ℕ)) → List (List ℕ)
-printed_strings style paths = arranged style (map (printed style) (each_once paths))
+printed_strings style paths = arranged style (map (printed style) (each_once bytes_eq paths))
 
 -- a text and what ends it: the byte 0, or a line end
 abbrev pub terminated : InputsStyle → (text : List ℕ) → List ℕ
@@ -71,7 +71,7 @@ sources_in edges = filter (λ path. is_none (maker_of edges path)) (flat_map inp
 
 -- a line for each path, once, in byte order
 abbrev pub sorted_lines : List (List ℕ) → List ℕ
-sorted_lines paths = lines (sorted (each_once paths))
+sorted_lines paths = lines (sorted (each_once bytes_eq paths))
 
 -- `PATH: RULE`
 abbrev pub made_line : (path rule : List ℕ) → List ℕ
@@ -129,11 +129,11 @@ targets_text entries All = outputs_text entries
 
 -- The lines of a list are in strictly ascending byte order, so that each occurs once.
 abbrev pub LinesRise : Type 0
-LinesRise = (paths : List (List ℕ)) → IsStrictlySortedBy (slice_cmp nat_cmp) (sorted (each_once paths))
+LinesRise = (paths : List (List ℕ)) → IsStrictlySortedBy (slice_cmp nat_cmp) (sorted (each_once bytes_eq paths))
 
 -- A path has a line exactly when it is listed.
 abbrev pub ListedHaveLines : Type 0
-ListedHaveLines = (paths : List (List ℕ)) (path : List ℕ) → Contains (sorted (each_once paths)) path ↔ Contains paths path
+ListedHaveLines = (paths : List (List ℕ)) (path : List ℕ) → Contains (sorted (each_once bytes_eq paths)) path ↔ Contains paths path
 
 -- The lines of `inputs` that are sorted are in strictly ascending byte order.
 abbrev pub SortedInputsRise : Type 0
@@ -152,4 +152,4 @@ ListedArePrinted = (style : InputsStyle) (paths : List (List ℕ)) (text : List 
 -- Without options the inputs are quoted for a shell, in byte order of the quotes, a line each.
 abbrev pub PlainInputsAreSortedQuotes : Type 0
 PlainInputsAreSortedQuotes = (edges : List EdgePaths) (targets : List (List ℕ))
-    → inputs_text plain_style edges targets ≡ lines (sorted (map quoted (each_once (needed_inputs edges targets))))
+    → inputs_text plain_style edges targets ≡ lines (sorted (map quoted (each_once bytes_eq (needed_inputs edges targets))))

@@ -1,7 +1,7 @@
 //! The inputs of needed edges.
 
 ghost use Rattle.std.specs.Prelude.{◌≡◌, ℕ, ◌<◌, ◌++◌, List, All, [], ◌∷◌, length, map, flat_map};
-ghost use Rattle.std.specs.Prelude.{IfOk, OnOk, if◌then◌else◌};
+ghost use Rattle.std.specs.Prelude.{IfOk, OnOk, bytes_eq, if◌then◌else◌};
 ghost use Rattle.nj_text.specs.Quotes.{quoted};
 ghost use Rattle.nj_edges.specs.declared.files.FileNo.{FileNo};
 ghost use Rattle.nj_edges.specs.Files.{path_at};
@@ -92,7 +92,7 @@ fn write_as_needed<S: Sink>(
 ) -> Result<(), ToolFault>
     requires { All (λ file. file.0 < length (files_of graph.now)) targets.now }
     ensures { PutsText (S.state out.old) (S.state out.new) text.old.items text.new.items
-        (flat_map (λ path. terminated style (printed style path)) (each_once (needed_inputs
+        (flat_map (λ path. terminated style (printed style path)) (each_once bytes_eq (needed_inputs
         (edges_of graph.now) (map (path_at (files_of graph.now)) targets.now)))) result }
 {
     let mut needs = Needs::new(alloc, graph.edge_graph(), targets)?;

@@ -1,9 +1,10 @@
 -- How files are collected, each once.
 use Rattle.std.specs.Prelude.{◌≡◌, ℕ, ◌<◌, Bool, false, if◌then◌else◌, List, [], ◌∷◌, ◌++◌, All, map, length, slice_index_or}
+use Rattle.std.specs.Prelude.{bytes_eq}
 use Rattle.nj_edges.specs.declared.files.FileNo.{FileNo}
 use Rattle.nj_edges.specs.Inside.EdgesHeld.{has_number}
 use Rattle.nj_edges.specs.Files.{path_at}
-use Rattle.nj_tools.specs.Listings.{each_once}
+use Rattle.nj_edges.specs.Repeats.{each_once}
 use Rattle.nj_edges.specs.EdgeGraphs.{EdgeGraph}
 use Rattle.nj_tools.specs.CommandStrings.{own_makers_in}
 
@@ -44,5 +45,5 @@ new_files files (file ∷ more) = new_file files file ++ new_files (with_file fi
 
 -- these are the files of a list of paths, each once
 pub record AreOf (paths : List (List ℕ)) (files : List FileNo) (listed : List (List ℕ)) : Type 0 where
-  pub paths_are : map (path_at paths) files ≡ each_once listed
+  pub paths_are : map (path_at paths) files ≡ each_once bytes_eq listed
   pub known : All (λ file. file.0 < length paths) files

@@ -8,7 +8,8 @@ use Rattle.nj_scope.specs.Scopes.{expanded}
 use Rattle.nj_scope.specs.ReadingList.{value_after}
 use Rattle.nj_text.specs.Words.{word_text}
 use Rattle.nj_edge_env.specs.Blocks.{bound_in, names_in}
-use Rattle.nj_statements.specs.EdgeList.{Values, block_of, each_once}
+use Rattle.nj_statements.specs.EdgeList.{Values, block_of}
+use Rattle.nj_edges.specs.Repeats.{each_once}
 use Rattle.nj_statements.proofs.Lists.{at-next}
 use Rattle.nj_statements.proofs.Blocks.{block-turn}
 use Rattle.nj_statements.proofs.BlockNames.{AreNamesSoFar, line_names, names-turn, names-next}
@@ -46,7 +47,7 @@ returns-in_err-bind-clause-other_names c = λ e other. c.in_err-bind.ensures.sam
 
 pub returns-clause-names : goal.returns-clause-names
 returns-clause-names c = λ none empty.
-    (c.lines.invariant.names none empty).are ∙ ap (λ ls. each_once (line_names ls)) (take_all c.lines.line-index c.args.lines.now c.lines-test.false)
+    (c.lines.invariant.names none empty).are ∙ ap (λ ls. each_once bytes_eq (line_names ls)) (take_all c.lines.line-index c.args.lines.now c.lines-test.false)
 
 pub returns-clause-bound : goal.returns-clause-bound
 returns-clause-bound c = λ entries around declared within e name.
