@@ -1,17 +1,20 @@
 -- A reading comes to all paths to which what was read before it comes, in their order.
 use Rattle.std.proofs.Common.{◌≡◌, ℕ, zero, suc, Bool, true, false, cond, Option, option_map, Some, None, List, [], ◌∷◌, ◌++◌, nat_lt, bytes_eq, refl, sym, ap, subst, ◌∙◌}
+use Rattle.nj_graph.specs.Inside.PathsReached.{with_news, with_new, paths_read, come_to}
+use Rattle.std.specs.Option.{option_to_list}
+use Rattle.nj_graph.proofs.Continuing.{unless_fault}
 use Rattle.std.specs.List.{list_any}
 use Rattle.std.proofs.lemmas.List.{append-nil, append_assoc}
 use Rattle.nj_manifest.specs.Faults.{Fault}
 use Rattle.nj_manifest.specs.Statements.{StatementText, BindingText, RuleText, PoolText, BuildText, DefaultText, IncludeText, SubninjaText, PlacedText}
 use Rattle.nj_scope.specs.Readings as table
 use Rattle.nj_scope.specs.Readings.{reading_of, IsPrefix}
-use Rattle.nj_scope.specs.ReadingList.{ReadStatement, files_opened}
+use Rattle.nj_scope.specs.ReadingList.{ReadStatement, files_opened, path_named}
 use Rattle.nj_faults.specs.declared.fault.Place.{Place}
 use Rattle.nj_faults.specs.declared.fault.GraphFault.{GraphFault}
 use Rattle.nj_faults.specs.Faults.{fault_in}
 use Rattle.nj_graph.specs.Parsed.{parsed}
-use Rattle.nj_graph.specs.Reading.{Site, entry_at, own_fault, End, Whole, Refused, Lacking, ReadingText, continued, and_then, Opens, item_read, unless_fault, statement_read, end_by, statements_read, text_read, most_opened, most_within, found_read, outcome_read, if_capacity, opened_in, main_site, main_read, path_named, with_new, with_all_new, paths_read, path_at_end, paths_come_to}
+use Rattle.nj_graph.specs.Reading.{Site, entry_at, own_fault, End, Whole, Refused, Lacking, ReadingText, continued, and_then, Opens, item_read, statement_read, end_by, statements_read, text_read, most_opened, most_within, found_read, outcome_read, if_capacity, opened_in, main_site, main_read, path_at_end}
 
 -- ---- paths before others
 
@@ -28,27 +31,27 @@ prefix-new before path = by_there (list_any (bytes_eq path) before)
     by_there true = prefix-self before
     by_there false = (path ∷ [], refl)
 
-pub prefix-named : (before paths : List (List ℕ)) → IsPrefix before (with_all_new before paths)
+pub prefix-named : (before paths : List (List ℕ)) → IsPrefix before (with_news before paths)
 prefix-named before [] = prefix-self before
 prefix-named before (path ∷ paths) =
-    prefix-then before (with_new before path) (with_all_new (with_new before path) paths) (prefix-new before path) (prefix-named (with_new before path) paths)
+    prefix-then before (with_new before path) (with_news (with_new before path) paths) (prefix-new before path) (prefix-named (with_new before path) paths)
 
 -- ---- one reading after the other
 
 pub and_then-comes : (main : List ℕ) (front : List (List ℕ)) (r : ReadingText) (k : List ReadStatement → ReadingText)
-    → IsPrefix front (paths_come_to main r)
-    → ((entries : List ReadStatement) → IsPrefix (paths_read main entries) (paths_come_to main (k entries)))
-    → IsPrefix front (paths_come_to main (and_then r k))
+    → IsPrefix front (come_to main r)
+    → ((entries : List ReadStatement) → IsPrefix (paths_read main entries) (come_to main (k entries)))
+    → IsPrefix front (come_to main (and_then r k))
 and_then-comes main front r k comes others = by_end r.end comes
   where
-    by_end : (end : End) → IsPrefix front (with_all_new (paths_read main r.entries) (path_at_end end)) → IsPrefix front (paths_come_to main (continued end r.entries k))
-    by_end Whole p = prefix-then front (paths_read main r.entries) (paths_come_to main (k r.entries)) p (others r.entries)
+    by_end : (end : End) → IsPrefix front (with_news (paths_read main r.entries) (path_at_end end)) → IsPrefix front (come_to main (continued end r.entries k))
+    by_end Whole p = prefix-then front (paths_read main r.entries) (come_to main (k r.entries)) p (others r.entries)
     by_end (Refused fault) p = p
     by_end (Lacking path place) p = p
 
 -- a reading, by what was read before it
 abbrev pub ComesTo : (main : List ℕ) → List ReadStatement → ReadingText → Type 0
-ComesTo main before r = IsPrefix (paths_read main before) (paths_come_to main r)
+ComesTo main before r = IsPrefix (paths_read main before) (come_to main r)
 
 abbrev pub OpensCome : (main : List ℕ) → Opens → Type 0
 OpensCome main opens = (site : Site) (place : Place) (e : ReadStatement) (before : List ReadStatement) → ComesTo main before (opens site place e before)
@@ -58,11 +61,11 @@ ends-there : (main : List ℕ) (before : List ReadStatement) (end : End) → Com
 ends-there main before end = prefix-named (paths_read main before) (path_at_end end)
 
 item_read-comes : (main : List ℕ) (opens : Opens) → OpensCome main opens → (e : ReadStatement) (before : List ReadStatement) (item : StatementText) → ComesTo main before (item_read opens e before item)
-item_read-comes main opens comes e before (BindingText name value) = prefix-named (paths_read main before) (path_named e before e.item)
-item_read-comes main opens comes e before (RuleText name lines) = prefix-named (paths_read main before) (path_named e before e.item)
-item_read-comes main opens comes e before (PoolText name lines) = prefix-named (paths_read main before) (path_named e before e.item)
-item_read-comes main opens comes e before (BuildText outputs rule inputs lines) = prefix-named (paths_read main before) (path_named e before e.item)
-item_read-comes main opens comes e before (DefaultText words) = prefix-named (paths_read main before) (path_named e before e.item)
+item_read-comes main opens comes e before (BindingText name value) = prefix-named (paths_read main before) (option_to_list (path_named e before e.item))
+item_read-comes main opens comes e before (RuleText name lines) = prefix-named (paths_read main before) (option_to_list (path_named e before e.item))
+item_read-comes main opens comes e before (PoolText name lines) = prefix-named (paths_read main before) (option_to_list (path_named e before e.item))
+item_read-comes main opens comes e before (BuildText outputs rule inputs lines) = prefix-named (paths_read main before) (option_to_list (path_named e before e.item))
+item_read-comes main opens comes e before (DefaultText words) = prefix-named (paths_read main before) (option_to_list (path_named e before e.item))
 item_read-comes main opens comes e before (IncludeText word) = comes _ _ _ before
 item_read-comes main opens comes e before (SubninjaText word) = comes _ _ _ before
 
@@ -90,28 +93,28 @@ outcome_read-comes : (main : List ℕ) (within : Opens) → OpensCome main withi
 outcome_read-comes main within comes site place entries before more None = prefix-new (paths_read main before) site.file
 outcome_read-comes main within comes site place entries before more (Some r) = found_read-comes main within comes site place entries before more r.bytes
 
-pub opened-comes : (main : List ℕ) (files : List table.Reading) (left : ℕ) (site : Site) (place : Place) (e : ReadStatement) (before : List ReadStatement) → IsPrefix (paths_read main before) (paths_come_to main (opened_in files left site place e before))
+pub opened-comes : (main : List ℕ) (files : List table.Reading) (left : ℕ) (site : Site) (place : Place) (e : ReadStatement) (before : List ReadStatement) → IsPrefix (paths_read main before) (come_to main (opened_in files left site place e before))
 unfolding opened_in
 opened-comes main files zero site place e before = prefix-self (paths_read main before)
 opened-comes main files (suc left) site place e before = by_capacity (nat_lt (files_opened before) most_opened) (opened-comes main files left)
   where
     by_capacity : (capacity : Bool) → OpensCome main (opened_in files left) → ComesTo main before (if_capacity capacity (opened_in files left) files site place e before)
     by_capacity false comes = prefix-self (paths_read main before)
-    by_capacity true comes = outcome_read-comes main (opened_in files left) comes site place (e ∷ before) before (prefix-named (paths_read main before) (path_named e before e.item)) (reading_of files site.file)
+    by_capacity true comes = outcome_read-comes main (opened_in files left) comes site place (e ∷ before) before (prefix-named (paths_read main before) (option_to_list (path_named e before e.item))) (reading_of files site.file)
 
-pub item-comes : (main : List ℕ) (files : List table.Reading) (left : ℕ) (e : ReadStatement) (before : List ReadStatement) → IsPrefix (paths_read main before) (paths_come_to main (statement_read (opened_in files left) e before))
+pub item-comes : (main : List ℕ) (files : List table.Reading) (left : ℕ) (e : ReadStatement) (before : List ReadStatement) → IsPrefix (paths_read main before) (come_to main (statement_read (opened_in files left) e before))
 item-comes main files left = statement_read-comes main (opened_in files left) (opened-comes main files left)
 
-pub statements-come : (main : List ℕ) (files : List table.Reading) (left : ℕ) (site : Site) (statements : List PlacedText) (fault : Option Fault) (before : List ReadStatement) → IsPrefix (paths_read main before) (paths_come_to main (statements_read (opened_in files left) site statements fault before))
+pub statements-come : (main : List ℕ) (files : List table.Reading) (left : ℕ) (site : Site) (statements : List PlacedText) (fault : Option Fault) (before : List ReadStatement) → IsPrefix (paths_read main before) (come_to main (statements_read (opened_in files left) site statements fault before))
 statements-come main files left = statements_read-come main (opened_in files left) (opened-comes main files left)
 
 -- ---- the path of a file
 
 -- The path that a statement names comes next, whatever is found there.
 pub opened-names : (main : List ℕ) (files : List table.Reading) (left : ℕ) (site : Site) (place : Place) (e : ReadStatement) (before : List ReadStatement)
-    → path_named e before e.item ≡ site.file ∷ []
+    → path_named e before e.item ≡ Some site.file
     → nat_lt (files_opened before) most_opened ≡ true
-    → IsPrefix (with_new (paths_read main before) site.file) (paths_come_to main (opened_in files (suc left) site place e before))
+    → IsPrefix (with_new (paths_read main before) site.file) (come_to main (opened_in files (suc left) site place e before))
 unfolding opened_in
 opened-names main files left site place e before names capacity =
     subst (λ t. Front (if_capacity t (opened_in files left) files site place e before)) (sym capacity) (by_outcome (reading_of files site.file))
@@ -120,23 +123,23 @@ opened-names main files left site place e before names capacity =
     front = with_new (paths_read main before) site.file
 
     Front : ReadingText → Type 0
-    Front r = IsPrefix front (paths_come_to main r)
+    Front r = IsPrefix front (come_to main r)
 
     named : paths_read main (e ∷ before) ≡ front
-    named = ap (with_all_new (paths_read main before)) names
+    named = ap (λ o. with_news (paths_read main before) (option_to_list o)) names
 
     reads : List ℕ → ReadingText
     reads t = text_read (opened_in files left) site t (e ∷ before)
 
     by_text : (text : Option (List ℕ)) → Front (found_read site.file place before reads text)
     by_text None = prefix-self front
-    by_text (Some text) = subst (λ paths. IsPrefix paths (paths_come_to main (found_read site.file place before reads (Some text)))) named (statements-come main files left site (parsed text).items (parsed text).fault (e ∷ before))
+    by_text (Some text) = subst (λ paths. IsPrefix paths (come_to main (found_read site.file place before reads (Some text)))) named (statements-come main files left site (parsed text).items (parsed text).fault (e ∷ before))
 
     by_outcome : (r : Option table.Reading) → Front (outcome_read site.file place before reads r)
     by_outcome None = prefix-self front
     by_outcome (Some r) = by_text r.bytes
 
 -- The main file comes first.
-pub main-comes : (main : List ℕ) (files : List table.Reading) → IsPrefix (main ∷ []) (paths_come_to main (main_read files main))
+pub main-comes : (main : List ℕ) (files : List table.Reading) → IsPrefix (main ∷ []) (come_to main (main_read files main))
 unfolding main_read
 main-comes main files = outcome_read-comes main (opened_in files most_within) (opened-comes main files most_within) (main_site main) _ [] [] (prefix-self (main ∷ [])) (reading_of files main)

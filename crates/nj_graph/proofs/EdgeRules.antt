@@ -1,5 +1,7 @@
 -- The rules and scopes of the edges of statements without a fault.
 use Rattle.std.proofs.Common.{◌≡◌, ℕ, ◌==◌, not, unwrap_or, is_some, Option, Some, None, List, [], ◌∷◌, ◌++◌, map, slice_get, refl, sym, ap, ◌∙◌}
+use Rattle.nj_scope.proofs.Gathering.{with_given}
+use Rattle.std.specs.Bool.{then_some}
 use Rattle.std.specs.Option.{option_or}
 use Rattle.std.specs.List.{AllByRecursion}
 use Rattle.std.proofs.lemmas.Option.{slice_get_within}
@@ -8,13 +10,13 @@ use Rattle.nj_manifest.specs.Statements.{StatementText, BindingText, RuleText, P
 use Rattle.nj_scope.specs.Rules as kept
 use Rattle.nj_scope.specs.Scopes.{ScopeText}
 use Rattle.nj_scope.specs.Declarations.{DeclarationsText}
-use Rattle.nj_scope.specs.ReadingList.{Discovered, ReadStatement, scope_of, rule_in_force, rules_read, with_rule}
+use Rattle.nj_scope.specs.ReadingList.{Discovered, ReadStatement, scope_of, rule_in_force, rules_read}
 use Rattle.nj_scope.proofs.InForce.{in_force}
 use Rattle.nj_faults.specs.declared.fault.GraphFault.{GraphFault}
 use Rattle.nj_faults.specs.declared.fault.Cause.TheVariants.{UnknownRule}
 use Rattle.nj_faults.specs.Faults.{fault_at}
 use Rattle.nj_edges.specs.Edges.{EdgePaths}
-use Rattle.nj_statements.specs.EdgeList.{EdgeText, line_values, edge_paths, stated_paths, with_discovered, edge_of_build, with_edge, edges_read}
+use Rattle.nj_statements.specs.EdgeList.{EdgeText, line_values, edge_paths, stated_paths, with_discovered, edge_of_build, edges_read, edge_given}
 use Rattle.nj_statements.specs.BuildFaults.{unknown_rule}
 use Rattle.nj_statements.specs.Built.{detail_of}
 use Rattle.nj_statements.proofs.Lists.{get-longer}
@@ -22,7 +24,7 @@ use Rattle.nj_statements.proofs.LateLemmas.{is-phony, kept-phony}
 use Rattle.nj_graph.specs.Graph.{IsOpenScope, HasRule}
 use Rattle.nj_graph.specs.Inside.GraphHeld.{IsKnown}
 use Rattle.nj_graph.specs.Laws.{Faultless}
-use Rattle.nj_graph.specs.Reading.{fault_if, item_fault}
+use Rattle.nj_graph.specs.Reading.{item_fault}
 use Rattle.nj_graph.proofs.OpenScopes.{AreOpen}
 
 -- ---- all of a list
@@ -55,7 +57,7 @@ module _ (e : ReadStatement) (before : List ReadStatement) (outputs : OutputsTex
   edge = edge_of_build e before outputs rule inputs lines
 
   -- a rule that is known
-  by-rule : (found : Option ℕ) → rule_in_force before (scope_of e) rule.name ≡ found → fault_if (not (is_some found)) (fault_at e.file rule.spot (UnknownRule rule.name)) ≡ None → HasRule (rules_read before) edge
+  by-rule : (found : Option ℕ) → rule_in_force before (scope_of e) rule.name ≡ found → then_some (not (is_some found)) (fault_at e.file rule.spot (UnknownRule rule.name)) ≡ None → HasRule (rules_read before) edge
   by-rule None is h = absurd cc
   by-rule (Some number) is h =
       let (text, at, its, others) = in_force before (scope_of e) rule.name number is in
@@ -76,7 +78,7 @@ edges-have [] faultless = tt
 edges-have (e ∷ before) faultless = by e.item faultless.0 (edges-have before faultless.1)
   where
     by : (item : StatementText) → item_fault e before item ≡ None → AllByRecursion (HasRule (rules_read before)) (edges_read before)
-        → AllByRecursion (HasRule (with_rule e.number item (rules_read before))) (with_edge e before item (edges_read before))
+        → AllByRecursion (HasRule (rules_read (record e { item = item } ∷ before))) (with_given (edges_read before) (edge_given e before item))
     by (BindingText name value) none all = all
     by (RuleText name lines) none all = all-map (HasRule (rules_read before)) (HasRule (rules_read before ++ _)) (λ x. has-longer (rules_read before) _ x) (edges_read before) all
     by (PoolText name lines) none all = all
@@ -95,7 +97,7 @@ unfolding edges_read
 edges-open scopes [] opened = tt
 edges-open scopes (e ∷ before) opened = by e.item (edges-open scopes before opened.1)
   where
-    by : (item : StatementText) → AllByRecursion (InOpen scopes) (edges_read before) → AllByRecursion (InOpen scopes) (with_edge e before item (edges_read before))
+    by : (item : StatementText) → AllByRecursion (InOpen scopes) (edges_read before) → AllByRecursion (InOpen scopes) (with_given (edges_read before) (edge_given e before item))
     by (BindingText name value) all = all
     by (RuleText name lines) all = all
     by (PoolText name lines) all = all

@@ -1,5 +1,6 @@
 -- The values of variables for an edge of the graph of statements.
 use Rattle.std.proofs.Common.{◌≡◌, ℕ, zero, suc, ◌<◌, ◌∷◌, Bool, Option, Some, option_map, unwrap_or, List, [], map, length, get_or, slice_get, slice_index_or, bytes_eq, sym, ap, subst, ◌∙◌, arith, true≢false, is_some}
+use Rattle.nj_statements.specs.Inside.EdgeSteps.{lines_of_rule}
 use Rattle.std.specs.List.{AllByRecursion}
 use Rattle.std.proofs.lemmas.List.{length-map}
 use Rattle.std.proofs.lemmas.Option.{slice_get-map, slice_get-get_or, get_or_from_slice_get}
@@ -10,10 +11,10 @@ use Rattle.nj_edges.specs.Edges.{EdgePaths, edge_at}
 use Rattle.nj_edges.specs.Files.{AreFiles, path_at}
 use Rattle.nj_edges.specs.declared.files.FileNo.{FileNo}
 use Rattle.nj_edge_env.specs.LateStrings.{LateNames, asked_text}
-use Rattle.nj_statements.specs.EdgeList.{EdgeText, edges_read, names_of_edge, lines_of_rule, block_of_edge}
+use Rattle.nj_statements.specs.EdgeList.{EdgeText, edges_read, names_of_edge, block_of_edge}
 use Rattle.nj_statements.specs.Built.{EdgeDetail, detail_at, detail_of}
 use Rattle.nj_statements.proofs.LateLemmas.{paths-are, same-everywhere}
-use Rattle.nj_graph.specs.Graph.{GraphText, edges_of, files_of, IsOpenScope, HasRule, IsGraphOf, text_of_edge, late_text_of}
+use Rattle.nj_graph.specs.Graph.{GraphText, edges_of, files_of, IsOpenScope, HasRule, IsGraphOf, late_text_of}
 use Rattle.nj_graph.proofs.EdgeRules.{edges-open}
 
 -- ---- elements of lists
@@ -99,4 +100,4 @@ module _ (g : GraphText) (entries : List ReadStatement) (is : IsGraphOf g entrie
       rule_same = at ∙ get_or_from_slice_get g.declarations.rules (detail_at g.built.details n).rule has.rule rule (ap (λ (d : EdgeDetail). slice_get g.declarations.rules d.rule) detail-is ∙ has.rule_is)
 
   pub text-same : (asked : List ℕ) (names : LateNames) → names ≡ names_of_edge entries edge → asked_text names asked ≡ late_text_of entries n asked
-  text-same asked names same = ap (λ x. asked_text x asked) same ∙ sym (ap (text_of_edge entries asked) there.1)
+  text-same asked names same = ap (λ x. asked_text x asked) same ∙ sym (ap (λ (o : Option EdgeText). unwrap_or (option_map (λ e. asked_text (names_of_edge entries e) asked) o) []) there.1)

@@ -1,6 +1,9 @@
 -- What a reader has after one statement more.
 use Rattle.std.proofs.Common.{◌≡◌, ℕ, ◌==◌, ◌&&◌, if◌then◌else◌, Bool, true, false, not, cond, Some, None, option_map, option_and_then, unwrap_or, Result, Ok, Err, List, [], ◌∷◌, length, slice_get, ◌-◌, find, refl, sym, ap, subst, ◌∙◌, true≢false, arith}
-use Rattle.std.specs.Option.{option_or}
+use Rattle.nj_graph.specs.Inside.PathsReached.{with_news, paths_read}
+use Rattle.nj_graph.proofs.OriginLemmas.{origins-more}
+use Rattle.std.specs.Bool.{then_some}
+use Rattle.std.specs.Option.{option_or, option_to_list}
 use mathlib.Core.Path.{fun_ext}
 use Rattle.nj_text.specs.declared.spot.Spot.{Spot}
 use Rattle.nj_text.specs.Numbers.{leading_number_of}
@@ -12,14 +15,14 @@ use Rattle.nj_scope.specs.Scopes.{Bounds, value_in, expanded, rule_at}
 use Rattle.nj_scope.specs.Declarations.{DeclarationsText, DeclaredBy, SameScopes}
 use Rattle.nj_scope.specs.Limits.{is_depth}
 use Rattle.nj_scope.specs.Pools.{is_pool}
-use Rattle.nj_scope.specs.ReadingList.{ReadStatement, scope_of, binds, bounds, rules, is_declared, pools}
+use Rattle.nj_scope.specs.ReadingList.{ReadStatement, scope_of, binds, bounds, rules, is_declared, pools, path_named}
 use Rattle.nj_faults.specs.declared.fault.GraphFault.{GraphFault}
 use Rattle.nj_faults.specs.declared.fault.PlaceRef.{PlaceRef}
 use Rattle.nj_graph.specs.declared.reader.OpenFile.{OpenFile}
 use Rattle.nj_graph.specs.declared.reader.Reader.{Reader}
 use Rattle.nj_faults.specs.declared.fault.Cause.TheVariants.{BadDepth, DuplicateRule, DuplicatePool}
 use Rattle.nj_faults.specs.Faults.{fault_at}
-use Rattle.nj_graph.specs.Reading.{entry_at, expanded_in, fault_if, rule_fault, depth_fault, pool_fault, own_fault, path_named, with_all_new, paths_read}
+use Rattle.nj_graph.specs.Reading.{entry_at, expanded_in, rule_fault, depth_fault, pool_fault, own_fault}
 use Rattle.nj_statements.specs.Answers.{HasEdges, ReadsStatement, entry_at_place}
 use Rattle.nj_graph.specs.Graph.{IsOpenScope}
 use Rattle.nj_graph.specs.Origins.{place_text, depth_of}
@@ -29,27 +32,27 @@ use Rattle.nj_graph.specs.Inside.ReaderContracts.{Has, Grows, Declares, site_of}
 
 -- a statement that names no file
 pub has-next : (main : List ℕ) (old held : Reader) (entries : List ReadStatement) (e : ReadStatement) → Has main old entries → DeclaredBy held.declarations (e ∷ entries) → held.origins ≡ origins_with e entries old.origins → held.files ≡ old.files
-    → path_named e entries e.item ≡ [] → HasEdges held.building (e ∷ entries) → Grows old.declarations.scopes held.declarations.scopes → IsOpenScope old.declarations.scopes e.number e.around → Has main held (e ∷ entries)
+    → path_named e entries e.item ≡ None → HasEdges held.building (e ∷ entries) → Grows old.declarations.scopes held.declarations.scopes → IsOpenScope old.declarations.scopes e.number e.around → Has main held (e ∷ entries)
 has-next main old held entries e has follows origins files names edges grows inside = record {
   declares = follows;
   edges = edges;
   scopes = open-next old.declarations.scopes held.declarations.scopes e entries grows inside has.scopes;
-  origins = origins ∙ ap (origins_with e entries) has.origins;
-  paths_are = ap paths_of files ∙ has.paths_are ∙ ap (with_all_new (paths_read main entries)) (sym names);
+  origins = origins ∙ ap (origins_with e entries) has.origins ∙ origins-more main e entries;
+  paths_are = ap paths_of files ∙ has.paths_are ∙ ap (λ o. with_news (paths_read main entries) (option_to_list o)) (sym names);
   once = subst EachPathOnce (sym files) has.once;
 }
 
-fault-unless : (b : Bool) (fault : GraphFault) → true ≡ not b → fault_if b fault ≡ None
+fault-unless : (b : Bool) (fault : GraphFault) → true ≡ not b → then_some b fault ≡ None
 fault-unless true fault h = absurd (true≢false h)
 fault-unless false fault h = refl
 
 -- a version that is not newer, and a name that is another
-pub version-accepted : (named newer : Bool) (fault : GraphFault) → newer ≡ false → fault_if (named && newer) fault ≡ None
+pub version-accepted : (named newer : Bool) (fault : GraphFault) → newer ≡ false → then_some (named && newer) fault ≡ None
 version-accepted true true fault h = absurd (true≢false h)
 version-accepted true false fault h = refl
 version-accepted false newer fault h = refl
 
-pub name-is-other : (named newer : Bool) (fault : GraphFault) → named ≡ false → fault_if (named && newer) fault ≡ None
+pub name-is-other : (named newer : Bool) (fault : GraphFault) → named ≡ false → then_some (named && newer) fault ≡ None
 name-is-other true newer fault h = absurd (true≢false h)
 name-is-other false newer fault h = refl
 
@@ -121,7 +124,7 @@ placed-text place file spot file_is spot_is =
 
 -- a statement that leaves the declarations as they are and adds the edges of one statement
 pub built-declares : (main : List ℕ) (old held : Reader) (entries : List ReadStatement) (e : ReadStatement) (result : Result (Unit {0}) GraphFault) → Has main old entries
-    → DeclaredBy held.declarations (e ∷ entries) → held.origins ≡ origins_with e entries old.origins → held.files ≡ old.files → path_named e entries e.item ≡ []
+    → DeclaredBy held.declarations (e ∷ entries) → held.origins ≡ origins_with e entries old.origins → held.files ≡ old.files → path_named e entries e.item ≡ None
     → Grows old.declarations.scopes held.declarations.scopes → IsOpenScope old.declarations.scopes e.number e.around
     → ReadsStatement held.building (own_fault e entries) e entries result → Declares main held e entries result
 built-declares main old held entries e (Ok done) has follows origins files names grows inside reads =

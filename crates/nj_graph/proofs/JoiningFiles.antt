@@ -1,5 +1,7 @@
 -- A dyndep file is joined, or the joining stops there.
-use Rattle.std.proofs.Common.{◌≡◌, ◌⊎◌, ℕ, inl, inr, true, false, cond, true≢false, Option, Some, None, is_some, Result, Ok, Err, List, map, refl, sym, ap, subst, ◌∙◌}
+use Rattle.std.proofs.Common.{◌≡◌, ◌⊎◌, ℕ, inl, inr, true, false, cond, true≢false, Option, Some, None, is_some, Result, Ok, Err, List, [], ◌∷◌, get_or, map, refl, sym, ap, subst, ◌∙◌}
+use Rattle.nj_graph.specs.Inside.PathsReached.{with_news, with_new}
+use Rattle.std.proofs.Math.ListN.{get_or-map}
 use Rattle.std.specs.Str.{is_utf8}
 use Rattle.nj_text.specs.declared.spot.Spot.{Spot}
 use Rattle.nj_scope.specs.Readings.{Reading, EachPathOnce, reading_of, is_read, paths_of, IsPrefix}
@@ -9,12 +11,12 @@ use Rattle.nj_faults.specs.declared.fault.Place.{Place}
 use Rattle.nj_faults.specs.declared.fault.GraphFault.{GraphFault}
 use Rattle.nj_faults.specs.declared.fault.Cause.TheVariants.{Missing, PathNotText}
 use Rattle.nj_faults.specs.Faults.{IsFault, no_memory}
-use Rattle.nj_statements.specs.EdgeList.{Pending, edges_read}
+use Rattle.nj_statements.specs.EdgeList.{Pending, edges_read, EdgeText}
 use Rattle.nj_statements.specs.Built.{EdgeDetail, detail_at, detail_of}
 use Rattle.nj_statements.specs.Answers.{Checks}
 use Rattle.nj_statements.specs.Joining.{lacking_fault}
 use Rattle.nj_statements.specs.JoiningHeld.{JoiningText}
-use Rattle.nj_graph.specs.Reading.{Refused, Lacking, ReadingText, end_by, with_new, stopped, outcome_read, with_all_new}
+use Rattle.nj_graph.specs.Reading.{Refused, Lacking, ReadingText, end_by, stopped, outcome_read}
 use Rattle.nj_graph.specs.Joining.{statement_place, text_joined, path_asked, file_joined}
 use Rattle.nj_graph.specs.Inside.JoiningContracts.{TextJoined, TextRefused, FileJoined, FileStops, JoinsFile}
 use Rattle.nj_graph.proofs.Comes.{prefix-self, prefix-named}
@@ -25,6 +27,16 @@ use Rattle.nj_graph.proofs.JoiningTables.{asked-named, asked-none}
 absent : {X : Type 0} (o : Option X) → is_some o ≡ false → o ≡ None
 absent None h = refl
 absent (Some x) h = absurd (true≢false h)
+
+abbrev place_of_detail : EdgeDetail → Place
+place_of_detail d = record { file = d.file; spot = d.spot }
+
+abbrev place_of_edge : EdgeText → Place
+place_of_edge e = record { file = e.file; spot = e.spot }
+
+places-are : (es : List EdgeText) → map place_of_detail (map detail_of es) ≡ map place_of_edge es
+places-are [] = refl
+places-are (e ∷ es) = ap (λ places. place_of_detail (detail_of e) ∷ places) (places-are es)
 
 module _ (stated joined : List ReadStatement) (p : Pending) where
   abbrev at_statement : Place
@@ -41,8 +53,8 @@ module _ (stated joined : List ReadStatement) (p : Pending) where
   unfolding file_joined
   not-named bad all = ap (λ b. cond b (outcome_read p.file at_statement joined reads (reading_of all p.file)) (stopped joined at_statement PathNotText)) bad
 
-  comes : (old : List Reading) → is_utf8 p.file ≡ true → with_all_new (paths_of old) (path_asked p) ≡ with_new (paths_of old) p.file
-  comes old utf8 = ap (with_all_new (paths_of old)) (asked-named p utf8)
+  comes : (old : List Reading) → is_utf8 p.file ≡ true → with_news (paths_of old) (path_asked p) ≡ with_new (paths_of old) p.file
+  comes old utf8 = ap (with_news (paths_of old)) (asked-named p utf8)
 
   -- the place of its first edge
   pub is-place : (details : List EdgeDetail) (file : List ℕ) (spot : Spot) → details ≡ map detail_of (edges_read stated) → file ≡ (detail_at details p.edge).file → spot ≡ (detail_at details p.edge).spot
@@ -50,6 +62,8 @@ module _ (stated joined : List ReadStatement) (p : Pending) where
   is-place details file spot are at_file at_spot =
       ap (λ f. record { file = f; spot = spot }) at_file ∙ ap (λ s. record { file = (detail_at details p.edge).file; spot = s }) at_spot
       ∙ ap (λ ds. record { file = (detail_at ds p.edge).file; spot = (detail_at ds p.edge).spot }) are
+      ∙ sym (get_or-map place_of_detail (map detail_of (edges_read stated)) p.edge (record { file = []; spot = record { line = 0; column = 0 }; scope = 0; rule = 0 }))
+      ∙ ap (λ (places : List Place). get_or places p.edge (record { file = []; spot = record { line = 0; column = 0 } })) (places-are (edges_read stated))
 
   -- ---- before the file is read
 
@@ -70,7 +84,7 @@ module _ (stated joined : List ReadStatement) (p : Pending) where
         end = Refused (record { place = Some at_statement; cause = PathNotText });
         answered = (is, refl);
         joins = λ all ext lacks. not-named bad all;
-        came_to = ap (with_all_new (paths_of old)) (asked-none p bad);
+        came_to = ap (with_news (paths_of old)) (asked-none p bad);
       });
     }
 
@@ -84,8 +98,8 @@ module _ (stated joined : List ReadStatement) (p : Pending) where
     stops-lacking : (fault : GraphFault) → HasNoMemory before after old p.file fault → FileStops stated joined p before after old fault
     stops-lacking fault h = record { files = h.files; reads = h.reads; stops = inl (record { answered = h.answered; failures = h.failures; came_to = by h.came_to }) }
       where
-        by : (paths_of h.files ≡ paths_of old) ⊎ ((paths_of h.files ≡ with_new (paths_of old) p.file) × (is_read h.files p.file ≡ true)) → IsPrefix (paths_of h.files) (with_all_new (paths_of old) (path_asked p))
-        by (inl same) = subst (λ ps. IsPrefix ps (with_all_new (paths_of old) (path_asked p))) (sym same) (prefix-named (paths_of old) (path_asked p))
+        by : (paths_of h.files ≡ paths_of old) ⊎ ((paths_of h.files ≡ with_new (paths_of old) p.file) × (is_read h.files p.file ≡ true)) → IsPrefix (paths_of h.files) (with_news (paths_of old) (path_asked p))
+        by (inl same) = subst (λ ps. IsPrefix ps (with_news (paths_of old) (path_asked p))) (sym same) (prefix-named (paths_of old) (path_asked p))
         by (inr (one, there)) = subst (λ ps. IsPrefix (paths_of h.files) ps) (one ∙ sym (comes old utf8)) (prefix-self (paths_of h.files))
 
     stops-unread : (fault : GraphFault) → CannotTell before after old at_statement p.file fault → FileStops stated joined p before after old fault
@@ -126,7 +140,7 @@ module _ (stated joined : List ReadStatement) (p : Pending) where
       is-text : (all : List Reading) → IsPrefix found.files all → file_joined all stated p joined ≡ text_joined p.file stated text joined
       is-text all ext = named utf8 all ∙ ap (λ r. outcome_read p.file at_statement joined reads r) (reading-kept p.file (record { path = p.file; bytes = Some text }) all found.files ext found.found)
 
-      came : with_all_new (paths_of old) (path_asked p) ≡ paths_of found.files
+      came : with_news (paths_of old) (path_asked p) ≡ paths_of found.files
       came = comes old utf8 ∙ sym found.came_to
 
       stops-refused : (fault : GraphFault) → TextRefused p.file stated text joined fault → FileStops stated joined p before after old fault

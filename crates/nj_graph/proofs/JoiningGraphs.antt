@@ -1,5 +1,7 @@
 -- What the joining of all dyndep files comes to: the graph of the statements with what was joined, a cycle, or where it stops.
 use Rattle.std.proofs.Common.{◌≡◌, ℕ, inl, inr, false, Ok, Err, List, [], ◌∷◌, length, append-nil, refl, sym, ap, subst, ◌∙◌, true≢false}
+use Rattle.nj_graph.proofs.FirstTimes.{joins}
+use Rattle.nj_graph.specs.Inside.PathsReached.{with_news, come_joined}
 use Rattle.std.specs.List.{AllByRecursion}
 use Rattle.std.proofs.lemmas.List.{length-map}
 use Rattle.nj_scope.specs.Readings.{Reading, EachPathOnce, paths_of, IsPrefix}
@@ -16,13 +18,13 @@ use Rattle.nj_statements.specs.Joining.{discover}
 use Rattle.nj_statements.specs.JoiningHeld.{JoiningText, has_pending}
 use Rattle.nj_statements.proofs.DiscoverLemmas.{declared-discover, all-discover}
 use Rattle.nj_statements.proofs.DiscoverEdges.{all_edges-discover}
-use Rattle.nj_graph.specs.Reading.{Whole, with_all_new}
+use Rattle.nj_graph.specs.Reading.{Whole}
 use Rattle.nj_graph.specs.Origins.{origins_read, main_of}
 use Rattle.nj_graph.specs.Graph.{GraphText, IsOpenScope, HasRule, IsGraphOf}
 use Rattle.nj_graph.specs.Inside.GraphHeld.{IsKnown, IsGraph}
 use Rattle.nj_graph.specs.Runs.{ReachedText}
 use Rattle.nj_graph.specs.Loads.{LoadedText, IsWhole}
-use Rattle.nj_graph.specs.Joining.{all_joined, joined_after, Joins}
+use Rattle.nj_graph.specs.Joining.{all_joined, Joins}
 use Rattle.nj_graph.specs.Inside.JoiningContracts.{FilesJoined, FilesStop}
 use Rattle.nj_graph.proofs.Comes.{prefix-self, prefix-named}
 use Rattle.nj_graph.proofs.Tables.{read-nothing}
@@ -37,13 +39,13 @@ none-pending (p ∷ ps) h = absurd (true≢false h)
 
 module _ (stated : List ReadStatement) (source : SourceState) (old : List Reading) (once : EachPathOnce old) where
   pub joins-nothing : (loaded : LoadedText) (g : GraphText) → loaded ≡ record { files = old; graph = g } → IsGraphOf g stated → has_pending g.built.pending ≡ false → Joins stated old source source (Ok loaded)
-  joins-nothing loaded g same is none = (
+  joins-nothing loaded g same is none = joins stated old source source (Ok loaded) (
     old,
     read-nothing source old once,
     record {
       files_are = ap (λ (l : LoadedText). l.files) same;
       entries = stated;
-      whole = record { read = ap (λ (j : ReachedText). j.read) nothing; came_to = ap (λ (j : ReachedText). with_all_new (paths_of old) j.paths) nothing; failures = refl };
+      whole = record { read = ap (λ (j : ReachedText). j.read) nothing; came_to = ap (λ (j : ReachedText). with_news (paths_of old) j.paths) nothing; failures = refl };
       graph_is = subst (λ (l : LoadedText). IsGraphOf l.graph stated) (sym same) is;
     },
   )
@@ -52,11 +54,11 @@ module _ (stated : List ReadStatement) (source : SourceState) (old : List Readin
       nothing = nothing-joined old stated (sym is.built.pending ∙ none-pending g.built.pending none)
 
   pub joins-memory : (fault : GraphFault) → fault ≡ no_memory → Joins stated old source source (Err fault)
-  joins-memory fault none = (old, read-nothing source old once, inl (inl (record { answered = none; failures = refl; came_to = λ all ext. prefix-named (paths_of old) (all_joined all stated).paths })))
+  joins-memory fault none = joins stated old source source (Err fault) (old, read-nothing source old once, inl (inl (record { answered = none; failures = refl; came_to = λ all ext. prefix-named (paths_of old) (all_joined all stated).paths })))
 
 module _ (stated : List ReadStatement) (before after : SourceState) (old : List Reading) where
   pub joins-stop : (fault : GraphFault) → FilesStop stated before after old fault → Joins stated old before after (Err fault)
-  joins-stop fault s = (s.files, s.reads, inl s.stops)
+  joins-stop fault s = joins stated old before after (Err fault) (s.files, s.reads, inl s.stops)
 
   -- ---- all is joined
 
@@ -64,30 +66,30 @@ module _ (stated : List ReadStatement) (before after : SourceState) (old : List 
     itself : IsPrefix f.files f.files
     itself = ([], sym (append-nil f.files))
 
-    joins : all_joined f.files stated ≡ record { read = record { entries = f.now; end = Whole }; paths = f.paths }
-    joins = f.joins f.files itself
+    all-joined : all_joined f.files stated ≡ record { read = record { entries = f.now; end = Whole }; paths = f.paths }
+    all-joined = f.joins f.files itself
 
-    whole : IsWhole before after f.files (joined_after old stated) f.now
-    whole = record { read = ap (λ (j : ReachedText). j.read) joins; came_to = ap (λ (j : ReachedText). with_all_new (paths_of old) j.paths) joins ∙ f.came_to; failures = f.reads.failures }
+    whole : IsWhole before after f.files (come_joined old stated) f.now
+    whole = record { read = ap (λ (j : ReachedText). j.read) all-joined; came_to = ap (λ (j : ReachedText). with_news (paths_of old) j.paths) all-joined ∙ f.came_to; failures = f.reads.failures }
 
     pub none-pending-then : pending_read f.now ≡ []
-    none-pending-then = subst (λ (j : ReachedText). pending_read j.read.entries ≡ []) joins (none-unjoined f.files stated (ap (λ (j : ReachedText). j.read.end) joins))
+    none-pending-then = subst (λ (j : ReachedText). pending_read j.read.entries ≡ []) all-joined (none-unjoined f.files stated (ap (λ (j : ReachedText). j.read.end) all-joined))
 
     -- what stays of the statements
     stays : (P : List ReadStatement → Type 0) → ((edge : ℕ) (found : Discovered) (entries : List ReadStatement) → P entries → P (discover edge found entries)) → P stated → P f.now
-    stays P keeps h = subst (λ (j : ReachedText). P j.read.entries) joins (kept-by-all P keeps f.files stated h)
+    stays P keeps h = subst (λ (j : ReachedText). P j.read.entries) all-joined (kept-by-all P keeps f.files stated h)
 
     pub joins-fault : (fault : GraphFault) → ComesTo f.now (Err fault) → Joins stated old before after (Err fault)
-    joins-fault fault (inl none) = (
+    joins-fault fault (inl none) = joins stated old before after (Err fault) (
       f.files,
       f.reads.reads,
       inl (inl (record {
         answered = none;
         failures = f.reads.failures;
-        came_to = λ all ext. subst (λ ps. IsPrefix (paths_of f.files) ps) (sym (ap (λ (j : ReachedText). with_all_new (paths_of old) j.paths) (f.joins all ext) ∙ f.came_to)) (prefix-self (paths_of f.files));
+        came_to = λ all ext. subst (λ ps. IsPrefix (paths_of f.files) ps) (sym (ap (λ (j : ReachedText). with_news (paths_of old) j.paths) (f.joins all ext) ∙ f.came_to)) (prefix-self (paths_of f.files));
       })),
     )
-    joins-fault fault (inr cycle) = (f.files, f.reads.reads, inr (record { entries = f.now; whole = whole; cycle = cycle }))
+    joins-fault fault (inr cycle) = joins stated old before after (Err fault) (f.files, f.reads.reads, inr (record { entries = f.now; whole = whole; cycle = cycle }))
 
     -- ---- the graph
 
@@ -108,7 +110,7 @@ module _ (stated : List ReadStatement) (before after : SourceState) (old : List 
       }
 
       pub joins-graph : (loaded : LoadedText) → loaded ≡ record { files = table; graph = record { declarations = g.declarations; built = built; origins = g.origins } } → Joins stated old before after (Ok loaded)
-      joins-graph loaded same = (
+      joins-graph loaded same = joins stated old before after (Ok loaded) (
         f.files,
         f.reads.reads,
         record {

@@ -1,5 +1,6 @@
 -- Which edges are pending on dyndep files, as these are joined one after another.
 use Rattle.std.proofs.Common.{◌≡◌, ℕ, zero, suc, ◌<◌, ◌==◌, Bool, true, false, cond, not, ◌||◌, Option, Some, None, option_map, List, [], ◌∷◌, find, filter, length, slice_get, bytes_eq, option_and_then, arith, refl, sym, ap, subst, ◌∙◌, true≢false}
+use Rattle.nj_graph.proofs.Continuing.{unless_fault}
 use Rattle.std.specs.List.{AllByRecursion, list_any}
 use Rattle.std.specs.Str.{is_utf8}
 use Rattle.std.proofs.lemmas.Slice.Eq.{bytes_eq-Decides}
@@ -14,7 +15,7 @@ use Rattle.nj_statements.specs.EdgeList.{EdgeText, Pending, edges_read, pending_
 use Rattle.nj_statements.specs.Joining.{discover, discovered_by, entry_fault, with_entry, no_statement, lacking_fault, dyndep_files}
 use Rattle.nj_statements.proofs.DiscoverLemmas.{with_entry-by}
 use Rattle.nj_statements.proofs.DiscoverEdges.{pending-discover, pending-within}
-use Rattle.nj_graph.specs.Reading.{End, Whole, Refused, Lacking, ReadingText, unless_fault, end_by, stopped, found_read, outcome_read}
+use Rattle.nj_graph.specs.Reading.{End, Whole, Refused, Lacking, ReadingText, end_by, stopped, found_read, outcome_read}
 use Rattle.nj_graph.specs.Runs.{ReachedText}
 use Rattle.nj_graph.specs.Joining.{entries_joined, text_joined, statement_place, file_joined, continued, files_joined, all_joined, JoinedStaysJoined}
 

@@ -1,5 +1,6 @@
 -- The dyndep files of a run, joined one after the other.
 use Rattle.std.proofs.Common.{◌≡◌, ◌⊎◌, ℕ, inl, inr, List, [], ◌∷◌, ◌++◌, append-nil, append_assoc, refl, sym, ap, subst, ◌∙◌}
+use Rattle.nj_graph.specs.Inside.PathsReached.{with_news, come_after, come_joined}
 use Rattle.std.specs.Prelude.{⊤}
 use Rattle.nj_scope.specs.Readings.{Reading, EachPathOnce, paths_of, IsPrefix}
 use Rattle.nj_scope.specs.ReadingList.{ReadStatement}
@@ -8,10 +9,10 @@ use Rattle.nj_faults.specs.declared.fault.GraphFault.{GraphFault}
 use Rattle.nj_statements.specs.EdgeList.{Pending, pending_read}
 use Rattle.nj_statements.specs.Joining.{dyndep_files}
 use Rattle.nj_statements.specs.JoiningHeld.{JoiningText, HasJoined}
-use Rattle.nj_graph.specs.Reading.{End, Whole, Refused, Lacking, ReadingText, with_all_new}
+use Rattle.nj_graph.specs.Reading.{End, Whole, Refused, Lacking, ReadingText}
 use Rattle.nj_graph.specs.Runs.{IsRead, IsEnd, paths_with, ReachedText, Stops}
 use Rattle.nj_graph.specs.Inside.ReaderContracts.{ReadsAll}
-use Rattle.nj_graph.specs.Joining.{continued, path_asked, file_joined, files_joined, all_joined, reached_after, joined_after}
+use Rattle.nj_graph.specs.Joining.{continued, path_asked, file_joined, files_joined, all_joined}
 use Rattle.nj_graph.specs.Inside.JoiningContracts.{FileJoined, FileLacksMemory, FileEnds, FileStops, FilesJoined, FilesStop}
 use Rattle.nj_graph.proofs.Comes.{prefix-then, prefix-named}
 use Rattle.nj_graph.proofs.Tables.{extends-trans, read-extends, reads-then, reads-all-nothing, reads-all-then}
@@ -53,7 +54,7 @@ pub record FilesUnderway (stated : List ReadStatement) (before after : SourceSta
   pub now : List ReadStatement
   pub has : HasJoined held stated now
   pub paths : List (List ℕ)
-  pub came_to : with_all_new (paths_of old) paths ≡ paths_of files
+  pub came_to : with_news (paths_of old) paths ≡ paths_of files
   pub continues : (all : List Reading) → IsPrefix files all → all_joined all stated ≡ remainder paths (files_joined all stated left now)
 
 module _ (stated : List ReadStatement) (before : SourceState) (old : List Reading) where
@@ -80,8 +81,8 @@ module _ (stated : List ReadStatement) (before : SourceState) (old : List Readin
       unfolding files_joined
       next all ext r is = u.continues all ext ∙ ap (λ (x : ReadingText). remainder u.paths (continued x.end p x.entries (files_joined all stated others))) is
 
-      came : with_all_new (paths_of old) (u.paths ++ path_asked p) ≡ with_all_new (paths_of u.files) (path_asked p)
-      came = all_new-append (paths_of old) u.paths (path_asked p) ∙ ap (λ ps. with_all_new ps (path_asked p)) u.came_to
+      came : with_news (paths_of old) (u.paths ++ path_asked p) ≡ with_news (paths_of u.files) (path_asked p)
+      came = all_new-append (paths_of old) u.paths (path_asked p) ∙ ap (λ ps. with_news ps (path_asked p)) u.came_to
 
       pub files-turn : (after : SourceState) (later_table : List Reading) (later : JoiningText) → FileJoined stated u.now p mid after table later_table later → FilesUnderway stated before after old later_table later others
       files-turn after later_table later f = record {
@@ -90,7 +91,7 @@ module _ (stated : List ReadStatement) (before : SourceState) (old : List Readin
         now = f.now;
         has = f.has;
         paths = u.paths ++ path_asked p;
-        came_to = came ∙ subst (λ fs. with_all_new (paths_of fs) (path_asked p) ≡ paths_of f.files) u.reads.held_is f.came_to;
+        came_to = came ∙ subst (λ fs. with_news (paths_of fs) (path_asked p) ≡ paths_of f.files) u.reads.held_is f.came_to;
         continues = λ all ext. next all (extends-trans all f.files u.files ext (read-extends mid after u.files f.files there.reads)) (record { entries = f.now; end = Whole }) (f.joins all ext)
             ∙ ap (λ ps. record { read = (files_joined all stated others f.now).read; paths = ps }) (sym (append_assoc u.paths (path_asked p) (files_joined all stated others f.now).paths));
       }
@@ -104,14 +105,14 @@ module _ (stated : List ReadStatement) (before : SourceState) (old : List Readin
       first-asked (Refused fault) entries k = ([], sym (append-nil (path_asked p)))
       first-asked (Lacking path place) entries k = ([], sym (append-nil (path_asked p)))
 
-      asks : (all : List Reading) → IsPrefix u.files all → IsPrefix (with_all_new (paths_of u.files) (path_asked p)) (with_all_new (paths_of old) (all_joined all stated).paths)
+      asks : (all : List Reading) → IsPrefix u.files all → IsPrefix (with_news (paths_of u.files) (path_asked p)) (with_news (paths_of old) (all_joined all stated).paths)
       asks all ext =
           let r : ReadingText = file_joined all stated p u.now in
           let more = first-asked r.end r.entries (files_joined all stated others) in
           let paths : (all_joined all stated).paths ≡ (u.paths ++ path_asked p) ++ more.0 = ap (λ (j : ReachedText). j.paths) (next all ext r refl) ∙ ap (λ ps. u.paths ++ ps) more.1 ∙ sym (append_assoc u.paths (path_asked p) more.0) in
-          let whole : with_all_new (paths_of old) (all_joined all stated).paths ≡ with_all_new (with_all_new (paths_of u.files) (path_asked p)) more.0 =
-          ap (with_all_new (paths_of old)) paths ∙ all_new-append (paths_of old) (u.paths ++ path_asked p) more.0 ∙ ap (λ ps. with_all_new ps more.0) came in
-          subst (IsPrefix (with_all_new (paths_of u.files) (path_asked p))) (sym whole) (prefix-named (with_all_new (paths_of u.files) (path_asked p)) more.0)
+          let whole : with_news (paths_of old) (all_joined all stated).paths ≡ with_news (with_news (paths_of u.files) (path_asked p)) more.0 =
+          ap (with_news (paths_of old)) paths ∙ all_new-append (paths_of old) (u.paths ++ path_asked p) more.0 ∙ ap (λ ps. with_news ps more.0) came in
+          subst (IsPrefix (with_news (paths_of u.files) (path_asked p))) (sym whole) (prefix-named (with_news (paths_of u.files) (path_asked p)) more.0)
 
       pub files-stop : (after : SourceState) (fault : GraphFault) → FileStops stated u.now p mid after table fault → FilesStop stated before after old fault
       files-stop after fault s = record { files = s.files; reads = reads-then before mid after old u.files s.files u.reads.reads there; stops = by s.stops }
@@ -122,16 +123,16 @@ module _ (stated : List ReadStatement) (before : SourceState) (old : List Readin
           within : (all : List Reading) → IsPrefix s.files all → IsPrefix u.files all
           within all ext = extends-trans all s.files u.files ext (read-extends mid after u.files s.files there)
 
-          by : FileLacksMemory p mid after table s.files fault ⊎ FileEnds stated u.now p mid after table s.files fault → Stops before after s.files (joined_after old stated) fault
+          by : FileLacksMemory p mid after table s.files fault ⊎ FileEnds stated u.now p mid after table s.files fault → Stops before after s.files (come_joined old stated) fault
           by (inl m) = inl (record {
             answered = m.answered;
             failures = m.failures ∙ u.reads.failures;
-            came_to = λ all ext. prefix-then (paths_of s.files) (with_all_new (paths_of u.files) (path_asked p)) (with_all_new (paths_of old) (all_joined all stated).paths)
-                (subst (λ fs. IsPrefix (paths_of s.files) (with_all_new (paths_of fs) (path_asked p))) u.reads.held_is m.came_to) (asks all (within all ext));
+            came_to = λ all ext. prefix-then (paths_of s.files) (with_news (paths_of u.files) (path_asked p)) (with_news (paths_of old) (all_joined all stated).paths)
+                (subst (λ fs. IsPrefix (paths_of s.files) (with_news (paths_of fs) (path_asked p))) u.reads.held_is m.came_to) (asks all (within all ext));
           })
           by (inr e) = inr (record {
-            reached = reached_after (paths_of old) (record { read = record { entries = e.now; end = e.end }; paths = u.paths ++ path_asked p });
+            reached = come_after (paths_of old) (record { read = record { entries = e.now; end = e.end }; paths = u.paths ++ path_asked p });
             answered = end-before before mid after e.end fault u.reads.failures e.answered;
-            read = λ all ext lacks. ap (reached_after (paths_of old)) (next all (within all ext) (record { entries = e.now; end = e.end }) (e.joins all ext lacks) ∙ ap (remainder u.paths) (stays e.end p e.now (files_joined all stated others) (is-stopped mid after e.end fault e.answered)));
-            came_to = came ∙ subst (λ fs. with_all_new (paths_of fs) (path_asked p) ≡ paths_with e.end s.files) u.reads.held_is e.came_to;
+            read = λ all ext lacks. ap (come_after (paths_of old)) (next all (within all ext) (record { entries = e.now; end = e.end }) (e.joins all ext lacks) ∙ ap (remainder u.paths) (stays e.end p e.now (files_joined all stated others) (is-stopped mid after e.end fault e.answered)));
+            came_to = came ∙ subst (λ fs. with_news (paths_of fs) (path_asked p) ≡ paths_with e.end s.files) u.reads.held_is e.came_to;
           })

@@ -1,5 +1,6 @@
 -- The entries of a dyndep file's text, joined one after the other.
 use Rattle.std.proofs.Common.{◌≡◌, ◌⊎◌, ℕ, suc, ◌<◌, inl, inr, Bool, true, false, Option, Some, None, Result, Ok, Err, List, length, refl, sym, ap, subst, ◌∙◌, arith}
+use Rattle.nj_graph.proofs.Continuing.{unless_fault}
 use Rattle.nj_text.specs.Lines.{Line, text_lines}
 use Rattle.nj_manifest.specs.declared.entries.Entry as text
 use Rattle.nj_manifest.specs.Faults.{Fault}
@@ -16,7 +17,7 @@ use Rattle.nj_faults.specs.Faults.{IsFault, fault_in, no_memory}
 use Rattle.nj_statements.specs.Joining.{entry_fault, with_entry}
 use Rattle.nj_statements.specs.JoiningHeld.{JoiningText, HasJoined}
 use Rattle.nj_graph.specs.Parsed.{Parsed, none_parsed, and_parsed, parsed_in}
-use Rattle.nj_graph.specs.Reading.{Refused, unless_fault}
+use Rattle.nj_graph.specs.Reading.{Refused}
 use Rattle.nj_graph.specs.Joining.{after_version, entries_of, entries_joined, text_joined}
 use Rattle.nj_graph.proofs.ParsedLemmas.{parsed-step, parsed-end, parsed-fault}
 use Rattle.nj_graph.specs.Inside.JoiningContracts.{TextJoined, TextRefused, NextEntryOf, NextEntryIs}

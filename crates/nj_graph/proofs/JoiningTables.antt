@@ -1,5 +1,6 @@
 -- The paths that a joining asks for, and the table of what was read.
 use Rattle.std.proofs.Common.{◌≡◌, ℕ, zero, suc, ◌<◌, ◌≤◌, Bool, true, false, cond, Some, unwrap_or, Result, Ok, Err, OnOk, List, [], ◌∷◌, ◌++◌, length, drop, slice_get, String, string_bytes, IsUtf8, refl, sym, ap, subst, arith}
+use Rattle.nj_graph.specs.Inside.PathsReached.{with_news, with_new}
 use Rattle.std.specs.Str.{is_utf8}
 use Rattle.std.proofs.lemmas.Str.{IsUtf8-string_bytes, IsUtf8-from_is_utf8, is_utf8-from_IsUtf8}
 use Rattle.nj_scope.specs.Readings.{IsPrefix}
@@ -7,7 +8,6 @@ use Rattle.nj_edges.specs.declared.files.FileNo.{FileNo}
 use Rattle.nj_edges.specs.Files.{path_at}
 use Rattle.nj_statements.specs.EdgeList.{Pending}
 use Rattle.nj_statements.proofs.Lists.{get-longer}
-use Rattle.nj_graph.specs.Reading.{with_new, with_all_new}
 use Rattle.nj_graph.specs.Joining.{path_asked}
 
 pub for-ok : {X E P : Type 0} (r : Result X E) → P → OnOk r P
@@ -37,7 +37,7 @@ some-is x y h = cc
 
 -- ---- the paths that are asked for
 
-pub all_new-append : (before paths more : List (List ℕ)) → with_all_new before (paths ++ more) ≡ with_all_new (with_all_new before paths) more
+pub all_new-append : (before paths more : List (List ℕ)) → with_news before (paths ++ more) ≡ with_news (with_news before paths) more
 all_new-append before [] more = refl
 all_new-append before (path ∷ paths) more = all_new-append (with_new before path) paths more
 

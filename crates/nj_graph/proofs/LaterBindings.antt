@@ -1,12 +1,13 @@
 -- Bindings after the statement of an edge.
 use Rattle.std.proofs.Common.{◌≡◌, ℕ, if◌then◌else◌, Some, None, unwrap_or, List, [], ◌∷◌, refl, sym, ap, ◌∙◌, eq-eqb}
+use Rattle.nj_scope.proofs.Gathering.{with_given}
 use Rattle.std.specs.Option.{option_or}
 use Rattle.std.proofs.lemmas.Slice.Eq.{bytes_eq-Decides}
 use Rattle.nj_text.specs.Words.{WordText}
 use Rattle.nj_manifest.specs.Statements.{StatementText, BindingText}
-use Rattle.nj_scope.specs.Scopes.{nearest, value_in, expanded}
+use Rattle.nj_scope.specs.Scopes.{first_given, value_in, expanded}
 use Rattle.nj_scope.specs.ReadingList.{ReadStatement, scope_of, binds, bounds}
-use Rattle.nj_statements.specs.EdgeList.{EdgeText, with_edge, edges_read}
+use Rattle.nj_statements.specs.EdgeList.{EdgeText, edges_read, edge_given}
 use Rattle.nj_graph.specs.Reading.{expanded_in}
 use Rattle.nj_graph.specs.Laws.{LaterBindingsCount, LaterBindingsChangeNoEdge}
 
@@ -23,8 +24,8 @@ binds-now e before edge name word is number =
 
 pub later_bindings_count : LaterBindingsCount
 later_bindings_count e before edge name word is number =
-    ap (λ o. unwrap_or (option_or o (nearest (λ s. bounds (e ∷ before) s name) edge.around)) []) (binds-now e before edge name word is number)
+    ap (λ o. unwrap_or (option_or o (first_given (λ s. bounds (e ∷ before) s name) edge.around)) []) (binds-now e before edge name word is number)
 
 pub later_bindings_change_no_edge : LaterBindingsChangeNoEdge
 unfolding edges_read
-later_bindings_change_no_edge e before name word is = ap (λ i. with_edge e before i (edges_read before)) is
+later_bindings_change_no_edge e before name word is = ap (λ i. with_given (edges_read before) (edge_given e before i)) is

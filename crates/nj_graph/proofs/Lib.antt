@@ -1,8 +1,10 @@
 pub mod Comes
+pub mod Continuing
 pub mod EdgeRules
 pub mod EdgeStrings
 pub mod Faultless
 pub mod FirstPositions
+pub mod FirstTimes
 pub mod Found
 pub mod GraphRows
 pub mod Holding

@@ -1,5 +1,5 @@
 -- How a graph represents the rules that it lists.
-use Rattle.std.proofs.Common.{◌≡◌, ℕ, zero, suc, ◌+◌, ◌<◌, Bool, true, false, cond, ◌==◌, List, [], ◌∷◌, ◌++◌, map, take, length, get_or, Option, Some, refl, sym, ap, ◌∙◌, eqb-true, eq-eqb, arith}
+use Rattle.std.proofs.Common.{◌≡◌, ℕ, zero, suc, ◌+◌, ◌<◌, Bool, true, false, cond, ◌==◌, List, [], ◌∷◌, ◌++◌, map, take, length, get_or, Option, Some, option_map, unwrap_or, refl, sym, ap, ◌∙◌, eqb-true, eq-eqb, arith}
 use Rattle.std.specs.Prelude.{slice_get}
 use Rattle.std.specs.List.Sorted.{IsSortedBy, IsStableBy}
 use Rattle.std.proofs.lemmas.Cmp.{nat_list_cmp_total}
@@ -8,9 +8,12 @@ use Rattle.std.proofs.lemmas.List.Elements.{filter_more}
 use Rattle.std.proofs.lemmas.List.Sorted.{ranks_by}
 use Rattle.std.proofs.lemmas.Option.{slice_get-get_or}
 use Rattle.nj_scope.specs.Rules.{RuleText, phony_rule, rules_in}
-use Rattle.nj_graph.specs.Graph.{is_before, sorted_by, main_rules_of, name_of, rule_name}
+use Rattle.nj_graph.specs.Graph.{is_before, sorted_by, main_rules_of, rule_name}
 use Rattle.nj_graph.specs.Inside.GraphHeld.{HasMainRules}
 use Rattle.nj_graph.proofs.SortLemmas.{sorted_by-map, stable_sort-is}
+
+abbrev pub name_of : Option RuleText → List ℕ
+name_of rule = unwrap_or (option_map (λ r. r.name) rule) []
 
 abbrev some_rule : RuleText → Option RuleText
 some_rule rule = Some rule

@@ -1,5 +1,7 @@
 -- The main file of a run.
 use Rattle.std.proofs.Common.{◌≡◌, ℕ, true, false, ◌||◌, cond, inl, inr, is_some, Option, Some, None, Result, Ok, Err, List, [], ◌∷◌, ◌++◌, length, refl, sym, ap, subst, ◌∙◌, arith, append-nil, true≢false}
+use Rattle.nj_graph.proofs.FirstTimes.{loads}
+use Rattle.nj_graph.specs.Inside.PathsReached.{with_new, come_to, reached_by, reached_of}
 use Rattle.std.specs.Prelude.{◌⊎◌}
 use Rattle.std.specs.List.{AllByRecursion}
 use Rattle.std.proofs.lemmas.List.{length-map}
@@ -12,7 +14,7 @@ use Rattle.nj_faults.specs.declared.fault.GraphFault.{GraphFault}
 use Rattle.nj_graph.specs.declared.reader.Reader.{Reader}
 use Rattle.nj_faults.specs.declared.fault.Cause.TheVariants.{Missing}
 use Rattle.nj_faults.specs.Faults.{no_memory}
-use Rattle.nj_graph.specs.Reading.{Refused, Lacking, ReadingText, opened_in, text_read, outcome_read, most_within, main_site, main_place, main_read, with_new, paths_come_to}
+use Rattle.nj_graph.specs.Reading.{Refused, Lacking, ReadingText, opened_in, text_read, outcome_read, most_within, main_site, main_place, main_read}
 use Rattle.nj_graph.specs.Inside.ReaderContracts.{IsNew, Has, ReadsAll, ReadsText, ReadsOrStops, StopsAt}
 use Rattle.nj_cycles.specs.Cycles.{IsAcyclic}
 use Rattle.nj_edges.specs.Needs.{makers_of_inputs}
@@ -27,7 +29,7 @@ use Rattle.nj_graph.proofs.OriginLemmas.{origins-of_main, main-named}
 use Rattle.nj_graph.proofs.EdgeRules.{edges-have, edges-open, known-details}
 use Rattle.nj_graph.proofs.ReadingLaws.{read_is_faultless}
 use Rattle.nj_graph.specs.Runs.{IsRead}
-use Rattle.nj_graph.specs.Loads.{LoadedText, IsWhole, Loads, reached_from, main_reached}
+use Rattle.nj_graph.specs.Loads.{LoadedText, IsWhole, Loads}
 use Rattle.nj_graph.proofs.Found.{FindsText, FindsNone, CannotTell, HasNoMemory}
 use Rattle.nj_graph.proofs.Comes.{main-comes}
 use Rattle.nj_graph.proofs.Tables.{extends-trans, reading-kept, read-extends, reads-all-then, read-nothing}
@@ -48,15 +50,15 @@ module _ (main : List ℕ) (before after : SourceState) (fault : GraphFault) whe
   main-nothing same none = record {
     files = [];
     reads = subst (λ source. IsRead before source [] []) (sym same) (read-nothing before [] tt);
-    stops = inl (record { answered = none; failures = ap (λ source. source.failures) same; came_to = λ all ext. (paths_come_to main (main_read all main), refl) });
+    stops = inl (record { answered = none; failures = ap (λ source. source.failures) same; came_to = λ all ext. (come_to main (main_read all main), refl) });
   }
 
   main-memory : HasNoMemory before after [] main fault → StopsAt main before after [] (main_reading main) fault
   main-memory h = record { files = h.files; reads = h.reads; stops = inl (record { answered = h.answered; failures = h.failures; came_to = λ all ext. by all h.came_to }) }
     where
-      by : (all : List Reading) → (paths_of h.files ≡ []) ⊎ ((paths_of h.files ≡ main ∷ []) × (is_read h.files main ≡ true)) → IsPrefix (paths_of h.files) (paths_come_to main (main_read all main))
-      by all (inl none) = subst (λ ps. IsPrefix ps (paths_come_to main (main_read all main))) (sym none) (paths_come_to main (main_read all main), refl)
-      by all (inr (one, there)) = subst (λ ps. IsPrefix ps (paths_come_to main (main_read all main))) (sym one) (main-comes main all)
+      by : (all : List Reading) → (paths_of h.files ≡ []) ⊎ ((paths_of h.files ≡ main ∷ []) × (is_read h.files main ≡ true)) → IsPrefix (paths_of h.files) (come_to main (main_read all main))
+      by all (inl none) = subst (λ ps. IsPrefix ps (come_to main (main_read all main))) (sym none) (come_to main (main_read all main), refl)
+      by all (inr (one, there)) = subst (λ ps. IsPrefix ps (come_to main (main_read all main))) (sym one) (main-comes main all)
 
   main-unread : CannotTell before after [] (main_place main) main fault → StopsAt main before after [] (main_reading main) fault
   unfolding main_read
@@ -64,9 +66,9 @@ module _ (main : List ℕ) (before after : SourceState) (fault : GraphFault) whe
     files = [];
     reads = h.reads;
     stops = inr (record {
-      reached = reached_from main (record { entries = []; end = Lacking main (main_place main) });
+      reached = reached_by main (record { entries = []; end = Lacking main (main_place main) });
       answered = (h.answered, h.failures);
-      read = λ all ext lacks. ap (λ r. reached_from main (outcome_read main (main_place main) [] (λ t. text_read (opened_in all most_within) (main_site main) t []) r)) (none (reading_of all main) lacks);
+      read = λ all ext lacks. ap (λ r. reached_by main (outcome_read main (main_place main) [] (λ t. text_read (opened_in all most_within) (main_site main) t []) r)) (none (reading_of all main) lacks);
       came_to = itself main;
     });
   }
@@ -81,9 +83,9 @@ module _ (main : List ℕ) (before after : SourceState) (fault : GraphFault) whe
     files = h.files;
     reads = h.reads;
     stops = inr (record {
-      reached = reached_from main (record { entries = []; end = Refused (record { place = Some (main_place main); cause = Missing main }) });
+      reached = reached_by main (record { entries = []; end = Refused (record { place = Some (main_place main); cause = Missing main }) });
       answered = (h.answered, h.failures);
-      read = λ all ext lacks. ap (λ r. reached_from main (outcome_read main (main_place main) [] (λ t. text_read (opened_in all most_within) (main_site main) t []) r)) (reading-kept main (record { path = main; bytes = None }) all h.files ext h.found);
+      read = λ all ext lacks. ap (λ r. reached_by main (outcome_read main (main_place main) [] (λ t. text_read (opened_in all most_within) (main_site main) t []) r)) (reading-kept main (record { path = main; bytes = None }) all h.files ext h.found);
       came_to = itself main ∙ sym h.came_to;
     });
   }
@@ -131,7 +133,7 @@ module _ (main : List ℕ) (before mid after : SourceState) (old opened held : R
       there = subst (λ fs. ReadsAll mid after fs r.files held.files) found.reads.held_is r.reads
   main-reads (Err fault) s =
       stops-then main before mid after old.files found.files opened.files (λ all. text_read (opened_in all most_within) (main_site main) text []) (main_reading main) found.reads (record {
-        comes = λ all ext front h. subst (λ r. IsPrefix front (paths_come_to main r)) (sym (is-text all ext)) h;
+        comes = λ all ext front h. subst (λ r. IsPrefix front (come_to main r)) (sym (is-text all ext)) h;
         ends = λ all ext es end stops h. is-text all ext ∙ h;
       }) fault s
 
@@ -140,16 +142,16 @@ pub reads-memory : (main : List ℕ) (before after : SourceState) (old held : Re
 reads-memory main before after old held fault r none = record {
   files = r.files;
   reads = r.reads.reads;
-  stops = inl (record { answered = none; failures = r.reads.failures; came_to = λ all ext. ([], ap (paths_come_to main) (r.read all ext) ∙ sym r.has.paths_are ∙ ap paths_of r.reads.held_is ∙ sym (append-nil (paths_of r.files))) });
+  stops = inl (record { answered = none; failures = r.reads.failures; came_to = λ all ext. ([], ap (come_to main) (r.read all ext) ∙ sym r.has.paths_are ∙ ap paths_of r.reads.held_is ∙ sym (append-nil (paths_of r.files))) });
 }
 
 -- ---- all was read
 
 module _ (main : List ℕ) (before after : SourceState) (old held : Reader) (r : ReadsText main before after old held (main_reading main)) where
-  is-whole : IsWhole before after r.files (main_reached main) r.entries
+  is-whole : IsWhole before after r.files (reached_of main) r.entries
   is-whole = record {
     read = r.read r.files ([], sym (append-nil r.files));
-    came_to = ap (paths_come_to main) (r.read r.files ([], sym (append-nil r.files))) ∙ sym r.has.paths_are ∙ ap paths_of r.reads.held_is;
+    came_to = ap (come_to main) (r.read r.files ([], sym (append-nil r.files))) ∙ sym r.has.paths_are ∙ ap paths_of r.reads.held_is;
     failures = r.reads.failures;
   }
 
@@ -169,7 +171,7 @@ module _ (main : List ℕ) (before after : SourceState) (old held : Reader) (r :
   -- and the graph has what was declared and built
   pub is-loaded : (loaded : LoadedText) (built : BuiltText) → old.files ≡ [] → loaded.files ≡ held.files → loaded.graph ≡ record { declarations = held.declarations; built = built; origins = held.origins }
       → ComesTo r.entries (Ok built) → Loads main before after (Ok loaded)
-  is-loaded loaded built none same_files same_graph comes = (
+  is-loaded loaded built none same_files same_graph comes = loads main before after (Ok loaded) (
     r.files,
     subst (λ fs. IsRead before after fs r.files) none r.reads.reads,
     record {
@@ -195,8 +197,8 @@ module _ (main : List ℕ) (before after : SourceState) (old held : Reader) (r :
   pub built-fault : (fault : GraphFault) → old.files ≡ [] → ComesTo r.entries (Err fault) → Loads main before after (Err fault)
   built-fault fault none (inl lacks) =
       let s = subst (λ fs. StopsAt main before after fs (main_reading main) fault) none (reads-memory main before after old held fault r lacks) in
-      (s.files, s.reads, inl s.stops)
-  built-fault fault none (inr cycle) = (
+      loads main before after (Err fault) (s.files, s.reads, inl s.stops)
+  built-fault fault none (inr cycle) = loads main before after (Err fault) (
     r.files,
     subst (λ fs. IsRead before after fs r.files) none r.reads.reads,
     inr (record { entries = r.entries; whole = is-whole; cycle = cycle }),

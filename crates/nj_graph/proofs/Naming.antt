@@ -1,15 +1,19 @@
 -- What is read of a statement, where it has a fault of its own, and where it names a file.
 use Rattle.std.proofs.Common.{◌≡◌, ℕ, ◌+◌, ◌<◌, Result, Ok, Err, IfOk, OnOk, length, arith, Bool, true, false, inl, inr, Option, Some, None, option_map, List, [], ◌∷◌, ◌++◌, refl, sym, ap, subst, ◌∙◌}
-use Rattle.std.specs.Option.{option_or}
+use Rattle.nj_graph.specs.Inside.PathsReached.{with_news, with_new, paths_read, come_to, reached_by}
+use Rattle.nj_graph.proofs.OriginLemmas.{origins-more}
+use Rattle.nj_graph.proofs.Continuing.{unless_fault}
+use Rattle.std.specs.Bool.{then_some}
+use Rattle.std.specs.Option.{option_or, option_to_list}
 use Rattle.nj_text.specs.declared.spot.Spot.{Spot}
 use Rattle.nj_text.specs.Words.{WordText}
 use Rattle.nj_text.specs.declared.fault.UnitFault.TheVariants as unit
 use Rattle.nj_manifest.specs.Faults.{Fault, Bad}
 use Rattle.nj_manifest.specs.Statements.{StatementText, BindingText, RuleText, PoolText, BuildText, DefaultText, IncludeText, SubninjaText, LineText, OutputsText, InputsText}
 use Rattle.nj_scope.specs.Readings.{Reading, EachPathOnce, IsPrefix, paths_of}
-use Rattle.nj_scope.specs.Scopes.{child, parent_at}
+use Rattle.nj_scope.specs.Scopes.{child, parent_at, first_given}
 use Rattle.nj_scope.specs.Declarations.{DeclarationsText, DeclaredBy, TakesIn}
-use Rattle.nj_scope.specs.ReadingList.{ReadStatement, scope_of, value_after}
+use Rattle.nj_scope.specs.ReadingList.{ReadStatement, scope_of, value_after, path_named}
 use Rattle.nj_scope.specs.Sources.{SourceState}
 use Rattle.nj_faults.specs.declared.fault.GraphFault.{GraphFault}
 use Rattle.nj_graph.specs.declared.opening.Naming.{Naming}
@@ -19,16 +23,15 @@ use Rattle.nj_graph.specs.declared.reader.OpenFile.{OpenFile}
 use Rattle.nj_faults.specs.declared.fault.Place.{Place}
 use Rattle.nj_faults.specs.declared.fault.Cause.{Cause}
 use Rattle.nj_faults.specs.Faults.{IsFault, fault_at, fault_in, no_memory}
-use Rattle.nj_graph.specs.Reading.{Site, entry_at, expanded_in, place_at, path_fault, fault_if, depth_fault, item_fault, own_fault, Whole, Refused, ReadingText, Opens, item_read, unless_fault, statement_read, opened_in, text_read, path_named, with_new, with_all_new, paths_read, path_at_fault, paths_come_to}
+use Rattle.nj_graph.specs.Reading.{Site, entry_at, expanded_in, place_at, path_fault, depth_fault, item_fault, own_fault, Whole, Refused, ReadingText, Opens, item_read, statement_read, opened_in, text_read, path_at_fault}
 use Rattle.nj_graph.specs.Inside.ReaderContracts.{site_scope}
 use Rattle.nj_edges.specs.Edges.{EdgePaths}
 use Rattle.nj_faults.specs.declared.fault.Cause.TheVariants.{RuleVariableCycle}
 use Rattle.nj_statements.specs.EdgeList.{Values, EdgeText, path_given, line_values, edges_read, paths_of_edges, edge_of_build, names_of_edge}
-use Rattle.nj_statements.specs.BuildFaults.{first_fault, empty_path, unknown_rule, two_makers, outputs_fault, paths_fault, variable_cycle_fault, late_fault, target_fault}
+use Rattle.nj_statements.specs.BuildFaults.{empty_path, unknown_rule, two_makers, outputs_fault, paths_fault, variable_cycle_fault, late_fault, target_fault}
 use Rattle.nj_statements.specs.Answers.{HasEdges}
 use Rattle.nj_statements.proofs.Holding.{names_files, kept-other}
 use Rattle.nj_graph.specs.Runs.{IsRead, Stops}
-use Rattle.nj_graph.specs.Loads.{reached_from}
 use Rattle.nj_graph.specs.Graph.{IsOpenScope}
 use Rattle.nj_graph.specs.Origins.{OriginsText, place_of}
 use Rattle.nj_graph.specs.Inside.OriginsHeld.{origins_with}
@@ -45,7 +48,7 @@ NamesNone found = (fault : GraphFault) → found ≡ Some fault → path_at_faul
 some-is : {A : Type 0} (x y : A) → Some x ≡ Some y → x ≡ y
 some-is x y h = cc
 
-if-names : (b : Bool) (file : List ℕ) (spot : Spot) (cause : Cause) → path_at_fault cause ≡ [] → NamesNone (fault_if b (fault_at file spot cause))
+if-names : (b : Bool) (file : List ℕ) (spot : Spot) (cause : Cause) → path_at_fault cause ≡ [] → NamesNone (then_some b (fault_at file spot cause))
 if-names true file spot cause none fault h = ap (λ f. path_at_fault f.cause) (sym (some-is _ fault h)) ∙ none
 if-names false file spot cause none fault h = absurd cc
 
@@ -57,9 +60,9 @@ depth-names : (file : List ℕ) (found : Option LineText) (cause : Cause) → pa
 depth-names file (Some l) cause none fault h = ap (λ f. path_at_fault f.cause) (sym (some-is _ fault h)) ∙ none
 depth-names file None cause none fault h = absurd cc
 
-first-names : (fault_of : WordText → Option GraphFault) → ((word : WordText) → NamesNone (fault_of word)) → (words : List WordText) → NamesNone (first_fault fault_of words)
+first-names : (fault_of : WordText → Option GraphFault) → ((word : WordText) → NamesNone (fault_of word)) → (words : List WordText) → NamesNone (first_given fault_of words)
 first-names fault_of none [] = λ fault h. absurd cc
-first-names fault_of none (word ∷ words) = or-names (fault_of word) (first_fault fault_of words) (none word) (first-names fault_of none words)
+first-names fault_of none (word ∷ words) = or-names (fault_of word) (first_given fault_of words) (none word) (first-names fault_of none words)
 
 empty-names : (file : List ℕ) (values : Values) (word : WordText) → NamesNone (empty_path file values word)
 empty-names file values word = if-names _ file word.spot _ refl
@@ -117,8 +120,8 @@ module _ (kind : Naming) (site : Site) (start : Spot) (entries : List ReadStatem
   pub named-fault : own_fault names entries ≡ path_fault site.file word.spot (expanded_in (site_scope site) entries word)
   named-fault = elim kind as (λ k. own_fault (entry_at site (record { spot = start; item = named_item k word })) entries ≡ path_fault site.file word.spot (expanded_in (site_scope site) entries word)) [ naming.Include ↦ refl | naming.Subninja ↦ refl ]
 
-  pub named-path : path_named names entries names.item ≡ expanded_in (site_scope site) entries word ∷ []
-  named-path = elim kind as (λ k. path_named (entry_at site (record { spot = start; item = named_item k word })) entries (named_item k word) ≡ expanded_in (site_scope site) entries word ∷ []) [ naming.Include ↦ refl | naming.Subninja ↦ refl ]
+  pub named-path : path_named names entries names.item ≡ Some (expanded_in (site_scope site) entries word)
+  named-path = elim kind as (λ k. path_named (entry_at site (record { spot = start; item = named_item k word })) entries (named_item k word) ≡ Some (expanded_in (site_scope site) entries word)) [ naming.Include ↦ refl | naming.Subninja ↦ refl ]
 
   pub named-file : (named_site kind names entries word).file ≡ expanded_in (site_scope site) entries word
   named-file = elim kind as (λ k. (named_site k names entries word).file ≡ expanded_in (site_scope site) entries word) [ naming.Include ↦ refl | naming.Subninja ↦ refl ]
@@ -168,21 +171,21 @@ pub stops-same : (main : List ℕ) (before after : SourceState) (old : List Read
     → ((all : List Reading) → second all ≡ first all) → StopsAt main before after old first fault → StopsAt main before after old second fault
 stops-same main before after old first second fault same s = record { files = s.files; reads = s.reads; stops = by s.stops }
   where
-    by : Stops before after s.files (λ all. reached_from main (first all)) fault → Stops before after s.files (λ all. reached_from main (second all)) fault
-    by (inl m) = inl (record { answered = m.answered; failures = m.failures; came_to = λ all e. subst (λ r. IsPrefix (paths_of s.files) (paths_come_to main r)) (sym (same all)) (m.came_to all e) })
-    by (inr e) = inr (record { reached = e.reached; answered = e.answered; read = λ all ext lacks. ap (reached_from main) (same all) ∙ e.read all ext lacks; came_to = e.came_to })
+    by : Stops before after s.files (λ all. reached_by main (first all)) fault → Stops before after s.files (λ all. reached_by main (second all)) fault
+    by (inl m) = inl (record { answered = m.answered; failures = m.failures; came_to = λ all e. subst (λ r. IsPrefix (paths_of s.files) (come_to main r)) (sym (same all)) (m.came_to all e) })
+    by (inr e) = inr (record { reached = e.reached; answered = e.answered; read = λ all ext lacks. ap (reached_by main) (same all) ∙ e.read all ext lacks; came_to = e.came_to })
 
 module _ (main : List ℕ) (before after : SourceState) (old : Reader) (entries : List ReadStatement) (has : Has main old entries) (same : after ≡ before) where
   read-no_more : IsRead before after old.files old.files
   read-no_more = subst (λ source. IsRead before source old.files old.files) (sym same) (read-nothing before old.files has.once)
 
   -- there was no memory, and nothing more was read
-  pub stops-memory : (reading : List Reading → ReadingText) (fault : GraphFault) → ((all : List Reading) → IsPrefix (paths_read main entries) (paths_come_to main (reading all))) → fault ≡ no_memory
+  pub stops-memory : (reading : List Reading → ReadingText) (fault : GraphFault) → ((all : List Reading) → IsPrefix (paths_read main entries) (come_to main (reading all))) → fault ≡ no_memory
       → StopsAt main before after old.files reading fault
   stops-memory reading fault comes none = record {
     files = old.files;
     reads = read-no_more;
-    stops = inl (record { answered = none; failures = ap (λ source. source.failures) same; came_to = λ all e. subst (λ ps. IsPrefix ps (paths_come_to main (reading all))) (sym has.paths_are) (comes all) });
+    stops = inl (record { answered = none; failures = ap (λ source. source.failures) same; came_to = λ all e. subst (λ ps. IsPrefix ps (come_to main (reading all))) (sym has.paths_are) (comes all) });
   }
 
   -- a fault before which nothing more was read
@@ -191,7 +194,7 @@ module _ (main : List ℕ) (before after : SourceState) (old : Reader) (entries 
   stops-refused reading fault expected is none reported = record {
     files = old.files;
     reads = read-no_more;
-    stops = inr (record { reached = reached_from main (record { entries = entries; end = Refused expected }); answered = (reported, ap (λ source. source.failures) same); read = λ all e lacks. ap (reached_from main) (is all); came_to = ap (with_all_new (paths_read main entries)) none ∙ sym has.paths_are });
+    stops = inr (record { reached = reached_by main (record { entries = entries; end = Refused expected }); answered = (reported, ap (λ source. source.failures) same); read = λ all e lacks. ap (reached_by main) (is all); came_to = ap (with_news (paths_read main entries)) none ∙ sym has.paths_are });
   }
 
   -- a fault of a statement by itself
@@ -214,7 +217,7 @@ module _ (main : List ℕ) (before after : SourceState) (old : Reader) (entries 
 
 module _ (main : List ℕ) (before after : SourceState) (old mid held : Reader) (left : ℕ) (place : Place) (path : List ℕ) (e : ReadStatement) (entries : List ReadStatement) (text : List ℕ) where
   pub opens-file : (inner : Site) → Has main old entries → OpensText main before after old mid left place path entries text → held.files ≡ mid.files → held.origins ≡ origins_with e entries old.origins → held.building ≡ old.building → names_files e.item ≡ false → Grows old.declarations.scopes held.declarations.scopes → IsOpenScope old.declarations.scopes e.number e.around
-      → DeclaredBy held.declarations (e ∷ entries) → inner.file ≡ path → path_named e entries e.item ≡ path ∷ []
+      → DeclaredBy held.declarations (e ∷ entries) → inner.file ≡ path → path_named e entries e.item ≡ Some path
       → ((opens : Opens) → statement_read opens e entries ≡ opens inner place e entries)
       → OpensNamed main before after old held left inner text e entries
   opens-file inner has o files origins building builds grows inside declares is names read = record {
@@ -224,8 +227,8 @@ module _ (main : List ℕ) (before after : SourceState) (old mid held : Reader) 
       declares = declares;
       edges = subst (λ b. HasEdges b (e ∷ entries)) (sym building) (kept-other old.building e entries builds has.edges);
       scopes = open-next old.declarations.scopes held.declarations.scopes e entries grows inside has.scopes;
-      origins = origins ∙ ap (origins_with e entries) has.origins;
-      paths_are = ap paths_of (files ∙ o.reads.held_is) ∙ o.came_to ∙ ap (λ ps. with_new ps path) has.paths_are ∙ ap (with_all_new (paths_read main entries)) (sym names);
+      origins = origins ∙ ap (origins_with e entries) has.origins ∙ origins-more main e entries;
+      paths_are = ap paths_of (files ∙ o.reads.held_is) ∙ o.came_to ∙ ap (λ ps. with_new ps path) has.paths_are ∙ ap (λ o. with_news (paths_read main entries) (option_to_list o)) (sym names);
       once = subst EachPathOnce (sym (files ∙ o.reads.held_is)) o.reads.reads.once;
     };
     within = o.within;
@@ -235,21 +238,21 @@ module _ (main : List ℕ) (before after : SourceState) (old mid held : Reader) 
 
   -- there was no memory for the scope of a file that is open
   pub stops-open : (inner : Site) (fault : GraphFault) → Has main old entries → OpensText main before after old mid left place path entries text
-      → inner.file ≡ path → path_named e entries e.item ≡ path ∷ []
+      → inner.file ≡ path → path_named e entries e.item ≡ Some path
       → ((opens : Opens) → statement_read opens e entries ≡ opens inner place e entries)
       → fault ≡ no_memory
       → StopsAt main before after old.files (λ all. statement_read (opened_in all left) e entries) fault
   stops-open inner fault has o is names read none = record {
     files = o.files;
     reads = o.reads.reads;
-    stops = inl (record { answered = none; failures = o.reads.failures; came_to = λ all ext. subst (λ r. IsPrefix (paths_of o.files) (paths_come_to main r)) (sym (read (opened_in all left) ∙ o.read inner e all is ext)) (comes all) });
+    stops = inl (record { answered = none; failures = o.reads.failures; came_to = λ all ext. subst (λ r. IsPrefix (paths_of o.files) (come_to main r)) (sym (read (opened_in all left) ∙ o.read inner e all is ext)) (comes all) });
   }
     where
       listed : paths_read main (e ∷ entries) ≡ paths_of o.files
-      listed = ap (with_all_new (paths_read main entries)) names ∙ ap (λ ps. with_new ps path) (sym has.paths_are) ∙ sym o.came_to
+      listed = ap (λ o. with_news (paths_read main entries) (option_to_list o)) names ∙ ap (λ ps. with_new ps path) (sym has.paths_are) ∙ sym o.came_to
 
-      comes : (all : List Reading) → IsPrefix (paths_of o.files) (paths_come_to main (text_read (opened_in all o.within) inner text (e ∷ entries)))
-      comes all = subst (λ ps. IsPrefix ps (paths_come_to main (text_read (opened_in all o.within) inner text (e ∷ entries)))) listed (statements-come main all o.within inner _ _ (e ∷ entries))
+      comes : (all : List Reading) → IsPrefix (paths_of o.files) (come_to main (text_read (opened_in all o.within) inner text (e ∷ entries)))
+      comes all = subst (λ ps. IsPrefix ps (come_to main (text_read (opened_in all o.within) inner text (e ∷ entries)))) listed (statements-come main all o.within inner _ _ (e ∷ entries))
 
 -- ---- a statement that names none
 

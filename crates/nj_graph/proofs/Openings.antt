@@ -1,11 +1,12 @@
 -- A path that a statement names, and how its file is opened.
 use Rattle.std.proofs.Common.{inl, inr, ◌≡◌, ◌⊎◌, ℕ, zero, suc, ◌<◌, ◌≤◌, true, false, Option, Some, None, is_some, Result, Ok, Err, List, [], ◌∷◌, refl, sym, ap, subst, ◌∙◌, true≢false}
+use Rattle.nj_graph.specs.Inside.PathsReached.{with_news, with_new, paths_read, come_to, reached_by}
 use Rattle.std.specs.Global.{Global}
 use Rattle.std.specs.Rc.{rc_slice_items}
 use Rattle.std.specs.declared.rc.RcSlice.{RcSlice}
 use Rattle.std.proofs.lemmas.Bool.{lt-ltb, le-ltb}
 use Rattle.nj_scope.specs.Readings.{Reading, EachPathOnce, reading_of, is_read, IsPrefix, paths_of}
-use Rattle.nj_scope.specs.ReadingList.{ReadStatement, files_opened}
+use Rattle.nj_scope.specs.ReadingList.{ReadStatement, files_opened, path_named}
 use Rattle.nj_scope.specs.Sources.{SourceState}
 use Rattle.nj_faults.specs.declared.fault.GraphFault.{GraphFault}
 use Rattle.nj_graph.specs.declared.reader.Reader.{Reader}
@@ -13,10 +14,9 @@ use Rattle.nj_faults.specs.declared.fault.Place.{Place}
 use Rattle.nj_faults.specs.declared.fault.Cause.{Cause}
 use Rattle.nj_faults.specs.declared.fault.Cause.TheVariants.{Missing, TooDeep, TooManyOpenings}
 use Rattle.nj_faults.specs.Faults.{no_memory}
-use Rattle.nj_graph.specs.Reading.{Site, Lacking, most_opened, stopped, text_read, outcome_read, if_capacity, opened_in, path_named, with_new, with_all_new, paths_read, path_at_fault, paths_come_to}
+use Rattle.nj_graph.specs.Reading.{Site, Lacking, most_opened, stopped, text_read, outcome_read, if_capacity, opened_in, path_at_fault}
 use Rattle.nj_graph.specs.Inside.ReaderContracts.{StopsAt, ReturnsText, OpensText, OpensPath}
 use Rattle.nj_graph.specs.Runs.{IsRead}
-use Rattle.nj_graph.specs.Loads.{reached_from}
 use Rattle.nj_graph.proofs.Found.{FindsText, FindsNone, CannotTell, HasNoMemory, found-text, unfound}
 use Rattle.nj_graph.proofs.Tables.{reading-kept, with_new-other, read-nothing}
 use Rattle.nj_graph.proofs.Comes.{opened-comes, opened-names}
@@ -48,19 +48,19 @@ module _ (all : List Reading) (inner : Site) (place : Place) (e : ReadStatement)
 module _ (main : List ℕ) (before after : SourceState) (old : List Reading) (place : Place) (path : List ℕ) (entries : List ReadStatement) where
   -- the run stops, where the path is the file's and the statement names it
   abbrev pub StopsHere : (left : ℕ) → GraphFault → Type 0
-  StopsHere left f = (inner : Site) (e : ReadStatement) → inner.file ≡ path → path_named e entries e.item ≡ path ∷ [] → StopsAt main before after old (λ all. opened_in all left inner place e entries) f
+  StopsHere left f = (inner : Site) (e : ReadStatement) → inner.file ≡ path → path_named e entries e.item ≡ Some path → StopsAt main before after old (λ all. opened_in all left inner place e entries) f
 
   module _ (paths_are : paths_of old ≡ paths_read main entries) where
-    comes : (files : List Reading) → paths_of files ≡ paths_of old → (all : List Reading) (left : ℕ) (inner : Site) (e : ReadStatement) → IsPrefix (paths_of files) (paths_come_to main (opened_in all left inner place e entries))
+    comes : (files : List Reading) → paths_of files ≡ paths_of old → (all : List Reading) (left : ℕ) (inner : Site) (e : ReadStatement) → IsPrefix (paths_of files) (come_to main (opened_in all left inner place e entries))
     comes files same all left inner e =
-        subst (λ front. IsPrefix front (paths_come_to main (opened_in all left inner place e entries))) (sym (same ∙ paths_are)) (opened-comes main all left inner place e entries)
+        subst (λ front. IsPrefix front (come_to main (opened_in all left inner place e entries))) (sym (same ∙ paths_are)) (opened-comes main all left inner place e entries)
 
-    names : (files : List Reading) → paths_of files ≡ with_new (paths_of old) path → (all : List Reading) (within : ℕ) (inner : Site) (e : ReadStatement) → inner.file ≡ path → path_named e entries e.item ≡ path ∷ [] → files_opened entries < most_opened
-        → IsPrefix (paths_of files) (paths_come_to main (opened_in all (suc within) inner place e entries))
+    names : (files : List Reading) → paths_of files ≡ with_new (paths_of old) path → (all : List Reading) (within : ℕ) (inner : Site) (e : ReadStatement) → inner.file ≡ path → path_named e entries e.item ≡ Some path → files_opened entries < most_opened
+        → IsPrefix (paths_of files) (come_to main (opened_in all (suc within) inner place e entries))
     names files came_to all within inner e same named capacity =
-        subst (λ front. IsPrefix front (paths_come_to main (opened_in all (suc within) inner place e entries)))
+        subst (λ front. IsPrefix front (come_to main (opened_in all (suc within) inner place e entries)))
         (ap (with_new (paths_read main entries)) same ∙ ap (λ before. with_new before path) (sym paths_are) ∙ sym came_to)
-        (opened-names main all within inner place e entries (named ∙ ap (λ p. p ∷ []) (sym same)) (lt-ltb (files_opened entries) most_opened capacity))
+        (opened-names main all within inner place e entries (named ∙ ap Some (sym same)) (lt-ltb (files_opened entries) most_opened capacity))
 
     -- there is no memory for the result
     pub stops-lacking : (left : ℕ) → EachPathOnce old → after ≡ before → (f : GraphFault) → f ≡ no_memory → StopsHere left f
@@ -71,16 +71,16 @@ module _ (main : List ℕ) (before after : SourceState) (old : List Reading) (pl
     }
 
     -- no more files may be open, or opened
-    stops-refused : (left : ℕ) (cause : Cause) → ((before : List (List ℕ)) → with_all_new before (path_at_fault cause) ≡ before)
+    stops-refused : (left : ℕ) (cause : Cause) → ((before : List (List ℕ)) → with_news before (path_at_fault cause) ≡ before)
         → ((all : List Reading) (inner : Site) (e : ReadStatement) → opened_in all left inner place e entries ≡ stopped entries place cause)
         → EachPathOnce old → after ≡ before → (f : GraphFault) → f ≡ record { place = Some place; cause = cause } → StopsHere left f
     stops-refused left cause none read once stays f answered inner e same named = record {
       files = old;
       reads = subst (λ source. IsRead before source old old) (sym stays) (read-nothing before old once);
       stops = inr (record {
-        reached = reached_from main (stopped entries place cause);
+        reached = reached_by main (stopped entries place cause);
         answered = (answered, ap (λ source. source.failures) stays);
-        read = λ all is lacking. ap (reached_from main) (read all inner e);
+        read = λ all is lacking. ap (reached_by main) (read all inner e);
         came_to = none (paths_read main entries) ∙ sym paths_are;
       });
     }
@@ -105,9 +105,9 @@ module _ (main : List ℕ) (before after : SourceState) (old : List Reading) (pl
           stops = inl (record { answered = lacks.answered; failures = lacks.failures; came_to = λ all is. by_paths all lacks.came_to });
         }
           where
-            by_paths : (all : List Reading) → (paths_of lacks.files ≡ paths_of old) ⊎ ((paths_of lacks.files ≡ with_new (paths_of old) path) × (is_read lacks.files path ≡ true)) → IsPrefix (paths_of lacks.files) (paths_come_to main (opened_in all left inner place e entries))
+            by_paths : (all : List Reading) → (paths_of lacks.files ≡ paths_of old) ⊎ ((paths_of lacks.files ≡ with_new (paths_of old) path) × (is_read lacks.files path ≡ true)) → IsPrefix (paths_of lacks.files) (come_to main (opened_in all left inner place e entries))
             by_paths all (inl old_paths) = comes lacks.files old_paths all left inner e
-            by_paths all (inr new) = subst (λ n. IsPrefix (paths_of lacks.files) (paths_come_to main (opened_in all n inner place e entries))) (sym left_is) (names lacks.files new.0 all within inner e same named capacity)
+            by_paths all (inr new) = subst (λ n. IsPrefix (paths_of lacks.files) (come_to main (opened_in all n inner place e entries))) (sym left_is) (names lacks.files new.0 all within inner e same named capacity)
 
         -- the source failed
         stops-cannot_tell : (f : GraphFault) → CannotTell before after old place path f → StopsHere left f
@@ -115,10 +115,10 @@ module _ (main : List ℕ) (before after : SourceState) (old : List Reading) (pl
           files = old;
           reads = failed.reads;
           stops = inr (record {
-            reached = reached_from main (record { entries = entries; end = Lacking path place });
+            reached = reached_by main (record { entries = entries; end = Lacking path place });
             answered = (failed.answered, failed.failures);
             read = λ all is lacking.
-                ap (reached_from main) (at_left all inner e
+                ap (reached_by main) (at_left all inner e
                 ∙ opened-answered all inner place e entries within None capacity (ap (reading_of all) same ∙ absent (reading_of all path) lacking)
                 ∙ ap (λ p. record { entries = entries; end = Lacking p place }) same);
             came_to = ap (λ before. with_new before path) (sym paths_are) ∙ with_new-other path old failed.lacking;
@@ -131,10 +131,10 @@ module _ (main : List ℕ) (before after : SourceState) (old : List Reading) (pl
           files = none.files;
           reads = none.reads;
           stops = inr (record {
-            reached = reached_from main (stopped entries place (Missing path));
+            reached = reached_by main (stopped entries place (Missing path));
             answered = (none.answered, none.failures);
             read = λ all is lacking.
-                ap (reached_from main) (at_left all inner e
+                ap (reached_by main) (at_left all inner e
                 ∙ opened-answered all inner place e entries within _ capacity (ap (reading_of all) same ∙ reading-kept path _ all none.files is none.found)
                 ∙ ap (λ p. stopped entries place (Missing p)) same);
             came_to = ap (λ before. with_new before path) (sym paths_are) ∙ sym none.came_to;

@@ -1,5 +1,7 @@
 -- Where rules, pools and files come from: how that is represented, and which part of it the statements give.
-use Rattle.std.proofs.Common.{◌≡◌, ℕ, ◌+◌, ◌-◌, ◌<◌, ◌&&◌, ◌==◌, Bool, true, false, if◌then◌else◌, Option, Some, None, option_map, option_and_then, unwrap_or, IfSome, List, [], ◌∷◌, ◌++◌, length, map, slice_get, refl, sym, ap, ◌∙◌, arith, add-zero, length-append}
+use Rattle.std.proofs.Common.{◌≡◌, ℕ, suc, ◌+◌, ◌-◌, ◌<◌, ◌&&◌, ◌==◌, Bool, true, false, if◌then◌else◌, Option, Some, None, option_map, option_and_then, unwrap_or, IfSome, List, [], ◌∷◌, ◌++◌, length, map, slice_get, refl, sym, ap, ◌∙◌, arith, add-zero, length-append}
+use Rattle.nj_scope.proofs.Gathering.{with_given, opens_file, files-more}
+use Rattle.std.specs.Prelude.{is_some}
 use Rattle.std.specs.List.{AllByRecursion}
 use Rattle.std.proofs.lemmas.List.{map-append}
 use Rattle.std.proofs.lemmas.Option.{slice_get-get_or}
@@ -7,17 +9,17 @@ use Rattle.nj_text.specs.Numbers.{leading_number_of}
 use Rattle.nj_manifest.specs.Statements.{LineText, StatementText, BindingText, RuleText, PoolText, BuildText, DefaultText, IncludeText, SubninjaText}
 use Rattle.nj_scope.specs.Readings.{IsPrefix}
 use Rattle.nj_scope.specs.Scopes.{expanded}
-use Rattle.nj_scope.specs.ReadingList.{Discovered, ReadStatement, scope_of, value_after, scopes_opened, files_opened, opens_file}
+use Rattle.nj_scope.specs.ReadingList.{Discovered, ReadStatement, scope_of, value_after, scopes_opened, files_opened, gathered}
 use Rattle.nj_edges.specs.declared.files.FileNo.{FileNo}
 use Rattle.nj_edges.specs.Files.{path_at}
 use Rattle.nj_faults.specs.declared.fault.Place.{Place}
-use Rattle.nj_statements.specs.EdgeList.{edges_read}
-use Rattle.nj_statements.specs.Joining.{is_build, discover}
+use Rattle.nj_statements.specs.EdgeList.{edges_read, edge_given}
+use Rattle.nj_statements.specs.Joining.{discover}
 use Rattle.nj_statements.proofs.DiscoverLemmas.{value_after-discover, scopes_opened-discover}
 use Rattle.nj_graph.specs.declared.origins.HeldPlace.{HeldPlace}
 use Rattle.nj_graph.specs.declared.origins.HeldPool.{HeldPool}
 use Rattle.nj_graph.specs.declared.origins.HeldOpening.{HeldOpening}
-use Rattle.nj_graph.specs.Origins.{place_of, PoolDetail, OpeningText, OriginsText, rule_places, with_pool_detail, pool_details, opening_by, with_opening, main_opening, openings_read, origins_read, path_opened, main_of}
+use Rattle.nj_graph.specs.Origins.{place_of, PoolDetail, OpeningText, OriginsText, rule_place_given, rule_places, pool_detail_given, pool_details, opening_given, main_opening, openings_read, origins_read, path_opened, main_of}
 use Rattle.nj_graph.specs.Inside.OriginsHeld.{place_held, pool_held, opening_held, origins_held, AreNamed, origins_with}
 use Rattle.nj_graph.proofs.JoiningTables.{get-prefix, path-is}
 
@@ -139,36 +141,40 @@ module _ (names later : List (List ℕ)) (grows : IsPrefix names later) (rules :
 -- ---- by the statements
 
 -- as many files are opened as the statements open
-counted : (main : List ℕ) (e : ReadStatement) (before : List ReadStatement) (item : StatementText) (others : List OpeningText) → length (with_opening e before item others) ≡ length others + opens_file item
-counted main e before (IncludeText word) others = length-append others _
-counted main e before (SubninjaText word) others = length-append others _
-counted main e before (BindingText name word) others = sym (add-zero (length others))
-counted main e before (RuleText name lines) others = sym (add-zero (length others))
-counted main e before (PoolText name lines) others = sym (add-zero (length others))
-counted main e before (BuildText outputs rule inputs lines) others = sym (add-zero (length others))
-counted main e before (DefaultText words) others = sym (add-zero (length others))
+counted : (e : ReadStatement) (before : List ReadStatement) (item : StatementText) (others : List OpeningText) → length (with_given others (opening_given e before item)) ≡ length others + opens_file item
+counted e before (IncludeText word) others = length-append others _
+counted e before (SubninjaText word) others = length-append others _
+counted e before (BindingText name word) others = sym (add-zero (length others))
+counted e before (RuleText name lines) others = sym (add-zero (length others))
+counted e before (PoolText name lines) others = sym (add-zero (length others))
+counted e before (BuildText outputs rule inputs lines) others = sym (add-zero (length others))
+counted e before (DefaultText words) others = sym (add-zero (length others))
+
+suc-more : (n k : ℕ) → suc (n + k) ≡ suc n + k
+suc-more n k = omega arith
 
 pub openings-count : (main : List ℕ) (entries : List ReadStatement) → length (openings_read main entries) ≡ files_opened entries
 openings-count main [] = refl
-openings-count main (e ∷ before) = counted main e before e.item (openings_read main before) ∙ ap (λ n. n + opens_file e.item) (openings-count main before)
+openings-count main (e ∷ before) =
+    ap suc (counted e before e.item (gathered opening_given before)) ∙ suc-more (length (gathered opening_given before)) (opens_file e.item)
+    ∙ ap (λ n. n + opens_file e.item) (openings-count main before) ∙ sym (files-more e before)
 
 -- the main file is opened first
-first-kept : (main : List ℕ) (e : ReadStatement) (before : List ReadStatement) (item : StatementText) (others : List OpeningText)
-    → (rest : List OpeningText) × (others ≡ main_opening main ∷ rest) → (rest : List OpeningText) × (with_opening e before item others ≡ main_opening main ∷ rest)
-first-kept main e before (IncludeText word) others first = let last = opening_by e before word e.number in (first.0 ++ last ∷ [], ap (λ os. os ++ last ∷ []) first.1)
-first-kept main e before (SubninjaText word) others first = let last = opening_by e before word (scopes_opened before) in (first.0 ++ last ∷ [], ap (λ os. os ++ last ∷ []) first.1)
-first-kept main e before (BindingText name word) others first = first
-first-kept main e before (RuleText name lines) others first = first
-first-kept main e before (PoolText name lines) others first = first
-first-kept main e before (BuildText outputs rule inputs lines) others first = first
-first-kept main e before (DefaultText words) others first = first
-
-main-first : (main : List ℕ) (entries : List ReadStatement) → (rest : List OpeningText) × (openings_read main entries ≡ main_opening main ∷ rest)
-main-first main [] = ([], refl)
-main-first main (e ∷ before) = first-kept main e before e.item (openings_read main before) (main-first main before)
-
 pub main-named : (main : List ℕ) (entries : List ReadStatement) → main_of (origins_read main entries) ≡ main
-main-named main entries = ap (λ (os : List OpeningText). path_opened (slice_get os 0)) (main-first main entries).1
+main-named main entries = refl
+
+-- ---- one statement more
+
+after-first : {A : Type 0} (x : A) (others : List A) (o : Option A) → with_given (x ∷ others) o ≡ x ∷ with_given others o
+after-first x others None = refl
+after-first x others (Some y) = refl
+
+pub origins-more : (main : List ℕ) (e : ReadStatement) (before : List ReadStatement) → origins_with e before (origins_read main before) ≡ origins_read main (e ∷ before)
+origins-more main e before =
+    ap (λ (rs : List (Option Place)). record { rules = rs; pools = pool_details (e ∷ before); openings = with_given (openings_read main before) (opening_given e before e.item) })
+    (after-first None (gathered rule_place_given before) (rule_place_given e before e.item))
+    ∙ ap (λ (os : List OpeningText). record { rules = rule_places (e ∷ before); pools = pool_details (e ∷ before); openings = os })
+    (after-first (main_opening main) (gathered opening_given before) (opening_given e before e.item))
 
 -- what is kept of the statements after a main file gives that file
 pub origins-of_main : (o : OriginsText) (main : List ℕ) (entries : List ReadStatement) → o ≡ origins_read main entries → o ≡ origins_read (main_of o) entries
@@ -176,40 +182,54 @@ origins-of_main o main entries is = is ∙ ap (λ m. origins_read m entries) (sy
 
 -- ---- what is discovered changes nothing of it
 
-pool-by : (e : ReadStatement) (before other : List ReadStatement) → value_after other ≡ value_after before → (item : StatementText) (others : List PoolDetail) → with_pool_detail e other item others ≡ with_pool_detail e before item others
-pool-by e before other same (PoolText name lines) others =
-    ap (λ (values : List ℕ → List ℕ → List ℕ). others ++ record { place = place_of e; depth = unwrap_or (option_and_then (λ (l : LineText). leading_number_of (expanded (values (scope_of e)) l.value.parts)) (slice_get lines (length lines - 1))) 0 } ∷ []) same
-pool-by e before other same (BindingText name word) others = refl
-pool-by e before other same (RuleText name lines) others = refl
-pool-by e before other same (BuildText outputs rule inputs lines) others = refl
-pool-by e before other same (DefaultText words) others = refl
-pool-by e before other same (IncludeText word) others = refl
-pool-by e before other same (SubninjaText word) others = refl
+rule-by : (e : ReadStatement) (before other : List ReadStatement) (item : StatementText) → rule_place_given e other item ≡ rule_place_given e before item
+rule-by e before other (RuleText name lines) = refl
+rule-by e before other (BindingText name word) = refl
+rule-by e before other (PoolText name lines) = refl
+rule-by e before other (BuildText outputs rule inputs lines) = refl
+rule-by e before other (DefaultText words) = refl
+rule-by e before other (IncludeText word) = refl
+rule-by e before other (SubninjaText word) = refl
 
-opening-by : (e : ReadStatement) (before other : List ReadStatement) → value_after other ≡ value_after before → scopes_opened other ≡ scopes_opened before → (item : StatementText) (others : List OpeningText) → with_opening e other item others ≡ with_opening e before item others
-opening-by e before other same count (IncludeText word) others =
-    ap (λ (values : List ℕ → List ℕ → List ℕ). others ++ record { path = expanded (values (scope_of e)) word.parts; named_at = Some (place_of e); scope = e.number } ∷ []) same
-opening-by e before other same count (SubninjaText word) others =
-    ap (λ (values : List ℕ → List ℕ → List ℕ). others ++ record { path = expanded (values (scope_of e)) word.parts; named_at = Some (place_of e); scope = scopes_opened other } ∷ []) same
-    ∙ ap (λ (n : ℕ). others ++ record { path = expanded (value_after before (scope_of e)) word.parts; named_at = Some (place_of e); scope = n } ∷ []) count
-opening-by e before other same count (BindingText name word) others = refl
-opening-by e before other same count (RuleText name lines) others = refl
-opening-by e before other same count (PoolText name lines) others = refl
-opening-by e before other same count (BuildText outputs rule inputs lines) others = refl
-opening-by e before other same count (DefaultText words) others = refl
+pool-by : (e : ReadStatement) (before other : List ReadStatement) → value_after other ≡ value_after before → (item : StatementText) → pool_detail_given e other item ≡ pool_detail_given e before item
+pool-by e before other same (PoolText name lines) =
+    ap (λ (values : List ℕ → List ℕ → List ℕ). Some (record { place = place_of e; depth = unwrap_or (option_and_then (λ (l : LineText). leading_number_of (expanded (values (scope_of e)) l.value.parts)) (slice_get lines (length lines - 1))) 0 })) same
+pool-by e before other same (BindingText name word) = refl
+pool-by e before other same (RuleText name lines) = refl
+pool-by e before other same (BuildText outputs rule inputs lines) = refl
+pool-by e before other same (DefaultText words) = refl
+pool-by e before other same (IncludeText word) = refl
+pool-by e before other same (SubninjaText word) = refl
+
+opening-by : (e : ReadStatement) (before other : List ReadStatement) → value_after other ≡ value_after before → scopes_opened other ≡ scopes_opened before → (item : StatementText) → opening_given e other item ≡ opening_given e before item
+opening-by e before other same count (IncludeText word) =
+    ap (λ (values : List ℕ → List ℕ → List ℕ). Some (record { path = expanded (values (scope_of e)) word.parts; named_at = Some (place_of e); scope = e.number })) same
+opening-by e before other same count (SubninjaText word) =
+    ap (λ (values : List ℕ → List ℕ → List ℕ). Some (record { path = expanded (values (scope_of e)) word.parts; named_at = Some (place_of e); scope = scopes_opened other })) same
+    ∙ ap (λ (n : ℕ). Some (record { path = expanded (value_after before (scope_of e)) word.parts; named_at = Some (place_of e); scope = n })) count
+opening-by e before other same count (BindingText name word) = refl
+opening-by e before other same count (RuleText name lines) = refl
+opening-by e before other same count (PoolText name lines) = refl
+opening-by e before other same count (BuildText outputs rule inputs lines) = refl
+opening-by e before other same count (DefaultText words) = refl
 
 module _ (main : List ℕ) (edge : ℕ) (found : Discovered) where
   pub origins-discover : (entries : List ReadStatement) → origins_read main (discover edge found entries) ≡ origins_read main entries
   unfolding discover
   origins-discover [] = refl
-  origins-discover (e ∷ before) = by (is_build e.item && length (edges_read before) == edge) (origins-discover before)
+  origins-discover (e ∷ before) = by (is_some (edge_given e before e.item) && length (edges_read before) == edge) (origins-discover before)
     where
-      by : (b : Bool) → origins_read main (discover edge found before) ≡ origins_read main before
-          → origins_read main (if b then record e { discovered = Some found } ∷ before else e ∷ discover edge found before) ≡ origins_read main (e ∷ before)
+      others : List ReadStatement
+      others = discover edge found before
+
+      by : (b : Bool) → origins_read main others ≡ origins_read main before
+          → origins_read main (if b then record e { discovered = Some found } ∷ before else e ∷ others) ≡ origins_read main (e ∷ before)
       by true rest = refl
       by false rest =
-          ap (λ (ps : List PoolDetail). record { rules = rule_places (e ∷ discover edge found before); pools = ps; openings = openings_read main (e ∷ discover edge found before) })
-          (pool-by e before (discover edge found before) (value_after-discover edge found before) e.item (pool_details (discover edge found before)))
-          ∙ ap (λ (os : List OpeningText). record { rules = rule_places (e ∷ discover edge found before); pools = with_pool_detail e before e.item (pool_details (discover edge found before)); openings = os })
-          (opening-by e before (discover edge found before) (value_after-discover edge found before) (scopes_opened-discover edge found before) e.item (openings_read main (discover edge found before)))
-          ∙ ap (origins_with e before) rest
+          sym (origins-more main e others)
+          ∙ ap (λ (o : Option (Option Place)). record (origins_with e others (origins_read main others)) { rules = with_given (rule_places others) o }) (rule-by e before others e.item)
+          ∙ ap (λ (o : Option PoolDetail). record (origins_with e others (origins_read main others)) { rules = with_given (rule_places others) (rule_place_given e before e.item); pools = with_given (pool_details others) o })
+          (pool-by e before others (value_after-discover edge found before) e.item)
+          ∙ ap (λ (o : Option OpeningText). record (origins_with e before (origins_read main others)) { openings = with_given (openings_read main others) o })
+          (opening-by e before others (value_after-discover edge found before) (scopes_opened-discover edge found before) e.item)
+          ∙ ap (origins_with e before) rest ∙ origins-more main e before

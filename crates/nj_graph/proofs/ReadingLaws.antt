@@ -1,19 +1,22 @@
 -- Laws of readings, by going along their statements.
-use Rattle.std.proofs.Common.{◌≡◌, ℕ, zero, suc, ◌+◌, ◌≤◌, Bool, true, false, nat_lt, Option, Some, None, List, [], ◌∷◌, refl, sym, ap, ◌∙◌, arith}
+use Rattle.std.proofs.Common.{◌≡◌, ℕ, zero, suc, ◌+◌, ◌≤◌, Bool, true, false, nat_lt, Option, Some, None, List, [], ◌∷◌, refl, sym, ap, subst, ◌∙◌, arith}
+use Rattle.nj_scope.proofs.Gathering.{opens_file, files-more}
+use Rattle.nj_graph.proofs.Continuing.{unless_fault}
+use Rattle.std.specs.Bool.{then_some}
 use Rattle.std.specs.List.{AllByRecursion}
 use Rattle.std.proofs.lemmas.Bool.{ltb-true}
 use Rattle.nj_manifest.specs.Faults.{Fault}
 use Rattle.nj_manifest.specs.Statements.{StatementText, BindingText, RuleText, PoolText, BuildText, DefaultText, IncludeText, SubninjaText, PlacedText}
 use Rattle.nj_scope.specs.Readings as table
 use Rattle.nj_scope.specs.Readings.{reading_of, is_read}
-use Rattle.nj_scope.specs.ReadingList.{ReadStatement, rules, is_declared, files_opened, opens_file}
+use Rattle.nj_scope.specs.ReadingList.{ReadStatement, rules, is_declared, files_opened}
 use Rattle.nj_scope.proofs.NewRules.{RuleIsNew, EachRuleIsNew}
 use Rattle.nj_faults.specs.declared.fault.Place.{Place}
 use Rattle.nj_faults.specs.declared.fault.GraphFault.{GraphFault}
 use Rattle.nj_faults.specs.declared.fault.Cause.TheVariants.{DuplicateRule}
 use Rattle.nj_faults.specs.Faults.{fault_at}
 use Rattle.nj_graph.specs.Parsed.{parsed}
-use Rattle.nj_graph.specs.Reading.{Site, entry_at, fault_if, item_fault, own_fault, End, Whole, Refused, Lacking, ReadingText, continued, and_then, Opens, item_read, unless_fault, statement_read, statements_read, text_read, found_read, outcome_read, if_capacity, most_opened, most_within, opened_in, main_site, main_read}
+use Rattle.nj_graph.specs.Reading.{Site, entry_at, item_fault, own_fault, End, Whole, Refused, Lacking, ReadingText, continued, and_then, Opens, item_read, statement_read, statements_read, text_read, found_read, outcome_read, if_capacity, most_opened, most_within, opened_in, main_site, main_read}
 use Rattle.nj_graph.specs.Laws.{Faultless, ReadIsFaultless, OpenFilesAreBounded, OpeningsAreBounded, MainRulesRise}
 use Rattle.nj_graph.proofs.NameLemmas.{names_rise-read}
 
@@ -95,7 +98,7 @@ pub open_files_are_bounded : OpenFilesAreBounded
 open_files_are_bounded files main = reading-keeps (λ entries. AllByRecursion (λ e. e.depth ≤ most_within) entries) (λ e before p none capacity depth. (depth, p)) tt files main
 
 pub openings_are_bounded : OpeningsAreBounded
-openings_are_bounded files main = reading-keeps (λ entries. files_opened entries ≤ most_opened) (λ e before p none capacity depth. by before e.item p capacity (opens_file e.item) refl (opens_one e.item)) (omega arith) files main
+openings_are_bounded files main = reading-keeps (λ entries. files_opened entries ≤ most_opened) (λ e before p none capacity depth. subst (λ n. n ≤ most_opened) (sym (files-more e before)) (by before e.item p capacity (opens_file e.item) refl (opens_one e.item))) (omega arith) files main
   where
     opens_one : (item : StatementText) → opens_file item ≤ 1
     opens_one (BindingText name value) = omega arith
@@ -117,7 +120,7 @@ openings_are_bounded files main = reading-keeps (λ entries. files_opened entrie
 rule-is-new : (e : ReadStatement) (before : List ReadStatement) (item : StatementText) → item_fault e before item ≡ None → RuleIsNew before e.number item
 rule-is-new e before (RuleText name lines) none = by (is_declared (rules before e.number name.name) name.name) refl none
   where
-    by : (b : Bool) → is_declared (rules before e.number name.name) name.name ≡ b → fault_if b (fault_at e.file name.spot (DuplicateRule name.name)) ≡ None → is_declared (rules before e.number name.name) name.name ≡ false
+    by : (b : Bool) → is_declared (rules before e.number name.name) name.name ≡ b → then_some b (fault_at e.file name.spot (DuplicateRule name.name)) ≡ None → is_declared (rules before e.number name.name) name.name ≡ false
     by true e h = absurd cc
     by false e h = e
 rule-is-new e before (BindingText name value) none = tt

@@ -1,5 +1,6 @@
 -- Lists of readings: what is read, and what more is read after it.
 use Rattle.std.proofs.Common.{◌≡◌, ℕ, Bool, true, false, cond, ◌||◌, Option, Some, is_some, option_and_then, List, [], ◌∷◌, ◌++◌, bytes_eq, refl, sym, ap, ◌∙◌, append-nil, append_assoc, true≢false}
+use Rattle.nj_graph.specs.Inside.PathsReached.{with_new}
 use Rattle.std.specs.List.{list_any}
 use Rattle.std.proofs.lemmas.List.{map-append}
 use Rattle.std.proofs.lemmas.Slice.Eq.{bytes_eq-Decides}
@@ -7,7 +8,6 @@ use Rattle.nj_scope.specs.Readings.{Reading, EachPathOnce, reading_of, is_read, 
 use Rattle.nj_scope.proofs.ReadingLemmas.{is_read-push}
 use Rattle.nj_scope.proofs.SourceLemmas.{HasRead-nothing, HasRead-then}
 use Rattle.nj_scope.specs.Sources.{SourceState, HasRead}
-use Rattle.nj_graph.specs.Reading.{with_new}
 use Rattle.nj_graph.specs.Runs.{IsRead}
 use Rattle.nj_graph.specs.Inside.ReaderContracts.{ReadsAll}
 

@@ -1,6 +1,6 @@
 -- What words of the command line mean.
 use Rattle.std.proofs.Common.{if◌then◌else◌, ◌≡◌, ◌⊎◌, inl, inr, ℕ, zero, suc, ◌+◌, ◌-◌, ◌≤◌, Bool, true, false, ◌||◌, List, [], ◌∷◌, ◌++◌, Option, Some, None, Ok, Err, take, drop, length, slice_get, bytes_eq, refl, sym, ap, ◌∙◌, arith, true≢false}
-use Rattle.std.specs.Prelude.{codes, option_and_then}
+use Rattle.std.specs.Prelude.{codes, option_and_then, ok_or}
 use Rattle.std.specs.List.{Contains, list_any}
 use Rattle.std.proofs.lemmas.Cmp.{nat_list_eq_equiv}
 use Rattle.std.proofs.lemmas.List.{drop_at, length-append, take-append-drop}
@@ -8,11 +8,11 @@ use Rattle.std.proofs.lemmas.Map.Views.{Contains-from_any, list_any-from_Contain
 use Rattle.std.proofs.lemmas.Option.{get_or_from_slice_get, none-some, same_Some}
 use Rattle.std.proofs.lemmas.Slice.Eq.{bytes_eq-Decides}
 use Rattle.nj_text.specs.Paths.{clean_path_of}
-use Rattle.nj_faults.specs.declared.fault.Cause.TheVariants.{UnknownTarget}
+use Rattle.nj_faults.specs.declared.fault.Cause.TheVariants.{UnknownTarget, NoOutEdge}
 use Rattle.nj_faults.specs.Faults.{unplaced}
 use Rattle.nj_edges.specs.Edges.{EdgePaths, edge_at, edges_from, first_output, outputs_of, inputs_of, users_of, is_among, names, is_named}
 use Rattle.nj_graph.specs.Laws.{IsNamedBy, IsMadeOf, HasNoCaret, Means, a_file, no_file, made, made_of_no_file, not_made, WordsMeanPaths, EmptyWordMeansNothing}
-use Rattle.nj_graph.specs.Targets.{target, first_made_of, or_no_out_edge, made_target, clean_target}
+use Rattle.nj_graph.specs.Targets.{target, first_made_of, made_target, clean_target}
 use Rattle.nj_graph.proofs.NameLemmas.{contains-here, contains-later, contains-cases}
 
 -- ---- tests on lists
@@ -186,12 +186,12 @@ module _ (edges : List EdgePaths) (path : List ℕ) where
   made-means : (file : List ℕ) → path ≡ file ++ codes "^" → Means edges path (made_target edges file)
   made-means file is = by (is_named edges file) refl
     where
-      by_output : (o : Option (List ℕ)) → first_made_of edges file ≡ o → IsNamedBy edges file → Means edges path (or_no_out_edge file o)
+      by_output : (o : Option (List ℕ)) → first_made_of edges file ≡ o → IsNamedBy edges file → Means edges path (ok_or o (unplaced (NoOutEdge file)))
       by_output (Some output) found named = made is (was-made edges file _ (users-first edges file) output found)
       by_output None found named = not_made is named (not-made edges file _ (users-first edges file) found)
 
       by : (b : Bool) → is_named edges file ≡ b
-          → Means edges path (if b then or_no_out_edge file (first_made_of edges file) else Err (unplaced (UnknownTarget file)))
+          → Means edges path (if b then ok_or (first_made_of edges file) (unplaced (NoOutEdge file)) else Err (unplaced (UnknownTarget file)))
       by true h = by_output (first_made_of edges file) refl (from-named edges file h)
       by false h = made_of_no_file is (not-named edges file h)
 

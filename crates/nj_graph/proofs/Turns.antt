@@ -1,5 +1,6 @@
 -- The turns of reading a text: the next statement, the file that it names, and what comes after it.
 use Rattle.std.proofs.Common.{◌≡◌, ℕ, ◌-◌, ◌<◌, inl, inr, Option, Some, None, Result, Ok, Err, List, ◌∷◌, refl, sym, ap, subst, ◌∙◌, arith}
+use Rattle.nj_graph.specs.Inside.PathsReached.{with_news, paths_read, come_to, reached_by}
 use Rattle.std.specs.Prelude.{⊤}
 use Rattle.nj_text.specs.Lines.{Line}
 use Rattle.nj_manifest.specs.Faults.{Fault}
@@ -17,9 +18,8 @@ use Rattle.nj_graph.specs.declared.reader.Reader.{Reader}
 use Rattle.nj_faults.specs.Faults.{fault_in, no_memory}
 use Rattle.nj_graph.specs.Parsed.{Parsed, parsed_in, and_parsed}
 use Rattle.nj_graph.specs.Reading as reading
-use Rattle.nj_graph.specs.Reading.{Site, entry_at, End, Whole, Lacking, ReadingText, Opens, continued, and_then, opened_in, statement_read, statements_read, text_read, with_all_new, paths_read, path_at_fault, paths_come_to}
+use Rattle.nj_graph.specs.Reading.{Site, entry_at, End, Whole, Lacking, ReadingText, Opens, continued, and_then, opened_in, statement_read, statements_read, text_read, path_at_fault}
 use Rattle.nj_graph.specs.Runs.{IsRead, IsEnd, ReachedText, Stops}
-use Rattle.nj_graph.specs.Loads.{reached_from}
 use Rattle.nj_graph.specs.Inside.ReaderContracts.{Has, ReadsAll, ReadsOne, StopsAt, OpensNamed, ReadsText, ReadsOrStops, NextOf, NextIs}
 use Rattle.nj_graph.proofs.Comes.{and_then-comes, statements-come}
 use Rattle.nj_graph.proofs.Tables.{extends-trans, read-extends, reads-then, reads-all-then}
@@ -46,7 +46,7 @@ is-end-before before mid after (Lacking path place) fault same h = (h.0, subst (
 
 -- a reading passes on how another one stops
 pub record Passes (main : List ℕ) (files : List Reading) (inner outer : List Reading → ReadingText) : Type 0 where
-  pub comes : (all : List Reading) → IsPrefix files all → (front : List (List ℕ)) → IsPrefix front (paths_come_to main (inner all)) → IsPrefix front (paths_come_to main (outer all))
+  pub comes : (all : List Reading) → IsPrefix files all → (front : List (List ℕ)) → IsPrefix front (come_to main (inner all)) → IsPrefix front (come_to main (outer all))
   pub ends : (all : List Reading) → IsPrefix files all → (entries : List ReadStatement) (end : End) → IsStopped end → inner all ≡ record { entries = entries; end = end } → outer all ≡ record { entries = entries; end = end }
 
 module _ (main : List ℕ) (before mid after : SourceState) (old files held : List Reading) (inner outer : List Reading → ReadingText) (reads : ReadsAll before mid old files held) (passes : Passes main files inner outer) where
@@ -59,14 +59,14 @@ module _ (main : List ℕ) (before mid after : SourceState) (old files held : Li
       within : (all : List Reading) → IsPrefix s.files all → IsPrefix files all
       within all e = extends-trans all s.files files e (read-extends mid after files s.files there)
 
-      by : Stops mid after s.files (λ all. reached_from main (inner all)) fault → Stops before after s.files (λ all. reached_from main (outer all)) fault
+      by : Stops mid after s.files (λ all. reached_by main (inner all)) fault → Stops before after s.files (λ all. reached_by main (outer all)) fault
       by (inl m) = inl (record { answered = m.answered; failures = m.failures ∙ reads.failures; came_to = λ all e. passes.comes all (within all e) (paths_of s.files) (m.came_to all e) })
       by (inr e) = inr (record {
         reached = e.reached;
         answered = is-end-before before mid after e.reached.read.end fault reads.failures e.answered;
         read = λ all ext lacks.
-            ap (reached_from main) (passes.ends all (within all ext) e.reached.read.entries e.reached.read.end (is-stopped mid after e.reached.read.end fault e.answered) (ap (λ (r : ReachedText). r.read) (e.read all ext lacks)))
-            ∙ sym (ap (λ (r : ReachedText). reached_from main r.read) (e.read all ext lacks)) ∙ e.read all ext lacks;
+            ap (reached_by main) (passes.ends all (within all ext) e.reached.read.entries e.reached.read.end (is-stopped mid after e.reached.read.end fault e.answered) (ap (λ (r : ReachedText). r.read) (e.read all ext lacks)))
+            ∙ sym (ap (λ (r : ReachedText). reached_by main r.read) (e.read all ext lacks)) ∙ e.read all ext lacks;
         came_to = e.came_to;
       })
 
@@ -94,7 +94,7 @@ module _ (main : List ℕ) (before mid after : SourceState) (old opened held : R
       is all ext = o.read all ext ∙ ap (λ n. text_read (opened_in all n) inner text (e ∷ entries)) (sym one-less)
   reads-named o (Err fault) s =
       stops-then main before mid after old.files o.files opened.files (λ all. text_read (opened_in all (left - 1)) inner text (e ∷ entries)) outer o.reads (record {
-        comes = λ all ext front h. subst (λ r. IsPrefix front (paths_come_to main r)) (sym (is all ext)) h;
+        comes = λ all ext front h. subst (λ r. IsPrefix front (come_to main r)) (sym (is all ext)) h;
         ends = λ all ext entries2 end stopped h. is all ext ∙ h;
       }) fault s
     where
@@ -150,7 +150,7 @@ module _ (main : List ℕ) (before after : SourceState) (old held : Reader) (lef
   ends-memory fault u none = record {
     files = u.files;
     reads = u.reads.reads;
-    stops = inl (record { answered = none; failures = u.reads.failures; came_to = λ all ext. subst (λ r. IsPrefix (paths_of u.files) (paths_come_to main r)) (sym (u.continues all ext)) (subst (λ ps. IsPrefix ps (paths_come_to main (statements_read (opened_in all left) site (parsed_in next_statement u.most lines).items (parsed_in next_statement u.most lines).fault u.now))) listed (statements-come main all left site (parsed_in next_statement u.most lines).items (parsed_in next_statement u.most lines).fault u.now)) });
+    stops = inl (record { answered = none; failures = u.reads.failures; came_to = λ all ext. subst (λ r. IsPrefix (paths_of u.files) (come_to main r)) (sym (u.continues all ext)) (subst (λ ps. IsPrefix ps (come_to main (statements_read (opened_in all left) site (parsed_in next_statement u.most lines).items (parsed_in next_statement u.most lines).fault u.now))) listed (statements-come main all left site (parsed_in next_statement u.most lines).items (parsed_in next_statement u.most lines).fault u.now)) });
   }
     where
       listed : paths_read main u.now ≡ paths_of u.files
@@ -164,10 +164,10 @@ module _ (main : List ℕ) (before after : SourceState) (old held : Reader) (lef
     files = u.files;
     reads = u.reads.reads;
     stops = inr (record {
-      reached = reached_from main (record { entries = u.now; end = reading.Refused (fault_in site.file found) });
+      reached = reached_by main (record { entries = u.now; end = reading.Refused (fault_in site.file found) });
       answered = (reported, u.reads.failures);
-      read = λ all ext lacks. ap (reached_from main) (u.continues all ext ∙ ap (λ (s : Parsed PlacedText). statements_read (opened_in all left) site s.items s.fault u.now) (parsed-fault next_statement u.most lines found h u.capacity));
-      came_to = ap (with_all_new (paths_read main u.now)) (syntax-names site.file found) ∙ sym u.has.paths_are ∙ ap paths_of u.reads.held_is;
+      read = λ all ext lacks. ap (reached_by main) (u.continues all ext ∙ ap (λ (s : Parsed PlacedText). statements_read (opened_in all left) site s.items s.fault u.now) (parsed-fault next_statement u.most lines found h u.capacity));
+      came_to = ap (with_news (paths_read main u.now)) (syntax-names site.file found) ∙ sym u.has.paths_are ∙ ap paths_of u.reads.held_is;
     });
   }
 
@@ -202,7 +202,7 @@ module _ (main : List ℕ) (before after : SourceState) (old held : Reader) (lef
     turn-stops fault u stops =
         let step = parsed-step next_statement u.most lines rest s next (statement_takes lines s rest next) u.capacity in
         stops-then main before after last old.files u.files held.files (λ all. statement_read (opened_in all left) (entry_at site s) u.now) reading_of_text u.reads (record {
-          comes = λ all ext front h. subst (λ r. IsPrefix front (paths_come_to main r)) (sym (first u step.0 step.1 all ext))
+          comes = λ all ext front h. subst (λ r. IsPrefix front (come_to main r)) (sym (first u step.0 step.1 all ext))
               (and_then-comes main front (statement_read (opened_in all left) (entry_at site s) u.now) (remainder step.0 all) h (λ es. statements-come main all left site (parsed_in next_statement step.0 rest).items (parsed_in next_statement step.0 rest).fault es));
           ends = λ all ext es end stopped h. first u step.0 step.1 all ext ∙ ap (λ x. and_then x (remainder step.0 all)) h ∙ stays es end (remainder step.0 all) stopped;
         }) fault stops

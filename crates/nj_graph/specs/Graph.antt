@@ -57,24 +57,16 @@ pub record IsGraphOf (g : GraphText) (entries : List ReadStatement) : Type 0 whe
 
 -- ---- late strings
 
-abbrev pub text_of_edge : List ReadStatement → (asked : List ℕ) → Option EdgeText → List ℕ
-text_of_edge entries asked (Some e) = asked_text (names_of_edge entries e) asked
-text_of_edge entries asked None = []
-
--- The value of a variable for the edge of a number where its rule is used, after all statements.
+-- The value of a variable for the edge of a number where its rule is used, after all statements; past the last edge it is empty.
 abbrev pub late_text_of : List ReadStatement → (number : ℕ) → (asked : List ℕ) → List ℕ
-late_text_of entries number asked = text_of_edge entries asked (slice_get (edges_read entries) number)
+late_text_of entries number asked =
+    unwrap_or (option_map (λ e. asked_text (names_of_edge entries e) asked) (slice_get (edges_read entries) number)) []
 
 -- ---- the rule of an edge
 
--- the name of a rule, if there is one
-abbrev pub name_of : Option RuleText → List ℕ
-name_of (Some rule) = rule.name
-name_of None = []
-
--- the value for the rule of a number
+-- the name of the rule of a number, if there is one
 abbrev pub rule_name : List RuleText → (number : ℕ) → List ℕ
-rule_name rules number = name_of (slice_get rules number)
+rule_name rules number = unwrap_or (option_map (λ r. r.name) (slice_get rules number)) []
 
 -- the name of the rule of an edge: of the rule that is in force before its statement
 abbrev pub rule_name_of : List ReadStatement → EdgeText → List ℕ

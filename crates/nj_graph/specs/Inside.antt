@@ -2,4 +2,5 @@
 pub mod GraphHeld
 pub mod JoiningContracts
 pub mod OriginsHeld
+pub mod PathsReached
 pub mod ReaderContracts

@@ -1,5 +1,5 @@
 -- The joining of dyndep files to the statements of a run ("Dynamic Dependencies" in the manual), up to the first fault.
-use Rattle.std.specs.Prelude.{◌≡◌, ℕ, suc, if◌then◌else◌, Option, Some, option_map, Result, Ok, Err, List, [], ◌∷◌, ◌++◌, map, length}
+use Rattle.std.specs.Prelude.{◌≡◌, ℕ, suc, if◌then◌else◌, Option, Some, option_map, Result, Ok, Err, List, [], ◌∷◌, ◌++◌, map, length, slice_index_or}
 use Rattle.std.specs.Option.{option_or}
 use Rattle.std.specs.Str.{is_utf8}
 use Rattle.nj_text.specs.Lines.{Line, text_lines}
@@ -13,10 +13,9 @@ use Rattle.nj_faults.specs.declared.fault.GraphFault.{GraphFault}
 use Rattle.nj_faults.specs.declared.fault.Cause.TheVariants.{PathNotText}
 use Rattle.nj_faults.specs.Faults.{fault_in}
 use Rattle.nj_statements.specs.EdgeList.{Pending, edges_read, pending_read}
-use Rattle.nj_statements.specs.Built.{detail_at, detail_of}
 use Rattle.nj_statements.specs.Joining.{entry_fault, with_entry, lacking_fault, dyndep_files}
 use Rattle.nj_graph.specs.Parsed.{Parsed, none_parsed, parsed_in}
-use Rattle.nj_graph.specs.Reading.{End, Whole, ReadingText, unless_fault, end_by, stopped, outcome_read, with_all_new}
+use Rattle.nj_graph.specs.Reading.{End, Whole, ReadingText, and_then, end_by, stopped, outcome_read, with_all_new}
 use Rattle.nj_graph.specs.Runs.{ReachedText}
 use Rattle.nj_graph.specs.Loads.{LoadedText, LoadsAfter}
 
@@ -38,17 +37,17 @@ unfoldable pub entries_joined : (file : List ℕ) → (stated : List ReadStateme
 entries_joined file stated [] fault joined =
     record { entries = joined; end = end_by (option_or (option_map (fault_in file) fault) (lacking_fault file joined)) }
 entries_joined file stated (entry ∷ others) fault joined =
-    unless_fault (entry_fault file stated joined entry) joined
-    (entries_joined file stated others fault (with_entry stated joined entry))
+    and_then (record { entries = joined; end = end_by (entry_fault file stated joined entry) })
+    (λ _. entries_joined file stated others fault (with_entry stated joined entry))
 
 abbrev pub text_joined : (file : List ℕ) → (stated : List ReadStatement) → (text : List ℕ) → (joined : List ReadStatement) → ReadingText
 text_joined file stated text joined = entries_joined file stated (entries_of text).items (entries_of text).fault joined
 
--- the build statement of an edge
+-- the place of the build statement of an edge; past the last edge there is none
 abbrev pub statement_place : (stated : List ReadStatement) → (edge : ℕ) → Place
 statement_place stated edge =
-    let detail = detail_at (map detail_of (edges_read stated)) edge in
-    record { file = detail.file; spot = detail.spot }
+    let places : List Place = map (λ e. record { file = e.file; spot = e.spot }) (edges_read stated) in
+    slice_index_or places edge (record { file = []; spot = record { line = 0; column = 0 } })
 
 -- where there is no file, or none that can be read, the first edge that is bound to it is to blame
 unfoldable pub file_joined : (files : List Reading) → (stated : List ReadStatement) → Pending → (joined : List ReadStatement) → ReadingText

@@ -1,13 +1,13 @@
 -- Where rules and pools are declared, and which statements open which files.
-use Rattle.std.specs.Prelude.{ℕ, ◌-◌, Option, Some, None, option_map, option_and_then, unwrap_or, List, [], ◌∷◌, ◌++◌, length, slice_get, slice_index_or}
+use Rattle.std.specs.Prelude.{ℕ, ◌-◌, Option, Some, None, option_map, option_and_then, unwrap_or, List, [], ◌∷◌, length, slice_get, slice_index_or}
 use Rattle.nj_text.specs.Numbers.{leading_number_of}
 use Rattle.nj_text.specs.Words.{WordText}
 use Rattle.nj_manifest.specs.Statements.{LineText, StatementText, RuleText, PoolText, IncludeText, SubninjaText}
-use Rattle.nj_scope.specs.ReadingList.{ReadStatement, scope_of, scopes_opened}
+use Rattle.nj_scope.specs.ReadingList.{ReadStatement, scope_of, expanded_in, gathered, scopes_opened}
 use Rattle.nj_faults.specs.declared.fault.Place.{Place}
 use Rattle.nj_faults.specs.declared.fault.PlaceRef.{PlaceRef}
 use Rattle.nj_graph.specs.declared.origins.Opening.{Opening}
-use Rattle.nj_graph.specs.Reading.{expanded_in, place_at}
+use Rattle.nj_graph.specs.Reading.{place_at}
 
 -- the place of a statement: the place of its first byte
 abbrev pub place_of : ReadStatement → Place
@@ -19,14 +19,13 @@ place_text p = record { file = p.file.now; spot = p.spot }
 
 -- ---- rules
 
-abbrev pub with_rule_place : ReadStatement → StatementText → List (Option Place) → List (Option Place)
-with_rule_place e (RuleText name lines) places = places ++ Some (place_of e) ∷ []
-with_rule_place e item places = places
+abbrev pub rule_place_given : ReadStatement → (before : List ReadStatement) → StatementText → Option (Option Place)
+rule_place_given e before (RuleText name lines) = Some (Some (place_of e))
+rule_place_given e before item = None
 
 -- the place of the statement that declares each rule, by number; no statement declares `phony`
 abbrev pub rule_places : List ReadStatement → List (Option Place)
-rule_places [] = None ∷ []
-rule_places (e ∷ before) = with_rule_place e e.item (rule_places before)
+rule_places entries = None ∷ gathered rule_place_given entries
 
 -- the place of the rule of a number; past the last rule there is none
 abbrev pub rule_place_at : (places : List (Option Place)) → (number : ℕ) → Option Place
@@ -45,15 +44,13 @@ abbrev pub depth_of : (scope : List ℕ) → (before : List ReadStatement) → L
 depth_of scope before lines =
     unwrap_or (option_and_then (λ l. leading_number_of (expanded_in scope before l.value)) (slice_get lines (length lines - 1))) 0
 
-abbrev pub with_pool_detail : ReadStatement → (before : List ReadStatement) → StatementText → List PoolDetail → List PoolDetail
-with_pool_detail e before (PoolText name lines) pools =
-    pools ++ record { place = place_of e; depth = depth_of (scope_of e) before lines } ∷ []
-with_pool_detail e before item pools = pools
+abbrev pub pool_detail_given : ReadStatement → (before : List ReadStatement) → StatementText → Option PoolDetail
+pool_detail_given e before (PoolText name lines) = Some (record { place = place_of e; depth = depth_of (scope_of e) before lines })
+pool_detail_given e before item = None
 
 -- the details of the pools in the order in which they were declared
 abbrev pub pool_details : List ReadStatement → List PoolDetail
-pool_details [] = []
-pool_details (e ∷ before) = with_pool_detail e before e.item (pool_details before)
+pool_details entries = gathered pool_detail_given entries
 
 -- ---- openings
 
@@ -73,18 +70,17 @@ opening_text o = record { path = o.path.now; named_at = option_map place_text o.
 abbrev pub opening_by : ReadStatement → (before : List ReadStatement) → WordText → (scope : ℕ) → OpeningText
 opening_by e before word scope = record { path = expanded_in (scope_of e) before word; named_at = Some (place_of e); scope = scope }
 
-abbrev pub with_opening : ReadStatement → (before : List ReadStatement) → StatementText → List OpeningText → List OpeningText
-with_opening e before (IncludeText word) others = others ++ opening_by e before word e.number ∷ []
-with_opening e before (SubninjaText word) others = others ++ opening_by e before word (scopes_opened before) ∷ []
-with_opening e before item others = others
+abbrev pub opening_given : ReadStatement → (before : List ReadStatement) → StatementText → Option OpeningText
+opening_given e before (IncludeText word) = Some (opening_by e before word e.number)
+opening_given e before (SubninjaText word) = Some (opening_by e before word (scopes_opened before))
+opening_given e before item = None
 
 abbrev pub main_opening : (main : List ℕ) → OpeningText
 main_opening main = record { path = main; named_at = None; scope = 0 }
 
 -- the main file, and each file that a statement opens, in reading order; a file that is opened again is there again
 abbrev pub openings_read : (main : List ℕ) → List ReadStatement → List OpeningText
-openings_read main [] = main_opening main ∷ []
-openings_read main (e ∷ before) = with_opening e before e.item (openings_read main before)
+openings_read main entries = main_opening main ∷ gathered opening_given entries
 
 -- ---- all of them
 

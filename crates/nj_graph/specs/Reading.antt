@@ -1,8 +1,8 @@
 -- The reading of a run's files: all statements in reading order, up to the first fault.
 use Rattle.std.specs.Prelude.{ℕ, zero, suc, Bool, true, false, not, ◌&&◌, if◌then◌else◌, nat_lt, Option, Some, None, option_map, List, []}
-use Rattle.std.specs.Option.{option_or}
-use Rattle.std.specs.Prelude.{◌∷◌, ◌++◌, find, codes, bytes_eq}
-use Rattle.std.specs.List.{list_any}
+use Rattle.std.specs.Bool.{then_some}
+use Rattle.std.specs.Option.{option_or, option_map_or}
+use Rattle.std.specs.Prelude.{◌∷◌, ◌++◌, find, filter, codes, bytes_eq}
 use Rattle.std.specs.Str.{is_utf8}
 use Rattle.nj_text.specs.declared.spot.Spot.{Spot}
 use Rattle.nj_text.specs.Words.{WordText}
@@ -13,10 +13,10 @@ use Rattle.nj_manifest.specs.Statements.{LineText, StatementText, BindingText, R
 use Rattle.nj_manifest.specs.Statements.{SubninjaText, PlacedText}
 use Rattle.nj_scope.specs.Readings as table
 use Rattle.nj_scope.specs.Readings.{reading_of}
-use Rattle.nj_scope.specs.Scopes.{expanded}
 use Rattle.nj_scope.specs.Limits.{is_depth}
 use Rattle.nj_scope.specs.Pools.{is_pool}
-use Rattle.nj_scope.specs.ReadingList.{ReadStatement, scope_of, value_after, rules, is_declared, pools, scopes_opened, files_opened}
+use Rattle.nj_scope.specs.ReadingList.{ReadStatement, scope_of, rules, is_declared, pools, scopes_opened, path_named, files_opened, gathered}
+pub use Rattle.nj_scope.specs.ReadingList.{expanded_in}
 use Rattle.nj_faults.specs.declared.fault.Place.{Place}
 use Rattle.nj_faults.specs.declared.fault.Cause.{Cause}
 use Rattle.nj_faults.specs.declared.fault.GraphFault.{GraphFault}
@@ -24,8 +24,9 @@ use Rattle.nj_faults.specs.declared.fault.Cause.TheVariants.{EmptyPath, BadDepth
 use Rattle.nj_faults.specs.declared.fault.Cause.TheVariants.{PathNotText, TooDeep, TooManyOpenings}
 use Rattle.nj_faults.specs.Faults.{fault_at, fault_in}
 use Rattle.nj_faults.specs.Versions.{is_newer}
+use Rattle.nj_edges.specs.Edges.{is_among}
+use Rattle.nj_edges.specs.Repeats.{each_once}
 use Rattle.nj_statements.specs.BuildFaults.{build_fault, default_fault}
-pub use Rattle.nj_statements.specs.BuildFaults.{fault_if}
 use Rattle.nj_graph.specs.Parsed.{parsed}
 
 -- ---- where a statement is
@@ -49,19 +50,15 @@ entry_at site s = record {
   discovered = None;
 }
 
--- a word that is expanded in a scope, by the statements before it, the last read first
-abbrev pub expanded_in : (scope : List ℕ) → (before : List ReadStatement) → WordText → List ℕ
-expanded_in scope before word = expanded (value_after before scope) word.parts
-
 -- ---- what is wrong with a statement by itself
 
 abbrev pub binding_fault : (file : List ℕ) → Spot → (name value : List ℕ) → Option GraphFault
 binding_fault file spot name value =
-    fault_if (bytes_eq name (codes "ninja_required_version") && is_newer value) (fault_at file spot (VersionTooNew value))
+    then_some (bytes_eq name (codes "ninja_required_version") && is_newer value) (fault_at file spot (VersionTooNew value))
 
 abbrev pub rule_fault : (file : List ℕ) → (number : ℕ) → (before : List ReadStatement) → NameText → Option GraphFault
 rule_fault file number before name =
-    fault_if (is_declared (rules before number name.name) name.name) (fault_at file name.spot (DuplicateRule name.name))
+    then_some (is_declared (rules before number name.name) name.name) (fault_at file name.spot (DuplicateRule name.name))
 
 -- each depth of a pool's block counts, also one that a later line overrides
 abbrev pub depth_fault : (file scope : List ℕ) → (before : List ReadStatement) → List LineText → Option GraphFault
@@ -70,12 +67,12 @@ depth_fault file scope before lines =
 
 abbrev pub pool_fault : (file scope : List ℕ) → (before : List ReadStatement) → NameText → List LineText → Option GraphFault
 pool_fault file scope before name lines =
-    option_or (fault_if (is_pool (pools before) name.name) (fault_at file name.spot (DuplicatePool name.name)))
+    option_or (then_some (is_pool (pools before) name.name) (fault_at file name.spot (DuplicatePool name.name)))
     (depth_fault file scope before lines)
 
 abbrev pub path_fault : (file : List ℕ) → Spot → (path : List ℕ) → Option GraphFault
 path_fault file spot path =
-    option_or (fault_if (is_empty path) (fault_at file spot EmptyPath)) (fault_if (not (is_utf8 path)) (fault_at file spot PathNotText))
+    option_or (then_some (is_empty path) (fault_at file spot EmptyPath)) (then_some (not (is_utf8 path)) (fault_at file spot PathNotText))
 
 abbrev pub item_fault : ReadStatement → (before : List ReadStatement) → StatementText → Option GraphFault
 item_fault e before (BindingText name value) = binding_fault e.file e.spot name (expanded_in (scope_of e) before value)
@@ -106,10 +103,10 @@ pub record ReadingText : Type 0 where
   pub entries : List ReadStatement
   pub end : End
 
+-- nothing more is read after the end
 abbrev pub continued : End → List ReadStatement → (List ReadStatement → ReadingText) → ReadingText
 continued Whole entries others = others entries
-continued (Refused fault) entries others = record { entries = entries; end = Refused fault }
-continued (Lacking path place) entries others = record { entries = entries; end = Lacking path place }
+continued end entries others = record { entries = entries; end = end }
 
 -- one reading, and where all of it was read another one
 abbrev pub and_then : ReadingText → (List ReadStatement → ReadingText) → ReadingText
@@ -139,17 +136,11 @@ item_read opens e before (SubninjaText word) =
     opens (opened_site e before word (scopes_opened before) (scope_of e)) (place_at e word.spot) e before
 item_read opens e before item = record { entries = e ∷ before; end = Whole }
 
--- nothing more is read after a fault
-abbrev pub unless_fault : Option GraphFault → (before : List ReadStatement) → ReadingText → ReadingText
-unless_fault (Some fault) before reading = record { entries = before; end = Refused fault }
-unless_fault None before reading = reading
+abbrev pub end_by : Option GraphFault → End
+end_by fault = option_map_or Refused fault Whole
 
 abbrev pub statement_read : Opens → ReadStatement → (before : List ReadStatement) → ReadingText
-statement_read opens e before = unless_fault (own_fault e before) before (item_read opens e before e.item)
-
-abbrev pub end_by : Option GraphFault → End
-end_by None = Whole
-end_by (Some fault) = Refused fault
+statement_read opens e before = continued (end_by (own_fault e before)) before (λ _. item_read opens e before e.item)
 
 -- the statements of a file, one after the other
 unfoldable pub statements_read : Opens → Site → (statements : List PlacedText) → Option Fault → (before : List ReadStatement) → ReadingText
@@ -173,13 +164,12 @@ stopped before place cause = record { entries = before; end = Refused (record { 
 
 -- by what was found at a path that the statement at this place names
 abbrev pub found_read : (path : List ℕ) → Place → (before : List ReadStatement) → (List ℕ → ReadingText) → Option (List ℕ) → ReadingText
-found_read path place before reads None = stopped before place (Missing path)
-found_read path place before reads (Some text) = reads text
+found_read path place before reads text = option_map_or reads text (stopped before place (Missing path))
 
 -- by what the table returns for that path
 abbrev pub outcome_read : (path : List ℕ) → Place → (before : List ReadStatement) → (List ℕ → ReadingText) → Option table.Reading → ReadingText
-outcome_read path place before reads None = record { entries = before; end = Lacking path place }
-outcome_read path place before reads (Some r) = found_read path place before reads r.bytes
+outcome_read path place before reads found =
+    option_map_or (λ r. found_read path place before reads r.bytes) found (record { entries = before; end = Lacking path place })
 
 abbrev pub if_capacity : Bool → (within : Opens) → (files : List table.Reading) → Site → Place → ReadStatement → (before : List ReadStatement) → ReadingText
 if_capacity false within files site place e before = stopped before place TooManyOpenings
@@ -207,24 +197,9 @@ main_read files main =
 
 -- ---- the paths that a reading reaches
 
-abbrev pub path_named : ReadStatement → (before : List ReadStatement) → StatementText → List (List ℕ)
-path_named e before (IncludeText word) = expanded_in (scope_of e) before word ∷ []
-path_named e before (SubninjaText word) = expanded_in (scope_of e) before word ∷ []
-path_named e before item = []
-
--- the paths with one more at the end, unless it is there already
-abbrev pub with_new : (before : List (List ℕ)) → (path : List ℕ) → List (List ℕ)
-with_new before path = if list_any (bytes_eq path) before then before else before ++ path ∷ []
-
 -- the paths with others, each at its first occurrence
 abbrev pub with_all_new : (before paths : List (List ℕ)) → List (List ℕ)
-with_all_new before [] = before
-with_all_new before (path ∷ paths) = with_all_new (with_new before path) paths
-
--- the main file, and the files that the statements name, each at its first occurrence
-abbrev pub paths_read : (main : List ℕ) → List ReadStatement → List (List ℕ)
-paths_read main [] = main ∷ []
-paths_read main (e ∷ before) = with_all_new (paths_read main before) (path_named e before e.item)
+with_all_new before paths = before ++ filter (λ path. not (is_among before path)) (each_once bytes_eq paths)
 
 -- a path at which a reading ends
 abbrev pub path_at_fault : Cause → List (List ℕ)
@@ -236,6 +211,7 @@ path_at_end Whole = []
 path_at_end (Refused fault) = path_at_fault fault.cause
 path_at_end (Lacking path place) = path ∷ []
 
--- all paths that the reading reaches, the one at its end among them
+-- All paths that the reading reaches, each at its first occurrence: the main file, those that the statements name, and the one
+-- at its end.
 abbrev pub paths_come_to : (main : List ℕ) → ReadingText → List (List ℕ)
-paths_come_to main r = with_all_new (paths_read main r.entries) (path_at_end r.end)
+paths_come_to main r = each_once bytes_eq (main ∷ gathered path_named r.entries ++ path_at_end r.end)

@@ -3,6 +3,7 @@
 use Rattle.std.specs.Prelude.{ℕ, zero, suc, ◌+◌, ◌==◌, if◌then◌else◌, Option, Some, None, option_map, option_and_then, List, [], ◌∷◌, ◌++◌}
 use Rattle.std.specs.Prelude.{map, length, take, drop, slice_index, codes, nat_eq}
 use Rattle.std.specs.List.{starts_with}
+use Rattle.std.specs.Option.{option_map_or}
 use Rattle.nj_scope.specs.ReadingList.{ReadStatement}
 use Rattle.nj_graph.specs.Graph.{late_text_of}
 
@@ -26,12 +27,10 @@ abbrev pub on_one_line : List ℕ → List ℕ
 on_one_line text = map (λ byte. if byte == 10 then 32 else byte) text
 
 -- with the content in place of the sign and the name of the file
-abbrev pub content_at : (command file content : List ℕ) → (sign : Option ℕ) → List ℕ
-content_at command file content (Some sign) = take sign command ++ on_one_line content ++ drop (sign + 1 + length file) command
-content_at command file content None = command
-
 abbrev pub with_content : (command file content : List ℕ) → List ℕ
-with_content command file content = content_at command file content (sign_position command file)
+with_content command file content =
+    option_map_or (λ sign. take sign command ++ on_one_line content ++ drop (sign + 1 + length file) command)
+    (sign_position command file) command
 
 -- the command of the edge of a number
 abbrev pub command_with_rsp_of : List ReadStatement → (number : ℕ) → List ℕ

@@ -1,5 +1,5 @@
 -- The target that a word of the command line means.
-use Rattle.std.specs.Prelude.{◌≡◌, ◌⊎◌, ◌-◌, ℕ, if◌then◌else◌, Option, Some, None, option_and_then, Result, Ok, Err, List, drop, take, length, slice_get, codes, bytes_eq}
+use Rattle.std.specs.Prelude.{◌≡◌, ◌⊎◌, ◌-◌, ℕ, if◌then◌else◌, Option, Some, option_and_then, ok_or, Result, Ok, Err, List, drop, take, length, slice_get, codes, bytes_eq}
 use Rattle.nj_text.specs.Calls.{is_empty}
 use Rattle.nj_text.specs.Paths.{clean_path_of}
 use Rattle.nj_edges.specs.declared.files.FileNo.{FileNo}
@@ -16,13 +16,9 @@ target edges path = if is_named edges path then Ok path else Err (unplaced (Unkn
 abbrev pub first_made_of : List EdgePaths → (path : List ℕ) → Option (List ℕ)
 first_made_of edges path = option_and_then (λ number. first_output (edge_at edges number)) (slice_get (users_of edges path) 0)
 
-abbrev pub or_no_out_edge : (path : List ℕ) → Option (List ℕ) → Result (List ℕ) GraphFault
-or_no_out_edge path None = Err (unplaced (NoOutEdge path))
-or_no_out_edge path (Some made) = Ok made
-
 abbrev pub made_target : List EdgePaths → (path : List ℕ) → Result (List ℕ) GraphFault
 made_target edges path =
-    if is_named edges path then or_no_out_edge path (first_made_of edges path) else Err (unplaced (UnknownTarget path))
+    if is_named edges path then ok_or (first_made_of edges path) (unplaced (NoOutEdge path)) else Err (unplaced (UnknownTarget path))
 
 -- A `^` at the end of a clean path asks for what is made of the file; it is not part of the path.
 abbrev pub clean_target : List EdgePaths → (path : List ℕ) → Result (List ℕ) GraphFault

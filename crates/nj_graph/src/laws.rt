@@ -1,6 +1,9 @@
 //! Laws of the reading of files.
 
+ghost use Rattle.nj_scope.specs.Laws.{IsInReadingOrder};
+ghost use Rattle.nj_scope.specs.ReadingList.{gathered};
 ghost use Rattle.nj_graph.specs.Joining.{JoinedStaysJoined};
+ghost use Rattle.nj_graph.specs.Origins.{rule_place_given, pool_detail_given, opening_given};
 ghost use Rattle.nj_graph.specs.Laws.{ReadIsFaultless, OpenFilesAreBounded, OpeningsAreBounded, OthersAreNotRead, MainRulesRise, LaterBindingsCount, LaterBindingsChangeNoEdge};
 ghost use Rattle.nj_graph.specs.Laws.{StatementsAreFoundInTurn, EntriesAreFoundInTurn, FirstPositionIsFirst, SignIsBeforeTheFirst, WordsMeanPaths, EmptyWordMeansNothing};
 
@@ -14,6 +17,15 @@ pub fn statements_up_to_the_first_fault()
     ensures openings { OpeningsAreBounded }
     ensures others { OthersAreNotRead }
     ensures rules { MainRulesRise }
+{}
+
+/// The places of rules, the places and depths of pools, and the files that statements open, in
+/// reading order: the k-th is that of the k-th such statement, by the statements before it, and
+/// there are no others. Before them come `phony`, which has no place, and the main file.
+pub fn origins_by_reading_order()
+    ensures rules { IsInReadingOrder rule_place_given (gathered rule_place_given) }
+    ensures pools { IsInReadingOrder pool_detail_given (gathered pool_detail_given) }
+    ensures openings { IsInReadingOrder opening_given (gathered opening_given) }
 {}
 
 /// A value that a file binds after the statement of an edge affects the command of the edge, and

@@ -27,7 +27,8 @@ pub use graph::{Graph, rules_by_name};
 pub use joining::join_dyndeps;
 pub use laws::{
     bindings_after_an_edge, items_are_found_in_turn, joined_dyndeps_stay_joined,
-    sign_before_the_first_name, statements_up_to_the_first_fault, words_mean_targets,
+    origins_by_reading_order, sign_before_the_first_name, statements_up_to_the_first_fault,
+    words_mean_targets,
 };
 pub use loading::{Loaded, load};
 pub use nj_edges::{EdgeGraph, EdgeNo, EdgeNumbers, FileNo, FileNumbers, Kind};

@@ -1,13 +1,15 @@
 -- What is held after one statement more.
-use Rattle.std.proofs.Common.{◌≡◌, ℕ, ◌+◌, Bool, true, false, ◌&&◌, ◌==◌, if◌then◌else◌, List, [], ◌∷◌, ◌++◌, map, length, Option, Some, None, unwrap_or, bytes_eq, Result, Ok, Err, OnOk, OnErr, IfOk, refl, sym, ap, ◌∙◌, add-zero, true≢false}
-use Rattle.std.specs.Option.{option_or}
+use Rattle.std.proofs.Common.{◌≡◌, ℕ, ◌+◌, Bool, true, false, ◌&&◌, ◌==◌, if◌then◌else◌, List, [], ◌∷◌, ◌++◌, map, length, Option, Some, None, unwrap_or, bytes_eq, Result, Ok, Err, OnOk, OnErr, IfOk, refl, sym, ap, ◌∙◌, true≢false}
+use Rattle.std.specs.Option.{option_or, option_map_or}
+use Rattle.std.specs.List.{push}
+use Rattle.std.proofs.lemmas.List.{length_push}
 use Rattle.nj_text.specs.Words.{PartText, Text, Name, WordText}
 use Rattle.nj_manifest.specs.LineSteps.{NameText}
 use Rattle.nj_manifest.specs.Statements.{LineText, OutputsText, InputsText, StatementText, BindingText, RuleText, PoolText, BuildText, DefaultText, IncludeText, SubninjaText}
 use Rattle.nj_scope.specs.Rules.{line_kept, phony_rule}
-use Rattle.nj_scope.specs.Scopes.{nearest, Bounds, value_in, expanded, bound_at, rule_at}
+use Rattle.nj_scope.specs.Scopes.{first_given, Bounds, value_in, expanded, bound_at, rule_at}
 use Rattle.nj_scope.specs.Declarations.{DeclarationsText, DeclaredBy, TakesIn}
-use Rattle.nj_scope.specs.ReadingList.{ReadStatement, scope_of, binds, declares, bounds, rules, with_rule, rules_read, with_pool, pools, opens_scope, scopes_opened, value_after, value_if_bound}
+use Rattle.nj_scope.specs.ReadingList.{ReadStatement, scope_of, binds, declares, bounds, rules, rule_given, rules_read, pool_given, pools, scope_given, gathered, scopes_opened, value_after, value_if_bound}
 
 pub at_ok : {X Y P Q : Type 0} (r : Result X Y) → OnOk r P → (P → Q) → OnOk r Q
 at_ok (Ok x) h then_so = then_so h
@@ -23,9 +25,9 @@ if_ok (Err e) h then_so = tt
 
 -- ---- the same values from the same bindings
 
-nearest-same : {X : Type 0} (f g : ℕ → Option X) → ((n : ℕ) → f n ≡ g n) → (scope : List ℕ) → nearest f scope ≡ nearest g scope
+nearest-same : {X : Type 0} (f g : ℕ → Option X) → ((n : ℕ) → f n ≡ g n) → (scope : List ℕ) → first_given f scope ≡ first_given g scope
 nearest-same f g same [] = refl
-nearest-same f g same (s ∷ around) = ap (λ o. option_or o (nearest f around)) (same s) ∙ ap (option_or (g s)) (nearest-same f g same around)
+nearest-same f g same (s ∷ around) = ap (λ o. option_or o (first_given f around)) (same s) ∙ ap (option_or (g s)) (nearest-same f g same around)
 
 value-same : (f g : Bounds) → ((n : ℕ) (name : List ℕ) → f n name ≡ g n name) → (scope name : List ℕ) → value_in f scope name ≡ value_in g scope name
 value-same f g same scope name = ap (λ o. unwrap_or o []) (nearest-same (λ s. f s name) (λ s. g s name) (λ s. same s name) scope)
@@ -72,7 +74,7 @@ module _ (held after : DeclarationsText) (entries : List ReadStatement) (e : Rea
   with-binding is bound declared count same_rules same_pools = record {
     bound = bound-after is bound;
     declared = declared-after declared;
-    scopes = count ∙ follows.scopes ∙ sym (add-zero (scopes_opened entries));
+    scopes = count ∙ follows.scopes;
     rules = same_rules ∙ follows.rules;
     pools = same_pools ∙ follows.pools;
   }
@@ -107,7 +109,7 @@ module _ (held after : DeclarationsText) (entries : List ReadStatement) (e : Rea
     bound = λ n x. bound n x ∙ follows.bound n x ∙ sym (bounds-kept (record e { item = RuleText name lines }) entries (λ value y. refl) n x);
     declared = λ n x. declared n x ∙ ap (λ o. if n == e.number && bytes_eq x name.name then Some (length held.rules) else o) (follows.declared n x)
         ∙ ap (λ r. if n == e.number && bytes_eq x name.name then Some (length r) else rules entries n x) follows.rules ∙ by n x (n == e.number && bytes_eq x name.name);
-    scopes = count ∙ follows.scopes ∙ sym (add-zero (scopes_opened entries));
+    scopes = count ∙ follows.scopes;
     rules = one_more ∙ ap (λ r. r ++ record { scope = e.number; name = name.name; lines = map line_kept lines } ∷ []) follows.rules;
     pools = same_pools ∙ follows.pools;
   }
@@ -124,7 +126,7 @@ module _ (held after : DeclarationsText) (entries : List ReadStatement) (e : Rea
   with-pool same_scopes same_rules one_more = record {
     bound = λ n x. ap (λ ss. bound_at ss n x) same_scopes ∙ follows.bound n x ∙ sym (bounds-kept (record e { item = PoolText name lines }) entries (λ value y. refl) n x);
     declared = λ n x. ap (λ ss. rule_at ss n x) same_scopes ∙ follows.declared n x ∙ sym (rules-kept (record e { item = PoolText name lines }) entries (λ y. refl) n x);
-    scopes = ap length same_scopes ∙ follows.scopes ∙ sym (add-zero (scopes_opened entries));
+    scopes = ap length same_scopes ∙ follows.scopes;
     rules = same_rules ∙ follows.rules;
     pools = one_more ∙ ap (λ ps. ps ++ name.name ∷ []) follows.pools;
   }
@@ -138,7 +140,7 @@ module _ (held after : DeclarationsText) (entries : List ReadStatement) (e : Rea
   with-subninja bound declared count same_rules same_pools = record {
     bound = λ n x. bound n x ∙ follows.bound n x ∙ sym (bounds-kept (record e { item = SubninjaText word }) entries (λ value y. refl) n x);
     declared = λ n x. declared n x ∙ follows.declared n x ∙ sym (rules-kept (record e { item = SubninjaText word }) entries (λ y. refl) n x);
-    scopes = count ∙ ap (λ n. n + 1) follows.scopes;
+    scopes = count ∙ ap (λ n. n + 1) (follows.scopes ∙ sym (length_push (gathered scope_given entries) e.number));
     rules = same_rules ∙ follows.rules;
     pools = same_pools ∙ follows.pools;
   }
@@ -149,14 +151,14 @@ abbrev with_item : ReadStatement → StatementText → ReadStatement
 with_item e item = record e { item = item }
 
 nothing-more : (held : DeclarationsText) (entries : List ReadStatement) (e : ReadStatement) (item : StatementText) → ((value : List ℕ → List ℕ) (x : List ℕ) → binds value item x ≡ None) → ((x : List ℕ) → declares item x ≡ false)
-    → opens_scope item ≡ 0 → with_rule e.number item (rules_read entries) ≡ rules_read entries → with_pool item (pools entries) ≡ pools entries
+    → scope_given e entries item ≡ None → rule_given e entries item ≡ None → pool_given e entries item ≡ None
     → DeclaredBy held entries → DeclaredBy held (record e { item = item } ∷ entries)
-nothing-more held entries e item no_value no_rule no_scope same_rules same_pools by = record {
+nothing-more held entries e item no_value no_rule no_scope none_given no_pool by = record {
   bound = λ n x. by.bound n x ∙ sym (bounds-kept (with_item e item) entries no_value n x);
   declared = λ n x. by.declared n x ∙ sym (rules-kept (with_item e item) entries no_rule n x);
-  scopes = by.scopes ∙ sym (add-zero (scopes_opened entries)) ∙ ap (λ k. scopes_opened entries + k) (sym no_scope);
-  rules = by.rules ∙ sym same_rules;
-  pools = by.pools ∙ sym same_pools;
+  scopes = by.scopes ∙ ap (λ o. length (option_map_or (push (gathered scope_given entries)) o (gathered scope_given entries)) + 1) (sym no_scope);
+  rules = by.rules ∙ ap (λ o. phony_rule ∷ option_map_or (push (gathered rule_given entries)) o (gathered rule_given entries)) (sym none_given);
+  pools = by.pools ∙ ap (λ o. option_map_or (push (pools entries)) o (pools entries)) (sym no_pool);
 }
 
 module _ (held : DeclarationsText) (number : ℕ) (around : List ℕ) where
@@ -184,11 +186,11 @@ pub name-listed : (held : DeclarationsText) (entries : List ReadStatement) → D
 name-listed held entries follows scope name = value-same (bound_at held.scopes) (bounds entries) follows.bound scope name
 
 pub name-seen : (held : DeclarationsText) (entries : List ReadStatement) → DeclaredBy held entries → (scope name : List ℕ)
-    → nearest (λ s. bound_at held.scopes s name) scope ≡ value_if_bound entries scope name
+    → first_given (λ s. bound_at held.scopes s name) scope ≡ value_if_bound entries scope name
 name-seen held entries follows scope name = nearest-same (λ s. bound_at held.scopes s name) (λ s. bounds entries s name) (λ s. follows.bound s name) scope
 
 pub rule-listed : (held : DeclarationsText) (entries : List ReadStatement) → DeclaredBy held entries → (scope name : List ℕ)
-    → nearest (λ s. rule_at held.scopes s name) scope ≡ nearest (λ s. rules entries s name) scope
+    → first_given (λ s. rule_at held.scopes s name) scope ≡ first_given (λ s. rules entries s name) scope
 rule-listed held entries follows scope name = nearest-same (λ s. rule_at held.scopes s name) (λ s. rules entries s name) (λ s. follows.declared s name) scope
 
 -- ---- at the front

@@ -2,35 +2,23 @@
 use Rattle.std.proofs.Common.{◌≡◌, ◌⊎◌, ℕ, suc, ◌<◌, Bool, true, false, ◌&&◌, ◌==◌, if◌then◌else◌, List, [], ◌∷◌, ◌++◌, map, length, Option, Some, None, unwrap_or, is_some, slice_get, bytes_eq, refl, sym, ap, ◌∙◌, true≢false, inl, inr, arith, eqb-true, IfSome, subst}
 use Rattle.std.specs.Option.{option_or}
 use Rattle.std.specs.List.{Contains}
-use Rattle.std.proofs.lemmas.List.{length-append}
-use Rattle.std.proofs.lemmas.Option.{slice_get_within, slice_get-get_or, get_or_from_slice_get}
+use Rattle.std.proofs.lemmas.Option.{slice_get_within}
 use Rattle.std.proofs.lemmas.Slice.Eq.{bytes_eq-Decides}
-use Rattle.std.proofs.Math.ListN.{get_or-append}
-use Rattle.std.proofs.Math.Seq.{get_or-append_seam}
 use Rattle.nj_manifest.specs.Statements.{StatementText, BindingText, RuleText, PoolText, BuildText, DefaultText, IncludeText, SubninjaText}
 use Rattle.nj_scope.specs.Rules as kept
 use Rattle.nj_scope.specs.Rules.{line_kept, phony, phony_rule}
-use Rattle.nj_scope.specs.Scopes.{nearest, rule_at}
+use Rattle.nj_scope.specs.Scopes.{first_given, rule_at}
 use Rattle.nj_scope.specs.Declarations.{DeclarationsText, DeclaredBy}
 use Rattle.nj_scope.specs.Laws.{InForceIsDeclared}
-use Rattle.nj_scope.specs.ReadingList.{ReadStatement, with_rule, rules_read, rules}
+use Rattle.nj_scope.specs.ReadingList.{ReadStatement, rules_read, rules}
 use Rattle.nj_scope.proofs.DeclarationLemmas.{rules-kept, rule-listed}
+use Rattle.nj_scope.proofs.Gathering.{get-old, get-last}
 
 some_same : {X : Type 0} {x y : X} → Some x ≡ Some y → x ≡ y
 some_same {x = x} h = ap (λ o. unwrap_or o x) h
 
 none_some : {X P : Type 0} {x : X} → None ≡ Some x → P
 none_some h = absurd (true≢false (ap is_some (sym h)))
-
--- ---- one rule more
-
-get-old : {X : Type 0} (xs : List X) (y : X) (n : ℕ) (x : X) → slice_get xs n ≡ Some x → slice_get (xs ++ y ∷ []) n ≡ Some x
-get-old xs y n x h =
-    let within : n < length xs = slice_get_within xs n x h in
-    slice_get-get_or (xs ++ y ∷ []) n x (simp length-append (omega arith)) ∙ ap Some (get_or-append xs (y ∷ []) x n within ∙ get_or_from_slice_get xs n x x h)
-
-get-last : {X : Type 0} (xs : List X) (y : X) → slice_get (xs ++ y ∷ []) (length xs) ≡ Some y
-get-last xs y = slice_get-get_or (xs ++ y ∷ []) (length xs) y (simp length-append (omega arith)) ∙ ap Some (get_or-append_seam xs y [] y)
 
 -- ---- what a scope itself declares
 
@@ -44,7 +32,7 @@ found-old : (strings : List kept.RuleText) (more : kept.RuleText) (scope : ℕ) 
 found-old strings more scope name number f = record { rule = f.rule; there = get-old strings more number f.rule f.there; its_scope = f.its_scope; its_name = f.its_name }
 
 found-more : (before : List ReadStatement) (e : ReadStatement) (item : StatementText) (scope : ℕ) (name : List ℕ) (number : ℕ) → (rules before scope name ≡ Some number → Found (rules_read before) scope name number)
-    → rules (record e { item = item } ∷ before) scope name ≡ Some number → Found (with_rule e.number item (rules_read before)) scope name number
+    → rules (record e { item = item } ∷ before) scope name ≡ Some number → Found (rules_read (record e { item = item } ∷ before)) scope name number
 found-more before e (RuleText declared lines) scope name number rest h = by (scope == e.number) (bytes_eq name declared.name) (eqb-true scope e.number) (bytes_eq-Decides name declared.name).0 h
   where
     by : (a b : Bool) → (a ≡ true → scope ≡ e.number) → (b ≡ true → name ≡ declared.name)
@@ -72,30 +60,20 @@ found (e ∷ before) scope name number h = found-more before e e.item scope name
 
 -- ---- the nearest
 
-nearest-own : (own : ℕ → Option ℕ) (scope : List ℕ) (number : ℕ) → nearest own scope ≡ Some number → (s : ℕ) × Contains scope s × (own s ≡ Some number)
+nearest-own : (own : ℕ → Option ℕ) (scope : List ℕ) (number : ℕ) → first_given own scope ≡ Some number → (s : ℕ) × Contains scope s × (own s ≡ Some number)
 nearest-own own [] number h = none_some h
 nearest-own own (s ∷ around) number h = by (own s) (nearest-own own around number) refl h
   where
     farther : (t : ℕ) × Contains around t × (own t ≡ Some number) → (t : ℕ) × Contains (s ∷ around) t × (own t ≡ Some number)
     farther (t, (k, within, is), owns) = (t, (suc k, omega arith, is), owns)
 
-    by : (o : Option ℕ) → (nearest own around ≡ Some number → (t : ℕ) × Contains around t × (own t ≡ Some number)) → own s ≡ o → option_or o (nearest own around) ≡ Some number
+    by : (o : Option ℕ) → (first_given own around ≡ Some number → (t : ℕ) × Contains around t × (own t ≡ Some number)) → own s ≡ o → option_or o (first_given own around) ≡ Some number
         → (t : ℕ) × Contains (s ∷ around) t × (own t ≡ Some number)
     by None rest is h = farther (rest h)
     by (Some n) rest is h = (s, (0, omega arith, refl), is ∙ h)
 
-phony-kept : (number : ℕ) (item : StatementText) (strings : List kept.RuleText) → slice_get strings 0 ≡ Some phony_rule → slice_get (with_rule number item strings) 0 ≡ Some phony_rule
-phony-kept number (RuleText declared lines) strings h = get-old strings (record { scope = number; name = declared.name; lines = map line_kept lines }) 0 phony_rule h
-phony-kept number (BindingText bound word) strings h = h
-phony-kept number (PoolText declared lines) strings h = h
-phony-kept number (BuildText outputs rule inputs lines) strings h = h
-phony-kept number (DefaultText words) strings h = h
-phony-kept number (IncludeText word) strings h = h
-phony-kept number (SubninjaText word) strings h = h
-
 pub phony-there : (entries : List ReadStatement) → slice_get (rules_read entries) 0 ≡ Some phony_rule
-phony-there [] = refl
-phony-there (e ∷ before) = phony-kept e.number e.item (rules_read before) (phony-there before)
+phony-there entries = refl
 
 pub in_force : InForceIsDeclared
 in_force entries scope name number h = by (bytes_eq name phony) (bytes_eq-Decides name phony).0 h
@@ -106,7 +84,7 @@ in_force entries scope name number h = by (bytes_eq name phony) (bytes_eq-Decide
         let f : Found (rules_read entries) s name number = found entries s name number owns in
         (f.rule, f.there, f.its_name, inr (subst (λ t. Contains scope t) (sym f.its_scope) among))
 
-    by : (b : Bool) → (b ≡ true → name ≡ phony) → (if b then Some 0 else nearest (λ s. rules entries s name) scope) ≡ Some number
+    by : (b : Bool) → (b ≡ true → name ≡ phony) → (if b then Some 0 else first_given (λ s. rules entries s name) scope) ≡ Some number
         → (rule : kept.RuleText) × (slice_get (rules_read entries) number ≡ Some rule) × (rule.name ≡ name) × ((rule ≡ phony_rule) ⊎ Contains scope rule.scope)
     by true named h = (phony_rule, ap (slice_get (rules_read entries)) (sym (some_same h)) ∙ phony-there entries, sym (named refl), inl refl)
     by false named h = of_scope (nearest-own (λ s. rules entries s name) scope number h)
@@ -116,14 +94,14 @@ in_force entries scope name number h = by (bytes_eq name phony) (bytes_eq-Decide
 pub phony-within : (held : DeclarationsText) (entries : List ReadStatement) → DeclaredBy held entries → 0 < length held.rules
 phony-within held entries by = subst (λ rs. 0 < length rs) (sym by.rules) (slice_get_within (rules_read entries) 0 phony_rule (phony-there entries))
 
-pub nearest-within : (held : DeclarationsText) (entries : List ReadStatement) → DeclaredBy held entries → (scope name : List ℕ) → IfSome (nearest (λ s. rule_at held.scopes s name) scope) (λ n. n < length held.rules)
-nearest-within held entries by scope name = at (nearest (λ s. rule_at held.scopes s name) scope) (sym (rule-listed held entries by scope name))
+pub nearest-within : (held : DeclarationsText) (entries : List ReadStatement) → DeclaredBy held entries → (scope name : List ℕ) → IfSome (first_given (λ s. rule_at held.scopes s name) scope) (λ n. n < length held.rules)
+nearest-within held entries by scope name = at (first_given (λ s. rule_at held.scopes s name) scope) (sym (rule-listed held entries by scope name))
   where
     found-within : (number : ℕ) → (s : ℕ) × Contains scope s × (rules entries s name ≡ Some number) → number < length held.rules
     found-within number (s, among, owns) =
         let f : Found (rules_read entries) s name number = found entries s name number owns in
         subst (λ rs. number < length rs) (sym by.rules) (slice_get_within (rules_read entries) number f.rule f.there)
 
-    at : (o : Option ℕ) → nearest (λ s. rules entries s name) scope ≡ o → IfSome o (λ n. n < length held.rules)
+    at : (o : Option ℕ) → first_given (λ s. rules entries s name) scope ≡ o → IfSome o (λ n. n < length held.rules)
     at None is = tt
     at (Some n) is = found-within n (nearest-own (λ s. rules entries s name) scope n is)

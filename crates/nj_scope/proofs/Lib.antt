@@ -1,3 +1,4 @@
+pub mod Gathering
 pub mod InForce
 pub mod LateLemmas
 pub mod LimitRows

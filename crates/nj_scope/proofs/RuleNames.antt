@@ -10,7 +10,7 @@ use Rattle.std.proofs.lemmas.Map.Keys.{IsDistinct-push}
 use Rattle.nj_manifest.specs.Statements.{StatementText, BindingText, RuleText, PoolText, BuildText, DefaultText, IncludeText, SubninjaText}
 use Rattle.nj_scope.specs.Rules as kept
 use Rattle.nj_scope.specs.Rules.{rule_names, line_kept, phony, phony_rule}
-use Rattle.nj_scope.specs.ReadingList.{ReadStatement, with_rule, rules_read, declares, rules, is_declared}
+use Rattle.nj_scope.specs.ReadingList.{ReadStatement, rules_read, declares, rules, is_declared}
 use Rattle.nj_scope.proofs.NewRules.{RuleIsNew, EachRuleIsNew}
 use Rattle.nj_scope.proofs.DeclarationLemmas.{rules-kept}
 use Rattle.nj_scope.proofs.RuleLemmas.{or_false}
@@ -62,7 +62,7 @@ module _ (before : List ReadStatement) (e : ReadStatement) (number : ℕ) (name 
 
 listed-more : (before : List ReadStatement) (number : ℕ) (e : ReadStatement) (item : StatementText) (name : List ℕ)
     → is_declared (rules before number name) name ≡ names_have (rules_read before) number name
-    → is_declared (rules (record e { item = item } ∷ before) number name) name ≡ names_have (with_rule e.number item (rules_read before)) number name
+    → is_declared (rules (record e { item = item } ∷ before) number name) name ≡ names_have (rules_read (record e { item = item } ∷ before)) number name
 listed-more before number e (RuleText declared lines) name rest =
     taken-push (bytes_eq name phony) (number == e.number && bytes_eq name declared.name) (length (rules_read before)) (rules before number name)
     ∙ ap (λ b. b || (number == e.number && bytes_eq name declared.name)) rest
@@ -101,17 +101,17 @@ distinct-more before r number new distinct = subst (IsDistinct bytes_eq) (sym (n
     by true same = IsDistinct-push nat_list_eq_equiv (rule_names before number) r.name distinct (new (same refl))
     by false same = subst (IsDistinct bytes_eq) (sym (append-nil (rule_names before number))) distinct
 
-distinct-with : (before : List ReadStatement) (number m : ℕ) (item : StatementText) → RuleIsNew before m item → IsDistinct bytes_eq (rule_names (rules_read before) number) → IsDistinct bytes_eq (rule_names (with_rule m item (rules_read before)) number)
-distinct-with before number m (RuleText declared lines) is_new rest =
-    distinct-more (rules_read before) (record { scope = m; name = declared.name; lines = map line_kept lines }) number
+distinct-with : (before : List ReadStatement) (number : ℕ) (e : ReadStatement) (item : StatementText) → RuleIsNew before e.number item → IsDistinct bytes_eq (rule_names (rules_read before) number) → IsDistinct bytes_eq (rule_names (rules_read (record e { item = item } ∷ before)) number)
+distinct-with before number e (RuleText declared lines) is_new rest =
+    distinct-more (rules_read before) (record { scope = e.number; name = declared.name; lines = map line_kept lines }) number
     (λ same. or_false (bytes_eq declared.name phony) (list_any (bytes_eq declared.name) (rule_names (rules_read before) number))
     (sym (is_declared-listed before number declared.name) ∙ ap (λ n. is_declared (rules before n declared.name) declared.name) same ∙ is_new)) rest
-distinct-with before number m (BindingText bound word) is_new rest = rest
-distinct-with before number m (PoolText declared lines) is_new rest = rest
-distinct-with before number m (BuildText outputs rule inputs lines) is_new rest = rest
-distinct-with before number m (DefaultText words) is_new rest = rest
-distinct-with before number m (IncludeText word) is_new rest = rest
-distinct-with before number m (SubninjaText word) is_new rest = rest
+distinct-with before number e (BindingText bound word) is_new rest = rest
+distinct-with before number e (PoolText declared lines) is_new rest = rest
+distinct-with before number e (BuildText outputs rule inputs lines) is_new rest = rest
+distinct-with before number e (DefaultText words) is_new rest = rest
+distinct-with before number e (IncludeText word) is_new rest = rest
+distinct-with before number e (SubninjaText word) is_new rest = rest
 
 -- Where each rule was new, no two rules of a scope have one name, and none is called `phony`.
 pub names-distinct : (entries : List ReadStatement) → EachRuleIsNew entries → (number : ℕ) → IsDistinct bytes_eq (rule_names (rules_read entries) number)
@@ -121,4 +121,4 @@ names-distinct [] new number = by (number == 0)
     by : (own : Bool) → IsDistinct bytes_eq (map (λ r. r.name) (cond own (phony_rule ∷ []) []))
     by true = (tt, tt)
     by false = tt
-names-distinct (e ∷ before) new number = distinct-with before number e.number e.item new.0 (names-distinct before new.1 number)
+names-distinct (e ∷ before) new number = distinct-with before number e e.item new.0 (names-distinct before new.1 number)

@@ -4,7 +4,7 @@ use Rattle.std.specs.Option.{option_or}
 use Rattle.std.proofs.lemmas.Slice.Eq.{bytes_eq-Decides}
 use Rattle.std.proofs.lemmas.Bool.{eq-eqb}
 use Rattle.nj_manifest.specs.Statements.{StatementText, BindingText, RuleText, PoolText, BuildText, DefaultText, IncludeText, SubninjaText}
-use Rattle.nj_scope.specs.Scopes.{value_in, nearest, expanded}
+use Rattle.nj_scope.specs.Scopes.{value_in, first_given, expanded}
 use Rattle.nj_scope.specs.Laws.{binds_name, NoneBinds, LastBindingCounts, OthersAreInherited, OthersKeepTheirs}
 use Rattle.nj_scope.specs.ReadingList.{ReadStatement, scope_of, binds, binds_in, bounds, value_after}
 
@@ -35,7 +35,7 @@ passed (e ∷ after) before number name none =
 pub last_counts : LastBindingCounts
 unfolding bounds
 last_counts after before e name word is none = subst (λ item. value_after (after ++ record e { item = item } ∷ before) (scope_of e) name ≡ expanded (value_after before (scope_of e)) word.parts) (sym is) (
-    ap (λ o. unwrap_or (option_or o (nearest (λ s. bounds (after ++ record e { item = BindingText name word } ∷ before) s name) e.around)) [])
+    ap (λ o. unwrap_or (option_or o (first_given (λ s. bounds (after ++ record e { item = BindingText name word } ∷ before) s name) e.around)) [])
     (passed after (record e { item = BindingText name word } ∷ before) e.number name none
     ∙ ap (λ b. option_or (if b then (if bytes_eq name name then Some (expanded (value_in (bounds before) (scope_of e)) word.parts) else None) else None) (bounds before e.number name)) (eq-eqb e.number e.number refl)
     ∙ ap (λ b. option_or (if b then Some (expanded (value_in (bounds before) (scope_of e)) word.parts) else None) (bounds before e.number name)) ((bytes_eq-Decides name name).1 refl)))
@@ -47,7 +47,7 @@ unbound (e ∷ before) number name none =
     ap (λ o. option_or o (bounds before number name)) (none_here e number name (value_in (bounds before) (scope_of e)) none.0) ∙ unbound before number name none.1
 
 pub inherited : OthersAreInherited
-inherited entries number around name none = ap (λ o. unwrap_or (option_or o (nearest (λ s. bounds entries s name) around)) []) (unbound entries number name none)
+inherited entries number around name none = ap (λ o. unwrap_or (option_or o (first_given (λ s. bounds entries s name) around)) []) (unbound entries number name none)
 
 pub kept : OthersKeepTheirs
 unfolding bounds

@@ -1,5 +1,5 @@
--- Laws of the values of names, in the words of Ninja's manual.
-use Rattle.std.specs.Prelude.{◌≡◌, ◌⊎◌, ℕ, Bool, false, ◌&&◌, ◌==◌, Some, List, [], ◌∷◌, ◌++◌, slice_get, bytes_eq}
+-- Laws of what statements give, in the words of Ninja's manual.
+use Rattle.std.specs.Prelude.{◌≡◌, ◌⊎◌, ℕ, ◌+◌, Bool, false, ◌&&◌, ◌==◌, if◌then◌else◌, Option, Some, is_some, List, [], ◌∷◌, ◌++◌, length, slice_get, bytes_eq}
 use Rattle.std.specs.List.{Contains}
 use Rattle.nj_text.specs.Words.{WordText}
 use Rattle.nj_manifest.specs.Statements.{StatementText, BindingText}
@@ -38,3 +38,19 @@ abbrev pub InForceIsDeclared : Type 0
 InForceIsDeclared = (entries : List ReadStatement) (scope name : List ℕ) (number : ℕ) → rule_in_force entries scope name ≡ Some number
     → (rule : kept.RuleText) × (slice_get (rules_read entries) number ≡ Some rule) × (rule.name ≡ name)
     × ((rule ≡ phony_rule) ⊎ Contains scope rule.scope)
+
+-- ---- lists of what statements give
+
+-- how many of the statements give something
+abbrev pub givers : {A : Type 0} → (given : ReadStatement → List ReadStatement → StatementText → Option A) → List ReadStatement → ℕ
+givers given [] = 0
+givers given (e ∷ before) = givers given before + (if is_some (given e before e.item) then 1 else 0)
+
+-- The k-th of the list is what the k-th statement that gives something gives, by the statements before it.
+pub record IsInReadingOrder {A : Type 0} (given : ReadStatement → List ReadStatement → StatementText → Option A)
+    (list : List ReadStatement → List A) : Type 0 where
+  -- there are as many as statements that give something
+  pub count : (entries : List ReadStatement) → length (list entries) ≡ givers given entries
+  -- what a statement gives has the number of such statements before it
+  pub each : (after before : List ReadStatement) (e : ReadStatement) (x : A) → given e before e.item ≡ Some x
+      → slice_get (list (after ++ e ∷ before)) (givers given before) ≡ Some x

@@ -1,11 +1,13 @@
 -- The statements of a run in reading order, and the values of names, the rules and the pools before one of them.
-use Rattle.std.specs.Prelude.{ℕ, ◌+◌, Bool, false, ◌&&◌, ◌==◌, Option, Some, None, List, [], ◌∷◌, ◌++◌, map, length, bytes_eq, is_some, ◌||◌, if◌then◌else◌}
-use Rattle.std.specs.Option.{option_or}
+use Rattle.std.specs.Prelude.{ℕ, ◌+◌, Bool, false, ◌&&◌, ◌==◌, Option, Some, None, List, [], ◌∷◌, map, length, bytes_eq, is_some, ◌||◌, if◌then◌else◌}
+use Rattle.std.specs.Option.{option_or, option_map_or}
+use Rattle.std.specs.List.{push}
+use Rattle.nj_text.specs.Words.{WordText}
 use Rattle.nj_text.specs.declared.spot.Spot.{Spot}
 use Rattle.nj_scope.specs.Rules as kept
 use Rattle.nj_scope.specs.Rules.{line_kept, phony, phony_rule}
 use Rattle.nj_manifest.specs.Statements.{StatementText, BindingText, RuleText, PoolText, IncludeText, SubninjaText}
-use Rattle.nj_scope.specs.Scopes.{nearest, Bounds, value_in, expanded}
+use Rattle.nj_scope.specs.Scopes.{first_given, Bounds, value_in, expanded}
 
 -- What a dyndep file adds to a build statement ("Dynamic Dependencies" in the manual): outputs and inputs, by their clean paths.
 pub record Discovered : Type 0 where
@@ -54,18 +56,28 @@ value_after entries scope name = value_in (bounds entries) scope name
 
 -- the same, where `None` means that neither the scope nor one around it binds the name
 abbrev pub value_if_bound : List ReadStatement → (scope name : List ℕ) → Option (List ℕ)
-value_if_bound entries scope name = nearest (λ s. bounds entries s name) scope
+value_if_bound entries scope name = first_given (λ s. bounds entries s name) scope
+
+-- a word that is expanded in a scope, by the statements before it, the last read first
+abbrev pub expanded_in : (scope : List ℕ) → (before : List ReadStatement) → WordText → List ℕ
+expanded_in scope before word = expanded (value_after before scope) word.parts
+
+-- ---- lists of what statements give
+
+-- What each statement that gives something gives, in reading order. It gives that by the statements before it, the last read first.
+abbrev pub gathered : {A : Type 0} → (given : ReadStatement → List ReadStatement → StatementText → Option A) → List ReadStatement → List A
+gathered given [] = []
+gathered given (e ∷ before) = let others = gathered given before in option_map_or (push others) (given e before e.item) others
 
 -- ---- rules
 
--- the rules in the order of their numbers: `phony`, and then those that were declared, in their order
-abbrev pub with_rule : (number : ℕ) → StatementText → List kept.RuleText → List kept.RuleText
-with_rule number (RuleText name lines) before = before ++ record { scope = number; name = name.name; lines = map line_kept lines } ∷ []
-with_rule number item before = before
+abbrev pub rule_given : ReadStatement → (before : List ReadStatement) → StatementText → Option kept.RuleText
+rule_given e before (RuleText name lines) = Some (record { scope = e.number; name = name.name; lines = map line_kept lines })
+rule_given e before item = None
 
+-- the rules in the order of their numbers: `phony`, and then those that were declared, in their order
 abbrev pub rules_read : List ReadStatement → List kept.RuleText
-rules_read [] = phony_rule ∷ []
-rules_read (e ∷ before) = with_rule e.number e.item (rules_read before)
+rules_read entries = phony_rule ∷ gathered rule_given entries
 
 abbrev pub declares : StatementText → (name : List ℕ) → Bool
 declares (RuleText declared lines) name = bytes_eq name declared.name
@@ -84,36 +96,35 @@ is_declared own name = bytes_eq name phony || is_some own
 -- The number of the rule that is in force under a name in a scope, after these statements: of `phony` 0, of another name that
 -- of the nearest scope which declares a rule under it.
 abbrev pub rule_in_force : List ReadStatement → (scope name : List ℕ) → Option ℕ
-rule_in_force entries scope name = if bytes_eq name phony then Some 0 else nearest (λ s. rules entries s name) scope
+rule_in_force entries scope name = if bytes_eq name phony then Some 0 else first_given (λ s. rules entries s name) scope
 
 -- ---- pools
 
-abbrev pub with_pool : StatementText → List (List ℕ) → List (List ℕ)
-with_pool (PoolText name lines) before = before ++ name.name ∷ []
-with_pool item before = before
+abbrev pub pool_given : ReadStatement → (before : List ReadStatement) → StatementText → Option (List ℕ)
+pool_given e before (PoolText name lines) = Some name.name
+pool_given e before item = None
 
 -- the pools in the order in which they were declared
 abbrev pub pools : List ReadStatement → List (List ℕ)
-pools [] = []
-pools (e ∷ before) = with_pool e.item (pools before)
+pools entries = gathered pool_given entries
 
 -- ---- scopes and openings
 
-abbrev pub opens_scope : StatementText → ℕ
-opens_scope (SubninjaText word) = 1
-opens_scope item = 0
-
-abbrev pub opens_file : StatementText → ℕ
-opens_file (IncludeText word) = 1
-opens_file (SubninjaText word) = 1
-opens_file item = 0
+-- the number of the scope in which a `subninja` opens one
+abbrev pub scope_given : ReadStatement → (before : List ReadStatement) → StatementText → Option ℕ
+scope_given e before (SubninjaText word) = Some e.number
+scope_given e before item = None
 
 -- how many scopes there are, the main file's among them
 abbrev pub scopes_opened : List ReadStatement → ℕ
-scopes_opened [] = 1
-scopes_opened (e ∷ before) = scopes_opened before + opens_scope e.item
+scopes_opened entries = length (gathered scope_given entries) + 1
+
+-- the path of the file that a statement opens
+abbrev pub path_named : ReadStatement → (before : List ReadStatement) → StatementText → Option (List ℕ)
+path_named e before (IncludeText word) = Some (expanded_in (scope_of e) before word)
+path_named e before (SubninjaText word) = Some (expanded_in (scope_of e) before word)
+path_named e before item = None
 
 -- how many files were opened, the main file and repeated ones among them
 abbrev pub files_opened : List ReadStatement → ℕ
-files_opened [] = 1
-files_opened (e ∷ before) = files_opened before + opens_file e.item
+files_opened entries = length (gathered path_named entries) + 1

@@ -4,19 +4,19 @@ use Rattle.std.specs.Option.{option_or}
 use Rattle.std.specs.Map.{lookup}
 pub use Rattle.nj_manifest.specs.Expansion.{part_expanded, expanded}
 
--- A scope is given by its number and the numbers of the scopes around it, the nearest first. The value of a name in it: the
--- value in the scope itself, else in the scopes around it.
-abbrev pub nearest : {X : Type 0} → (own : ℕ → Option X) → (scope : List ℕ) → Option X
-nearest own [] = None
-nearest own (s ∷ around) = option_or (own s) (nearest own around)
+-- what the first element that gives something gives
+abbrev pub first_given : {A X : Type 0} → (given : A → Option X) → List A → Option X
+first_given given [] = None
+first_given given (a ∷ others) = option_or (given a) (first_given given others)
 
 -- what each scope itself binds, by its number and the name
 abbrev pub Bounds : Type 0
 Bounds = ℕ → List ℕ → Option (List ℕ)
 
--- the value of a name in a scope; an unknown name is empty
+-- A scope is given by its number and the numbers of the scopes around it, the nearest first. The value of a name in it: the
+-- value in the scope itself, else in the scopes around it; an unknown name is empty.
 abbrev pub value_in : Bounds → (scope : List ℕ) → (name : List ℕ) → List ℕ
-value_in bound scope name = unwrap_or (nearest (λ s. bound s name) scope) []
+value_in bound scope name = unwrap_or (first_given (λ s. bound s name) scope) []
 
 -- a scope with those around it, where each was opened in its parent
 pub data IsScope (parent : ℕ → Option ℕ) : ℕ → List ℕ → Type 0 where

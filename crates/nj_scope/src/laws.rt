@@ -1,6 +1,8 @@
-//! Laws of the values of names. A law is a theorem, stated as a function with an empty body.
+//! Laws of what statements give. A law is a theorem, stated as a function with an empty body.
 
 ghost use Rattle.nj_scope.specs.Laws.{LastBindingCounts, OthersAreInherited, OthersKeepTheirs, InForceIsDeclared};
+ghost use Rattle.nj_scope.specs.Laws.{IsInReadingOrder};
+ghost use Rattle.nj_scope.specs.ReadingList.{gathered, rule_given, pool_given, scope_given, path_named};
 
 /// The value of a name, by the statements that were read: the last binding of its own scope counts,
 /// with the values that names had before it; without one the scopes around count; and no scope
@@ -15,4 +17,14 @@ pub fn values_by_reading_order()
 /// rule, unless it is `phony`.
 pub fn rules_in_force()
     ensures { InForceIsDeclared }
+{}
+
+/// The rules that are declared, the pools, the scopes that are opened and the paths of opened files,
+/// in reading order: the k-th is what the k-th statement that gives one gives, by the statements
+/// before it, and there are no others.
+pub fn lists_by_reading_order()
+    ensures rules { IsInReadingOrder rule_given (gathered rule_given) }
+    ensures pools { IsInReadingOrder pool_given (gathered pool_given) }
+    ensures scopes { IsInReadingOrder scope_given (gathered scope_given) }
+    ensures files { IsInReadingOrder path_named (gathered path_named) }
 {}

@@ -14,7 +14,7 @@ mod table;
 
 pub use declarations::{Declarations, MAIN_SCOPE, PHONY};
 pub use late::LateValue;
-pub use laws::{rules_in_force, values_by_reading_order};
+pub use laws::{lists_by_reading_order, rules_in_force, values_by_reading_order};
 pub use limits::is_depth;
 pub use memory::MemoryFiles;
 pub use nj_hash::HashKeys;

@@ -1,7 +1,7 @@
 //! The scopes of variables and rules.
 
 ghost use Rattle.std.specs.Prelude.{◌≡◌, ℕ, ◌+◌, ◌<◌, ◌&&◌, ◌==◌, ◌++◌, List, Option, Some, None, length, option_copied, IfSome, IfOk, OnOk, OnErr, if◌then◌else◌, bytes_eq};
-ghost use Rattle.nj_scope.specs.Scopes.{IsScope, nearest, value_in, expanded, parent_at, bound_at, rule_at};
+ghost use Rattle.nj_scope.specs.Scopes.{IsScope, first_given, value_in, expanded, parent_at, bound_at, rule_at};
 ghost use Rattle.std.specs.Map.{lookup};
 ghost use Rattle.nj_scope.specs.Inside.ScopesHeld.{values_text};
 ghost use Rattle.nj_text.specs.Words.{word_text};
@@ -129,7 +129,7 @@ impl Scopes {
     pub fn rule(&self, scope: usize, name: &[u8]) -> Option<usize>
         requires { scope < length self.now }
         ensures { (around : List ℕ) → IsScope (parent_at self.now) scope around
-            → result ≡ nearest (λ s. rule_at self.now s name.now) around }
+            → result ≡ first_given (λ s. rule_at self.now s name.now) around }
     {
         let mut next = Some(scope);
         'scopes: while let Some(number) = next {
@@ -159,7 +159,7 @@ impl Scopes {
     pub fn value_if_bound(&self, scope: usize, name: &[u8]) -> Option<&[u8]>
         requires { scope < length self.now }
         ensures { (around : List ℕ) → IsScope (parent_at self.now) scope around
-            → option_copied result ≡ nearest (λ s. bound_at self.now s name.now) around }
+            → option_copied result ≡ first_given (λ s. bound_at self.now s name.now) around }
     {
         let mut next = Some(scope);
         'scopes: while let Some(number) = next {

@@ -1,5 +1,7 @@
 -- Lemmas on what is collected for an edge.
 use Rattle.std.proofs.Common.{◌≡◌, ℕ, ◌+◌, ◌<◌, Option, None, length, drop, get_or, Bool, true, false, if◌then◌else◌, List, [], ◌∷◌, ◌++◌, bytes_eq, refl, sym, ap, subst, ◌∙◌}
+use Rattle.nj_scope.specs.Scopes.{first_given}
+use Rattle.std.specs.Bool.{then_some}
 use Rattle.std.specs.Option.{option_or}
 use Rattle.std.specs.List.{IsDistinct, list_any}
 use Rattle.std.specs.Cmp.{IsEquivalence}
@@ -15,7 +17,7 @@ use Rattle.nj_faults.specs.declared.fault.GraphFault.{GraphFault}
 use Rattle.nj_faults.specs.declared.fault.Cause.TheVariants.{TwoMakers}
 use Rattle.nj_faults.specs.Faults.{fault_at}
 use Rattle.nj_statements.specs.EdgeList.{path_given, paths_given}
-use Rattle.nj_statements.specs.BuildFaults.{fault_if, first_fault, empty_path, two_makers, outputs_fault}
+use Rattle.nj_statements.specs.BuildFaults.{empty_path, two_makers, outputs_fault}
 use Rattle.nj_statements.specs.Joining.{no_values}
 use Rattle.nj_statements.specs.JoiningHeld.{KeepsEdges}
 use Rattle.nj_statements.specs.Inside.JoiningSteps.{with_added_outputs, with_added_inputs}
@@ -90,10 +92,10 @@ outputs-turn t new path words i word below is gives adds =
     rest = paths_given no_values (words_text (drop (i + 1) words))
 
 pub no-fault-turn : (fault_of : WordText → Option GraphFault) (words : List Word) (i : ℕ) (word : Word) → i < length words → word ≡ get_or words i word → fault_of (word_text word) ≡ None
-    → first_fault fault_of (words_text (drop (i + 1) words)) ≡ first_fault fault_of (words_text (drop i words))
+    → first_given fault_of (words_text (drop (i + 1) words)) ≡ first_given fault_of (words_text (drop i words))
 no-fault-turn fault_of words i word below is none =
-    ap (λ o. option_or o (first_fault fault_of (words_text (drop (i + 1) words)))) (sym none)
-    ∙ sym (at-next (λ (ws : List Word). first_fault fault_of (words_text ws)) words i word below is)
+    ap (λ o. option_or o (first_given fault_of (words_text (drop (i + 1) words)))) (sym none)
+    ∙ sym (at-next (λ (ws : List Word). first_given fault_of (words_text ws)) words i word below is)
 
 pub new-output-turn : (name : List ℕ) (t new : JoinTable) (path : List ℕ) (words : List Word) (i : ℕ) (word : Word) → i < length words → word ≡ get_or words i word → path ≡ path_given no_values (word_text word)
     → empty_path name no_values (word_text word) ≡ None → is_made_so_far t path ≡ false → new ≡ with_added_output t path
@@ -103,7 +105,7 @@ new-output-turn name t new path words i word below is gives none fresh adds =
     ∙ sym (
     at-next (λ (ws : List Word). outputs_fault name no_values t.joined t.«open».outputs (words_text ws)) words i word below is
     ∙ ap (λ o. option_or (option_or o (two_makers name no_values t.joined t.«open».outputs (word_text word))) later) none
-    ∙ ap (λ b. option_or (fault_if b (fault_at name word.spot (TwoMakers meant))) later) (ap (is_made_so_far t) (sym gives) ∙ fresh)
+    ∙ ap (λ b. option_or (then_some b (fault_at name word.spot (TwoMakers meant))) later) (ap (is_made_so_far t) (sym gives) ∙ fresh)
     )
   where
     meant : List ℕ

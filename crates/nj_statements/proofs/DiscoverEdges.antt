@@ -1,5 +1,7 @@
 -- What is discovered for an edge: which edges it changes, and which ones are pending from then on.
 use Rattle.std.proofs.Common.{slice_index_or, ◌≡◌, ◌≢◌, ◌⊎◌, inl, inr, ℕ, zero, suc, ◌+◌, ◌<◌, ◌≤◌, ◌==◌, ◌||◌, Bool, true, false, not, cond, true≢false, if◌then◌else◌, List, [], ◌∷◌, ◌++◌, length, map, Option, Some, None, unwrap_or, slice_get, bytes_eq, is_some, refl, sym, ap, ◌∙◌, subst, arith}
+use Rattle.nj_statements.specs.Inside.JoiningSteps.{discover_for}
+use Rattle.std.specs.Bool.{then_some}
 use Rattle.std.specs.Option.{option_or}
 use Rattle.std.specs.Prelude.{codes, filter, ◌&&◌}
 use Rattle.std.specs.List.{AllByRecursion, AllZip, list_any}
@@ -11,7 +13,7 @@ use Rattle.std.proofs.lemmas.List.Folds.{list_any-append}
 use Rattle.nj_manifest.specs.LineSteps.{NameText}
 use Rattle.nj_manifest.specs.Statements.{LineText, OutputsText, InputsText, StatementText, BindingText, RuleText, PoolText, BuildText, DefaultText, IncludeText, SubninjaText}
 use Rattle.nj_scope.specs.Rules.{phony}
-use Rattle.nj_scope.specs.Scopes.{Bounds, nearest, value_in}
+use Rattle.nj_scope.specs.Scopes.{Bounds, first_given, value_in}
 use Rattle.nj_scope.specs.ReadingList.{Discovered, ReadStatement, scope_of, bounds, rules}
 use Rattle.nj_edges.specs.Joining.{with_added, changed_at}
 use Rattle.nj_faults.specs.declared.fault.GraphFault.{GraphFault}
@@ -20,8 +22,8 @@ use Rattle.nj_faults.specs.Faults.{fault_at}
 use Rattle.nj_edge_env.specs.LateStrings.{LateNames, asked_text}
 use Rattle.nj_statements.specs.EdgeList.{EdgeText, Pending, path_given, block_of, names_bound, block_names_at, on_line, stated_paths, edge_paths, with_discovered, edge_of_build, edges_read, paths_of_edges, block_of_edge, block_at}
 use Rattle.nj_statements.specs.EdgeList.{file_given, name_given, dyndep_of, pending_at, pending_read, assigned_of, assigned_read}
-use Rattle.nj_statements.specs.Joining.{no_values, discover, discovered_by, edge_meant, discover_for, pending_on, meaning_fault}
-use Rattle.nj_statements.specs.BuildFaults.{fault_if, first_fault, empty_path, outputs_fault}
+use Rattle.nj_statements.specs.Joining.{no_values, discover, discovered_by, edge_meant, pending_on, meaning_fault}
+use Rattle.nj_statements.specs.BuildFaults.{empty_path, outputs_fault}
 use Rattle.nj_statements.specs.Built.{detail_of}
 use Rattle.nj_statements.specs.Laws.{is_pending, with_found, AreRising, AreByNumber, AddsToOneEdge, OthersArePendingAsBefore, PendingEdgesRise, AddsToItsEdge, EntriesAddToTheirEdges}
 use Rattle.nj_statements.proofs.DiscoverLemmas.{Declared, bounds-discover, rules-discover, names_of_edge-discover}
@@ -52,7 +54,7 @@ map-changed g f h same (suc n) (x ∷ xs) = ap (λ ys. g x ∷ ys) (map-changed 
 -- ---- one edge, by what its statement sees
 
 abbrev number_by : ReadStatement → Declared → NameText → ℕ
-number_by e own rule = unwrap_or (if bytes_eq rule.name phony then Some 0 else nearest (λ s. own s rule.name) (scope_of e)) 0
+number_by e own rule = unwrap_or (if bytes_eq rule.name phony then Some 0 else first_given (λ s. own s rule.name) (scope_of e)) 0
 
 abbrev edge_by : ReadStatement → Bounds → Declared → OutputsText → NameText → InputsText → List LineText → EdgeText
 edge_by e bound own outputs rule inputs lines = record {
@@ -489,7 +491,7 @@ is_pending-from_pending file entries edge pends = pends-some file edge (pending_
 
 -- ---- an entry that has no fault
 
-pub fault_if-none : (b : Bool) (fault : GraphFault) → fault_if (not b) fault ≡ None → b ≡ true
+pub fault_if-none : (b : Bool) (fault : GraphFault) → then_some (not b) fault ≡ None → b ≡ true
 fault_if-none true fault none = refl
 fault_if-none false fault none = absurd (true≢false (ap is_some none))
 
@@ -504,16 +506,16 @@ entries_add file stated joined entry none = by (edge_meant stated entry) refl pe
     meaning = (or_then-none (meaning_fault file stated joined entry) others (or_then-none (empty_path file no_values entry.out) (option_or (meaning_fault file stated joined entry) others) none).1).0
       where
         others : Option GraphFault
-        others = option_or (outputs_fault file no_values (paths_of_edges (edges_read joined)) [] entry.outs) (first_fault (empty_path file no_values) entry.ins)
+        others = option_or (outputs_fault file no_values (paths_of_edges (edges_read joined)) [] entry.outs) (first_given (empty_path file no_values) entry.ins)
 
     extra : Option GraphFault
-    extra = fault_if (not (pending_on file (pending_read stated) (edge_meant stated entry))) (fault_at file entry.out.spot (DyndepExtra (path_given no_values entry.out)))
+    extra = then_some (not (pending_on file (pending_read stated) (edge_meant stated entry))) (fault_at file entry.out.spot (DyndepExtra (path_given no_values entry.out)))
 
     twice : GraphFault
     twice = fault_at file entry.out.spot (DyndepTwice (path_given no_values entry.out))
 
     pends : pending_on file (pending_read joined) (edge_meant stated entry) ≡ true
-    pends = fault_if-none (pending_on file (pending_read joined) (edge_meant stated entry)) twice (or_then-none extra (fault_if (not (pending_on file (pending_read joined) (edge_meant stated entry))) twice) meaning).1
+    pends = fault_if-none (pending_on file (pending_read joined) (edge_meant stated entry)) twice (or_then-none extra (then_some (not (pending_on file (pending_read joined) (edge_meant stated entry))) twice) meaning).1
 
     by : (meant : Option ℕ) → edge_meant stated entry ≡ meant → pending_on file (pending_read joined) meant ≡ true → (edge : ℕ) × AddsToItsEdge file stated joined entry edge
     by None is waited = absurd (true≢false (sym waited))

@@ -1,19 +1,23 @@
 -- What is discovered for a statement changes nothing else that the statements give.
 use Rattle.std.proofs.Common.{◌≡◌, ℕ, suc, ◌+◌, ◌==◌, ◌&&◌, Bool, true, false, if◌then◌else◌, List, [], ◌∷◌, ◌++◌, length, map, Option, Some, None, slice_get, bytes_eq, refl, sym, ap, ◌∙◌, subst}
+use Rattle.std.specs.Prelude.{is_some}
+use Rattle.nj_statements.specs.Inside.JoiningSteps.{discover_for}
+use Rattle.nj_statements.specs.Inside.EdgeSteps.{lines_of_rule}
 use Rattle.std.specs.Option.{option_or}
 use Rattle.std.specs.List.{AllByRecursion}
 use Rattle.nj_manifest.specs.Statements.{StatementText, BindingText, RuleText, PoolText, BuildText, DefaultText, IncludeText, SubninjaText}
 use Rattle.nj_manifest.specs.Dyndeps.{EntryText}
 use Rattle.nj_scope.specs.Rules as kept
-use Rattle.nj_scope.specs.Rules.{phony}
-use Rattle.nj_scope.specs.Scopes.{Bounds, nearest, value_in}
+use Rattle.nj_scope.specs.Rules.{phony, phony_rule}
+use Rattle.nj_scope.specs.Scopes.{Bounds, first_given, value_in, expanded}
 use Rattle.nj_scope.specs.Declarations.{DeclarationsText, DeclaredBy}
-use Rattle.nj_scope.specs.ReadingList.{Discovered, ReadStatement, scope_of, binds_in, bounds, value_after, with_rule, rules_read, declares, rules, rule_in_force, is_declared}
+use Rattle.nj_scope.specs.ReadingList.{Discovered, ReadStatement, scope_of, binds_in, bounds, value_after, rule_given, rules_read, declares, rules, rule_in_force, is_declared}
 use Rattle.nj_scope.proofs.NewRules.{RuleIsNew, EachRuleIsNew}
-use Rattle.nj_scope.specs.ReadingList.{with_pool, pools, opens_scope, opens_file, scopes_opened, files_opened}
+use Rattle.nj_scope.specs.ReadingList.{pool_given, pools, scope_given, path_named, scopes_opened, files_opened}
+use Rattle.nj_scope.proofs.Gathering.{gathered-map}
 use Rattle.nj_edge_env.specs.LateStrings.{LateNames}
-use Rattle.nj_statements.specs.EdgeList.{EdgeText, paths_given, edges_read, with_defaults, defaults_read, lines_of_rule, names_of_edge}
-use Rattle.nj_statements.specs.Joining.{is_build, discover, discovered_by, edge_meant, discover_for, with_entry}
+use Rattle.nj_statements.specs.EdgeList.{EdgeText, paths_given, edges_read, with_defaults, defaults_read, names_of_edge, edge_given}
+use Rattle.nj_statements.specs.Joining.{discover, discovered_by, edge_meant, with_entry}
 use Rattle.nj_statements.specs.Laws.{NamesStay}
 
 -- ---- statements as they were read
@@ -28,7 +32,7 @@ as_read entries = map unseen entries
 as_read-discover : (edge : ℕ) (found : Discovered) (entries : List ReadStatement) → as_read (discover edge found entries) ≡ as_read entries
 unfolding discover
 as_read-discover edge found [] = refl
-as_read-discover edge found (e ∷ before) = by (is_build e.item && length (edges_read before) == edge) (as_read-discover edge found before)
+as_read-discover edge found (e ∷ before) = by (is_some (edge_given e before e.item) && length (edges_read before) == edge) (as_read-discover edge found before)
   where
     by : (b : Bool) → as_read (discover edge found before) ≡ as_read before
         → as_read (if b then record e { discovered = Some found } ∷ before else e ∷ discover edge found before) ≡ as_read (e ∷ before)
@@ -60,8 +64,16 @@ value_after-discover edge found entries = ap value_in (bounds-discover edge foun
 -- ---- rules
 
 rules_read-as_read : (entries : List ReadStatement) → rules_read (as_read entries) ≡ rules_read entries
-rules_read-as_read [] = refl
-rules_read-as_read (e ∷ before) = ap (with_rule e.number e.item) (rules_read-as_read before)
+rules_read-as_read entries = ap (λ rules. phony_rule ∷ rules) (gathered-map rule_given unseen (λ e before. by e before e.item) entries)
+  where
+    by : (e : ReadStatement) (before : List ReadStatement) (item : StatementText) → rule_given (unseen e) (as_read before) item ≡ rule_given e before item
+    by e before (RuleText name lines) = refl
+    by e before (BindingText bound word) = refl
+    by e before (PoolText name lines) = refl
+    by e before (BuildText outputs rule inputs lines) = refl
+    by e before (DefaultText words) = refl
+    by e before (IncludeText word) = refl
+    by e before (SubninjaText word) = refl
 
 pub rules_read-discover : (edge : ℕ) (found : Discovered) (entries : List ReadStatement) → rules_read (discover edge found entries) ≡ rules_read entries
 rules_read-discover = kept-by rules_read rules_read-as_read
@@ -83,7 +95,7 @@ pub rules-discover : (edge : ℕ) (found : Discovered) (entries : List ReadState
 rules-discover = kept-by rules rules-as_read
 
 abbrev in_force_by : Declared → (scope name : List ℕ) → Option ℕ
-in_force_by own scope name = if bytes_eq name phony then Some 0 else nearest (λ s. own s name) scope
+in_force_by own scope name = if bytes_eq name phony then Some 0 else first_given (λ s. own s name) scope
 
 pub rule_in_force-discover : (edge : ℕ) (found : Discovered) (entries : List ReadStatement) → rule_in_force (discover edge found entries) ≡ rule_in_force entries
 rule_in_force-discover edge found entries = ap in_force_by (rules-discover edge found entries)
@@ -116,22 +128,46 @@ rules_new-from_discover edge found entries new =
 -- ---- pools, scopes and openings
 
 pools-as_read : (entries : List ReadStatement) → pools (as_read entries) ≡ pools entries
-pools-as_read [] = refl
-pools-as_read (e ∷ before) = ap (with_pool e.item) (pools-as_read before)
+pools-as_read = gathered-map pool_given unseen (λ e before. by e before e.item)
+  where
+    by : (e : ReadStatement) (before : List ReadStatement) (item : StatementText) → pool_given (unseen e) (as_read before) item ≡ pool_given e before item
+    by e before (PoolText name lines) = refl
+    by e before (BindingText bound word) = refl
+    by e before (RuleText name lines) = refl
+    by e before (BuildText outputs rule inputs lines) = refl
+    by e before (DefaultText words) = refl
+    by e before (IncludeText word) = refl
+    by e before (SubninjaText word) = refl
 
 pub pools-discover : (edge : ℕ) (found : Discovered) (entries : List ReadStatement) → pools (discover edge found entries) ≡ pools entries
 pools-discover = kept-by pools pools-as_read
 
 scopes_opened-as_read : (entries : List ReadStatement) → scopes_opened (as_read entries) ≡ scopes_opened entries
-scopes_opened-as_read [] = refl
-scopes_opened-as_read (e ∷ before) = ap (λ n. n + opens_scope e.item) (scopes_opened-as_read before)
+scopes_opened-as_read entries = ap (λ scopes. length scopes + 1) (gathered-map scope_given unseen (λ e before. by e before e.item) entries)
+  where
+    by : (e : ReadStatement) (before : List ReadStatement) (item : StatementText) → scope_given (unseen e) (as_read before) item ≡ scope_given e before item
+    by e before (SubninjaText word) = refl
+    by e before (BindingText bound word) = refl
+    by e before (RuleText name lines) = refl
+    by e before (PoolText name lines) = refl
+    by e before (BuildText outputs rule inputs lines) = refl
+    by e before (DefaultText words) = refl
+    by e before (IncludeText word) = refl
 
 pub scopes_opened-discover : (edge : ℕ) (found : Discovered) (entries : List ReadStatement) → scopes_opened (discover edge found entries) ≡ scopes_opened entries
 scopes_opened-discover = kept-by scopes_opened scopes_opened-as_read
 
 files_opened-as_read : (entries : List ReadStatement) → files_opened (as_read entries) ≡ files_opened entries
-files_opened-as_read [] = refl
-files_opened-as_read (e ∷ before) = ap (λ n. n + opens_file e.item) (files_opened-as_read before)
+files_opened-as_read entries = ap (λ paths. length paths + 1) (gathered-map path_named unseen (λ e before. by e before e.item) entries)
+  where
+    by : (e : ReadStatement) (before : List ReadStatement) (item : StatementText) → path_named (unseen e) (as_read before) item ≡ path_named e before item
+    by e before (IncludeText word) = ap (λ (b : Bounds). Some (expanded (value_in b (scope_of e)) word.parts)) (bounds-as_read before)
+    by e before (SubninjaText word) = ap (λ (b : Bounds). Some (expanded (value_in b (scope_of e)) word.parts)) (bounds-as_read before)
+    by e before (BindingText bound word) = refl
+    by e before (RuleText name lines) = refl
+    by e before (PoolText name lines) = refl
+    by e before (BuildText outputs rule inputs lines) = refl
+    by e before (DefaultText words) = refl
 
 pub files_opened-discover : (edge : ℕ) (found : Discovered) (entries : List ReadStatement) → files_opened (discover edge found entries) ≡ files_opened entries
 files_opened-discover = kept-by files_opened files_opened-as_read
@@ -210,7 +246,7 @@ pub all-discover : (P : ReadStatement → Type 0) → ((e : ReadStatement) (d : 
     → (edge : ℕ) (found : Discovered) (entries : List ReadStatement) → AllByRecursion P entries → AllByRecursion P (discover edge found entries)
 unfolding discover
 all-discover P kept edge found [] all = tt
-all-discover P kept edge found (e ∷ before) all = by (is_build e.item && length (edges_read before) == edge) (all-discover P kept edge found before all.1)
+all-discover P kept edge found (e ∷ before) all = by (is_some (edge_given e before e.item) && length (edges_read before) == edge) (all-discover P kept edge found before all.1)
   where
     by : (b : Bool) → AllByRecursion P (discover edge found before) → AllByRecursion P (if b then record e { discovered = Some found } ∷ before else e ∷ discover edge found before)
     by true rest = (kept e (Some found) all.0, all.1)

@@ -1,5 +1,8 @@
 -- Which edges make files after an entry of a dyndep file.
 use Rattle.std.proofs.Common.{◌≡◌, ℕ, zero, suc, ◌+◌, ◌<◌, ◌==◌, ◌||◌, Bool, true, false, true≢false, List, [], ◌∷◌, ◌++◌, length, Option, Some, None, option_map, unwrap_or, is_some, if◌then◌else◌, bytes_eq, refl, sym, ap, ◌∙◌, subst, arith}
+use Rattle.nj_scope.specs.Scopes.{first_given}
+use Rattle.nj_statements.specs.Inside.JoiningSteps.{discover_for}
+use Rattle.std.specs.Bool.{then_some}
 use Rattle.std.specs.Option.{option_or}
 use Rattle.std.specs.List.{list_any}
 use Rattle.std.proofs.lemmas.Bool.{or_parts}
@@ -13,10 +16,10 @@ use Rattle.nj_faults.specs.declared.fault.GraphFault.{GraphFault}
 use Rattle.nj_faults.specs.declared.fault.Cause.TheVariants.{TwoMakers}
 use Rattle.nj_faults.specs.Faults.{fault_at}
 use Rattle.nj_statements.specs.EdgeList.{Values, EdgeText, path_given, paths_given, edges_read, paths_of_edges, pending_read}
-use Rattle.nj_statements.specs.BuildFaults.{fault_if, first_fault, empty_path, two_makers, outputs_fault}
+use Rattle.nj_statements.specs.BuildFaults.{empty_path, two_makers, outputs_fault}
 use Rattle.nj_manifest.specs.Dyndeps.{EntryText}
 use Rattle.nj_scope.specs.ReadingList.{ReadStatement}
-use Rattle.nj_statements.specs.Joining.{no_values, discovered_by, edge_meant, discover_for, with_entry, meaning_fault, entry_fault}
+use Rattle.nj_statements.specs.Joining.{no_values, discovered_by, edge_meant, with_entry, meaning_fault, entry_fault}
 use Rattle.nj_statements.specs.Laws.{AddsToItsEdge, EdgesMakeWhatIsDiscovered}
 use Rattle.nj_statements.proofs.DiscoverEdges.{or_then-none, unjoined-below, pending-within, paths-discover, is_pending-from_pending, entries_add}
 
@@ -75,7 +78,7 @@ is_some-none : (o : Option ℕ) → is_some o ≡ false → o ≡ None
 is_some-none None none = refl
 is_some-none (Some n) none = absurd (true≢false none)
 
-fault_if-not : (b : Bool) (fault : GraphFault) → fault_if b fault ≡ None → b ≡ false
+fault_if-not : (b : Bool) (fault : GraphFault) → then_some b fault ≡ None → b ≡ false
 fault_if-not false fault none = refl
 fault_if-not true fault none = absurd (true≢false (ap is_some none))
 
@@ -130,9 +133,9 @@ module _ (file : List ℕ) (stated joined : List ReadStatement) (entry : EntryTe
   after-is = ap (λ m. paths_of_edges (edges_read (discover_for m (discovered_by entry) joined))) means ∙ paths-discover edge (discovered_by entry) joined pends
 
   pub outputs-fine : outputs_fault file no_values before [] entry.outs ≡ None
-  outputs-fine = (or_then-none (outputs_fault file no_values before [] entry.outs) (first_fault (empty_path file no_values) entry.ins)
-      (or_then-none (meaning_fault file stated joined entry) (option_or (outputs_fault file no_values before [] entry.outs) (first_fault (empty_path file no_values) entry.ins))
-      (or_then-none (empty_path file no_values entry.out) (option_or (meaning_fault file stated joined entry) (option_or (outputs_fault file no_values before [] entry.outs) (first_fault (empty_path file no_values) entry.ins))) none).1).1).0
+  outputs-fine = (or_then-none (outputs_fault file no_values before [] entry.outs) (first_given (empty_path file no_values) entry.ins)
+      (or_then-none (meaning_fault file stated joined entry) (option_or (outputs_fault file no_values before [] entry.outs) (first_given (empty_path file no_values) entry.ins))
+      (or_then-none (empty_path file no_values entry.out) (option_or (meaning_fault file stated joined entry) (option_or (outputs_fault file no_values before [] entry.outs) (first_given (empty_path file no_values) entry.ins))) none).1).1).0
 
 pub edges_make : EdgesMakeWhatIsDiscovered
 edges_make file stated joined entry edge path none means = record {

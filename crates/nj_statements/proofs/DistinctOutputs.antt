@@ -1,5 +1,6 @@
 -- No file gets two makers.
 use Rattle.std.proofs.Common.{◌≡◌, ℕ, zero, suc, ◌+◌, ◌<◌, ◌||◌, Bool, true, false, true≢false, List, [], ◌∷◌, ◌++◌, length, Option, Some, None, option_map, is_some, if◌then◌else◌, bytes_eq, refl, sym, ap, ◌∙◌, subst, arith}
+use Rattle.nj_scope.proofs.Gathering.{with_given}
 use Rattle.std.specs.Option.{option_or}
 use Rattle.std.specs.Prelude.{◌==◌, IsPermutation}
 use Rattle.std.specs.List.{IsDistinct}
@@ -17,7 +18,7 @@ use Rattle.nj_manifest.specs.Statements.{LineText, OutputsText, InputsText, Stat
 use Rattle.nj_scope.specs.ReadingList.{Discovered, ReadStatement}
 use Rattle.nj_edges.specs.Edges.{EdgePaths, outputs_of, is_among, maker_of}
 use Rattle.nj_edges.specs.Joining.{AddedFiles, with_added, changed_at}
-use Rattle.nj_statements.specs.EdgeList.{Values, EdgeText, path_given, paths_given, line_values, stated_paths, loses_own, without_own, edge_paths, with_discovered, rule_number, edge_of_build, with_edge, edges_read, paths_of_edges}
+use Rattle.nj_statements.specs.EdgeList.{Values, EdgeText, path_given, paths_given, line_values, stated_paths, loses_own, without_own, edge_paths, with_discovered, rule_number, edge_of_build, edges_read, paths_of_edges, edge_given}
 use Rattle.nj_statements.specs.BuildFaults.{empty_path, two_makers, outputs_fault, inputs_fault, unknown_rule, paths_fault, late_fault, build_fault}
 use Rattle.nj_statements.specs.Joining.{no_values, edge_meant, with_entry, entry_fault}
 use Rattle.nj_statements.specs.Laws.{AddsToItsEdge, IsFaultless, AreFaultless, IsWithEntries, as_stated, with_one_more, all_outputs, NoFileGetsTwoMakers}
@@ -107,7 +108,7 @@ module _ (e : ReadStatement) (before : List ReadStatement) (outputs : OutputsTex
           ∙ ap (λ paths. all_outputs edges ++ paths) (append-nil (outputs_of edge.paths) ∙ outputs-read)
 
 statement-apart : (e : ReadStatement) (before : List ReadStatement) (item : StatementText) → IsFaultless e before item → IsDistinct bytes_eq (all_outputs (paths_of_edges (edges_read before)))
-    → IsDistinct bytes_eq (all_outputs (paths_of_edges (with_edge e before item (edges_read before))))
+    → IsDistinct bytes_eq (all_outputs (paths_of_edges (with_given (edges_read before) (edge_given e before item))))
 statement-apart e before (BuildText outputs rule inputs lines) fine apart = build-apart e before outputs rule inputs lines fine.1 fine.0 apart
 statement-apart e before item fine apart = apart
 

@@ -1,5 +1,6 @@
 -- Lemmas on faults.
 use Rattle.std.proofs.Common.{◌≡◌, ℕ, ◌+◌, ◌<◌, inl, inr, Option, Some, None, Result, Ok, Err, IsErrAnd, List, [], ◌∷◌, ◌++◌, length, drop, get_or, refl, sym, ap, subst, ◌∙◌}
+use Rattle.nj_scope.specs.Scopes.{first_given}
 use Rattle.std.specs.Option.{option_or}
 use Rattle.std.proofs.lemmas.List.{append_assoc, append-nil}
 use Rattle.std.proofs.lemmas.Option.{same_Some}
@@ -10,7 +11,7 @@ use Rattle.nj_edges.specs.Edges.{EdgePaths}
 use Rattle.nj_faults.specs.declared.fault.GraphFault.{GraphFault}
 use Rattle.nj_faults.specs.Faults.{IsFault, no_memory}
 use Rattle.nj_statements.specs.EdgeList.{Values, path_given, paths_given}
-use Rattle.nj_statements.specs.BuildFaults.{first_fault, empty_path, two_makers, outputs_fault}
+use Rattle.nj_statements.specs.BuildFaults.{empty_path, two_makers, outputs_fault}
 use Rattle.nj_statements.specs.Answers.{Checks}
 use Rattle.nj_statements.proofs.Lists.{at-next}
 
@@ -42,9 +43,9 @@ or_then-assoc : (a b c : Option GraphFault) → option_or (option_or a b) c ≡ 
 or_then-assoc (Some x) b c = refl
 or_then-assoc None b c = refl
 
-pub first-append : (fault_of : WordText → Option GraphFault) (xs ys : List WordText) → first_fault fault_of (xs ++ ys) ≡ option_or (first_fault fault_of xs) (first_fault fault_of ys)
+pub first-append : (fault_of : WordText → Option GraphFault) (xs ys : List WordText) → first_given fault_of (xs ++ ys) ≡ option_or (first_given fault_of xs) (first_given fault_of ys)
 first-append fault_of [] ys = refl
-first-append fault_of (x ∷ xs) ys = ap (option_or (fault_of x)) (first-append fault_of xs ys) ∙ sym (or_then-assoc (fault_of x) (first_fault fault_of xs) (first_fault fault_of ys))
+first-append fault_of (x ∷ xs) ys = ap (option_or (fault_of x)) (first-append fault_of xs ys) ∙ sym (or_then-assoc (fault_of x) (first_given fault_of xs) (first_given fault_of ys))
 
 pub outputs-append : (file : List ℕ) (values : Values) (edges : List EdgePaths) (left : List (List ℕ)) (xs ys : List WordText)
     → outputs_fault file values edges left (xs ++ ys) ≡ option_or (outputs_fault file values edges left xs) (outputs_fault file values edges (left ++ paths_given values xs) ys)
@@ -58,15 +59,15 @@ outputs-append file values edges left (x ∷ xs) ys =
 
 -- the faults of four lists of words
 pub first-four : (fault_of : WordText → Option GraphFault) (a b c d : List WordText)
-    → first_fault fault_of (a ++ (b ++ (c ++ d))) ≡ option_or (first_fault fault_of a) (option_or (first_fault fault_of b) (option_or (first_fault fault_of c) (first_fault fault_of d)))
+    → first_given fault_of (a ++ (b ++ (c ++ d))) ≡ option_or (first_given fault_of a) (option_or (first_given fault_of b) (option_or (first_given fault_of c) (first_given fault_of d)))
 first-four fault_of a b c d =
     first-append fault_of a (b ++ (c ++ d))
-    ∙ ap (option_or (first_fault fault_of a)) (first-append fault_of b (c ++ d) ∙ ap (option_or (first_fault fault_of b)) (first-append fault_of c d))
+    ∙ ap (option_or (first_given fault_of a)) (first-append fault_of b (c ++ d) ∙ ap (option_or (first_given fault_of b)) (first-append fault_of c d))
 
 -- the fault of the next word is the fault of all of them, where the ones before it have none
 pub next-fault : (fault_of : WordText → Option GraphFault) (words : List Word) (i : ℕ) (word : Word) (f : GraphFault) → i < length words → word ≡ get_or words i word
-    → first_fault fault_of (words_text (drop i words)) ≡ first_fault fault_of (words_text words)
-    → IsFault (fault_of (word_text word)) f → IsFault (first_fault fault_of (words_text words)) f
+    → first_given fault_of (words_text (drop i words)) ≡ first_given fault_of (words_text words)
+    → IsFault (fault_of (word_text word)) f → IsFault (first_given fault_of (words_text words)) f
 next-fault fault_of words i word f below is same h =
-    subst (λ o. IsFault o f) (sym (at-next (λ (ws : List Word). first_fault fault_of (words_text ws)) words i word below is) ∙ same)
-    (fault-first (fault_of (word_text word)) (first_fault fault_of (words_text (drop (i + 1) words))) f h)
+    subst (λ o. IsFault o f) (sym (at-next (λ (ws : List Word). first_given fault_of (words_text ws)) words i word below is) ∙ same)
+    (fault-first (fault_of (word_text word)) (first_given fault_of (words_text (drop (i + 1) words))) f h)

@@ -1,5 +1,6 @@
 -- What the statements come to is what was held of them.
 use Rattle.std.proofs.Common.{◌≡◌, ◌<◌, ◌+◌, ◌==◌, ℕ, false, List, [], ◌∷◌, ◌++◌, map, length, slice_get, get_or, Option, Some, None, Ok, unwrap_or, is_some, refl, sym, ap, subst, ◌∙◌, true≢false, suc, zero, arith}
+use Rattle.nj_scope.proofs.Gathering.{with_given}
 use Rattle.std.specs.List.{AllByRecursion}
 use Rattle.std.proofs.lemmas.List.{length-append, length-map}
 use Rattle.std.proofs.lemmas.Option.{slice_get_within, slice_get-get_or}
@@ -18,7 +19,7 @@ use Rattle.nj_manifest.specs.Statements.{StatementText, BindingText, RuleText, P
 use Rattle.nj_scope.specs.ReadingList.{Discovered, ReadStatement}
 use Rattle.nj_statements.specs.declared.detail.Detail.{Detail}
 use Rattle.nj_statements.specs.declared.building.DyndepEdge.{DyndepEdge}
-use Rattle.nj_statements.specs.EdgeList.{EdgeText, Pending, edge_of_build, with_edge, edges_read, paths_of_edges, defaults_read, dyndep_of, pending_at, with_pending, pending_read, assigned_read}
+use Rattle.nj_statements.specs.EdgeList.{EdgeText, Pending, edge_of_build, edges_read, paths_of_edges, defaults_read, dyndep_of, pending_at, with_pending, pending_read, assigned_read, edge_given}
 use Rattle.nj_statements.specs.Answers.{BuildingText, HasEdges, IsDetail, AreDetails, AreAssigned}
 use Rattle.nj_statements.specs.Inside.Details.{text_at, spot_of}
 use Rattle.nj_statements.specs.Inside.EdgeSteps.{detail_text}
@@ -119,7 +120,7 @@ unjoined-known [] = tt
 unjoined-known (e ∷ before) = by e.item (unjoined-known before)
   where
     by : (item : StatementText) → AllByRecursion (λ (p : Pending). p.edge < length (edges_read before)) (pending_read before)
-        → AllByRecursion (λ (p : Pending). p.edge < length (with_edge e before item (edges_read before))) (with_pending e before item (pending_read before))
+        → AllByRecursion (λ (p : Pending). p.edge < length (with_given (edges_read before) (edge_given e before item))) (with_pending e before item (pending_read before))
     by (BuildText outputs rule inputs lines) all =
         let edge = edge_of_build e before outputs rule inputs lines in
         let count = length (edges_read before) in

@@ -1,5 +1,7 @@
 -- What is kept while dyndep files are joined is what the statements give.
 use Rattle.std.proofs.Common.{◌≡◌, ◌⊎◌, inl, inr, ℕ, zero, suc, ◌+◌, ◌-◌, ◌<◌, ◌≤◌, ◌==◌, Bool, true, false, not, if◌then◌else◌, true≢false, ◌≢◌, List, [], ◌∷◌, length, get_or, set, map, slice_get, Option, Some, None, Result, Ok, Err, IsErrAnd, option_map, option_and_then, IfSome, is_some, unwrap_or, find, bytes_eq, refl, sym, ap, subst, ◌∙◌, arith}
+use Rattle.nj_scope.specs.Scopes.{first_given}
+use Rattle.std.specs.Bool.{then_some}
 use Rattle.std.specs.Option.{option_or}
 use Rattle.std.specs.List.{AllByRecursion, IsDistinct, filter}
 use Rattle.std.proofs.lemmas.List.{get_or_read, length-map, length-append, length-set, get_or-set_same, get_or-set_other}
@@ -22,12 +24,12 @@ use Rattle.nj_faults.specs.Faults.{IsFault, fault_at}
 use Rattle.nj_statements.specs.declared.detail.Detail.{Detail}
 use Rattle.nj_statements.specs.declared.building.DyndepEdge.{DyndepEdge}
 use Rattle.nj_statements.specs.EdgeList.{Pending, EdgeText, path_given, edges_read, paths_of_edges, pending_read}
-use Rattle.nj_statements.specs.BuildFaults.{fault_if, empty_path, first_fault, outputs_fault}
+use Rattle.nj_statements.specs.BuildFaults.{empty_path, outputs_fault}
 use Rattle.nj_statements.specs.Built.{EdgeDetail, detail_at, detail_of}
 use Rattle.nj_statements.specs.Inside.BuiltHeld.{detail_named, pending_named}
-use Rattle.nj_statements.specs.Joining.{no_values, discover, discovered_by, discover_for, edge_meant, with_entry, pending_on, meaning_fault, entry_fault, no_statement, lacking_fault}
+use Rattle.nj_statements.specs.Joining.{no_values, discover, discovered_by, edge_meant, with_entry, pending_on, meaning_fault, entry_fault, no_statement, lacking_fault}
 use Rattle.nj_statements.specs.JoiningHeld.{unless_joined, still_pending, pending_from, left_pending_from, KeepsEdges, JoiningText, HasJoined, JoinsEntry, JoinsNothing}
-use Rattle.nj_statements.specs.Inside.JoiningSteps.{is_bound_to, count_pending, fault_of_pending, file_named, if_bound, maker_fault, edge_bound, IsMeant, joining_of, JoiningIsHeld}
+use Rattle.nj_statements.specs.Inside.JoiningSteps.{is_bound_to, count_pending, fault_of_pending, file_named, if_bound, maker_fault, edge_bound, IsMeant, joining_of, JoiningIsHeld, discover_for}
 use Rattle.nj_statements.proofs.Lists.{get-longer}
 use Rattle.nj_statements.proofs.PendingLemmas.{is_path, find-first, find-none, none-first, first-passes, still-at, still-length, still-map, still-changed, unjoined-at, without-one, count-removed, count-less}
 use Rattle.nj_statements.proofs.DiscoverLemmas.{defaults_read-discover}
@@ -392,7 +394,7 @@ module _ (table : JoinTable) (blocks : BlocksText) (names : List (List ℕ)) (de
       pub meaning-held : (entry : EntryText) → maker_fault name entry.out table (edge_bound table bound file entry.out) ≡ meaning_fault name stated joined entry
       meaning-held entry =
           by (maker_of table.stated path)
-          ∙ ap (λ (es : List EdgePaths). option_or (fault_if (not (pending_on name (pending_read stated) (maker_of es path))) extra) (fault_if (not (pending_on name (pending_read joined) (maker_of es path))) twice)) has.stated_paths
+          ∙ ap (λ (es : List EdgePaths). option_or (then_some (not (pending_on name (pending_read stated) (maker_of es path))) extra) (then_some (not (pending_on name (pending_read joined) (maker_of es path))) twice)) has.stated_paths
         where
           path : List ℕ
           path = path_given no_values entry.out
@@ -409,9 +411,9 @@ module _ (table : JoinTable) (blocks : BlocksText) (names : List (List ℕ)) (de
 
           step : (edge : ℕ) (binds : Bool) → is_bound_to (get_or bound edge None) file ≡ binds
               → maker_fault name entry.out table (if binds then Some edge else None)
-              ≡ option_or (fault_if (not binds) extra) (fault_if (not (is_bound_to (unless_joined (get_or bound edge None) (is_joined table edge)) file)) twice)
+              ≡ option_or (then_some (not binds) extra) (then_some (not (is_bound_to (unless_joined (get_or bound edge None) (is_joined table edge)) file)) twice)
           step edge false is = refl
-          step edge true is = sym (ap (λ b. fault_if (not b) twice) (unless (get_or bound edge None) (is_joined table edge) is) ∙ ap (λ b. fault_if b twice) (not-not (is_joined table edge)))
+          step edge true is = sym (ap (λ b. then_some (not b) twice) (unless (get_or bound edge None) (is_joined table edge) is) ∙ ap (λ b. then_some b twice) (not-not (is_joined table edge)))
             where
               not-not : (b : Bool) → not (not b) ≡ b
               not-not true = refl
@@ -419,18 +421,18 @@ module _ (table : JoinTable) (blocks : BlocksText) (names : List (List ℕ)) (de
 
           by : (maker : Option ℕ)
               → maker_fault name entry.out table (if_bound bound file maker)
-              ≡ option_or (fault_if (not (pending_on name (pending_read stated) maker)) extra) (fault_if (not (pending_on name (pending_read joined) maker)) twice)
+              ≡ option_or (then_some (not (pending_on name (pending_read stated) maker)) extra) (then_some (not (pending_on name (pending_read joined) maker)) twice)
           by None = refl
           by (Some edge) =
               step edge (is_bound_to (get_or bound edge None) file) refl
-              ∙ ap (λ b. option_or (fault_if (not b) extra) (fault_if (not (is_bound_to (unless_joined (get_or bound edge None) (is_joined table edge)) file)) twice)) (sym (bound-pends edge))
-              ∙ ap (λ b. option_or (fault_if (not (pending_on name (pending_read stated) (Some edge))) extra) (fault_if (not b) twice)) (sym (still-pends edge))
+              ∙ ap (λ b. option_or (then_some (not b) extra) (then_some (not (is_bound_to (unless_joined (get_or bound edge None) (is_joined table edge)) file)) twice)) (sym (bound-pends edge))
+              ∙ ap (λ b. option_or (then_some (not (pending_on name (pending_read stated) (Some edge))) extra) (then_some (not b) twice)) (sym (still-pends edge))
 
       -- what is wrong with an entry
       pub fault-is : (entry : EntryText)
           → entry_fault name stated joined entry
           ≡ option_or (option_or (empty_path name no_values entry.out) (maker_fault name entry.out table (edge_bound table bound file entry.out)))
-          (option_or (outputs_fault name no_values table.joined table.«open».outputs entry.outs) (first_fault (empty_path name no_values) entry.ins))
+          (option_or (outputs_fault name no_values table.joined table.«open».outputs entry.outs) (first_given (empty_path name no_values) entry.ins))
       fault-is entry =
           ap (λ o. option_or (empty_path name no_values entry.out) (option_or o (option_or (outputs_fault name no_values (paths_of_edges (edges_read joined)) [] entry.outs) inputs))) (sym (meaning-held entry))
           ∙ ap (λ (es : List EdgePaths). option_or (empty_path name no_values entry.out) (option_or meaning (option_or (outputs_fault name no_values es [] entry.outs) inputs))) (sym has.joined_paths)
@@ -441,7 +443,7 @@ module _ (table : JoinTable) (blocks : BlocksText) (names : List (List ℕ)) (de
           meaning = maker_fault name entry.out table (edge_bound table bound file entry.out)
 
           inputs : Option GraphFault
-          inputs = first_fault (empty_path name no_values) entry.ins
+          inputs = first_given (empty_path name no_values) entry.ins
 
           or_then-assoc : (a b d : Option GraphFault) → option_or (option_or a b) d ≡ option_or a (option_or b d)
           or_then-assoc (Some x) b d = refl

@@ -9,7 +9,7 @@ use Rattle.std.proofs.lemmas.Option.{slice_get_within}
 use Rattle.nj_manifest.specs.LineSteps.{NameText}
 use Rattle.nj_manifest.specs.Statements.{LineText, OutputsText, InputsText}
 use Rattle.nj_scope.specs.Rules.{RuleText, phony}
-use Rattle.nj_scope.specs.Scopes.{nearest, IsScope, parent_at}
+use Rattle.nj_scope.specs.Scopes.{first_given, IsScope, parent_at}
 use Rattle.nj_scope.specs.Declarations.{DeclarationsText, DeclaredBy}
 use Rattle.nj_scope.specs.ReadingList.{ReadStatement, scope_of, value_after, rules, rule_in_force, rules_read, pools}
 use Rattle.nj_scope.proofs.InForce.{in_force, phony-there}
@@ -22,9 +22,9 @@ use Rattle.nj_edges.proofs.GraphLemmas.{kinds-joined}
 use Rattle.nj_edge_env.specs.declared.edge.LateEdge.{LateEdge}
 use Rattle.nj_edge_env.specs.LateStrings.{LateNames}
 use Rattle.nj_edge_env.specs.LateEdges.{late_names}
-use Rattle.nj_statements.specs.EdgeList.{Block, Values, EdgeText, line_values, loses_own, without_own, edge_paths, stated_paths, build_block, edge_of_build, lines_of_rule, names_of_edge}
-use Rattle.nj_statements.specs.BuildFaults.{names_fault, late_fault}
-use Rattle.nj_statements.specs.Inside.EdgeSteps.{names_read, SeesLate}
+use Rattle.nj_statements.specs.EdgeList.{Block, Values, EdgeText, line_values, loses_own, without_own, edge_paths, stated_paths, build_block, edge_of_build, names_of_edge}
+use Rattle.nj_statements.specs.BuildFaults.{late_fault}
+use Rattle.nj_statements.specs.Inside.EdgeSteps.{names_read, SeesLate, names_fault, lines_of_rule}
 
 -- functions that give the same everywhere are the same
 pub same-everywhere : {A B : Type 0} (f g : A → B) → ((x : A) → f x ≡ g x) → f ≡ g
@@ -45,7 +45,7 @@ pub is-phony : (entries : List ReadStatement) (scope name : List ℕ) (number : 
     → rule_in_force entries scope name ≡ Some number → slice_get (rules_read entries) number ≡ Some rule → bytes_eq rule.name phony ≡ (number == 0)
 is-phony entries scope name number rule is there =
     same_truth (bytes_eq rule.name phony) (number == 0)
-    (λ h. (Decides-eqb number 0).1 (some_same (sym is ∙ ap (λ b. if b then Some 0 else nearest (λ s. rules entries s name) scope) ((bytes_eq-Decides name phony).1 (sym named ∙ (bytes_eq-Decides rule.name phony).0 h)))))
+    (λ h. (Decides-eqb number 0).1 (some_same (sym is ∙ ap (λ b. if b then Some 0 else first_given (λ s. rules entries s name) scope) ((bytes_eq-Decides name phony).1 (sym named ∙ (bytes_eq-Decides rule.name phony).0 h)))))
     (λ h. (bytes_eq-Decides rule.name phony).1 (ap (λ (r : RuleText). r.name) (some_same (sym there ∙ ap (slice_get (rules_read entries)) ((Decides-eqb number 0).0 h) ∙ phony-there entries))))
   where
     named : rule.name ≡ name

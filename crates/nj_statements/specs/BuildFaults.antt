@@ -1,13 +1,14 @@
 -- What is wrong with a `build` or `default` statement, by the statements before it.
-use Rattle.std.specs.Prelude.{ℕ, Bool, true, false, ◌||◌, not, Option, Some, None, is_some, option_map, List, [], ◌∷◌, ◌++◌, codes}
+use Rattle.std.specs.Prelude.{ℕ, ◌||◌, not, Option, Some, None, is_some, option_map, List, [], ◌∷◌, ◌++◌, codes}
 use Rattle.std.specs.Option.{option_or}
+use Rattle.std.specs.Bool.{then_some}
 use Rattle.nj_text.specs.declared.spot.Spot.{Spot}
 use Rattle.nj_text.specs.Words.{WordText}
 use Rattle.nj_text.specs.Paths.{clean_path_of}
 use Rattle.nj_text.specs.Calls.{is_empty}
 use Rattle.nj_manifest.specs.LineSteps.{NameText}
 use Rattle.nj_manifest.specs.Statements.{LineText, OutputsText, InputsText}
-use Rattle.nj_scope.specs.Scopes.{expanded}
+use Rattle.nj_scope.specs.Scopes.{expanded, first_given}
 use Rattle.nj_scope.specs.Pools.{is_pool}
 use Rattle.nj_scope.specs.ReadingList.{ReadStatement, scope_of, value_after, rule_in_force, pools}
 use Rattle.nj_faults.specs.declared.fault.GraphFault.{GraphFault}
@@ -19,28 +20,19 @@ use Rattle.nj_edge_env.specs.LateStrings.{LateNames, asked_text}
 use Rattle.nj_edge_env.specs.VariableCycles.{variable_cycle_of}
 use Rattle.nj_statements.specs.EdgeList.{Values, EdgeText, path_given, line_values, edges_read, paths_of_edges, edge_of_build, names_of_edge}
 
-abbrev pub fault_if : Bool → GraphFault → Option GraphFault
-fault_if true fault = Some fault
-fault_if false fault = None
-
--- the fault of the first word that has one
-abbrev pub first_fault : (WordText → Option GraphFault) → List WordText → Option GraphFault
-first_fault fault_of [] = None
-first_fault fault_of (word ∷ words) = option_or (fault_of word) (first_fault fault_of words)
-
 abbrev pub empty_path : (file : List ℕ) → Values → WordText → Option GraphFault
-empty_path file values word = fault_if (is_empty (expanded values word.parts)) (fault_at file word.spot EmptyPath)
+empty_path file values word = then_some (is_empty (expanded values word.parts)) (fault_at file word.spot EmptyPath)
 
 -- ---- build statements
 
 abbrev pub unknown_rule : ReadStatement → (before : List ReadStatement) → NameText → Option GraphFault
 unknown_rule e before rule =
-    fault_if (not (is_some (rule_in_force before (scope_of e) rule.name))) (fault_at e.file rule.spot (UnknownRule rule.name))
+    then_some (not (is_some (rule_in_force before (scope_of e) rule.name))) (fault_at e.file rule.spot (UnknownRule rule.name))
 
 -- An output is refused if an earlier edge makes it, or if it is one of those to its left.
 abbrev pub two_makers : (file : List ℕ) → Values → List EdgePaths → (left : List (List ℕ)) → WordText → Option GraphFault
 two_makers file values edges left word =
-    fault_if (is_some (maker_of edges (path_given values word)) || is_among left (path_given values word))
+    then_some (is_some (maker_of edges (path_given values word)) || is_among left (path_given values word))
     (fault_at file word.spot (TwoMakers (path_given values word)))
 
 abbrev pub outputs_fault : (file : List ℕ) → Values → List EdgePaths → (left : List (List ℕ)) → List WordText → Option GraphFault
@@ -51,7 +43,7 @@ outputs_fault file values edges left (word ∷ words) =
 
 abbrev pub inputs_fault : (file : List ℕ) → Values → InputsText → Option GraphFault
 inputs_fault file values inputs =
-    first_fault (empty_path file values) (inputs.explicit ++ (inputs.implicit ++ (inputs.order_only ++ inputs.validations)))
+    first_given (empty_path file values) (inputs.explicit ++ (inputs.implicit ++ (inputs.order_only ++ inputs.validations)))
 
 abbrev pub paths_fault : (file : List ℕ) → Values → List EdgePaths → OutputsText → InputsText → Option GraphFault
 paths_fault file values edges outputs inputs =
@@ -63,24 +55,21 @@ variable_cycle_fault file spot n = option_map (λ key. fault_at file spot (RuleV
 
 -- A pool has to be declared earlier; an empty text names no pool.
 abbrev pub unknown_pool : (file : List ℕ) → Spot → (declared : List (List ℕ)) → (pool : List ℕ) → Option GraphFault
-unknown_pool file spot declared pool = fault_if (not (is_empty pool || is_pool declared pool)) (fault_at file spot (UnknownPool pool))
+unknown_pool file spot declared pool = then_some (not (is_empty pool || is_pool declared pool)) (fault_at file spot (UnknownPool pool))
 
 -- A dyndep file has to be an input of the edge, of any kind, by its clean path; an empty text names no file.
 abbrev pub dyndep_not_input : (file : List ℕ) → Spot → (inputs : List (List ℕ)) → (dyndep : List ℕ) → Option GraphFault
 dyndep_not_input file spot inputs dyndep =
-    fault_if (not (is_empty dyndep || is_among inputs (clean_path_of dyndep))) (fault_at file spot (DyndepNotInput (clean_path_of dyndep)))
+    then_some (not (is_empty dyndep || is_among inputs (clean_path_of dyndep))) (fault_at file spot (DyndepNotInput (clean_path_of dyndep)))
 
--- the first of these faults, where these pools are declared and the edge has these inputs
-abbrev pub names_fault : (file : List ℕ) → Spot → (declared inputs : List (List ℕ)) → LateNames → Option GraphFault
-names_fault file spot declared inputs n =
-    option_or (variable_cycle_fault file spot n)
-    (option_or (unknown_pool file spot declared (asked_text n (codes "pool")))
-    (dyndep_not_input file spot inputs (asked_text n (codes "dyndep"))))
-
--- The edge is the one that the statement makes, with its block and without the inputs that it loses. A name of the file has the
+-- The first of these faults. The edge is the one that the statement makes, with its block and without the inputs that it loses. A name of the file has the
 -- value that it has before the statement.
 abbrev pub late_fault : (before : List ReadStatement) → EdgeText → Option GraphFault
-late_fault before edge = names_fault edge.file edge.spot (pools before) (inputs_of edge.paths) (names_of_edge before edge)
+late_fault before edge =
+    let n = names_of_edge before edge in
+    option_or (variable_cycle_fault edge.file edge.spot n)
+    (option_or (unknown_pool edge.file edge.spot (pools before) (asked_text n (codes "pool")))
+    (dyndep_not_input edge.file edge.spot (inputs_of edge.paths) (asked_text n (codes "dyndep"))))
 
 -- its rule, its outputs from left to right, its inputs, its validations; then the variables of the rule, the pool, the dyndep file
 abbrev pub build_fault : ReadStatement → (before : List ReadStatement) → OutputsText → NameText → InputsText → List LineText → Option GraphFault
@@ -93,7 +82,7 @@ build_fault e before outputs rule inputs lines =
 
 abbrev pub unknown_target : (file : List ℕ) → Values → List EdgePaths → WordText → Option GraphFault
 unknown_target file values edges word =
-    fault_if (not (is_named edges (path_given values word))) (fault_at file word.spot (UnknownTarget (path_given values word)))
+    then_some (not (is_named edges (path_given values word))) (fault_at file word.spot (UnknownTarget (path_given values word)))
 
 -- A default is a file that an earlier edge names.
 abbrev pub target_fault : (file : List ℕ) → Values → List EdgePaths → WordText → Option GraphFault
@@ -101,4 +90,4 @@ target_fault file values edges word = option_or (empty_path file values word) (u
 
 abbrev pub default_fault : ReadStatement → (before : List ReadStatement) → List WordText → Option GraphFault
 default_fault e before words =
-    first_fault (target_fault e.file (value_after before (scope_of e)) (paths_of_edges (edges_read before))) words
+    first_given (target_fault e.file (value_after before (scope_of e)) (paths_of_edges (edges_read before))) words

@@ -8,11 +8,10 @@ use Rattle.nj_text.specs.Paths.{clean_path_of}
 use Rattle.nj_text.specs.Calls.{is_empty}
 use Rattle.nj_manifest.specs.LineSteps.{NameText}
 use Rattle.nj_manifest.specs.Statements.{LineText, last_line, OutputsText, InputsText, StatementText, BuildText, DefaultText}
-use Rattle.nj_scope.specs.Rules.{RuleText, RuleLineText}
 use Rattle.nj_scope.specs.Scopes.{expanded}
-use Rattle.nj_scope.specs.ReadingList.{Discovered, ReadStatement, scope_of, value_after, rule_in_force, rules_read}
-use Rattle.nj_edges.specs.Repeats.{each_once}
+use Rattle.nj_scope.specs.ReadingList.{Discovered, ReadStatement, scope_of, value_after, rule_in_force, rules_read, gathered}
 use Rattle.nj_edges.specs.Edges.{EdgePaths, outputs_of, is_among}
+use Rattle.nj_edges.specs.Repeats.{each_once}
 use Rattle.nj_edge_env.specs.LateStrings.{LateNames, asked_text}
 
 -- ---- names and paths
@@ -123,14 +122,13 @@ edge_of_build e before outputs rule inputs lines = record {
       (edge_paths (stated_paths (line_values e before lines) outputs inputs (rule_number e before rule == 0)));
 }
 
-abbrev pub with_edge : ReadStatement → (before : List ReadStatement) → StatementText → List EdgeText → List EdgeText
-with_edge e before (BuildText outputs rule inputs lines) edges = edges ++ edge_of_build e before outputs rule inputs lines ∷ []
-with_edge e before item edges = edges
+abbrev pub edge_given : ReadStatement → (before : List ReadStatement) → StatementText → Option EdgeText
+edge_given e before (BuildText outputs rule inputs lines) = Some (edge_of_build e before outputs rule inputs lines)
+edge_given e before item = None
 
--- the edges of these statements, the last read first
+-- the edges of these statements
 unfoldable pub edges_read : List ReadStatement → List EdgeText
-edges_read [] = []
-edges_read (e ∷ before) = with_edge e before e.item (edges_read before)
+edges_read entries = gathered edge_given entries
 
 -- the block of the edge of a number; past the last edge there is none
 abbrev pub block_of_edge : Option EdgeText → Block
@@ -160,10 +158,6 @@ defaults_read (e ∷ before) = with_defaults e before e.item (defaults_read befo
 
 -- ---- the names of rules
 
-abbrev pub lines_of_rule : Option RuleText → List RuleLineText
-lines_of_rule (Some r) = r.lines
-lines_of_rule None = []
-
 -- What the names of an edge depend on, where its rule is used after these statements: its block and its rule come from its own
 -- statement, its paths those that it keeps, and a name of the file has the value that it has by then.
 abbrev pub names_of_edge : List ReadStatement → EdgeText → LateNames
@@ -171,7 +165,7 @@ names_of_edge entries e = record {
   inputs = e.paths.explicit_inputs;
   outputs = e.paths.explicit_outputs;
   block = e.block;
-  lines = lines_of_rule (slice_get (rules_read entries) e.rule);
+  lines = unwrap_or (option_map (λ r. r.lines) (slice_get (rules_read entries) e.rule)) [];
   is_phony = e.paths.is_phony;
   file = value_after entries (e.number ∷ e.around);
 }
@@ -225,15 +219,12 @@ pub record AssignedText : Type 0 where
 abbrev pub assigned_of : (before : List ReadStatement) → EdgeText → AssignedText
 assigned_of before edge = record { pool = pool_of before edge; dyndep = dyndep_of before edge }
 
-abbrev pub with_assigned : ReadStatement → (before : List ReadStatement) → StatementText → List AssignedText → List AssignedText
-with_assigned e before (BuildText outputs rule inputs lines) others =
-    others ++ assigned_of before (edge_of_build e before outputs rule inputs lines) ∷ []
-with_assigned e before item others = others
+abbrev pub assigned_given : ReadStatement → (before : List ReadStatement) → StatementText → Option AssignedText
+assigned_given e before item = option_map (assigned_of before) (edge_given e before item)
 
 -- what is assigned to each edge, by number; that a dyndep file was joined to an edge changes nothing of it
 unfoldable pub assigned_read : List ReadStatement → List AssignedText
-assigned_read [] = []
-assigned_read (e ∷ before) = with_assigned e before e.item (assigned_read before)
+assigned_read entries = gathered assigned_given entries
 
 -- what is assigned to the edge of a number; past the last edge it is nothing
 abbrev pub assigned_at : List AssignedText → (number : ℕ) → AssignedText

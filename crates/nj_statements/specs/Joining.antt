@@ -1,31 +1,28 @@
 -- What the entries of dyndep files add to build statements ("Dynamic Dependencies" in the manual).
-use Rattle.std.specs.Prelude.{ℕ, ◌==◌, Bool, true, false, ◌&&◌, not, if◌then◌else◌, Option, Some, None, option_map, option_and_then, unwrap_or, List, [], ◌∷◌}
-use Rattle.std.specs.Option.{option_or}
-use Rattle.std.specs.Prelude.{find, filter, length, slice_get, bytes_eq}
+use Rattle.std.specs.Prelude.{ℕ, ◌==◌, Bool, false, ◌&&◌, not, if◌then◌else◌, Option, Some, None, option_map, option_and_then, unwrap_or, is_some, List, [], ◌∷◌}
+use Rattle.nj_scope.specs.Scopes.{first_given}
+use Rattle.std.specs.Bool.{then_some}
+use Rattle.std.specs.Option.{option_or, option_map_or}
+use Rattle.std.specs.Prelude.{find, length, slice_get, bytes_eq}
 use Rattle.std.specs.List.{list_any}
-use Rattle.nj_manifest.specs.Statements.{StatementText, BuildText}
 pub use Rattle.nj_manifest.specs.Expansion.{no_values}
 use Rattle.nj_manifest.specs.Dyndeps.{EntryText}
 use Rattle.nj_scope.specs.ReadingList.{Discovered, ReadStatement}
 use Rattle.nj_edges.specs.Edges.{first_output, maker_of}
-use Rattle.nj_faults.specs.declared.fault.GraphFault.{GraphFault}
 use Rattle.nj_edges.specs.Repeats.{each_once}
+use Rattle.nj_faults.specs.declared.fault.GraphFault.{GraphFault}
 use Rattle.nj_faults.specs.declared.fault.Cause.TheVariants.{DyndepExtra, DyndepTwice, DyndepNoStatement}
 use Rattle.nj_faults.specs.Faults.{fault_at}
-use Rattle.nj_statements.specs.EdgeList.{EdgeText, Pending, path_given, paths_given, edges_read, paths_of_edges, pending_read}
-use Rattle.nj_statements.specs.BuildFaults.{fault_if, first_fault, empty_path, outputs_fault}
+use Rattle.nj_statements.specs.EdgeList.{EdgeText, Pending, path_given, paths_given, edge_given, edges_read, paths_of_edges, pending_read}
+use Rattle.nj_statements.specs.BuildFaults.{empty_path, outputs_fault}
 
 -- ---- the statements that are joined
-
-abbrev pub is_build : StatementText → Bool
-is_build (BuildText outputs rule inputs lines) = true
-is_build item = false
 
 -- the statements with what was discovered for the build statement of an edge
 unfoldable pub discover : (edge : ℕ) → Discovered → List ReadStatement → List ReadStatement
 discover edge found [] = []
 discover edge found (e ∷ before) =
-    if is_build e.item && length (edges_read before) == edge then record e { discovered = Some found } ∷ before
+    if is_some (edge_given e before e.item) && length (edges_read before) == edge then record e { discovered = Some found } ∷ before
     else e ∷ discover edge found before
 
 -- what an entry adds to the outputs and the inputs of its build statement
@@ -36,28 +33,24 @@ discovered_by entry = record { outputs = paths_given no_values entry.outs; input
 abbrev pub edge_meant : (stated : List ReadStatement) → EntryText → Option ℕ
 edge_meant stated entry = maker_of (paths_of_edges (edges_read stated)) (path_given no_values entry.out)
 
-abbrev pub discover_for : Option ℕ → Discovered → List ReadStatement → List ReadStatement
-discover_for (Some edge) found joined = discover edge found joined
-discover_for None found joined = joined
-
 -- The statements with what an entry adds, by the statements as they were read, and those with what was joined before.
 abbrev pub with_entry : (stated joined : List ReadStatement) → EntryText → List ReadStatement
-with_entry stated joined entry = discover_for (edge_meant stated entry) (discovered_by entry) joined
+with_entry stated joined entry =
+    unwrap_or (option_map (λ edge. discover edge (discovered_by entry) joined) (edge_meant stated entry)) joined
 
 -- ---- what is wrong with an entry
 
 -- an edge is pending on this dyndep file
 abbrev pub pending_on : (file : List ℕ) → List Pending → Option ℕ → Bool
-pending_on file edges (Some edge) = list_any (λ p. p.edge == edge && bytes_eq p.file file) edges
-pending_on file edges None = false
+pending_on file edges edge = option_map_or (λ number. list_any (λ p. p.edge == number && bytes_eq p.file file) edges) edge false
 
 -- The build statement that is meant has to be bound to this file, and to be meant by no other entry.
 abbrev pub meaning_fault : (file : List ℕ) → (stated joined : List ReadStatement) → EntryText → Option GraphFault
 meaning_fault file stated joined entry =
     let path = path_given no_values entry.out in
     let edge = edge_meant stated entry in
-    option_or (fault_if (not (pending_on file (pending_read stated) edge)) (fault_at file entry.out.spot (DyndepExtra path)))
-    (fault_if (not (pending_on file (pending_read joined) edge)) (fault_at file entry.out.spot (DyndepTwice path)))
+    option_or (then_some (not (pending_on file (pending_read stated) edge)) (fault_at file entry.out.spot (DyndepExtra path)))
+    (then_some (not (pending_on file (pending_read joined) edge)) (fault_at file entry.out.spot (DyndepTwice path)))
 
 -- its output, and which statement it means; the outputs that it discovers, from left to right, each of which no other edge may
 -- make; and the inputs
@@ -66,7 +59,7 @@ entry_fault file stated joined entry =
     option_or (empty_path file no_values entry.out)
     (option_or (meaning_fault file stated joined entry)
     (option_or (outputs_fault file no_values (paths_of_edges (edges_read joined)) [] entry.outs)
-    (first_fault (empty_path file no_values) entry.ins)))
+    (first_given (empty_path file no_values) entry.ins)))
 
 -- ---- what is wrong with a file
 

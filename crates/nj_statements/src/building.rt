@@ -5,12 +5,12 @@ ghost use Rattle.std.specs.Option.{option_or};
 ghost use Rattle.nj_manifest.specs.Contents.{words_text, outputs_text, used_rule, inputs_text, lines_text, build_text};
 ghost use Rattle.nj_manifest.specs.Statements.{DefaultText};
 ghost use Rattle.nj_scope.specs.Readings.{IsPrefix};
-ghost use Rattle.nj_scope.specs.Scopes.{IsScope, parent_at};
+ghost use Rattle.nj_scope.specs.Scopes.{IsScope, parent_at, first_given};
 ghost use Rattle.nj_scope.specs.Declarations.{DeclaredBy};
 ghost use Rattle.nj_scope.specs.ReadingList.{ReadStatement, rule_in_force, rules_read};
 ghost use Rattle.nj_edges.specs.EdgeTables.{no_files};
 ghost use Rattle.nj_statements.specs.EdgeList.{Values, paths_given, line_values, edge_of_build, edges_read, paths_of_edges};
-ghost use Rattle.nj_statements.specs.BuildFaults.{first_fault, paths_fault, late_fault, target_fault, build_fault, default_fault};
+ghost use Rattle.nj_statements.specs.BuildFaults.{paths_fault, late_fault, target_fault, build_fault, default_fault};
 ghost use Rattle.nj_statements.specs.Answers.{Checks, HasEdges, AddsNothing, ReadsStatement, entry_at_place};
 ghost use Rattle.nj_statements.specs.Inside.EdgeSteps.{SeesNames, AddsTargets, with_dyndep};
 
@@ -269,7 +269,7 @@ fn add_targets(
 ) -> Result<(), GraphFault>
     ensures fault { (values : Values) → SeesNames context.entry values
         → edges.now.«open» ≡ no_files
-        → Checks (first_fault (target_fault context.entry.place.file.now values edges.now.edges)
+        → Checks (first_given (target_fault context.entry.place.file.now values edges.now.edges)
         (words_text words.now)) result }
     ensures added { (values : Values) → SeesNames context.entry values
         → OnOk result (AddsTargets edges.now.files targets.old.items targets.new.items

@@ -1,6 +1,7 @@
 //! The files that a build statement names.
 
 ghost use Rattle.std.specs.Prelude.{◌≡◌, ◌==◌, ◌<◌, ◌≤◌, ◌+◌, ◌++◌, ◌∷◌, false, Some, length, slice_get, codes, IfOk, OnOk, OnErr};
+ghost use Rattle.nj_scope.specs.Scopes.{first_given};
 ghost use Rattle.std.specs.Option.{option_or};
 ghost use Rattle.nj_text.specs.Words.{word_text};
 ghost use Rattle.nj_manifest.specs.Contents.{words_text, outputs_text, inputs_text};
@@ -12,10 +13,10 @@ ghost use Rattle.nj_edge_env.specs.LateEdges.{late_names};
 ghost use Rattle.nj_edge_env.specs.LateStrings.{asked_text};
 ghost use Rattle.nj_edge_env.specs.ReferencesHeld.{TellsCycles};
 ghost use Rattle.nj_statements.specs.EdgeList.{Values, path_given, paths_given, stated_paths, loses_own, edge_paths, file_given};
-ghost use Rattle.nj_statements.specs.BuildFaults.{empty_path, first_fault, target_fault, outputs_fault, inputs_fault, paths_fault, names_fault};
+ghost use Rattle.nj_statements.specs.BuildFaults.{empty_path, target_fault, outputs_fault, inputs_fault, paths_fault};
 ghost use Rattle.nj_statements.specs.Answers.{Checks, KeepsRead};
 ghost use Rattle.nj_statements.specs.Inside.Details.{AreNumbersOf};
-ghost use Rattle.nj_statements.specs.Inside.EdgeSteps.{SeesNames, IsFileGiven, assigned_by, bound_by, Grows, AddsInputs, AddsEdge, names_read, with_outputs, with_input_unless, with_inputs, with_validations};
+ghost use Rattle.nj_statements.specs.Inside.EdgeSteps.{SeesNames, IsFileGiven, assigned_by, bound_by, Grows, AddsInputs, AddsEdge, names_read, with_outputs, with_input_unless, with_inputs, with_validations, names_fault};
 
 use crate::capacity::Capacity;
 use crate::context::Context;
@@ -91,7 +92,7 @@ impl Context<'_> {
         loses_own: bool,
     ) -> Result<(), GraphFault>
         ensures fault { (values : Values) → SeesNames self.entry values
-            → Checks (first_fault (empty_path self.entry.place.file.now values)
+            → Checks (first_given (empty_path self.entry.place.file.now values)
             (words_text words.now)) result }
         ensures added { (values : Values) → SeesNames self.entry values
             → OnOk result (edges.new
@@ -115,7 +116,7 @@ impl Context<'_> {
         words: &[Word<'_>],
     ) -> Result<(), GraphFault>
         ensures fault { (values : Values) → SeesNames self.entry values
-            → Checks (first_fault (empty_path self.entry.place.file.now values)
+            → Checks (first_given (empty_path self.entry.place.file.now values)
             (words_text words.now)) result }
         ensures added { (values : Values) → SeesNames self.entry values
             → OnOk result (edges.new

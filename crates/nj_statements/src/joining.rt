@@ -1,6 +1,7 @@
 //! What dyndep files add to the edges of a run.
 
 ghost use Rattle.std.specs.Prelude.{◌≡◌, ℕ, ◌<◌, ◌==◌, List, [], Some, None, option_map, unwrap_or, map, length, slice_get, replicate, slice_index_or, IfOk, IfSome, OnOk, OnErr};
+ghost use Rattle.nj_scope.specs.Scopes.{first_given};
 ghost use Rattle.std.specs.Option.{option_or};
 ghost use Rattle.std.specs.List.{AllByRecursion};
 ghost use Rattle.nj_text.specs.Words.{word_text};
@@ -13,7 +14,7 @@ ghost use Rattle.nj_edges.specs.Files.{path_at};
 ghost use Rattle.nj_edges.specs.Joining.{none_added};
 ghost use Rattle.nj_faults.specs.Faults.{IsFault, fault_at};
 ghost use Rattle.nj_statements.specs.EdgeList.{path_given, paths_given, pending_read};
-ghost use Rattle.nj_statements.specs.BuildFaults.{empty_path, first_fault, outputs_fault};
+ghost use Rattle.nj_statements.specs.BuildFaults.{empty_path, outputs_fault};
 ghost use Rattle.nj_statements.specs.Built.{ComesTo, IsBuiltOf, detail_at};
 ghost use Rattle.nj_statements.specs.Joining.{no_values, entry_fault, with_entry, lacking_fault};
 ghost use Rattle.nj_statements.specs.Answers.{Checks};
@@ -440,7 +441,7 @@ impl DyndepLine<'_> {
         edges: &mut JoiningEdges,
         words: &[Word<'_>],
     ) -> Result<(), GraphFault>
-        ensures fault { Checks (first_fault (empty_path self.entry.name.now no_values)
+        ensures fault { Checks (first_given (empty_path self.entry.name.now no_values)
             (words_text words.now)) result }
         ensures added { OnOk result (edges.new
             ≡ with_added_inputs edges.old (paths_given no_values (words_text words.now))) }

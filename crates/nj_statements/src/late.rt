@@ -4,12 +4,12 @@ ghost use Rattle.std.specs.Prelude.{◌≡◌, ◌<◌, List, Some, false, codes
 ghost use Rattle.nj_edge_env.specs.LateStrings.{LateNames, asked_text};
 ghost use Rattle.nj_edge_env.specs.ReferencesHeld.{TellsCycles};
 ghost use Rattle.nj_scope.specs.ReadingList.{ReadStatement, pools};
-ghost use Rattle.nj_statements.specs.BuildFaults.{variable_cycle_fault, unknown_pool, dyndep_not_input, names_fault};
+ghost use Rattle.nj_statements.specs.BuildFaults.{variable_cycle_fault, unknown_pool, dyndep_not_input};
 ghost use Rattle.nj_scope.specs.Readings.{IsPrefix};
 ghost use Rattle.nj_statements.specs.EdgeList.{file_given, name_given};
 ghost use Rattle.nj_statements.specs.Answers.{Checks, numbered};
 ghost use Rattle.nj_statements.specs.Inside.Details.{AreNumbersOf};
-ghost use Rattle.nj_statements.specs.Inside.EdgeSteps.{SeesLate, IsFileGiven, assigned_by};
+ghost use Rattle.nj_statements.specs.Inside.EdgeSteps.{SeesLate, IsFileGiven, assigned_by, names_fault};
 
 use crate::capacity::Capacity;
 use crate::context::Context;

@@ -1,10 +1,19 @@
-//! Laws of what dyndep files add to edges. A law is a theorem, stated as a function with an empty
+//! Laws of edges and of what dyndep files add to them. A law is a theorem, stated as a function with an empty
 //! body.
 
+ghost use Rattle.nj_scope.specs.Laws.{IsInReadingOrder};
+ghost use Rattle.nj_statements.specs.EdgeList.{edge_given, edges_read, assigned_given, assigned_read};
 ghost use Rattle.nj_statements.specs.Laws.{AddsToOneEdge, OthersArePendingAsBefore, NamesStay};
 ghost use Rattle.nj_statements.specs.Laws.{EntriesAddToTheirEdges, EdgesMakeWhatIsDiscovered};
 ghost use Rattle.nj_statements.specs.Laws.{NoFileGetsTwoMakers};
 ghost use Rattle.nj_statements.specs.Laws.{PendingEdgesRise, DyndepFilesComeOnce};
+
+/// The k-th edge is that of the k-th `build` statement, by the statements before it, and so is what
+/// is assigned to it; there are no others.
+pub fn edges_by_reading_order()
+    ensures edges { IsInReadingOrder edge_given edges_read }
+    ensures assigned { IsInReadingOrder assigned_given assigned_read }
+{}
 
 /// What a dyndep file gives is added to one edge that is pending on it; that edge is then no longer
 /// pending. The other edges stay as they are and pending as before, and the values of names, rules

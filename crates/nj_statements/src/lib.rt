@@ -19,6 +19,6 @@ pub use building::Building;
 pub use built::{Built, EdgeDetail};
 pub use joining::{DyndepFile, Joining};
 pub use laws::{
-    discovered_files_are_added, dyndep_files_come_once, entries_add_to_their_edges,
-    no_file_gets_two_makers, pending_edges_rise,
+    discovered_files_are_added, dyndep_files_come_once, edges_by_reading_order,
+    entries_add_to_their_edges, no_file_gets_two_makers, pending_edges_rise,
 };

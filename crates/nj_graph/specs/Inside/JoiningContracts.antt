@@ -1,5 +1,6 @@
 -- What each step of the joining of dyndep files returns, by what is joined so far. Nothing here has to be believed.
 use Rattle.std.specs.Prelude.{◌≡◌, ◌⊎◌, ℕ, true, false, Option, Some, None, Result, Ok, Err, List, String, string_bytes, ⊤}
+use Rattle.nj_graph.specs.Inside.PathsReached.{with_news, come_joined}
 use Rattle.std.specs.Str.{is_utf8}
 use Rattle.nj_text.specs.Lines.{Line}
 use Rattle.nj_manifest.specs.declared.entries.Entry as text
@@ -18,10 +19,10 @@ use Rattle.nj_faults.specs.Faults.{fault_in, no_memory}
 use Rattle.nj_statements.specs.EdgeList.{Pending}
 use Rattle.nj_statements.specs.Joining.{lacking_fault}
 use Rattle.nj_statements.specs.JoiningHeld.{JoiningText, HasJoined}
-use Rattle.nj_graph.specs.Reading.{End, Whole, Refused, end_by, with_all_new}
+use Rattle.nj_graph.specs.Reading.{End, Whole, Refused, end_by}
 use Rattle.nj_graph.specs.Runs.{IsRead, IsEnd, IsLacking, paths_with, Stops}
 use Rattle.nj_graph.specs.Inside.ReaderContracts.{ReadsAll}
-use Rattle.nj_graph.specs.Joining.{text_joined, path_asked, file_joined, all_joined, joined_after}
+use Rattle.nj_graph.specs.Joining.{text_joined, path_asked, file_joined, all_joined}
 
 -- ---- the name of a file
 
@@ -71,7 +72,7 @@ pub record FileJoined (stated joined : List ReadStatement) (p : Pending) (before
     (held : JoiningText) : Type 0 where
   pub files : List Reading
   pub reads : ReadsAll before after old files table
-  pub came_to : with_all_new (paths_of old) (path_asked p) ≡ paths_of files
+  pub came_to : with_news (paths_of old) (path_asked p) ≡ paths_of files
   pub now : List ReadStatement
   pub has : HasJoined held stated now
   pub joins : (all : List Reading) → IsPrefix files all → file_joined all stated p joined ≡ record { entries = now; end = Whole }
@@ -79,7 +80,7 @@ pub record FileJoined (stated joined : List ReadStatement) (p : Pending) (before
 pub record FileLacksMemory (p : Pending) (before after : SourceState) (old files : List Reading) (fault : GraphFault) : Type 0 where
   pub answered : fault ≡ no_memory
   pub failures : after.failures ≡ before.failures
-  pub came_to : IsPrefix (paths_of files) (with_all_new (paths_of old) (path_asked p))
+  pub came_to : IsPrefix (paths_of files) (with_news (paths_of old) (path_asked p))
 
 pub record FileEnds (stated joined : List ReadStatement) (p : Pending) (before after : SourceState) (old files : List Reading)
     (fault : GraphFault) : Type 0 where
@@ -88,7 +89,7 @@ pub record FileEnds (stated joined : List ReadStatement) (p : Pending) (before a
   pub answered : IsEnd before after end fault
   pub joins : (all : List Reading) → IsPrefix files all → IsLacking end all
       → file_joined all stated p joined ≡ record { entries = now; end = end }
-  pub came_to : with_all_new (paths_of old) (path_asked p) ≡ paths_with end files
+  pub came_to : with_news (paths_of old) (path_asked p) ≡ paths_with end files
 
 -- the joining stops at the file
 pub record FileStops (stated joined : List ReadStatement) (p : Pending) (before after : SourceState) (old : List Reading)
@@ -111,14 +112,14 @@ pub record FilesJoined (stated : List ReadStatement) (before after : SourceState
   pub now : List ReadStatement
   pub has : HasJoined held stated now
   pub paths : List (List ℕ)
-  pub came_to : with_all_new (paths_of old) paths ≡ paths_of files
+  pub came_to : with_news (paths_of old) paths ≡ paths_of files
   pub joins : (all : List Reading) → IsPrefix files all
       → all_joined all stated ≡ record { read = record { entries = now; end = Whole }; paths = paths }
 
 pub record FilesStop (stated : List ReadStatement) (before after : SourceState) (old : List Reading) (fault : GraphFault) : Type 0 where
   pub files : List Reading
   pub reads : IsRead before after old files
-  pub stops : Stops before after files (joined_after old stated) fault
+  pub stops : Stops before after files (come_joined old stated) fault
 
 abbrev pub JoinsFiles : (stated : List ReadStatement) → (before after : SourceState) → (old table : List Reading) → JoiningText
     → Result (Unit {0}) GraphFault → Type 0

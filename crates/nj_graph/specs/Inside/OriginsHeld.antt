@@ -7,7 +7,9 @@ use Rattle.nj_faults.specs.declared.fault.Place.{Place}
 use Rattle.nj_graph.specs.declared.origins.HeldPlace.{HeldPlace}
 use Rattle.nj_graph.specs.declared.origins.HeldPool.{HeldPool}
 use Rattle.nj_graph.specs.declared.origins.HeldOpening.{HeldOpening}
-use Rattle.nj_graph.specs.Origins.{PoolDetail, OpeningText, OriginsText, with_rule_place, with_pool_detail, with_opening}
+use Rattle.nj_graph.specs.Origins.{PoolDetail, OpeningText, OriginsText, rule_place_given, pool_detail_given, opening_given}
+use Rattle.std.specs.List.{push}
+use Rattle.std.specs.Option.{option_map_or}
 
 -- by these names of files
 
@@ -40,7 +42,7 @@ pub record AreNamed (names : List (List ℕ)) (rules : List HeldPlace) (pools : 
 -- what is held after one statement more
 abbrev pub origins_with : ReadStatement → (before : List ReadStatement) → OriginsText → OriginsText
 origins_with e before o = record {
-  rules = with_rule_place e e.item o.rules;
-  pools = with_pool_detail e before e.item o.pools;
-  openings = with_opening e before e.item o.openings;
+  rules = option_map_or (push o.rules) (rule_place_given e before e.item) o.rules;
+  pools = option_map_or (push o.pools) (pool_detail_given e before e.item) o.pools;
+  openings = option_map_or (push o.openings) (opening_given e before e.item) o.openings;
 }

@@ -1,5 +1,6 @@
 -- What a reader has after some statements, and what each of its calls reads.
 use Rattle.std.specs.Prelude.{◌≡◌, ◌⊎◌, ℕ, suc, ◌<◌, ◌≤◌, Option, Some, None, Result, Ok, Err, List, [], ◌∷◌, length, String, string_bytes}
+use Rattle.nj_graph.specs.Inside.PathsReached.{with_new, paths_read, reached_by}
 use Rattle.std.specs.Prelude.{⊤}
 use Rattle.std.specs.Global.{Global}
 use Rattle.std.specs.List.{AllByRecursion}
@@ -18,7 +19,7 @@ use Rattle.nj_scope.specs.Sources.{SourceState}
 use Rattle.nj_scope.specs.Opening as table
 use Rattle.nj_scope.specs.Scopes.{ScopeText, parent_at}
 use Rattle.nj_scope.specs.Declarations.{DeclaredBy}
-use Rattle.nj_scope.specs.ReadingList.{ReadStatement, scope_of, scopes_opened}
+use Rattle.nj_scope.specs.ReadingList.{ReadStatement, scope_of, scopes_opened, path_named}
 use Rattle.nj_faults.specs.declared.fault.Place.{Place}
 use Rattle.nj_faults.specs.declared.fault.GraphFault.{GraphFault}
 use Rattle.nj_faults.specs.declared.fault.Cause.TheVariants.{Missing, Io}
@@ -33,9 +34,8 @@ pub use Rattle.nj_statements.specs.Answers.{Checks}
 use Rattle.nj_graph.specs.Graph.{IsOpenScope}
 use Rattle.nj_graph.specs.Origins.{origins_read}
 use Rattle.nj_graph.specs.Reading.{Site, opened_site, own_fault, Whole, ReadingText, Opens, opened_in, statement_read}
-use Rattle.nj_graph.specs.Reading.{text_read, path_named, with_new, paths_read}
+use Rattle.nj_graph.specs.Reading.{text_read}
 use Rattle.nj_graph.specs.Runs.{IsRead, Stops}
-use Rattle.nj_graph.specs.Loads.{reached_from}
 
 abbrev pub site_scope : Site → List ℕ
 site_scope site = site.number ∷ site.around
@@ -119,7 +119,7 @@ pub record StopsAt (main : List ℕ) (before after : SourceState) (old : List Re
     (fault : GraphFault) : Type 0 where
   pub files : List Reading
   pub reads : IsRead before after old files
-  pub stops : Stops before after files (λ all. reached_from main (reading all)) fault
+  pub stops : Stops before after files (λ all. reached_by main (reading all)) fault
 
 -- the path that a word gives, or its fault
 abbrev pub GivesPath : {Z : Type 0} → Option GraphFault → (gives : List ℕ) → Result (String Z) GraphFault → Type 0
@@ -143,7 +143,7 @@ abbrev pub OpensPath : (main : List ℕ) → (before after : SourceState) → (o
 OpensPath main before after old held left place path entries (Ok text) =
     OpensText main before after old held left place path entries (rc_slice_items text)
 OpensPath main before after old held left place path entries (Err fault) =
-    (inner : Site) (e : ReadStatement) → inner.file ≡ path → path_named e entries e.item ≡ path ∷ []
+    (inner : Site) (e : ReadStatement) → inner.file ≡ path → path_named e entries e.item ≡ Some path
     → StopsAt main before after old.files (λ all. opened_in all left inner place e entries) fault
 
 -- ---- a statement

@@ -1,8 +1,10 @@
 -- How the code reads an edge, step by step.
-use Rattle.std.specs.Prelude.{◌≡◌, ℕ, Bool, true, false, if◌then◌else◌, Option, Some, None, option_map}
+use Rattle.std.specs.Prelude.{◌≡◌, ℕ, Bool, true, false, if◌then◌else◌, Option, Some, None, option_map, unwrap_or}
 use Rattle.std.specs.Prelude.{List, [], ◌∷◌, ◌++◌, ◌+◌, ◌≤◌, length, slice_get, slice_index_or, codes, bytes_eq}
+use Rattle.std.specs.Option.{option_or}
+use Rattle.nj_text.specs.declared.spot.Spot.{Spot}
 use Rattle.nj_manifest.specs.Statements.{InputsText}
-use Rattle.nj_scope.specs.Rules.{RuleText, phony}
+use Rattle.nj_scope.specs.Rules.{RuleText, RuleLineText, phony}
 use Rattle.nj_scope.specs.Readings.{IsPrefix}
 use Rattle.nj_scope.specs.Scopes.{IsScope, parent_at}
 use Rattle.nj_scope.specs.Declarations.{DeclarationsText, DeclaredBy}
@@ -20,8 +22,20 @@ use Rattle.nj_statements.specs.declared.context.Context.{Context}
 use Rattle.nj_statements.specs.declared.detail.Detail.{Detail}
 use Rattle.nj_statements.specs.declared.building.DyndepEdge.{DyndepEdge}
 use Rattle.nj_statements.specs.EdgeList.{Values, Block, AssignedText, on_line, paths_given, name_given, file_given}
+use Rattle.nj_faults.specs.declared.fault.GraphFault.{GraphFault}
+use Rattle.nj_statements.specs.BuildFaults.{variable_cycle_fault, unknown_pool, dyndep_not_input}
 use Rattle.nj_statements.specs.Answers.{DetailText}
 use Rattle.nj_statements.specs.Inside.Details.{spot_of}
+
+-- the faults of an edge's names in their order, where these pools are declared and the edge has these inputs
+abbrev pub names_fault : (file : List ℕ) → Spot → (declared inputs : List (List ℕ)) → LateNames → Option GraphFault
+names_fault file spot declared inputs n =
+    option_or (variable_cycle_fault file spot n)
+    (option_or (unknown_pool file spot declared (asked_text n (codes "pool")))
+    (dyndep_not_input file spot inputs (asked_text n (codes "dyndep"))))
+
+abbrev pub lines_of_rule : Option RuleText → List RuleLineText
+lines_of_rule r = unwrap_or (option_map (λ r. r.lines) r) []
 
 -- Names have these values in a scope, by what the earlier statements declare and the block binds.
 pub record Sees (held : DeclarationsText) (scope : ℕ) (block : Block) (values : Values) : Type 0 where

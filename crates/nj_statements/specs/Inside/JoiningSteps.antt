@@ -1,5 +1,6 @@
 -- How the code joins what dyndep files discover, step by step.
 use Rattle.std.specs.Prelude.{◌≡◌, ℕ, ◌+◌, ◌<◌, ◌≤◌, ◌==◌, Bool, true, false, not, if◌then◌else◌, Option, Some, None, option_map, unwrap_or, IfSome}
+use Rattle.std.specs.Bool.{then_some}
 use Rattle.std.specs.Prelude.{List, [], ◌∷◌, map, filter, length, set, slice_get, slice_index_or, bytes_eq}
 use Rattle.std.specs.List.{AllByRecursion, IsDistinct}
 use Rattle.nj_text.specs.Words.{WordText}
@@ -15,12 +16,15 @@ use Rattle.nj_faults.specs.Faults.{fault_at}
 use Rattle.nj_statements.specs.declared.detail.Detail.{Detail}
 use Rattle.nj_statements.specs.declared.building.DyndepEdge.{DyndepEdge}
 use Rattle.nj_statements.specs.EdgeList.{path_given}
-use Rattle.nj_statements.specs.BuildFaults.{fault_if}
 use Rattle.nj_statements.specs.Built.{EdgeDetail}
 use Rattle.nj_statements.specs.Inside.BuiltHeld.{detail_named, assigned_named, pending_named}
 use Rattle.nj_statements.specs.Inside.Details.{IsNumbered}
-use Rattle.nj_statements.specs.Joining.{no_values, dyndep_files}
+use Rattle.nj_statements.specs.Joining.{no_values, discover, dyndep_files}
+use Rattle.nj_scope.specs.ReadingList.{Discovered, ReadStatement}
 use Rattle.nj_statements.specs.JoiningHeld.{still_pending, JoiningText}
+
+abbrev pub discover_for : Option ℕ → Discovered → List ReadStatement → List ReadStatement
+discover_for edge found joined = unwrap_or (option_map (λ edge. discover edge found joined) edge) joined
 
 abbrev pub is_bound_to : Option FileNo → FileNo → Bool
 is_bound_to (Some bound) file = bound.0 == file.0
@@ -61,7 +65,7 @@ if_bound bound file (Some edge) = if is_bound_to (slice_index_or bound edge None
 abbrev pub maker_fault : (name : List ℕ) → WordText → JoinTable → Option ℕ → Option GraphFault
 maker_fault name word table None = Some (fault_at name word.spot (DyndepExtra (path_given no_values word)))
 maker_fault name word table (Some edge) =
-    fault_if (is_joined table edge) (fault_at name word.spot (DyndepTwice (path_given no_values word)))
+    then_some (is_joined table edge) (fault_at name word.spot (DyndepTwice (path_given no_values word)))
 
 -- the edge that makes what a word gives, if it is bound to a file
 abbrev pub edge_bound : JoinTable → (bound : List (Option FileNo)) → FileNo → WordText → Option ℕ

@@ -1,4 +1,5 @@
-use Rattle.std.proofs.Common.{◌≡◌, inl, ap, subst, refl, ◌∙◌}
+use Rattle.std.proofs.Common.{◌≡◌, Err, inl, ap, subst, refl, ◌∙◌}
+use Rattle.nj_graph.proofs.FirstTimes.{loads}
 use Rattle.nj_faults.specs.Faults.{no_memory}
 use Rattle.nj_graph.specs.Graph.{GraphText}
 use Rattle.nj_graph.specs.Origins.{main_of}
@@ -13,7 +14,7 @@ returns-in_err-reader-clause-loads g c =
     let reported = g.S.FileSource.state c.args.source.now in
     let fault = handed-as (λ e. e ≡ no_memory) c.from_residual.result c.from_residual.ensures in
     let s = main-nothing c.args.main.now reported reported fault.0 refl fault.2 in
-    rw fault.1 (s.files, s.reads, inl s.stops)
+    rw fault.1 (loads c.args.main.now reported reported (Err fault.0) (s.files, s.reads, inl s.stops))
 
 pub returns-in_err-read_main-clause-loads : goal.returns-in_err-read_main-clause-loads
 returns-in_err-read_main-clause-loads g c =
@@ -21,7 +22,7 @@ returns-in_err-read_main-clause-loads g c =
     let after = g.S.FileSource.state c.read_main.new.source in
     let fault = c.in_err-read_main.field-0.0 in
     let s = subst (λ fs. StopsAt c.args.main.now reported after fs (λ all. main_read all c.args.main.now) fault) c.in_ok-reader.ensures.files c.in_err-read_main.ensures.reads in
-    rw (handed fault c.from_residual-in_err-read_main.result c.from_residual-in_err-read_main.ensures) (s.files, s.reads, inl s.stops)
+    rw (handed fault c.from_residual-in_err-read_main.result c.from_residual-in_err-read_main.ensures) (loads c.args.main.now reported after (Err fault) (s.files, s.reads, inl s.stops))
 
 pub new-requires-2-clause-known : goal.new-requires-2-clause-known
 new-requires-2-clause-known g c =
@@ -45,7 +46,7 @@ returns-in_err-graph-clause-loads g c =
     let fault = handed-as (λ e. e ≡ no_memory) c.from_residual-in_err-graph.result c.from_residual-in_err-graph.ensures in
     let stops = reads-memory main reported after c.in_ok-reader.reader c.read_main.new.self fault.0 c.in_ok-read_main.ensures.reads fault.2 in
     let s = subst (λ fs. StopsAt main reported after fs (λ all. main_read all main) fault.0) c.in_ok-reader.ensures.files stops in
-    rw fault.1 (s.files, s.reads, inl s.stops)
+    rw fault.1 (loads main reported after (Err fault.0) (s.files, s.reads, inl s.stops))
 
 pub returns-clause-loads : goal.returns-clause-loads
 returns-clause-loads g c =

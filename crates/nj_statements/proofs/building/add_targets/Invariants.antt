@@ -1,9 +1,10 @@
 use Rattle.std.proofs.Common.{◌≡◌, drop, take}
+use Rattle.nj_scope.specs.Scopes.{first_given}
 use Rattle.nj_manifest.specs.Contents.{words_text}
 use Rattle.nj_scope.specs.Readings.{IsPrefix}
 use Rattle.nj_edges.specs.EdgeTables.{no_files}
 use Rattle.nj_statements.specs.EdgeList.{Values, paths_given}
-use Rattle.nj_statements.specs.BuildFaults.{target_fault, first_fault}
+use Rattle.nj_statements.specs.BuildFaults.{target_fault}
 use Rattle.nj_statements.specs.Inside.EdgeSteps.{SeesNames, AddsTargets}
 use Rattle.nj_statements.proofs.building.add_targets.Given as goal
 
@@ -13,6 +14,6 @@ invariant-words l = record {
   added : (values : Values) → SeesNames l.context values
       → AddsTargets l.edges.files l.fn.targets.items l.targets.items (paths_given values (words_text (take l.word-index l.words)));
   fault : (values : Values) → SeesNames l.context values → l.edges.«open» ≡ no_files
-      → first_fault (target_fault l.context.place.file.now values l.edges.edges) (words_text (drop l.word-index l.words))
-      ≡ first_fault (target_fault l.context.place.file.now values l.edges.edges) (words_text l.words);
+      → first_given (target_fault l.context.place.file.now values l.edges.edges) (words_text (drop l.word-index l.words))
+      ≡ first_given (target_fault l.context.place.file.now values l.edges.edges) (words_text l.words);
 }

@@ -1,8 +1,9 @@
 use Rattle.std.proofs.Common.{◌≡◌, None, sym, subst, ◌∙◌}
+use Rattle.nj_scope.specs.Scopes.{first_given}
 use Rattle.std.specs.Option.{option_or}
 use Rattle.nj_manifest.specs.Contents.{words_text, inputs_text}
 use Rattle.nj_faults.specs.Faults.{IsFault}
-use Rattle.nj_statements.specs.BuildFaults.{empty_path, first_fault, inputs_fault}
+use Rattle.nj_statements.specs.BuildFaults.{empty_path, inputs_fault}
 use Rattle.nj_statements.proofs.Faults.{fault-first, fault-second, both-none, first-four, err-checks}
 use Rattle.nj_statements.proofs.edge.add_all_inputs.Goals as goal
 
@@ -14,7 +15,7 @@ returns-in_err-add_inputs-clause-fault c = λ values sees.
     let o = words_text c.args.build.now.order_only.items in
     let v = words_text c.args.build.now.validations.items in
     let split = first-four of e i o v in
-    let F = first_fault of in
+    let F = first_given of in
     err-checks c.from_residual.result c.in_err-add_inputs.field-0.0 (inputs_fault c.args.context.place.file.now values (inputs_text c.args.build.now)) c.from_residual.ensures.1 (subst (λ a. IsFault a c.in_err-add_inputs.field-0.0) (sym split) (fault-first (F e) (option_or (F i) (option_or (F o) (F v))) _ (subst (λ ws. IsFault (F (words_text ws)) c.in_err-add_inputs.field-0.0) c.as_slice.ensures.value (c.in_err-add_inputs.ensures.fault values sees))))
 
 pub returns-in_err-add_inputs-2-clause-fault : goal.returns-in_err-add_inputs-2-clause-fault
@@ -25,7 +26,7 @@ returns-in_err-add_inputs-2-clause-fault c = λ values sees.
     let o = words_text c.args.build.now.order_only.items in
     let v = words_text c.args.build.now.validations.items in
     let split = first-four of e i o v in
-    let F = first_fault of in
+    let F = first_given of in
     err-checks c.from_residual-in_err-add_inputs-2.result c.in_err-add_inputs-2.field-0.0 (inputs_fault c.args.context.place.file.now values (inputs_text c.args.build.now)) c.from_residual-in_err-add_inputs-2.ensures.1 (subst (λ a. IsFault a c.in_err-add_inputs-2.field-0.0) (sym split) (fault-second (F e) (option_or (F i) (option_or (F o) (F v))) _ (subst (λ ws. F (words_text ws) ≡ None) c.as_slice.ensures.value (c.in_ok-add_inputs.ensures.fault values sees)) (fault-first (F i) (option_or (F o) (F v)) _ (subst (λ ws. IsFault (F (words_text ws)) c.in_err-add_inputs-2.field-0.0) c.as_slice-2.ensures.value (c.in_err-add_inputs-2.ensures.fault values sees)))))
 
 pub returns-in_err-add_inputs-3-clause-fault : goal.returns-in_err-add_inputs-3-clause-fault
@@ -36,7 +37,7 @@ returns-in_err-add_inputs-3-clause-fault c = λ values sees.
     let o = words_text c.args.build.now.order_only.items in
     let v = words_text c.args.build.now.validations.items in
     let split = first-four of e i o v in
-    let F = first_fault of in
+    let F = first_given of in
     err-checks c.from_residual-in_err-add_inputs-3.result c.in_err-add_inputs-3.field-0.0 (inputs_fault c.args.context.place.file.now values (inputs_text c.args.build.now)) c.from_residual-in_err-add_inputs-3.ensures.1 (subst (λ a. IsFault a c.in_err-add_inputs-3.field-0.0) (sym split) (fault-second (F e) (option_or (F i) (option_or (F o) (F v))) _ (subst (λ ws. F (words_text ws) ≡ None) c.as_slice.ensures.value (c.in_ok-add_inputs.ensures.fault values sees)) (fault-second (F i) (option_or (F o) (F v)) _ (subst (λ ws. F (words_text ws) ≡ None) c.as_slice-2.ensures.value (c.in_ok-add_inputs-2.ensures.fault values sees)) (fault-first (F o) (F v) _ (subst (λ ws. IsFault (F (words_text ws)) c.in_err-add_inputs-3.field-0.0) c.as_slice-3.ensures.value (c.in_err-add_inputs-3.ensures.fault values sees))))))
 
 pub returns-in_err-add_validations-clause-fault : goal.returns-in_err-add_validations-clause-fault
@@ -47,7 +48,7 @@ returns-in_err-add_validations-clause-fault c = λ values sees.
     let o = words_text c.args.build.now.order_only.items in
     let v = words_text c.args.build.now.validations.items in
     let split = first-four of e i o v in
-    let F = first_fault of in
+    let F = first_given of in
     err-checks c.from_residual-in_err-add_validations.result c.in_err-add_validations.field-0.0 (inputs_fault c.args.context.place.file.now values (inputs_text c.args.build.now)) c.from_residual-in_err-add_validations.ensures.1 (subst (λ a. IsFault a c.in_err-add_validations.field-0.0) (sym split) (fault-second (F e) (option_or (F i) (option_or (F o) (F v))) _ (subst (λ ws. F (words_text ws) ≡ None) c.as_slice.ensures.value (c.in_ok-add_inputs.ensures.fault values sees)) (fault-second (F i) (option_or (F o) (F v)) _ (subst (λ ws. F (words_text ws) ≡ None) c.as_slice-2.ensures.value (c.in_ok-add_inputs-2.ensures.fault values sees)) (fault-second (F o) (F v) _ (subst (λ ws. F (words_text ws) ≡ None) c.as_slice-3.ensures.value (c.in_ok-add_inputs-3.ensures.fault values sees)) (subst (λ ws. IsFault (F (words_text ws)) c.in_err-add_validations.field-0.0) c.as_slice-4.ensures.value (c.in_err-add_validations.ensures.fault values sees))))))
 
 pub returns-clause-fault : goal.returns-clause-fault
@@ -58,5 +59,5 @@ returns-clause-fault c = λ values sees.
     let o = words_text c.args.build.now.order_only.items in
     let v = words_text c.args.build.now.validations.items in
     let split = first-four of e i o v in
-    let F = first_fault of in
+    let F = first_given of in
     split ∙ both-none (F e) (option_or (F i) (option_or (F o) (F v))) (subst (λ ws. F (words_text ws) ≡ None) c.as_slice.ensures.value (c.in_ok-add_inputs.ensures.fault values sees)) (both-none (F i) (option_or (F o) (F v)) (subst (λ ws. F (words_text ws) ≡ None) c.as_slice-2.ensures.value (c.in_ok-add_inputs-2.ensures.fault values sees)) (both-none (F o) (F v) (subst (λ ws. F (words_text ws) ≡ None) c.as_slice-3.ensures.value (c.in_ok-add_inputs-3.ensures.fault values sees)) (subst (λ ws. F (words_text ws) ≡ None) c.as_slice-4.ensures.value (c.in_ok-add_validations.ensures.fault values sees))))

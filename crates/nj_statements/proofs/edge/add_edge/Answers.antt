@@ -7,8 +7,8 @@ use Rattle.nj_edges.specs.EdgeTables.{edge_read}
 use Rattle.nj_edge_env.specs.LateStrings.{LateNames, asked_text}
 use Rattle.nj_faults.specs.Faults.{IsFault}
 use Rattle.nj_statements.specs.EdgeList.{stated_paths, edge_paths, file_given}
-use Rattle.nj_statements.specs.BuildFaults.{paths_fault, names_fault}
-use Rattle.nj_statements.specs.Inside.EdgeSteps.{IsFileGiven, SeesLate, bound_by, names_read}
+use Rattle.nj_statements.specs.BuildFaults.{paths_fault}
+use Rattle.nj_statements.specs.Inside.EdgeSteps.{IsFileGiven, SeesLate, bound_by, names_read, names_fault}
 use Rattle.nj_statements.proofs.Faults.{fault-second, both-none, err-checks}
 use Rattle.nj_statements.proofs.Adding.{adds-edge}
 use Rattle.nj_statements.proofs.LateLemmas.{inputs-read, sees-late}

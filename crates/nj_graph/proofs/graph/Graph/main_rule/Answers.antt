@@ -1,6 +1,6 @@
 use Rattle.std.proofs.Common.{◌<◌, length, ap, sym, subst, ◌∙◌}
-use Rattle.nj_graph.specs.Graph.{main_rules, main_rules_of, name_of, rule_name}
-use Rattle.nj_graph.proofs.ListedLemmas.{held-at}
+use Rattle.nj_graph.specs.Graph.{main_rules, main_rules_of, rule_name}
+use Rattle.nj_graph.proofs.ListedLemmas.{held-at, name_of}
 use Rattle.nj_graph.proofs.graph.Graph.main_rule.Goals as goal
 
 pub returns : goal.returns

@@ -43,7 +43,7 @@ returns-in_err-text-clause-opens g c = λ main entries around depth has inside.
     (stops-same main before after c.args.self.now.files
     (λ all. opened_in all c.args.file.left inner (place_in c.args.file c.args.word.now.spot) e entries) (λ all. statement_read (opened_in all c.args.file.left) e entries) fault
     (λ all. named-read c.args.naming site start entries word path.0 (opened_in all c.args.file.left))
-    (c.in_err-text.ensures.opens main entries has inner e (named-file c.args.naming site start entries word ∙ is) (named-path c.args.naming site start entries word ∙ ap (λ p. p ∷ []) is)))
+    (c.in_err-text.ensures.opens main entries has inner e (named-file c.args.naming site start entries word ∙ is) (named-path c.args.naming site start entries word ∙ ap Some is)))
 
 pub returns-in_err-scope-clause-opens : goal.returns-in_err-scope-clause-opens
 returns-in_err-scope-clause-opens g c = λ main entries around depth has inside.
@@ -59,7 +59,7 @@ returns-in_err-scope-clause-opens g c = λ main entries around depth has inside.
     let fault = handed-as (λ f. f ≡ no_memory) c.from_residual-in_err-scope.result c.from_residual-in_err-scope.ensures in
     rw fault.1
     (stops-open main before after c.args.self.now c.open_file.new.self c.open_file.new.self c.args.file.left (place_in c.args.file c.args.word.now.spot) c.deref.result.now e entries _
-    inner fault.0 has (c.in_ok-text.ensures.opens main entries has) (named-file c.args.naming site start entries word ∙ is) (named-path c.args.naming site start entries word ∙ ap (λ p. p ∷ []) is)
+    inner fault.0 has (c.in_ok-text.ensures.opens main entries has) (named-file c.args.naming site start entries word ∙ is) (named-path c.args.naming site start entries word ∙ ap Some is)
     (named-read c.args.naming site start entries word path.0) fault.2)
 
 pub returns-in_err-add_opening-clause-opens : goal.returns-in_err-add_opening-clause-opens
@@ -76,7 +76,7 @@ returns-in_err-add_opening-clause-opens g c = λ main entries around depth has i
     let fault = handed-as (λ f. f ≡ no_memory) c.from_residual-in_err-add_opening.result c.from_residual-in_err-add_opening.ensures in
     rw fault.1
     (stops-open main before after c.args.self.now c.open_file.new.self c.open_file.new.self c.args.file.left (place_in c.args.file c.args.word.now.spot) c.deref.result.now e entries _
-    inner fault.0 has (c.in_ok-text.ensures.opens main entries has) (named-file c.args.naming site start entries word ∙ is) (named-path c.args.naming site start entries word ∙ ap (λ p. p ∷ []) is)
+    inner fault.0 has (c.in_ok-text.ensures.opens main entries has) (named-file c.args.naming site start entries word ∙ is) (named-path c.args.naming site start entries word ∙ ap Some is)
     (named-read c.args.naming site start entries word path.0) fault.2)
 
 pub returns-clause-opens : goal.returns-clause-opens
@@ -108,6 +108,6 @@ returns-clause-opens g c = λ main entries around depth has inside.
           inner has (c.in_ok-text.ensures.opens main entries has) c.in_ok-scope.ensures.files origins
           (c.in_ok-scope.ensures.building ∙ c.in_ok-text.ensures.building) (named-builds c.args.naming site start entries word)
           (subst (λ d. Grows d.scopes c.scope_for.new.self.declarations.scopes) same c.in_ok-scope.ensures.grows) inside
-          enters.declares (named-file c.args.naming site start entries word ∙ is) (named-path c.args.naming site start entries word ∙ ap (λ p. p ∷ []) is)
+          enters.declares (named-file c.args.naming site start entries word ∙ is) (named-path c.args.naming site start entries word ∙ ap Some is)
           (named-read c.args.naming site start entries word path.0),
     )

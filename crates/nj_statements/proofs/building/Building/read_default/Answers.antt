@@ -1,4 +1,5 @@
 use Rattle.std.proofs.Common.{◌≡◌, ◌∷◌, None, unwrap_or, length, map, refl, sym, ap, subst, ◌∙◌}
+use Rattle.nj_scope.specs.Scopes.{first_given}
 use Rattle.std.proofs.lemmas.List.{length-map}
 use Rattle.nj_edge_env.specs.Blocks.{bound_in}
 use Rattle.nj_manifest.specs.Contents.{words_text}
@@ -6,7 +7,7 @@ use Rattle.nj_manifest.specs.Statements.{DefaultText}
 use Rattle.nj_scope.specs.ReadingList.{value_after}
 use Rattle.nj_faults.specs.Faults.{IsFault}
 use Rattle.nj_statements.specs.EdgeList.{Values}
-use Rattle.nj_statements.specs.BuildFaults.{first_fault, target_fault}
+use Rattle.nj_statements.specs.BuildFaults.{target_fault}
 use Rattle.nj_statements.specs.Answers.{BuildingText, HasEdges, entry_at_place}
 use Rattle.nj_statements.specs.Inside.EdgeSteps.{Sees, detail_text}
 use Rattle.nj_statements.proofs.Holding.{no-block, has-default}
@@ -24,7 +25,7 @@ returns-in-Ok-clause-reads c = λ entries around depth by within has.
     let count : edge ≡ length old.details = ap length c.as_slice.ensures.value ∙ sym (length-map c.self.inside.details.items detail_text) in
     let none = no-block old entries edge held count in
     let sees : Sees c.args.declarations.now c.args.scope (bound_in old.blocks edge) values = record { entries = entries; around = around; declared = by; within = within; are = λ name. ap (λ o. unwrap_or o (values name)) (sym (none name)) } in (
-      subst (λ es. first_fault (target_fault c.args.place.file.now values es) words ≡ None) held.edges (c.in-Ok.ensures.fault values sees held.none_open),
+      subst (λ es. first_given (target_fault c.args.place.file.now values es) words ≡ None) held.edges (c.in-Ok.ensures.fault values sees held.none_open),
       has-default old new e entries words held refl refl refl refl (c.in-Ok.ensures.added values sees) refl refl,
     )
 
@@ -38,4 +39,4 @@ returns-in-Err-clause-reads c = λ entries around depth by within has.
     let count : edge ≡ length old.details = ap length c.as_slice.ensures.value ∙ sym (length-map c.self.inside.details.items detail_text) in
     let none = no-block old entries edge held count in
     let sees : Sees c.args.declarations.now c.args.scope (bound_in old.blocks edge) values = record { entries = entries; around = around; declared = by; within = within; are = λ name. ap (λ o. unwrap_or o (values name)) (sym (none name)) } in
-    subst (λ es. IsFault (first_fault (target_fault c.args.place.file.now values es) words) c.in-Err.fault) held.edges (c.in-Err.ensures.fault values sees held.none_open)
+    subst (λ es. IsFault (first_given (target_fault c.args.place.file.now values es) words) c.in-Err.fault) held.edges (c.in-Err.ensures.fault values sees held.none_open)

@@ -12,9 +12,9 @@ use Rattle.nj_edges.specs.Edges.{inputs_of}
 use Rattle.nj_faults.specs.Faults.{IsFault}
 use Rattle.nj_statements.specs.declared.detail.Detail.{Detail}
 use Rattle.nj_statements.specs.EdgeList.{Values, Block, block_of, names_bound, on_line, edges_read, edge_of_build, file_given, paths_of_edges, stated_paths, edge_paths}
-use Rattle.nj_statements.specs.BuildFaults.{paths_fault, names_fault, late_fault}
+use Rattle.nj_statements.specs.BuildFaults.{paths_fault, late_fault}
 use Rattle.nj_statements.specs.Answers.{BuildingText, HasEdges, AddsNothing, entry_at_place}
-use Rattle.nj_statements.specs.Inside.EdgeSteps.{Sees, AddsEdge, names_read, detail_text, IsFileGiven, assigned_by, with_dyndep}
+use Rattle.nj_statements.specs.Inside.EdgeSteps.{Sees, AddsEdge, names_read, detail_text, IsFileGiven, assigned_by, with_dyndep, names_fault}
 use Rattle.nj_edge_env.specs.LateStrings.{asked_text}
 use Rattle.nj_edge_env.specs.ReferencesHeld.{TellsCycles}
 use Rattle.nj_statements.proofs.ReferenceLemmas.{same-rule}

@@ -1,7 +1,8 @@
 use Rattle.std.proofs.Common.{◌≡◌, drop}
+use Rattle.nj_scope.specs.Scopes.{first_given}
 use Rattle.nj_manifest.specs.Contents.{words_text}
 use Rattle.nj_statements.specs.EdgeList.{Values, paths_given}
-use Rattle.nj_statements.specs.BuildFaults.{empty_path, first_fault}
+use Rattle.nj_statements.specs.BuildFaults.{empty_path}
 use Rattle.nj_statements.specs.Answers.{KeepsRead}
 use Rattle.nj_statements.specs.Inside.EdgeSteps.{SeesNames, Grows, with_validations}
 use Rattle.nj_statements.proofs.context.Context.add_validations.Given as goal
@@ -13,6 +14,6 @@ invariant-words l = record {
   added : (values : Values) → SeesNames l.self values
       → with_validations l.edges (paths_given values (words_text (drop l.word-index l.words))) ≡ with_validations l.fn.edges (paths_given values (words_text l.words));
   fault : (values : Values) → SeesNames l.self values
-      → first_fault (empty_path l.self.place.file.now values) (words_text (drop l.word-index l.words))
-      ≡ first_fault (empty_path l.self.place.file.now values) (words_text l.words);
+      → first_given (empty_path l.self.place.file.now values) (words_text (drop l.word-index l.words))
+      ≡ first_given (empty_path l.self.place.file.now values) (words_text l.words);
 }

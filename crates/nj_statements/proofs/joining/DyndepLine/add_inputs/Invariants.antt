@@ -1,7 +1,8 @@
 use Rattle.std.proofs.Common.{◌≡◌, drop}
+use Rattle.nj_scope.specs.Scopes.{first_given}
 use Rattle.nj_manifest.specs.Contents.{words_text}
 use Rattle.nj_statements.specs.EdgeList.{paths_given}
-use Rattle.nj_statements.specs.BuildFaults.{empty_path, first_fault}
+use Rattle.nj_statements.specs.BuildFaults.{empty_path}
 use Rattle.nj_statements.specs.Joining.{no_values}
 use Rattle.nj_statements.specs.JoiningHeld.{KeepsEdges}
 use Rattle.nj_statements.specs.Inside.JoiningSteps.{with_added_inputs}
@@ -10,6 +11,6 @@ use Rattle.nj_statements.proofs.joining.DyndepLine.add_inputs.Given as goal
 abbrev pub invariant-words : goal.invariant-words
 invariant-words l = record {
   added : with_added_inputs l.edges (paths_given no_values (words_text (drop l.word-index l.words))) ≡ with_added_inputs l.fn.edges (paths_given no_values (words_text l.words));
-  fault : first_fault (empty_path l.self.name.now no_values) (words_text (drop l.word-index l.words)) ≡ first_fault (empty_path l.self.name.now no_values) (words_text l.words);
+  fault : first_given (empty_path l.self.name.now no_values) (words_text (drop l.word-index l.words)) ≡ first_given (empty_path l.self.name.now no_values) (words_text l.words);
   keeps : KeepsEdges l.fn.edges l.edges;
 }

@@ -1,11 +1,12 @@
 use Rattle.std.proofs.Common.{◌≡◌, ◌<◌, ◌++◌, Some, None, slice_get, sym, ap, subst, ◌∙◌}
+use Rattle.nj_scope.specs.Scopes.{first_given}
 use Rattle.std.specs.Option.{option_or}
 use Rattle.nj_manifest.specs.DyndepParsers.{entry_text}
 use Rattle.nj_manifest.specs.Contents.{words_text}
 use Rattle.nj_edges.specs.Joining.{JoinTable, AddedFiles}
 use Rattle.nj_faults.specs.Faults.{IsFault}
 use Rattle.nj_statements.specs.EdgeList.{paths_given}
-use Rattle.nj_statements.specs.BuildFaults.{empty_path, first_fault, outputs_fault}
+use Rattle.nj_statements.specs.BuildFaults.{empty_path, outputs_fault}
 use Rattle.nj_statements.specs.Joining.{no_values, entry_fault, with_entry}
 use Rattle.nj_statements.specs.JoiningHeld.{JoiningText, HasJoined, KeepsEdges}
 use Rattle.nj_statements.specs.Inside.JoiningSteps.{IsMeant, maker_fault, edge_bound, with_added_outputs, with_added_inputs}
@@ -28,7 +29,7 @@ returns-in_err-edge-clause-joins c = λ stated joined has'.
     let expected = entry_fault name stated joined entry in
     let first = option_or (empty_path name no_values entry.out) (maker_fault name entry.out t (edge_bound t bound c.args.file entry.out)) in
     let outputs = outputs_fault name no_values t.joined t.«open».outputs entry.outs in
-    let inputs = first_fault (empty_path name no_values) entry.ins in
+    let inputs = first_given (empty_path name no_values) entry.ins in
     let is : expected ≡ option_or first (option_or outputs inputs) = fault-is c.self.inside.edges c.self.inside.blocks c.self.inside.names c.self.inside.details.items c.self.inside.defaults.items c.self.inside.dyndep_files.items c.self.inside.bound.items c.self.inside.unjoined.items c.self.invariant stated joined has c.args.file name here entry in
     let f = c.in_err-edge.field-0.0 in
     joins-err _ expected stated (with_entry stated joined entry) c.from_residual.result f c.from_residual.ensures.1
@@ -51,7 +52,7 @@ returns-in_err-add_outputs-clause-joins c = λ stated joined has'.
     let expected = entry_fault name stated joined entry in
     let first = option_or (empty_path name no_values entry.out) (maker_fault name entry.out t (edge_bound t bound c.args.file entry.out)) in
     let outputs = outputs_fault name no_values t.joined t.«open».outputs entry.outs in
-    let inputs = first_fault (empty_path name no_values) entry.ins in
+    let inputs = first_given (empty_path name no_values) entry.ins in
     let is : expected ≡ option_or first (option_or outputs inputs) = fault-is c.self.inside.edges c.self.inside.blocks c.self.inside.names c.self.inside.details.items c.self.inside.defaults.items c.self.inside.dyndep_files.items c.self.inside.bound.items c.self.inside.unjoined.items c.self.invariant stated joined has c.args.file name here entry in
     let none : first ≡ None = subst (λ bs. option_or (empty_path name no_values entry.out) (maker_fault name entry.out t (edge_bound t bs c.args.file entry.out)) ≡ None) c.deref.ensures.value c.in_ok-edge.ensures.fault in
     let f = c.in_err-add_outputs.field-0.0 in
@@ -80,14 +81,14 @@ returns-in_err-add_inputs-clause-joins c = λ stated joined has'.
     let expected = entry_fault name stated joined entry in
     let first = option_or (empty_path name no_values entry.out) (maker_fault name entry.out t (edge_bound t bound c.args.file entry.out)) in
     let outputs = outputs_fault name no_values t.joined t.«open».outputs entry.outs in
-    let inputs = first_fault (empty_path name no_values) entry.ins in
+    let inputs = first_given (empty_path name no_values) entry.ins in
     let is : expected ≡ option_or first (option_or outputs inputs) = fault-is c.self.inside.edges c.self.inside.blocks c.self.inside.names c.self.inside.details.items c.self.inside.defaults.items c.self.inside.dyndep_files.items c.self.inside.bound.items c.self.inside.unjoined.items c.self.invariant stated joined has c.args.file name here entry in
     let none : first ≡ None = subst (λ bs. option_or (empty_path name no_values entry.out) (maker_fault name entry.out t (edge_bound t bs c.args.file entry.out)) ≡ None) c.deref.ensures.value c.in_ok-edge.ensures.fault in
     let no_outputs : outputs ≡ None = subst (λ words. outputs_fault name no_values t.joined t.«open».outputs (words_text words) ≡ None) c.as_slice.ensures.value c.in_ok-add_outputs.ensures.fault in
     let f = c.in_err-add_inputs.field-0.0 in
     joins-err _ expected stated (with_entry stated joined entry) c.from_residual-in_err-add_inputs.result f c.from_residual-in_err-add_inputs.ensures.1
     (subst (λ o. IsFault o f) (sym is) (fault-second first (option_or outputs inputs) f none (fault-second outputs inputs f no_outputs
-    (subst (λ words. IsFault (first_fault (empty_path name no_values) (words_text words)) f) c.as_slice-2.ensures.value c.in_err-add_inputs.ensures.fault))))
+    (subst (λ words. IsFault (first_given (empty_path name no_values) (words_text words)) f) c.as_slice-2.ensures.value c.in_err-add_inputs.ensures.fault))))
 
 pub returns-in_err-add_inputs-clause-dyndep_files : goal.returns-in_err-add_inputs-clause-dyndep_files
 returns-in_err-add_inputs-clause-dyndep_files c =
@@ -145,14 +146,14 @@ returns-clause-joins c = λ stated joined has'.
     let expected = entry_fault name stated joined entry in
     let first = option_or (empty_path name no_values entry.out) (maker_fault name entry.out t (edge_bound t bound c.args.file entry.out)) in
     let outputs = outputs_fault name no_values t.joined t.«open».outputs entry.outs in
-    let inputs = first_fault (empty_path name no_values) entry.ins in
+    let inputs = first_given (empty_path name no_values) entry.ins in
     let is : expected ≡ option_or first (option_or outputs inputs) = fault-is c.self.inside.edges c.self.inside.blocks c.self.inside.names c.self.inside.details.items c.self.inside.defaults.items c.self.inside.dyndep_files.items c.self.inside.bound.items c.self.inside.unjoined.items c.self.invariant stated joined has c.args.file name here entry in
     let none : first ≡ None = subst (λ bs. option_or (empty_path name no_values entry.out) (maker_fault name entry.out t (edge_bound t bs c.args.file entry.out)) ≡ None) c.deref.ensures.value c.in_ok-edge.ensures.fault in
     let no_outputs : outputs ≡ None = subst (λ words. outputs_fault name no_values t.joined t.«open».outputs (words_text words) ≡ None) c.as_slice.ensures.value c.in_ok-add_outputs.ensures.fault in
     let meant : IsMeant c.self.inside.edges c.self.inside.bound.items c.args.file (entry_text c.args.entry.now).out c.in_ok-edge.edge.0 =
     subst (λ bs. IsMeant c.self.inside.edges bs c.args.file (entry_text c.args.entry.now).out c.in_ok-edge.edge.0) c.deref.ensures.value c.in_ok-edge.ensures.edge in
     let keeps : KeepsEdges c.self.inside.edges c.add_inputs.new.edges = keeps-trans c.self.inside.edges c.add_outputs.new.edges c.add_inputs.new.edges c.in_ok-add_outputs.ensures.keeps c.in_ok-add_inputs.ensures.keeps in
-    let no_inputs : inputs ≡ None = subst (λ words. first_fault (empty_path name no_values) (words_text words) ≡ None) c.as_slice-2.ensures.value c.in_ok-add_inputs.ensures.fault in
+    let no_inputs : inputs ≡ None = subst (λ words. first_given (empty_path name no_values) (words_text words) ≡ None) c.as_slice-2.ensures.value c.in_ok-add_inputs.ensures.fault in
     let outs = paths_given no_values entry.outs in
     let ins = paths_given no_values entry.ins in
     let added_outputs : c.add_outputs.new.edges ≡ with_added_outputs t outs = subst (λ words. c.add_outputs.new.edges ≡ with_added_outputs t (paths_given no_values (words_text words))) c.as_slice.ensures.value c.in_ok-add_outputs.ensures.added in
