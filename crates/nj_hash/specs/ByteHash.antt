@@ -1,5 +1,5 @@
 -- How bytes that lie together are hashed, sixteen in a step.
-use Rattle.std.specs.Prelude.{ℕ, ◌-◌, ◌/◌, ◌%◌, ◌^◌, if◌then◌else◌, nat_lt, bit_xor, fold, List, length, take, drop}
+use Rattle.std.specs.Prelude.{ℕ, ◌+◌, ◌-◌, ◌/◌, ◌%◌, ◌^◌, if◌then◌else◌, nat_lt, fold, List, length, take, drop}
 use Rattle.std.specs.Int.{w64, w128, from_le_bytes}
 use Rattle.std.specs.Simd.{first_chunks}
 use Rattle.nj_hash.specs.NameHash.{HasherState, folded_product, with_byte}
@@ -9,9 +9,9 @@ use Rattle.nj_hash.specs.declared.byte_hash.Words.{Words}
 abbrev pub words_of : List ℕ → Words
 words_of bytes = let number = from_le_bytes w128 bytes in record { first = number % 2 ^ 64; second = number / 2 ^ 64 }
 
--- the state after two numbers: one is joined with the state, the other one with the factor
+-- the state after two numbers: one is added to the state, the other one to the factor
 abbrev pub take_words : (factor state : ℕ) → Words → ℕ
-take_words factor state words = folded_product (bit_xor state words.first) (bit_xor factor words.second)
+take_words factor state words = folded_product ((state + words.first) % 2 ^ 64) ((factor + words.second) % 2 ^ 64)
 
 -- Fewer than sixteen bytes: the first eight and the last eight, which may overlap, or the fewer ones.
 abbrev pub short_words : List ℕ → Words
@@ -33,4 +33,4 @@ state_after factor start bytes =
 
 -- the hash of bytes; how many there are is taken in at the end
 unfoldable pub hash_bytes : (start : HasherState) → List ℕ → ℕ
-hash_bytes start bytes = folded_product (bit_xor (state_after start.factor start.state bytes) (length bytes)) start.factor
+hash_bytes start bytes = folded_product ((state_after start.factor start.state bytes + length bytes) % 2 ^ 64) start.factor

@@ -1,12 +1,12 @@
 -- How a `NameHasher` takes in bytes.
-use Rattle.std.specs.Prelude.{ℕ, ◌*◌, ◌/◌, ◌%◌, ◌^◌, if◌then◌else◌, nat_eq, nat_lt, bit_or, bit_xor, fold, List, length}
+use Rattle.std.specs.Prelude.{ℕ, ◌+◌, ◌*◌, ◌/◌, ◌%◌, ◌^◌, if◌then◌else◌, nat_eq, nat_lt, bit_or, bit_xor, fold, List, length}
 use Rattle.std.specs.Int.{w64, from_le_bytes}
 
 -- a hasher, between two calls
 pub record HasherState : Type 0 where
   -- what the blocks so far came to
   pub state : ℕ
-  -- what a block is multiplied by
+  -- what a sum with a block is multiplied by
   pub factor : ℕ
   -- the bytes since the last block, the first one highest, below a bit that is set
   pub pending : ℕ
@@ -21,7 +21,7 @@ with_byte number byte = bit_or (number * 2 ^ 8 % 2 ^ 64) byte
 
 -- the state after a whole block
 abbrev pub take_block : HasherState → (block : ℕ) → HasherState
-take_block hasher block = record hasher { state = folded_product (bit_xor hasher.state block) hasher.factor }
+take_block hasher block = record hasher { state = folded_product ((hasher.state + block) % 2 ^ 64) hasher.factor }
 
 -- the state after one byte; the eighth of a block ends it
 abbrev pub take_byte : HasherState → (byte : ℕ) → HasherState
@@ -36,4 +36,4 @@ write hasher bytes = if nat_eq (length bytes) 8 then take_block hasher (from_le_
 
 -- the hash of what was taken in
 abbrev pub finish : HasherState → ℕ
-finish hasher = folded_product (bit_xor hasher.state hasher.pending) hasher.factor
+finish hasher = folded_product ((hasher.state + hasher.pending) % 2 ^ 64) hasher.factor

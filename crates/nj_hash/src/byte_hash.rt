@@ -38,7 +38,10 @@ fn after_blocks(factor: u64, start: u64, blocks: &[[u8; 16]]) -> u64
 fn take_words(factor: u64, state: u64, words: Words) -> u64
     ensures { result ≡ take_words factor state words }
 {
-    folded_product(state ^ words.first, factor ^ words.second)
+    folded_product(
+        state.wrapping_add(words.first),
+        factor.wrapping_add(words.second),
+    )
 }
 
 /// Sixteen bytes, which are read at once.

@@ -39,12 +39,14 @@ impl HashKeys {
     /// The hash of these bytes, for a table that keeps hashes in place of keys. It takes in sixteen
     /// bytes with one multiplication, twice as many as [`NameHasher`].
     ///
-    /// A step has two numbers of eight bytes each. One is joined with the state by xor, the other
-    /// with the factor, and the halves of the product of both, joined by xor, are the next state.
+    /// A step has two numbers of eight bytes each. One is added to the state, the other to the
+    /// factor, and the halves of the product of both sums, joined by xor, are the next state.
     /// Whoever chooses names knows neither the state nor the factor, so only by a guess can a
-    /// number make the product 0, which would drop the other one. How many bytes there are is taken
-    /// in last, in a step of its own: so `a` and `\0a` differ, which are the same number, and no
-    /// bytes can be chosen that make up for more or fewer of them.
+    /// number make the product 0, which would drop the other one. As in [`NameHasher`], there are
+    /// names of which two collide for one drawn number of 350 million; nothing is known that makes
+    /// a flood of them. How many bytes there are is taken in last, in a step of its own: so `a` and
+    /// `\0a` differ, which are the same number, and bytes that make up for more or fewer of them
+    /// can only be guessed.
     ///
     /// These too are reasons, and the contract states what is computed.
     pub fn hash_bytes(&self, bytes: &[u8]) -> u64

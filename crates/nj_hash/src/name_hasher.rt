@@ -15,18 +15,24 @@ const GOLDEN_RATIO: u64 = 0x9e37_79b9_7f4a_7c15;
 /// Hashes names by a number that was drawn. A map hands over a name byte by byte, and eight bytes
 /// are taken in at once: as a block, which costs one multiplication.
 ///
-/// A block is joined with the state by xor, multiplied by the factor to 128 bits, and the halves of
+/// A block is added to the state, the sum is multiplied by the factor to 128 bits, and the halves of
 /// the product, joined by xor, are the next state. The state starts as the number that was drawn,
 /// and the factor is made of it, so which names collide depends on all of its bits. Whoever chooses
-/// names chooses blocks alone, and knows neither what they are joined with nor multiplied by. So
-/// only by a guess can a block make the product 0, which would drop the number, and no two blocks
-/// are known to collide whatever was drawn.
+/// names chooses blocks alone, and knows neither what they are added to nor multiplied by. So only
+/// by a guess can a block make the product 0, which would drop the number, and no two blocks are
+/// known to collide whatever was drawn.
+///
+/// Two blocks can collide more often than once in 2^64 numbers. The worst pairs that are known
+/// differ by a third of 2^64, and collide for about one number of 350 million. So names may collide
+/// in pairs, but nothing is known that makes a flood of them. If blocks were joined with the state
+/// by xor, a block and its complement would collide for one number of 100 million.
 ///
 /// A product of 64 bits would not do: there, bits act on those above them alone. Two names whose
 /// blocks differ in the top bit, twice in a row, would collide whatever was drawn, and the low bits
 /// of a hash, which choose a place in a table, would tell little of the blocks.
 ///
-/// These are reasons, and nothing of them is proved: the contracts state what is computed.
+/// These are reasons and trials, and nothing of them is proved: the contracts state what is
+/// computed.
 #[derive(Clone, Copy)]
 pub struct NameHasher {
     state: u64,
@@ -64,7 +70,7 @@ impl NameHasher {
         ensures { result ≡ hash_bytes self.now bytes.now }
     {
         let state = state_after(self.factor, self.state, bytes);
-        folded_product(state ^ bytes.len() as u64, self.factor)
+        folded_product(state.wrapping_add(bytes.len() as u64), self.factor)
     }
 
     /// Takes in one byte. It is small, so that a name is hashed in registers.
@@ -85,7 +91,7 @@ impl NameHasher {
     fn take_block(&mut self, block: u64)
         ensures { self.new ≡ take_block self.old block }
     {
-        self.state = folded_product(self.state ^ block, self.factor);
+        self.state = folded_product(self.state.wrapping_add(block), self.factor);
     }
 }
 
@@ -105,7 +111,7 @@ impl Hasher for NameHasher {
 
     #[inline(always)]
     fn finish(&self) -> u64 {
-        folded_product(self.state ^ self.pending, self.factor)
+        folded_product(self.state.wrapping_add(self.pending), self.factor)
     }
 
     /// Eight bytes at once are a number, as the length that comes before a name: a block of its
