@@ -1,9 +1,14 @@
-use Rattle.std.proofs.Common.{◌<◌, length, All, bytes_eq, subst, sym, ap, ◌∙◌, arith}
+use Rattle.std.proofs.Common.{◌<◌, length, All, filter, bytes_eq, subst, sym, ap, ◌∙◌, arith}
+use Rattle.std.specs.List.{flat_map}
+use Rattle.std.proofs.lemmas.List.{take_all}
 use Rattle.nj_edges.specs.declared.files.FileNo.{FileNo}
-use Rattle.nj_graph.specs.Graph.{GraphText, edges_of, files_of}
-use Rattle.nj_tools.specs.Inside.Collections.{Collection}
+use Rattle.nj_edges.specs.Edges.{outputs_of}
+use Rattle.nj_statements.specs.EdgeList.{edges_read}
+use Rattle.nj_graph.specs.Graph.{GraphText, edges_of, files_of, rule_name_of}
+use Rattle.nj_tools.specs.Inside.Collections.{Collection, AreOf}
+use Rattle.nj_tools.specs.Listings.{outputs_of_rule}
 use Rattle.nj_tools.proofs.CollectedLemmas.{All-with_files}
-use Rattle.nj_tools.proofs.ListingLemmas.{outputs-more, outputs-same}
+use Rattle.nj_tools.proofs.ListingLemmas.{edge-count, outputs-more, outputs-same}
 use Rattle.nj_tools.proofs.targets.outputs_of_rule.Goals as goal
 use Rattle.nj_tools.proofs.targets.outputs_of_rule.Goals.{then-eq+in_ok-add_all, else-eq}
 
@@ -36,3 +41,13 @@ edges-preserved c =
                 (ap (λ r. bytes_eq r rule) (sym (c.rule_name.ensures.stated entries graph)) ∙ sym c.eq.ensures ∙ w.if-eq.false);
           }
     ]
+
+pub returns-clause-files : goal.returns-clause-files
+returns-clause-files c entries graph =
+    let g = c.args.graph.now in
+    let rule = c.args.rule.now in
+    let count = edge-count g entries graph in
+    let all = take_all c.edges.number (edges_read entries) (omega (arith, count, (rw c.deref-2.ensures at c.edge_count-number-end.ensures.count))) in
+    subst (λ fs. AreOf (files_of g) fs (outputs_of_rule entries rule)) (sym c.into_files.ensures)
+    (subst (λ es. AreOf (files_of g) c.edges.outputs.files (flat_map (λ e. outputs_of e.paths) (filter (λ e. bytes_eq (rule_name_of entries e) rule) es)))
+        all (c.edges.invariant.are entries graph))
