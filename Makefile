@@ -31,7 +31,7 @@ INSTALLED_HEADER := $(DESTDIR)$(PREFIX)/include/ninja_explain.h
 INSTALLED_LIBRARY := $(DESTDIR)$(PREFIX)/$(LIBRARY)
 INSTALLED_PC := $(DESTDIR)$(PREFIX)/lib/pkgconfig/ninja_explain.pc
 
-.PHONY: all c run test lint smoke c-test sweep install install-c uninstall clean
+.PHONY: all c run test check gate lint smoke c-test sweep install install-c uninstall clean
 
 # Proves and builds the program as bin/ninja-explain. `rt all` proves the program and the crates below
 # it, several at once; `rt run` then builds the program from what was proved.
@@ -75,12 +75,22 @@ ifdef FOLDER
 else
 	cd $(PROGRAM) && rt try $(foreach file,$(FILES),--data $(file)=../../$(PROJECT)/$(file)) -- -t commands
 endif
-	@echo "Nothing is proved yet: 'make' proves and builds the program, 'make test' runs the whole gate."
+	@echo "Nothing is proved yet: 'make' proves and builds the program, 'make gate' proves all."
 
-# The gate: every proof from nothing, the must-fail edits, the tests and the stored runs. The program
-# remains in $(BUILT).
+# Runs all tests, rows and stored runs, with run-time checks and without any proof, and the checks that
+# read files alone.
 test:
-	rt ci
+	@python3 scripts/run_tests.py --jobs $(JOBS)
+
+# What a change of one crate needs before a commit, with CRATE=nj_text: its check, its edits, the tests
+# and rows on it, and the layout of its files. What else the change reaches is named.
+check:
+	@python3 scripts/check_crate.py $(CRATE)
+
+# The gate: every proof from nothing, the must-fail edits, the tests and the stored runs, by `rt ci`,
+# and then `make smoke`. The program remains in $(BUILT).
+gate:
+	@scripts/gate.sh
 
 # Checks what is read from files alone: docs/GATE.md lists it. It takes seconds, and needs no program.
 lint:
@@ -100,15 +110,15 @@ c-test: $(BUILT) $(AFFECTED) $(LIBRARY).so
 sweep: $(BUILT) $(SINKS)/out/memory_sinks
 	@python3 scripts/sweep --jobs $(JOBS) $(CHECKS)
 
-# `make` and `make test` build it.
+# `make` and `make gate` build it.
 $(BUILT): $(wildcard crates/*/src/*.rt)
 	$(MAKE) all
 
-# `make test` builds it.
+# `make gate` builds it.
 $(SINKS)/out/memory_sinks: $(wildcard crates/*/src/*.rt)
 	cd $(SINKS) && rt run > /dev/null
 
-# `make test` leaves them.
+# `make gate` leaves them.
 $(AFFECTED) $(DRAW) $(KEYS) $(AUDIT): $(wildcard crates/*/src/*.rt)
 	cd $(dir $@).. && rt run -- -f /dev/null < /dev/null > /dev/null
 
