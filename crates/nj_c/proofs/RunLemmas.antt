@@ -1,5 +1,5 @@
 -- What a run leaves.
-use Rattle.std.proofs.Common.{◌≡◌, ◌≢◌, inl, inr, ℕ, ℤ, pos, Bool, true, false, Ok, Err, Result, List, [], refl, sym, ap, subst, ◌∙◌, arith, true≢false}
+use Rattle.std.proofs.Common.{◌≡◌, ◌≢◌, ◌⊎◌, inl, inr, ℕ, ℤ, pos, Bool, true, false, Ok, Err, Result, List, [], refl, sym, ap, subst, ◌∙◌, arith, true≢false}
 use Rattle.nj_tools.specs.MemorySinks.{state_of}
 use Rattle.nj_args.specs.Requests.{ActionText, RequestText, request_of}
 use Rattle.nj_args.specs.declared.faults.UsageFault.{UsageFault}
@@ -8,8 +8,11 @@ use Rattle.nj_tools.specs.Sinks.{SinkState, FailsAfter, one_more}
 use Rattle.nj_cli.specs.declared.status.Status as run
 use Rattle.nj_cli.specs.declared.status.Status.TheVariants as cli
 use Rattle.nj_cli.specs.declared.status.Status.TheVariants.{OutputFailed, Usage}
-use Rattle.nj_cli.specs.Answers.{Ending, finished, stopped, faulty, status_of}
-use Rattle.nj_cli.specs.Runs.{Around, RunEnds, RunsWith, RunsWords, around, reported, untold, output_failed, memory_failed}
+use Rattle.nj_cli.specs.Answers.{Ending, finished, stopped, faulty, follows_validations, error_of, status_of, status_untold}
+use Rattle.nj_cli.specs.Reported.{Took}
+use Rattle.nj_tools.specs.Texts.{FailsWithin}
+use Rattle.nj_cli.specs.Runs.{Around, RunsWith, RunsWords, around}
+use Rattle.nj_cli.specs.Inside.RunSteps.{RunEnds}
 use Rattle.nj_cli.specs.Status.{exit_code}
 use Rattle.nj_c.specs.declared.kept.Kept.{Kept}
 use Rattle.nj_c.specs.declared.status.Status.{Status}
@@ -24,12 +27,12 @@ use Rattle.nj_c.specs.Inside.RunsHeld.{FinishesRun, NoRun, Ran, WordsRefused}
 files-with : (request : Result RequestText UsageFault) (old new : Around) (status : run.Status) → RunsWith request old new status
     → (path : List ℕ) → new.source.files path ≡ old.source.files path
 files-with (Ok request) old new status runs path = runs.1.read.files path
-files-with (Err fault) old new status runs path = ap (λ s. s.files path) runs.source
+files-with (Err fault) old new status runs path = ap (λ s. s.files path) runs.0.source
 
 pub files-stay : (words : List (List ℕ)) (old new : Around) (status : run.Status) → RunsWords words old new status
     → (path : List ℕ) → new.source.files path ≡ old.source.files path
 files-stay words old new status (inl runs) path = files-with (request_of words) old new status runs path
-files-stay words old new status (inr fails) path = ap (λ s. s.files path) fails.source
+files-stay words old new status (inr fails) path = ap (λ s. s.files path) fails.0.source
 
 -- ---- how a run ends
 
@@ -152,22 +155,26 @@ fails-once old new front begun fails none = let one : one_more 0 ≡ 0 = sym (fa
 
 ends-so : (entries : List ReadStatement) (action : ActionText) (old new : Around) (ended : run.Status) → old.output ≡ untouched → old.error ≡ untouched
     → new.output.failures ≡ 0 → new.error.failures ≡ 0 → RunEnds entries action old new ended → ended ≢ OutputFailed
-ends-so entries action old new ended out err no-out no-err (reported r) = other-status ended (status_of r.ending) (reported-status r.ending) r.status_is
-ends-so entries action old new ended out err no-out no-err (untold r) = absurd (fails-once old.error new.error r.error.0 err r.error.2 no-err)
-ends-so entries action old new ended out err no-out no-err (output_failed r) = absurd (fails-once old.output new.output r.output.0 out r.output.2 no-out)
-ends-so entries action old new ended out err no-out no-err (memory_failed r) = other-status ended cli.Fault refl r.status_is
+ends-so entries action old new ended out err no-out no-err (inl r) = told r.error
+  where
+    told : (Took old.error new.error (error_of (follows_validations action) r.ending) × (ended ≡ status_of r.ending))
+        ⊎ (FailsWithin old.error new.error (error_of (follows_validations action) r.ending) × (ended ≡ status_untold r.ending)) → ended ≢ OutputFailed
+    told (inl (took, is)) = other-status ended (status_of r.ending) (reported-status r.ending) is
+    told (inr (failed, is)) = absurd (fails-once old.error new.error failed.0 err failed.2 no-err)
+ends-so entries action old new ended out err no-out no-err (inr (inl r)) = absurd (fails-once old.output new.output r.output.0 out r.output.2 no-out)
+ends-so entries action old new ended out err no-out no-err (inr (inr r)) = other-status ended cli.Fault refl r.status_is
 
 request-ends : (request : Result RequestText UsageFault) (old new : Around) (ended : run.Status) → old.output ≡ untouched → old.error ≡ untouched
     → new.output.failures ≡ 0 → new.error.failures ≡ 0 → RunsWith request old new ended → ended ≢ OutputFailed
 request-ends (Ok request) old new ended out err no-out no-err (files, read, inl refused) = other-status ended cli.Fault refl refused.status_is
 request-ends (Ok request) old new ended out err no-out no-err (files, read, inr answered) =
     ends-so answered.entries request.action old new ended out err no-out no-err answered.outcomes
-request-ends (Err fault) old new ended out err no-out no-err misused = other-status ended Usage refl misused.status_is
+request-ends (Err fault) old new ended out err no-out no-err misused = other-status ended Usage refl misused.1
 
 words-end : (words : List (List ℕ)) (old new : Around) (ended : run.Status) → old.output ≡ untouched → old.error ≡ untouched
     → new.output.failures ≡ 0 → new.error.failures ≡ 0 → RunsWords words old new ended → ended ≢ OutputFailed
 words-end words old new ended out err no-out no-err (inl runs) = request-ends (request_of words) old new ended out err no-out no-err runs
-words-end words old new ended out err no-out no-err (inr fails) = other-status ended cli.Fault refl fails.status_is
+words-end words old new ended out err no-out no-err (inr fails) = other-status ended cli.Fault refl fails.1
 
 pub never-fails : OutputsNeverFail
 never-fails begun after words output errors ended has =

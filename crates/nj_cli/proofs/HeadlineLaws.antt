@@ -1,5 +1,5 @@
 -- Laws of the runs of `commands`.
-use Rattle.std.proofs.Common.{◌≡◌, ℕ, Bool, true, false, if◌then◌else◌, Option, Some, None, Result, Ok, Err, List, [], ◌++◌, length, take, drop, refl, sym, ap, subst, ◌∙◌, append_assoc, take-append-drop}
+use Rattle.std.proofs.Common.{◌≡◌, ℕ, Bool, true, false, if◌then◌else◌, Option, Some, None, Result, Ok, Err, List, [], ◌++◌, length, take, drop, refl, sym, ap, subst, ◌∙◌, append_assoc, take-append-drop, true≢false}
 use Rattle.std.specs.Prelude.{MatchOption, ok_or}
 use Rattle.std.specs.List.{concat, last_or}
 use Rattle.std.proofs.lemmas.List.{append-nil}
@@ -25,10 +25,9 @@ use Rattle.nj_args.specs.Requests as ask
 use Rattle.nj_args.specs.RunMarks.{run_mark_text}
 use Rattle.nj_args.proofs.RunMarks.{run-mark_reads_back}
 use Rattle.nj_args.specs.declared.faults.UsageFault.TheVariants.{BadMark}
-use Rattle.nj_tools.specs.Compdb.{unheld_edge}
 use Rattle.nj_tools.specs.CommandStrings.{command_lines, written}
 use Rattle.nj_tools.specs.Inside.Commands.{command_line}
-use Rattle.nj_cli.specs.Answers.{leads, commands_left, IsMarkOf, commands_text, output_of, Ending, finished, stopped, faulty, out_of_range, PageEnds, EndsFrom, CommandsEnd, TargetsEnd, CompdbEnds, EndsWith}
+use Rattle.nj_cli.specs.Answers.{leads, commands_left, IsMarkOf, for_targets, page_text, output_of, Ending, finished, stopped, faulty, PageEnds, EndsFor, Finishes, EndsWith}
 use Rattle.nj_cli.specs.Headline.{AreNeeded, WritesTheNeeded, IsRun, ArePageStrings, PageStringsJoin, StoppedRunsContinue, OneEnding}
 use Rattle.nj_cli.specs.Headline.ArePageStrings.{no_runs, finishes, stops}
 use Rattle.nj_cli.specs.Targets.{edges_by_path, NoEdgeNeedsItself, targets_named, targets_of}
@@ -52,14 +51,16 @@ not-faulty finished text goes is = absurd cc
 not-faulty (stopped mark) text goes is = absurd cc
 not-faulty (faulty other) text goes is = goes
 
-module _ (entries : List ReadStatement) (take : Option ℕ) (start : List ℕ) (words : List (List ℕ)) (validations : Bool) (ending : Ending) (goes : Goes ending) where
-  page-from : (targets : List (List ℕ)) → targets_of entries validations words ≡ Ok targets → (b : Bool) → leads entries targets start ≡ b → EndsFrom b entries take start targets ending
-      → Page entries take start words validations ending
-  page-from targets named true is ends_so = record { targets = targets; named = named; leads_so = is; ends_so = ends_so }
-  page-from targets named false is refused = absurd (not-faulty ending out_of_range goes refused)
+leading : (entries : List ReadStatement) (take : Option ℕ) (start : List ℕ) (targets : List (List ℕ)) (ending : Ending) → Goes ending
+    → PageEnds entries take start targets ending → leads entries targets start ≡ true
+leading entries take start targets finished goes ends_so = ends_so.0
+leading entries take start targets (stopped mark) goes ends_so = ends_so.0
+leading entries take start targets (faulty text) goes ends_so = absurd goes
 
-  page-of : (ts : Result (List (List ℕ)) GraphFault) → targets_of entries validations words ≡ ts → CommandsEnd entries take start ts ending → Page entries take start words validations ending
-  page-of (Ok targets) named ends_so = page-from targets named (leads entries targets start) refl ends_so
+module _ (entries : List ReadStatement) (take : Option ℕ) (start : List ℕ) (words : List (List ℕ)) (validations : Bool) (ending : Ending) (goes : Goes ending) where
+  page-of : (ts : Result (List (List ℕ)) GraphFault) → targets_of entries validations words ≡ ts → EndsFor (PageEnds entries take start) ts ending → Page entries take start words validations ending
+  page-of (Ok targets) named ends_so =
+      record { targets = targets; named = named; leads_so = leading entries take start targets ending goes ends_so; ends_so = ends_so }
   page-of (Err f) named refused = absurd (not-faulty ending (fault_line f) goes refused)
 
   pub page : EndsWith entries (commands words validations take start) ending → Page entries take start words validations ending
@@ -69,15 +70,14 @@ module _ (entries : List ReadStatement) (take : Option ℕ) (start : List ℕ) (
 pub output-is : (entries : List ReadStatement) (take : Option ℕ) (start : List ℕ) (words : List (List ℕ)) (validations : Bool) (targets : List (List ℕ)) → targets_of entries validations words ≡ Ok targets → leads entries targets start ≡ true
     → output_of entries (commands words validations take start) ≡ command_lines entries (written take (commands_left entries targets start))
 output-is entries take start words validations targets named leads_so =
-    ap (commands_text entries take start) named
+    ap (for_targets (page_text entries take start)) named
     ∙ ap (λ (b : Bool). if b then command_lines entries (written take (commands_left entries targets start)) else []) leads_so
 
 -- a run with a mark that leads to an edge finishes, if nothing limits it
 finishes-unlimited : (entries : List ReadStatement) (start : List ℕ) (words : List (List ℕ)) (validations : Bool) (targets : List (List ℕ)) → targets_of entries validations words ≡ Ok targets → leads entries targets start ≡ true
     → EndsWith entries (commands words validations None start) finished
 finishes-unlimited entries start words validations targets named leads_so =
-    subst (λ (ts : Result (List (List ℕ)) GraphFault). CommandsEnd entries None start ts finished) (sym named)
-    (subst (λ (b : Bool). EndsFrom b entries None start targets finished) (sym leads_so) refl)
+    subst (λ (ts : Result (List (List ℕ)) GraphFault). EndsFor (PageEnds entries None start) ts finished) (sym named) (leads_so, refl)
 
 -- ---- the needed commands
 
@@ -148,7 +148,7 @@ module _ (entries : List ReadStatement) (words : List (List ℕ)) (validations :
       let run_is = run-is words validations (Some count) resume run start meant asked in
       let p = page entries (Some count) start words validations finished tt (subst (λ (a : ActionText). EndsWith entries a finished) run_is ends_so) in
       let left = commands_left entries targets start in
-      let none_left : drop count left ≡ [] = subst (λ (ts : List (List ℕ)). drop count (commands_left entries ts start) ≡ []) (same-targets entries words validations targets p.targets named p.named) p.ends_so in
+      let none_left : drop count left ≡ [] = subst (λ (ts : List (List ℕ)). drop count (commands_left entries ts start) ≡ []) (same-targets entries words validations targets p.targets named p.named) p.ends_so.1 in
       output-is entries None start words validations targets named leads_so
       ∙ lines-split count left
       ∙ ap (λ (es : List ℕ). command_lines entries (take count left) ++ command_lines entries es) none_left
@@ -159,11 +159,11 @@ module _ (entries : List ReadStatement) (words : List (List ℕ)) (validations :
       let p = page entries (Some count) start words validations (stopped mark) tt (subst (λ (a : ActionText). EndsWith entries a (stopped mark)) run_is ends_so) in
       let left = commands_left entries targets start in
       let marked : IsMarkOf entries targets start (written (Some count) left) mark =
-      subst (λ (ts : List (List ℕ)). IsMarkOf entries ts start (written (Some count) (commands_left entries ts start)) mark) (same-targets entries words validations targets p.targets named p.named) p.ends_so.1 in
+      subst (λ (ts : List (List ℕ)). IsMarkOf entries ts start (written (Some count) (commands_left entries ts start)) mark) (same-targets entries words validations targets p.targets named p.named) p.ends_so.2 in
       let (leads_on, left_on) = after-page start count mark leads_so marked in
       let on : command_lines entries (drop count left) ≡ concat outputs ++ rest =
       ap (command_lines entries) (sym left_on) ∙ sym (output-is entries None mark words validations targets named leads_on)
-      ∙ join (Some (run_mark_text validations mark)) mark (start-meant validations mark p.ends_so.2) takes outputs rest leads_on more in
+      ∙ join (Some (run_mark_text validations mark)) mark (start-meant validations mark p.ends_so.3) takes outputs rest leads_on more in
       output-is entries None start words validations targets named leads_so
       ∙ lines-split count left
       ∙ ap (λ (t : List ℕ). t ++ command_lines entries (drop count left)) (sym (output-is entries (Some count) start words validations targets named leads_so) ∙ ap (output_of entries) (sym run_is) ∙ is)
@@ -176,11 +176,11 @@ pages-join entries words validations none resume whole (start, meant, whole_is) 
     ap (output_of entries) whole_is ∙ join entries words validations p.targets p.named none resume start meant takes outputs rest p.leads_so pages
 
 pub stopped-continued : StoppedRunsContinue
-stopped-continued entries words validations none None start mark ends_so = let p = page entries None start words validations (stopped mark) tt ends_so in absurd (p.ends_so.0 refl)
+stopped-continued entries words validations none None start mark ends_so = let p = page entries None start words validations (stopped mark) tt ends_so in absurd (p.ends_so.1 refl)
 stopped-continued entries words validations none (Some count) start mark ends_so =
     let p = page entries (Some count) start words validations (stopped mark) tt ends_so in
-    let leads_on = (after-page entries words validations p.targets p.named none start count mark p.leads_so p.ends_so.1).0 in
-    (commands words validations None mark, (mark, start-meant validations mark p.ends_so.2, refl), finishes-unlimited entries mark words validations p.targets p.named leads_on)
+    let leads_on = (after-page entries words validations p.targets p.named none start count mark p.leads_so p.ends_so.2).0 in
+    (commands words validations None mark, (mark, start-meant validations mark p.ends_so.3, refl), finishes-unlimited entries mark words validations p.targets p.named leads_on)
 
 -- ---- one ending
 
@@ -197,29 +197,23 @@ module _ (entries : List ReadStatement) (take : Option ℕ) (start : List ℕ) (
 
   one-page : (ending other : Ending) → PageEnds entries take start targets ending → PageEnds entries take start targets other → ending ≡ other
   one-page finished finished is so = refl
-  one-page finished (stopped mark) is so = absurd (so.0 is)
-  one-page finished (faulty text) is so = absurd so
-  one-page (stopped mark) finished is so = absurd (is.0 so)
-  one-page (stopped mark) (stopped other) is so = ap stopped (one-mark (last_or None (written take (commands_left entries targets start))) mark other is.1 so.1)
-  one-page (stopped mark) (faulty text) is so = absurd so
-  one-page (faulty text) other is so = absurd is
-
-  one-from : (b : Bool) (ending other : Ending) → EndsFrom b entries take start targets ending → EndsFrom b entries take start targets other → ending ≡ other
-  one-from true ending other is so = one-page ending other is so
-  one-from false ending other is so = is ∙ sym so
+  one-page finished (stopped mark) is so = absurd (so.1 is.1)
+  one-page finished (faulty text) is so = absurd (true≢false (sym is.0 ∙ so.0))
+  one-page (stopped mark) finished is so = absurd (is.1 so.1)
+  one-page (stopped mark) (stopped other) is so = ap stopped (one-mark (last_or None (written take (commands_left entries targets start))) mark other is.2 so.2)
+  one-page (stopped mark) (faulty text) is so = absurd (true≢false (sym is.0 ∙ so.0))
+  one-page (faulty text) finished is so = absurd (true≢false (sym so.0 ∙ is.0))
+  one-page (faulty text) (stopped mark) is so = absurd (true≢false (sym so.0 ∙ is.0))
+  one-page (faulty text) (faulty other) is so = ap faulty (is.1 ∙ sym so.1)
 
 one-commands : (entries : List ReadStatement) (take : Option ℕ) (start : List ℕ) (targets : Result (List (List ℕ)) GraphFault) (ending other : Ending) → NoEdgeNeedsItself (edges_by_path entries)
-    → CommandsEnd entries take start targets ending → CommandsEnd entries take start targets other → ending ≡ other
-one-commands entries take start (Ok targets) ending other none is so = one-from entries take start targets none (leads entries targets start) ending other is so
+    → EndsFor (PageEnds entries take start) targets ending → EndsFor (PageEnds entries take start) targets other → ending ≡ other
+one-commands entries take start (Ok targets) ending other none is so = one-page entries take start targets none ending other is so
 one-commands entries take start (Err f) ending other none is so = is ∙ sym so
 
-one-for_targets : (targets : Result (List (List ℕ)) GraphFault) (ending other : Ending) → TargetsEnd targets ending → TargetsEnd targets other → ending ≡ other
+one-for_targets : (targets : Result (List (List ℕ)) GraphFault) (ending other : Ending) → EndsFor Finishes targets ending → EndsFor Finishes targets other → ending ≡ other
 one-for_targets (Ok targets) ending other is so = is ∙ sym so
 one-for_targets (Err f) ending other is so = is ∙ sym so
-
-one-compdb : (entries : List ReadStatement) (unheld : Option ℕ) (ending other : Ending) → CompdbEnds entries unheld ending → CompdbEnds entries unheld other → ending ≡ other
-one-compdb entries None ending other is so = is ∙ sym so
-one-compdb entries (Some edge) ending other is so = is ∙ sym so
 
 pub one-ending : OneEnding
 one-ending entries (commands words validations take start) ending other none is so = one-commands entries take start (targets_of entries validations words) ending other none is so
@@ -228,4 +222,4 @@ one-ending entries (ask.inputs words validations style) ending other none is so 
 one-ending entries (ask.targets view) ending other none is so = is ∙ sym so
 one-ending entries (ask.query words) ending other none is so = one-for_targets (targets_named (edges_by_path entries) words) ending other is so
 one-ending entries (ask.rules descriptions) ending other none is so = is ∙ sym so
-one-ending entries (ask.compdb names directory expand) ending other none is so = one-compdb entries (unheld_edge entries names expand) ending other is so
+one-ending entries (ask.compdb names directory expand) ending other none is so = is ∙ sym so

@@ -30,7 +30,7 @@ module _ (request : RequestText) (asked : request.dyndep ≡ true) (before after
   graph-joined : (result : Result LoadedText GraphFault) → LoadedOr more.between after files (joined_after more.read more.stated) result
       → GraphOr request before after files result
   graph-joined (Ok loaded) graph =
-      (graph.entries, statements-joined request.file request.dyndep before after files graph.entries asked more graph.whole, graph.graph_is)
+      (graph.entries, statements-joined request.file request.dyndep before after files graph.entries asked more graph.whole, graph.graph_is, graph.files_are)
   graph-joined (Err fault) refused = joining-fault request.file request.dyndep before after files fault asked more refused
 
 -- the files of a request whose dyndep files were joined

@@ -1,20 +1,20 @@
 -- What is reported where the words ask for nothing.
-use Rattle.std.proofs.Common.{◌≡◌, ◌≢◌, ◌⊎◌, inl, inr, ℕ, Result, Err, List, refl, sym, subst}
+use Rattle.std.proofs.Common.{◌≡◌, ◌≢◌, ◌⊎◌, inl, inr, ℕ, None, Result, Err, List, refl, sym, subst}
 use Rattle.nj_args.specs.FaultLines as lines
 use Rattle.nj_args.specs.declared.faults.UsageFault.{UsageFault}
 use Rattle.nj_args.specs.declared.faults.UsageFault.TheVariants as usage
+use Rattle.nj_tools.specs.Lines.{line}
 use Rattle.nj_tools.specs.Sinks.{SinkState}
-use Rattle.nj_cli.specs.Answers.{with_line_end}
 use Rattle.nj_cli.specs.Reported.{Reported}
 use Rattle.nj_cli.specs.Inside.RunSteps.{ReportsMisuse}
 use Rattle.nj_args.specs.Requests.{RequestText, request_of}
-use Rattle.nj_cli.specs.Runs.{Around, out_of_memory, RunsWith, RunsWords}
+use Rattle.nj_cli.specs.Runs.{Around, out_of_memory, RunsAndKeepsWith, RunsAndKeeps}
 use Rattle.nj_cli.specs.declared.status.Status.{Status}
 use Rattle.nj_cli.specs.declared.status.Status.TheVariants.{Fault, Usage}
 
 -- a fault other than out of memory has a line of its own
 pub ReportsMisuse-other : (old new : SinkState) (fault : UsageFault) (status : Status) → fault ≢ usage.OutOfMemory
-    → (Reported old new (lines.fault_line fault) × (status ≡ Usage)) ⊎ (Reported old new (with_line_end out_of_memory) × (status ≡ Fault))
+    → (Reported old new (lines.fault_line fault) × (status ≡ Usage)) ⊎ (Reported old new (line out_of_memory) × (status ≡ Fault))
     → ReportsMisuse old new fault status
 ReportsMisuse-other old new usage.OutOfMemory status other known = absurd (other refl)
 ReportsMisuse-other old new usage.Unparsed status other known = known
@@ -25,17 +25,19 @@ ReportsMisuse-other old new (usage.BadMark text) status other known = known
 ReportsMisuse-other old new (usage.BadWords tool) status other known = known
 
 module _ (words : List (List ℕ)) (old new : Around) (source : new.source ≡ old.source) (output : new.output ≡ old.output) where
-  early : (status : Status) → Reported old.error new.error (with_line_end out_of_memory) → status ≡ Fault → RunsWords words old new status
-  early status reported is = inr (record { source = source; output = output; error = reported; status_is = is })
+  early : (status : Status) → Reported old.error new.error (line out_of_memory) → status ≡ Fault → RunsAndKeeps words old new status None
+  early status reported is = inr (record { source = source; output = output; error = reported }, is, refl)
 
   misused : (fault : UsageFault) (status : Status) → request_of words ≡ Err fault
-      → (Reported old.error new.error (lines.fault_line fault) × (status ≡ Usage)) ⊎ (Reported old.error new.error (with_line_end out_of_memory) × (status ≡ Fault))
-      → RunsWords words old new status
+      → (Reported old.error new.error (lines.fault_line fault) × (status ≡ Usage)) ⊎ (Reported old.error new.error (line out_of_memory) × (status ≡ Fault))
+      → RunsAndKeeps words old new status None
   misused fault status why (inl known) =
-      inl (subst (λ (r : Result RequestText UsageFault). RunsWith r old new status) (sym why) (record { source = source; output = output; error = known.0; status_is = known.1 }))
+      inl (subst (λ (r : Result RequestText UsageFault). RunsAndKeepsWith r old new status None) (sym why)
+      (record { source = source; output = output; error = known.0 }, known.1, refl))
   misused fault status why (inr known) = early status known.0 known.1
 
-  by_fault : (fault : UsageFault) (status : Status) → request_of words ≡ Err fault → ReportsMisuse old.error new.error fault status → RunsWords words old new status
+  by_fault : (fault : UsageFault) (status : Status) → request_of words ≡ Err fault → ReportsMisuse old.error new.error fault status
+      → RunsAndKeeps words old new status None
   by_fault usage.OutOfMemory status why known = early status known.0 known.1
   by_fault usage.Unparsed status why known = misused usage.Unparsed status why known
   by_fault (usage.UnknownTool tool) status why known = misused (usage.UnknownTool tool) status why known
@@ -45,10 +47,10 @@ module _ (words : List (List ℕ)) (old new : Around) (source : new.source ≡ o
   by_fault (usage.BadWords tool) status why known = misused (usage.BadWords tool) status why known
 
 -- what a run does whose words ask for nothing
-pub RunsWords-misused : (words : List (List ℕ)) (old new : Around) (fault : UsageFault) (status : Status)
+pub RunsAndKeeps-misused : (words : List (List ℕ)) (old new : Around) (fault : UsageFault) (status : Status)
     → (fault ≡ usage.OutOfMemory) ⊎ (request_of words ≡ Err fault) → new.source ≡ old.source → new.output ≡ old.output
-    → ReportsMisuse old.error new.error fault status → RunsWords words old new status
-RunsWords-misused words old new fault status (inl is) source output known =
+    → ReportsMisuse old.error new.error fault status → RunsAndKeeps words old new status None
+RunsAndKeeps-misused words old new fault status (inl is) source output known =
     let lacks = subst (λ (f : UsageFault). ReportsMisuse old.error new.error f status) is known in
     early words old new source output status lacks.0 lacks.1
-RunsWords-misused words old new fault status (inr why) source output known = by_fault words old new source output fault status why known
+RunsAndKeeps-misused words old new fault status (inr why) source output known = by_fault words old new source output fault status why known

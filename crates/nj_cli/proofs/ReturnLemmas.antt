@@ -2,7 +2,9 @@
 use Rattle.std.proofs.Common.{◌≡◌, ◌≢◌, ◌⊎◌, inl, inr, ℕ, Bool, true, false, if◌then◌else◌, Option, Some, None, Result, Ok, Err, IsErrAnd, List, [], length, map, filter, not, refl, sym, ap, subst, ◌∙◌}
 use Rattle.std.specs.Prelude.{nat_eq}
 use Rattle.std.specs.List.{flat_map}
+use Rattle.std.specs.Option.{option_map_or}
 use Rattle.std.specs.Prelude.{slice_get}
+use Rattle.nj_manifest.specs.LineSteps.{◌>>=◌}
 use Rattle.nj_scope.specs.ReadingList.{ReadStatement}
 use Rattle.nj_edges.specs.declared.files.FileNo.{FileNo}
 use Rattle.nj_edges.specs.EdgeGraphs.{EdgeGraph}
@@ -38,11 +40,20 @@ use Rattle.nj_tools.specs.declared.fault.ToolFault.{ToolFault}
 use Rattle.nj_tools.specs.declared.style.InputsStyle.{InputsStyle}
 use Rattle.nj_tools.specs.declared.fault.ToolFault.TheVariants as tool
 use Rattle.nj_tools.proofs.SinkLemmas.{Takes-nil}
-use Rattle.nj_cli.specs.Targets.{edges_by_path, NoEdgeNeedsItself, targets_named, or_defaults, with_validations, targets_from, targets_of}
-use Rattle.nj_cli.specs.Answers.{leads, commands_left, IsMarkOf, commands_text, for_targets, single_commands_text, output_of, Ending, finished, stopped, faulty, out_of_range, EndsFrom, CommandsEnd, TargetsEnd, text_fault, CompdbEnds, EndsWith}
+use Rattle.nj_cli.specs.Targets.{edges_by_path, NoEdgeNeedsItself, targets_named, or_defaults, with_validations, targets_of}
+use Rattle.nj_cli.specs.Answers.{leads, commands_left, IsMarkOf, for_targets, page_text, single_commands_text, output_of, Ending, finished, stopped, faulty, out_of_range, PageEnds, EndsFor, Finishes, text_fault, EndsWith}
 use Rattle.nj_cli.specs.Inside.RunSteps.{ReturnsFor, fault_of_mark, fault_of_tool}
 use Rattle.nj_cli.specs.declared.fault.RunFault.{RunFault}
 use Rattle.nj_cli.specs.declared.fault.RunFault.TheVariants as fault
+
+-- the targets of a run, by those that its words name
+abbrev targets_from : List ReadStatement → (validations : Bool) → Result (List (List ℕ)) GraphFault → Result (List (List ℕ)) GraphFault
+targets_from entries validations named =
+    named >>= (λ targets. Ok (with_validations validations (edges_by_path entries) (or_defaults entries targets)))
+
+-- how `compdb` ends, by the first edge that JSON cannot contain
+abbrev compdb_ending : List ReadStatement → (unheld : Option ℕ) → Ending
+compdb_ending entries unheld = option_map_or (λ edge. faulty (fault_line (text_fault (slice_get (edges_read entries) edge)))) unheld finished
 
 -- nothing was taken yet
 pub TakesFront-none : (s : SinkState) (text : List ℕ) → TakesFront s s text
@@ -104,13 +115,13 @@ module _ (entries : List ReadStatement) (g : GraphText) (is : IsGraphOf g entrie
       → (f ≡ no_memory) ⊎ (targets_of entries validations words ≡ Err f) → ReturnsFor entries (commands words validations take start) s s (Err (fault.Graph f))
   commands-refused words validations take start f s (inl none) = inl (none, refl)
   commands-refused words validations take start f s (inr named) =
-      inr (subst (λ (ts : Result (List (List ℕ)) GraphFault). CommandsEnd entries take start ts (faulty (fault_line f)) × Takes s s (commands_text entries take start ts))
+      inr (subst (λ (ts : Result (List (List ℕ)) GraphFault). EndsFor (PageEnds entries take start) ts (faulty (fault_line f)) × Takes s s (for_targets (page_text entries take start) ts))
       (sym named) (refl, Takes-nil s))
 
   for_targets-refused : (text : List (List ℕ) → List ℕ) (ts : Result (List (List ℕ)) GraphFault) (f : GraphFault) (s : SinkState) → ts ≡ Err f
-      → TargetsEnd ts (faulty (fault_line f)) × Takes s s (for_targets text ts)
+      → EndsFor Finishes ts (faulty (fault_line f)) × Takes s s (for_targets text ts)
   for_targets-refused text ts f s is =
-      subst (λ (t : Result (List (List ℕ)) GraphFault). TargetsEnd t (faulty (fault_line f)) × Takes s s (for_targets text t)) (sym is) (refl, Takes-nil s)
+      subst (λ (t : Result (List (List ℕ)) GraphFault). EndsFor Finishes t (faulty (fault_line f)) × Takes s s (for_targets text t)) (sym is) (refl, Takes-nil s)
 
   pub singles-refused : (words : List (List ℕ)) (f : GraphFault) (s : SinkState)
       → (f ≡ no_memory) ⊎ (targets_of entries false words ≡ Err f) → ReturnsFor entries (single_commands words) s s (Err (fault.Graph f))
@@ -156,7 +167,7 @@ module _ (entries : List ReadStatement) (g : GraphText) (is : IsGraphOf g entrie
     pub query-answered : (old new : SinkState) → Takes old new (query_text entries (map (path_at (files_of g)) numbers))
         → ReturnsFor entries (ask.query words) old new (Ok None)
     query-answered old new took = (
-      subst (λ (ts : Result (List (List ℕ)) GraphFault). TargetsEnd ts finished) (sym (files-are words (Ok paths) named)) refl,
+      subst (λ (ts : Result (List (List ℕ)) GraphFault). EndsFor Finishes ts finished) (sym (files-are words (Ok paths) named)) refl,
       subst (Takes old new) query-text took,
     )
 
@@ -170,13 +181,13 @@ module _ (entries : List ReadStatement) (g : GraphText) (is : IsGraphOf g entrie
       → unheld_edge entries names expand ≡ Some edge → f ≡ text_fault (slice_get (edges_read entries) edge)
       → Takes old new (compdb_text entries directory names expand) → ReturnsFor entries (ask.compdb names directory expand) old new (Err (fault.Graph f))
   compdb-unheld names directory expand edge f old new unheld is took =
-      inr (subst (λ (u : Option ℕ). CompdbEnds entries u (faulty (fault_line f))) (sym unheld) (ap (λ (h : GraphFault). faulty (fault_line h)) is), took)
+      inr (subst (λ (u : Option ℕ). faulty (fault_line f) ≡ compdb_ending entries u) (sym unheld) (ap (λ (h : GraphFault). faulty (fault_line h)) is), took)
 
   pub compdb-answered : (names : List (List ℕ)) (directory : List ℕ) (expand : Bool) (old new : SinkState)
       → unheld_edge entries names expand ≡ None → Takes old new (compdb_text entries directory names expand)
       → ReturnsFor entries (ask.compdb names directory expand) old new (Ok None)
   compdb-answered names directory expand old new unheld took =
-      (subst (λ (u : Option ℕ). CompdbEnds entries u finished) (sym unheld) refl, took)
+      (subst (λ (u : Option ℕ). finished ≡ compdb_ending entries u) (sym unheld) refl, took)
 
   module _ (targets : List (List ℕ)) (numbers : List FileNo) (are : AreFiles (files_of g) numbers targets) where
     row-is : row_of g.built.graph numbers ≡ row_of_paths (edges_by_path entries) targets
@@ -196,7 +207,7 @@ module _ (entries : List ReadStatement) (g : GraphText) (is : IsGraphOf g entrie
       pub singles-answered : (old new : SinkState) → Takes old new (command_lines entries (own_commands g.built.graph numbers))
           → ReturnsFor entries (single_commands words) old new (Ok None)
       singles-answered old new took =
-          (subst (λ (ts : Result (List (List ℕ)) GraphFault). TargetsEnd ts finished) (sym named) refl, subst (Takes old new) singles-text took)
+          (subst (λ (ts : Result (List (List ℕ)) GraphFault). EndsFor Finishes ts finished) (sym named) refl, subst (Takes old new) singles-text took)
 
       pub singles-failed : (old new : SinkState) (f : ToolFault) → StopsWithin old new (command_lines entries (own_commands g.built.graph numbers)) f
           → ReturnsFor entries (single_commands words) old new (Err (fault_of_tool f))
@@ -215,7 +226,7 @@ module _ (entries : List ReadStatement) (g : GraphText) (is : IsGraphOf g entrie
         pub inputs-answered : (old new : SinkState) → Takes old new (inputs_text style (edges_of g) (map (path_at (files_of g)) numbers))
             → ReturnsFor entries (ask.inputs words validations style) old new (Ok None)
         inputs-answered old new took =
-            (subst (λ (ts : Result (List (List ℕ)) GraphFault). TargetsEnd ts finished) (sym named) refl, subst (Takes old new) inputs-are took)
+            (subst (λ (ts : Result (List (List ℕ)) GraphFault). EndsFor Finishes ts finished) (sym named) refl, subst (Takes old new) inputs-are took)
 
         pub inputs-failed : (old new : SinkState) (f : ToolFault) → StopsWithin old new (inputs_text style (edges_of g) (map (path_at (files_of g)) numbers)) f
             → ReturnsFor entries (ask.inputs words validations style) old new (Err (fault_of_tool f))
@@ -240,17 +251,17 @@ module _ (entries : List ReadStatement) (g : GraphText) (is : IsGraphOf g entrie
             subst (λ (es : List EdgePaths). IsMarkAfter (makers_of_inputs es) (length es) (row_of_paths (edges_by_path entries) targets) start edges mark) edges-are
             (subst (λ (row : List (Option ℕ)). IsMarkAfter (makers_of_inputs (edges_of g)) (length (edges_of g)) row start edges mark) row-is after)
 
-        ends-so : (ending : Ending) → EndsFrom (leads entries targets start) entries take start targets ending → EndsWith entries (commands words validations take start) ending
-        ends-so ending ends = subst (λ (ts : Result (List (List ℕ)) GraphFault). CommandsEnd entries take start ts ending) (sym named) ends
+        ends-so : (ending : Ending) → PageEnds entries take start targets ending → EndsWith entries (commands words validations take start) ending
+        ends-so ending ends = subst (λ (ts : Result (List (List ℕ)) GraphFault). EndsFor (PageEnds entries take start) ts ending) (sym named) ends
 
         -- the mark leads to no edge
         commands-out_of_range : (s : SinkState) → is_valid (makers_of g.built.graph) (row_of g.built.graph numbers) start ≡ false
             → ReturnsFor entries (commands words validations take start) s s (Err fault.MarkOutOfRange)
         commands-out_of_range s invalid =
             let misled : leads entries targets start ≡ false = sym leads-is ∙ invalid in (
-              ends-so (faulty out_of_range) (subst (λ (b : Bool). EndsFrom b entries take start targets (faulty out_of_range)) (sym misled) refl),
+              ends-so (faulty out_of_range) (misled, refl),
               subst (Takes s s)
-                  (ap (λ (b : Bool). if b then command_lines entries (written take (commands_left entries targets start)) else []) (sym misled) ∙ ap (commands_text entries take start) (sym named))
+                  (ap (λ (b : Bool). if b then command_lines entries (written take (commands_left entries targets start)) else []) (sym misled) ∙ ap (for_targets (page_text entries take start)) (sym named))
                   (Takes-nil s),
             )
 
@@ -273,10 +284,10 @@ module _ (entries : List ReadStatement) (g : GraphText) (is : IsGraphOf g entrie
           text-is =
               ap (λ (es : List ℕ). command_lines entries (written take es)) walk-left
               ∙ ap (λ (b : Bool). if b then command_lines entries (written take (commands_left entries targets start)) else []) (sym valid ∙ leads-is)
-              ∙ ap (commands_text entries take start) (sym named)
+              ∙ ap (for_targets (page_text entries take start)) (sym named)
 
-          ends-from : (ending : Ending) → EndsFrom true entries take start targets ending → EndsWith entries (commands words validations take start) ending
-          ends-from ending ends = ends-so ending (subst (λ (b : Bool). EndsFrom b entries take start targets ending) (sym valid ∙ leads-is) ends)
+          leads-so : leads entries targets start ≡ true
+          leads-so = sym leads-is ∙ valid
 
           walk-mark : (edges mark : List ℕ) → IsMarkAfter (makers_of w.graph) (count_of w.graph) (row_of w.graph w.targets) w.mark edges mark → IsMarkOf entries targets start edges mark
           walk-mark edges mark after =
@@ -289,11 +300,12 @@ module _ (entries : List ReadStatement) (g : GraphText) (is : IsGraphOf g entrie
           pub commands-answered : (old new : SinkState) (mark : Option (List ℕ)) → Takes old new (command_lines entries (written take w.left)) → StopsAt w take mark
               → ReturnsFor entries (commands words validations take start) old new (Ok mark)
           commands-answered old new None took stops = (
-            ends-from finished (subst (λ (es : List ℕ). left_after take es ≡ []) walk-left stops),
+            ends-so finished (leads-so, subst (λ (es : List ℕ). left_after take es ≡ []) walk-left stops),
             subst (Takes old new) text-is took,
           )
           commands-answered old new (Some mark) took stops = (
-            ends-from (stopped mark) (
+            ends-so (stopped mark) (
+              leads-so,
               subst (λ (es : List ℕ). left_after take es ≢ []) walk-left stops.0,
               subst (λ (es : List ℕ). IsMarkOf entries targets start (written take es) mark) walk-left (walk-mark (written take w.left) mark stops.1),
               stops.2,

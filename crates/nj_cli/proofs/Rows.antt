@@ -92,7 +92,7 @@ all = refl
 
 all_ends : ends_so (commands d false None []) finished
 unfolding on_entries
-all_ends = refl
+all_ends = (refl, refl)
 
 -- without words the defaults are the targets, which are the roots here
 wordless : outputs (commands [] false None []) (codes "mk a\nmk b1\nmk b2\nmk d\n")
@@ -101,7 +101,7 @@ wordless = refl
 
 wordless_ends : ends_so (commands [] false None []) finished
 unfolding on_entries
-wordless_ends = refl
+wordless_ends = (refl, refl)
 
 -- ---- marks read back
 
@@ -129,7 +129,7 @@ two = refl
 
 two_stops : ends_so (commands d false (Some 2) []) (stopped (0 ∷ 0 ∷ []))
 unfolding on_entries
-two_stops = (more, (refl, (0 ∷ [], refl, refl)), reads_0_0)
+two_stops = (refl, more, (refl, (0 ∷ [], refl, refl)), reads_0_0)
 
 four : outputs (commands d false (Some 4) []) (codes "mk a\nmk b1\nmk b2\nmk d\n")
 unfolding on_entries
@@ -137,7 +137,7 @@ four = refl
 
 four_ends : ends_so (commands d false (Some 4) []) finished
 unfolding on_entries
-four_ends = refl
+four_ends = (refl, refl)
 
 none : outputs (commands d false (Some 0) []) []
 unfolding on_entries
@@ -145,7 +145,7 @@ none = refl
 
 none_stops : ends_so (commands d false (Some 0) []) (stopped [])
 unfolding on_entries
-none_stops = (more, refl, reads_start)
+none_stops = (refl, more, refl, reads_start)
 
 -- ---- from a mark
 
@@ -155,7 +155,7 @@ from_0_0 = refl
 
 from_0_0_ends : ends_so (commands d false None (0 ∷ 0 ∷ [])) finished
 unfolding on_entries
-from_0_0_ends = refl
+from_0_0_ends = (refl, refl)
 
 from_0 : outputs (commands d false None (0 ∷ [])) []
 unfolding on_entries
@@ -163,7 +163,7 @@ from_0 = refl
 
 from_0_ends : ends_so (commands d false None (0 ∷ [])) finished
 unfolding on_entries
-from_0_ends = refl
+from_0_ends = (refl, refl)
 
 -- the second place of `a`, which an earlier one makes already
 from_0_1_0 : outputs (commands d false (Some 1) (0 ∷ 1 ∷ 0 ∷ [])) (codes "mk b2\n")
@@ -172,7 +172,7 @@ from_0_1_0 = refl
 
 from_0_1_0_stops : ends_so (commands d false (Some 1) (0 ∷ 1 ∷ 0 ∷ [])) (stopped (0 ∷ 1 ∷ []))
 unfolding on_entries
-from_0_1_0_stops = (more, (refl, (0 ∷ 1 ∷ 0 ∷ [], refl, refl)), reads_0_1)
+from_0_1_0_stops = (refl, more, (refl, (0 ∷ 1 ∷ 0 ∷ [], refl, refl)), reads_0_1)
 
 from_0_2 : outputs (commands d false None (0 ∷ 2 ∷ [])) []
 unfolding on_entries
@@ -180,7 +180,7 @@ from_0_2 = refl
 
 from_0_2_ends : ends_so (commands d false None (0 ∷ 2 ∷ [])) (faulty (codes "ninja-explain: mark out of range"))
 unfolding on_entries
-from_0_2_ends = refl
+from_0_2_ends = (refl, refl)
 
 -- ---- a target that no edge names
 
@@ -210,7 +210,7 @@ five_from_0_0 = refl
 
 five_from_0_0_ends : ends_so (commands d false (Some 5) (0 ∷ 0 ∷ [])) finished
 unfolding on_entries
-five_from_0_0_ends = refl
+five_from_0_0_ends = (refl, refl)
 
 -- the first run; the second, and one without a limit, from the text that the first wrote after `mark `
 from_start : IsRun d false (Some 2) None (commands d false (Some 2) [])
@@ -289,7 +289,7 @@ one_followed = refl
 
 one_followed_stops : EndsWith checked (commands t true (Some 1) []) (stopped (0 ∷ []))
 unfolding on_entries
-one_followed_stops = (more, (refl, ([], refl, refl)), reads_0)
+one_followed_stops = (refl, more, (refl, ([], refl, refl)), reads_0)
 
 -- the second target is the validation, of which t is the first input
 from_1_0 : output_of checked (commands t true None (1 ∷ 0 ∷ [])) ≡ codes "mk v\n"
@@ -298,7 +298,7 @@ from_1_0 = refl
 
 from_2_ends : EndsWith checked (commands t true None (2 ∷ [])) (faulty (codes "ninja-explain: mark out of range"))
 unfolding on_entries
-from_2_ends = refl
+from_2_ends = (refl, refl)
 
 error_of_followed : error_of true (stopped (0 ∷ [])) ≡ codes "mark v0\n"
 unfolding digits

@@ -6,15 +6,18 @@ use Rattle.nj_scope.specs.ReadingList.{ReadStatement}
 use Rattle.nj_faults.specs.declared.fault.GraphFault.{GraphFault}
 use Rattle.nj_faults.specs.FaultLines.{fault_line}
 use Rattle.nj_faults.specs.Faults.{no_memory}
-use Rattle.nj_graph.specs.Graph.{GraphText, IsGraphOf}
-use Rattle.nj_args.specs.Requests.{ActionText, RequestText}
+use Rattle.nj_graph.specs.Graph.{IsGraphOf}
+use Rattle.nj_graph.specs.Loads.{LoadedText}
+use Rattle.nj_graph.specs.Runs.{IsRead}
+use Rattle.nj_args.specs.Requests.{ActionText, RequestText, request_of}
+use Rattle.nj_args.specs.declared.faults.UsageFault.{UsageFault}
+use Rattle.nj_tools.specs.Lines.{line}
 use Rattle.nj_tools.specs.Sinks.{SinkState, Takes}
 use Rattle.nj_tools.specs.Texts.{TakesFront}
-use Rattle.nj_cli.specs.Answers.{output_of, finished, stopped, faulty, out_of_range, EndsWith, with_line_end, follows_validations}
+use Rattle.nj_cli.specs.Answers.{output_of, finished, stopped, faulty, out_of_range, EndsWith, follows_validations}
 use Rattle.nj_cli.specs.Reported.{Reported}
-use Rattle.nj_cli.specs.Inside.RunSteps.{ReturnsFor, ReportsMark, Concludes}
-use Rattle.nj_cli.specs.Runs.{Around, out_of_memory, RunEnds, AreStatements, IsAnswered}
-use Rattle.nj_cli.specs.Runs.RunEnds.{reported, untold, output_failed, memory_failed}
+use Rattle.nj_cli.specs.Inside.RunSteps.{ReturnsFor, ReportsLine, ReportsMark, Concludes, RunEnds}
+use Rattle.nj_cli.specs.Runs.{Around, out_of_memory, AreStatements, HaveFault, IsAnswered, RunsAs, RunsWith, RunsWords, RunsAsAndKeeps, RunsAndKeepsWith, RunsAndKeeps}
 use Rattle.nj_cli.specs.declared.fault.RunFault.{RunFault}
 use Rattle.nj_cli.specs.declared.fault.RunFault.TheVariants as fault
 use Rattle.nj_cli.specs.declared.status.Status.{Status}
@@ -27,36 +30,36 @@ use Rattle.nj_cli.proofs.ReturnLemmas.{NoEdgeNeedsItself-stated, TakesFront-none
 
 module _ (entries : List ReadStatement) (action : ActionText) (old new : Around) where
   -- memory ran out before anything was output
-  early : new.output ≡ old.output → Reported old.error new.error (with_line_end out_of_memory) → RunEnds entries action old new Fault
-  early same known = memory_failed (record {
+  early : new.output ≡ old.output → Reported old.error new.error (line out_of_memory) → RunEnds entries action old new Fault
+  early same known = inr (inr (record {
     output = subst (λ (s : SinkState). TakesFront old.output s (output_of entries action)) (sym same) (TakesFront-none old.output (output_of entries action));
     error = known;
     status_is = refl;
-  })
+  }))
 
   -- the line of a fault was reported
   reported-fault : (text : List ℕ) → EndsWith entries action (faulty text) → Takes old.output new.output (output_of entries action)
-      → Reported old.error new.error (with_line_end text) → RunEnds entries action old new Fault
-  reported-fault text ends took (inl reported_so) = reported (record { ending = faulty text; ends = ends; output = took; error = reported_so; status_is = refl })
-  reported-fault text ends took (inr failed) = untold (record { ending = faulty text; ends = ends; output = took; error = failed; status_is = refl })
+      → Reported old.error new.error (line text) → RunEnds entries action old new Fault
+  reported-fault text ends took (inl reported_so) = inl (record { ending = faulty text; ends = ends; output = took; error = inl (reported_so, refl) })
+  reported-fault text ends took (inr failed) = inl (record { ending = faulty text; ends = ends; output = took; error = inr (failed, refl) })
 
   -- there was no memory for the line of a fault
-  late : Takes old.output new.output (output_of entries action) → Reported old.error new.error (with_line_end out_of_memory) → RunEnds entries action old new Fault
+  late : Takes old.output new.output (output_of entries action) → Reported old.error new.error (line out_of_memory) → RunEnds entries action old new Fault
   late took known =
-      memory_failed (record { output = (output_of entries action, ([], sym (append-nil (output_of entries action))), took); error = known; status_is = refl })
+      inr (inr (record { output = (output_of entries action, ([], sym (append-nil (output_of entries action))), took); error = known; status_is = refl }))
 
   graph-fault : (f : GraphFault)
       → ((f ≡ no_memory) × (new.output ≡ old.output)) ⊎ (EndsWith entries action (faulty (fault_line f)) × Takes old.output new.output (output_of entries action))
-      → Reported old.error new.error (with_line_end (fault_line f)) ⊎ Reported old.error new.error (with_line_end out_of_memory) → RunEnds entries action old new Fault
-  graph-fault f (inl (none, same)) (inl known) = early same (subst (λ (k : GraphFault). Reported old.error new.error (with_line_end (fault_line k))) none known)
+      → Reported old.error new.error (line (fault_line f)) ⊎ Reported old.error new.error (line out_of_memory) → RunEnds entries action old new Fault
+  graph-fault f (inl (none, same)) (inl known) = early same (subst (λ (k : GraphFault). Reported old.error new.error (line (fault_line k))) none known)
   graph-fault f (inl (none, same)) (inr known) = early same known
   graph-fault f (inr (ends, took)) (inl known) = reported-fault (fault_line f) ends took known
   graph-fault f (inr (ends, took)) (inr known) = late took known
 
   stopped-at : (mark : List ℕ) (status : Status) → EndsWith entries action (stopped mark) → Takes old.output new.output (output_of entries action)
       → ReportsMark (follows_validations action) old.error new.error mark status → RunEnds entries action old new status
-  stopped-at mark Stopped ends took line = reported (record { ending = stopped mark; ends = ends; output = took; error = line; status_is = refl })
-  stopped-at mark OutputFailed ends took known = untold (record { ending = stopped mark; ends = ends; output = took; error = known; status_is = refl })
+  stopped-at mark Stopped ends took known = inl (record { ending = stopped mark; ends = ends; output = took; error = inl (known, refl) })
+  stopped-at mark OutputFailed ends took known = inl (record { ending = stopped mark; ends = ends; output = took; error = inr (known, refl) })
   stopped-at mark Fault ends took known = late took known
   stopped-at mark Done ends took known = absurd known
   stopped-at mark Usage ends took known = absurd known
@@ -64,22 +67,53 @@ module _ (entries : List ReadStatement) (action : ActionText) (old new : Around)
   pub Answers-from : (status : Status) (result : Result (Option (List ℕ)) RunFault) → ReturnsFor entries action old.output new.output result
       → Concludes (follows_validations action) old.error new.error result status → RunEnds entries action old new status
   Answers-from status (Ok None) outcomes concludes =
-      reported (record { ending = finished; ends = outcomes.0; output = outcomes.1; error = concludes.0; status_is = concludes.1 })
+      inl (record { ending = finished; ends = outcomes.0; output = outcomes.1; error = inl (concludes.0, concludes.1) })
   Answers-from status (Ok (Some mark)) outcomes concludes = stopped-at mark status outcomes.0 outcomes.1 concludes
   Answers-from status (Err (fault.Graph f)) outcomes concludes =
       subst (RunEnds entries action old new) (sym concludes.1) (graph-fault f outcomes concludes.0)
   Answers-from status (Err fault.MarkOutOfRange) outcomes concludes =
       subst (RunEnds entries action old new) (sym concludes.1) (reported-fault out_of_range outcomes.0 outcomes.1 concludes.0)
-  Answers-from status (Err fault.Write) outcomes concludes = output_failed (record { output = outcomes; error = concludes.0; status_is = concludes.1 })
-  Answers-from status (Err fault.OutOfMemory) outcomes concludes = memory_failed (record { output = outcomes; error = concludes.0; status_is = concludes.1 })
+  Answers-from status (Err fault.Write) outcomes concludes = inr (inl (record { output = outcomes; error = concludes.0; status_is = concludes.1 }))
+  Answers-from status (Err fault.OutOfMemory) outcomes concludes = inr (inr (record { output = outcomes; error = concludes.0; status_is = concludes.1 }))
 
--- all files were read, and this is the graph of their statements
-pub IsAnswered-from : (request : RequestText) (files : List Reading) (old new : Around) (graph : GraphText) (entries : List ReadStatement) (status : Status)
-    → AreStatements request.file request.dyndep old.source new.source files entries → IsGraphOf graph entries
-    → RunEnds entries request.action old new status → IsAnswered request files old new status
-IsAnswered-from request files old new graph entries status statements graph_is outcomes = record {
-  entries = entries;
-  statements = statements;
-  acyclic = NoEdgeNeedsItself-stated entries graph graph_is;
-  outcomes = outcomes;
-}
+-- all files were read, and this is the graph of their statements: it is kept
+pub Keeps-answered : (request : RequestText) (files : List Reading) (old new : Around) (loaded : LoadedText) (entries : List ReadStatement) (status : Status)
+    → IsRead old.source new.source [] files → AreStatements request.file request.dyndep old.source new.source files entries
+    → IsGraphOf loaded.graph entries → loaded.files ≡ files → RunEnds entries request.action old new status → RunsAsAndKeeps request old new status (Some loaded)
+Keeps-answered request files old new loaded entries status read statements graph_is files_are outcomes =
+    let answered : IsAnswered request files old new status = record {
+      entries = entries;
+      statements = statements;
+      acyclic = NoEdgeNeedsItself-stated entries loaded.graph graph_is;
+      outcomes = outcomes;
+    } in
+    (files, read, inr (answered, (files_are, graph_is)))
+
+-- the files have a fault, which was reported
+pub Keeps-refused : (request : RequestText) (files : List Reading) (old new : Around) (fault : GraphFault) (status : Status) (kept : Option LoadedText)
+    → IsRead old.source new.source [] files → HaveFault request.file request.dyndep old.source new.source files fault → new.output ≡ old.output
+    → ReportsLine old.error new.error (line (fault_line fault)) → status ≡ Fault → kept ≡ None → RunsAsAndKeeps request old new status kept
+Keeps-refused request files old new fault status kept read reading output error is none =
+    (files, read, inl (record { fault = fault; reading = reading; output = output; error = error; status_is = is }, none))
+
+-- what is kept of a request is kept of its words
+pub RunsAndKeeps-from : (words : List (List ℕ)) (request : RequestText) (old new : Around) (status : Status) (kept : Option LoadedText)
+    → request_of words ≡ Ok request → RunsAsAndKeeps request old new status kept → RunsAndKeeps words old new status kept
+RunsAndKeeps-from words request old new status kept meant keeps =
+    inl (subst (λ (r : Result RequestText UsageFault). RunsAndKeepsWith r old new status kept) (sym meant) keeps)
+
+-- what a run does, whatever is kept
+pub RunsAs-kept : (request : RequestText) (old new : Around) (status : Status) (kept : Option LoadedText)
+    → RunsAsAndKeeps request old new status kept → RunsAs request old new status
+RunsAs-kept request old new status kept (files, read, inl (refused, none)) = (files, read, inl refused)
+RunsAs-kept request old new status kept (files, read, inr (answered, keeps)) = (files, read, inr answered)
+
+RunsWith-kept : (asked : Result RequestText UsageFault) (old new : Around) (status : Status) (kept : Option LoadedText)
+    → RunsAndKeepsWith asked old new status kept → RunsWith asked old new status
+RunsWith-kept (Ok request) old new status kept keeps = RunsAs-kept request old new status kept keeps
+RunsWith-kept (Err fault) old new status kept (ends, is, none) = (ends, is)
+
+pub RunsWords-kept : (words : List (List ℕ)) (old new : Around) (status : Status) (kept : Option LoadedText)
+    → RunsAndKeeps words old new status kept → RunsWords words old new status
+RunsWords-kept words old new status kept (inl keeps) = inl (RunsWith-kept (request_of words) old new status kept keeps)
+RunsWords-kept words old new status kept (inr (ends, is, none)) = inr (ends, is)

@@ -4,14 +4,19 @@ use Rattle.std.specs.Prelude.{slice_get}
 use Rattle.std.specs.Result.{IsErrAnd}
 use Rattle.std.specs.Global.{Vec}
 use Rattle.std.proofs.lemmas.List.{take_more, drop_more, map_push, map-append}
+use Rattle.nj_manifest.specs.LineSteps.{◌>>=◌}
 use Rattle.nj_edges.specs.declared.files.FileNo.{FileNo}
 use Rattle.nj_edges.specs.Edges.{EdgePaths}
 use Rattle.nj_edges.specs.Files.{AreFiles}
 use Rattle.nj_faults.specs.declared.fault.GraphFault.{GraphFault}
 use Rattle.nj_faults.specs.Faults.{no_memory}
 use Rattle.nj_graph.specs.Targets.{picked}
-use Rattle.nj_cli.specs.Targets.{and_target, targets_named}
+use Rattle.nj_cli.specs.Targets.{targets_named}
 use Rattle.nj_cli.specs.Inside.RunSteps.{PicksTargets}
+
+-- the path of a target before those of the others, or the first fault
+abbrev and_target : Result (List ℕ) GraphFault → Result (List (List ℕ)) GraphFault → Result (List (List ℕ)) GraphFault
+and_target one others = one >>= (λ path. others >>= (λ paths. Ok (path ∷ paths)))
 
 -- both are there
 and_target-ok : (one : Result (List ℕ) GraphFault) (others : Result (List (List ℕ)) GraphFault) (paths : List (List ℕ)) → and_target one others ≡ Ok paths

@@ -1,5 +1,6 @@
 -- The outcome of a run, by the statements of its files and by what is asked for: its output, and how it ends.
-use Rattle.std.specs.Prelude.{◌≡◌, ◌≢◌, ℕ, Bool, true, false, if◌then◌else◌, Option, Some, None, Result, Ok, Err, List, [], ◌∷◌, ◌++◌, length, slice_get, codes}
+use Rattle.std.specs.Prelude.{◌≡◌, ◌≢◌, ℕ, Bool, true, false, if◌then◌else◌, Option, Some, None, Result, Ok, Err, MatchResult, List, [], ◌++◌, length, slice_get, codes}
+use Rattle.std.specs.Option.{option_map_or}
 use Rattle.nj_scope.specs.ReadingList.{ReadStatement}
 use Rattle.nj_statements.specs.EdgeList.{EdgeText, edges_read}
 use Rattle.nj_faults.specs.declared.fault.Cause.TheVariants.{TextNotUtf8}
@@ -13,6 +14,7 @@ use Rattle.nj_needs.specs.Marks.{is_valid, rest}
 use Rattle.nj_needs.specs.Pages.{IsMarkAfter}
 use Rattle.nj_tools.specs.CommandStrings.{command_lines, written, left_after, own_commands_in}
 use Rattle.nj_tools.specs.Compdb.{compdb_text, unheld_edge}
+use Rattle.nj_tools.specs.Lines.{line}
 use Rattle.nj_tools.specs.Listings.{inputs_text, targets_text}
 use Rattle.nj_tools.specs.Queries.{query_text}
 use Rattle.nj_tools.specs.RuleLists.{rules_text}
@@ -43,15 +45,15 @@ IsMarkOf entries targets begun edges mark =
 
 -- ---- the output
 
-abbrev pub commands_text : List ReadStatement → (take : Option ℕ) → (start : List ℕ) → (targets : Result (List (List ℕ)) GraphFault) → List ℕ
-commands_text entries take start (Ok targets) =
-    if leads entries targets start then command_lines entries (written take (commands_left entries targets start)) else []
-commands_text entries take start (Err fault) = []
-
 -- a text for targets; empty if they have a fault
 abbrev pub for_targets : (text : List (List ℕ) → List ℕ) → (targets : Result (List (List ℕ)) GraphFault) → List ℕ
 for_targets text (Ok targets) = text targets
 for_targets text (Err fault) = []
+
+-- the commands that are left at a mark, up to a limit; none if the mark leads to no edge
+abbrev pub page_text : List ReadStatement → (take : Option ℕ) → (start : List ℕ) → (targets : List (List ℕ)) → List ℕ
+page_text entries take start targets =
+    if leads entries targets start then command_lines entries (written take (commands_left entries targets start)) else []
 
 -- the commands of the edges that make the targets
 abbrev pub single_commands_text : List ReadStatement → (targets : List (List ℕ)) → List ℕ
@@ -59,7 +61,8 @@ single_commands_text entries targets = command_lines entries (own_commands_in (e
 
 -- the whole output; empty at a fault, except for what `compdb` writes before one
 abbrev pub output_of : List ReadStatement → ActionText → List ℕ
-output_of entries (commands words validations take start) = commands_text entries take start (targets_of entries validations words)
+output_of entries (commands words validations take start) =
+    for_targets (page_text entries take start) (targets_of entries validations words)
 output_of entries (single_commands words) = for_targets (single_commands_text entries) (targets_of entries false words)
 output_of entries (ask.inputs words validations style) =
     for_targets (inputs_text style (edges_by_path entries)) (targets_of entries validations words)
@@ -79,53 +82,46 @@ pub data Ending : Type 0 where
 abbrev pub out_of_range : List ℕ
 out_of_range = codes "ninja-explain: mark out of range"
 
--- from a mark whose steps lead to edges: nothing is left after what is written; or the run stops at the mark after that, as written
+-- Nothing is left after what is written; or the run stops at the mark after that, as written; or the mark from which it began leads to no
+-- edge.
 abbrev pub PageEnds : List ReadStatement → (take : Option ℕ) → (start : List ℕ) → (targets : List (List ℕ)) → Ending → Type 0
-PageEnds entries take start targets finished = left_after take (commands_left entries targets start) ≡ []
+PageEnds entries take start targets finished =
+    (leads entries targets start ≡ true) × (left_after take (commands_left entries targets start) ≡ [])
 PageEnds entries take start targets (stopped mark) =
-    (left_after take (commands_left entries targets start) ≢ [])
+    (leads entries targets start ≡ true)
+    × (left_after take (commands_left entries targets start) ≢ [])
     × IsMarkOf entries targets start (written take (commands_left entries targets start)) mark
     × ReadsBack mark
-PageEnds entries take start targets (faulty text) = ⊥
+PageEnds entries take start targets (faulty text) = (leads entries targets start ≡ false) × (text ≡ out_of_range)
 
-abbrev pub EndsFrom : (leads : Bool) → List ReadStatement → (take : Option ℕ) → (start : List ℕ) → (targets : List (List ℕ)) → Ending → Type 0
-EndsFrom true entries take start targets ending = PageEnds entries take start targets ending
-EndsFrom false entries take start targets ending = ending ≡ faulty out_of_range
+-- how a run ends for targets; if they have a fault, that is what is wrong
+abbrev pub EndsFor : (Ends : List (List ℕ) → Ending → Type 0) → (targets : Result (List (List ℕ)) GraphFault) → Ending → Type 0
+EndsFor Ends targets ending = MatchResult targets (λ targets. Ends targets ending) (λ fault. ending ≡ faulty (fault_line fault))
 
-abbrev pub CommandsEnd : List ReadStatement → (take : Option ℕ) → (start : List ℕ) → (targets : Result (List (List ℕ)) GraphFault) → Ending → Type 0
-CommandsEnd entries take start (Ok targets) ending = EndsFrom (leads entries targets start) entries take start targets ending
-CommandsEnd entries take start (Err fault) ending = ending ≡ faulty (fault_line fault)
-
--- all is written, where the targets have no fault
-abbrev pub TargetsEnd : (targets : Result (List (List ℕ)) GraphFault) → Ending → Type 0
-TargetsEnd (Ok targets) ending = ending ≡ finished
-TargetsEnd (Err fault) ending = ending ≡ faulty (fault_line fault)
+-- all is written
+abbrev pub Finishes : (targets : List (List ℕ)) → Ending → Type 0
+Finishes targets ending = ending ≡ finished
 
 -- JSON cannot contain a string of an edge: the fault is at its build statement
 abbrev pub text_fault : Option EdgeText → GraphFault
 text_fault (Some e) = fault_at e.file e.spot TextNotUtf8
 text_fault None = unplaced TextNotUtf8
 
--- by the first edge that JSON cannot contain, if there is one
-abbrev pub CompdbEnds : List ReadStatement → (unheld : Option ℕ) → Ending → Type 0
-CompdbEnds entries None ending = ending ≡ finished
-CompdbEnds entries (Some edge) ending = ending ≡ faulty (fault_line (text_fault (slice_get (edges_read entries) edge)))
-
--- the ending of a run; the faults of targets, from the left, come before the fault of the mark
+-- The ending of a run. The faults of targets, from the left, come before the fault of the mark; `compdb` ends at the first edge that JSON
+-- cannot contain.
 abbrev pub EndsWith : List ReadStatement → ActionText → Ending → Type 0
 EndsWith entries (commands words validations take start) ending =
-    CommandsEnd entries take start (targets_of entries validations words) ending
-EndsWith entries (single_commands words) ending = TargetsEnd (targets_of entries false words) ending
-EndsWith entries (ask.inputs words validations style) ending = TargetsEnd (targets_of entries validations words) ending
+    EndsFor (PageEnds entries take start) (targets_of entries validations words) ending
+EndsWith entries (single_commands words) ending = EndsFor Finishes (targets_of entries false words) ending
+EndsWith entries (ask.inputs words validations style) ending = EndsFor Finishes (targets_of entries validations words) ending
 EndsWith entries (ask.targets view) ending = ending ≡ finished
-EndsWith entries (ask.query words) ending = TargetsEnd (targets_named (edges_by_path entries) words) ending
+EndsWith entries (ask.query words) ending = EndsFor Finishes (targets_named (edges_by_path entries) words) ending
 EndsWith entries (ask.rules descriptions) ending = ending ≡ finished
-EndsWith entries (ask.compdb names directory expand) ending = CompdbEnds entries (unheld_edge entries names expand) ending
+EndsWith entries (ask.compdb names directory expand) ending =
+    let refused : ℕ → Ending = λ edge. faulty (fault_line (text_fault (slice_get (edges_read entries) edge))) in
+    ending ≡ option_map_or refused (unheld_edge entries names expand) finished
 
 -- ---- what is reported of it
-
-abbrev pub with_line_end : List ℕ → List ℕ
-with_line_end text = text ++ 10 ∷ []
 
 -- whether a run follows validations
 abbrev pub follows_validations : ActionText → Bool
@@ -135,13 +131,13 @@ follows_validations _ = false
 
 -- the line that reports a mark
 abbrev pub mark_line : (validations : Bool) → (mark : List ℕ) → List ℕ
-mark_line validations mark = with_line_end (codes "mark " ++ run_mark_text validations mark)
+mark_line validations mark = line (codes "mark " ++ run_mark_text validations mark)
 
 -- the error output
 abbrev pub error_of : (validations : Bool) → Ending → List ℕ
 error_of validations finished = []
 error_of validations (stopped mark) = mark_line validations mark
-error_of validations (faulty text) = with_line_end text
+error_of validations (faulty text) = line text
 
 abbrev pub status_of : Ending → Status
 status_of finished = Done
@@ -150,6 +146,5 @@ status_of (faulty text) = Fault
 
 -- the status if the error output failed: a run whose mark is not reported cannot be resumed
 abbrev pub status_untold : Ending → Status
-status_untold finished = Done
 status_untold (stopped mark) = OutputFailed
-status_untold (faulty text) = Fault
+status_untold ending = status_of ending

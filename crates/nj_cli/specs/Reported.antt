@@ -1,16 +1,13 @@
 -- What a sink did with a text.
 use Rattle.std.specs.Prelude.{◌≡◌, ◌⊎◌, ℕ, List, [], ◌∷◌}
-use Rattle.nj_tools.specs.Sinks.{SinkState, Takes, FailsAfter, IsCutShort}
+use Rattle.nj_tools.specs.Sinks.{SinkState, Takes}
+use Rattle.nj_tools.specs.Texts.{FailsWithin}
 
 -- the sink took the whole text; it was not asked to take an empty one
 abbrev pub Took : (old new : SinkState) → List ℕ → Type 0
 Took old new [] = new ≡ old
 Took old new (byte ∷ bytes) = Takes old new (byte ∷ bytes)
 
--- the sink took a prefix of the text, failed once, and was asked for nothing more
-abbrev pub Failed : (old new : SinkState) → List ℕ → Type 0
-Failed old new text = (front : List ℕ) × IsCutShort front text × FailsAfter old new front
-
--- the text was written once: the sink took it, or failed on the way
+-- the text was written once: the sink took it, or failed on the way, and was asked for nothing more
 abbrev pub Reported : (old new : SinkState) → List ℕ → Type 0
-Reported old new text = Took old new text ⊎ Failed old new text
+Reported old new text = Took old new text ⊎ FailsWithin old new text

@@ -1,21 +1,23 @@
 -- What a run does to its source and to its two sinks.
-use Rattle.std.specs.Prelude.{◌≡◌, ◌⊎◌, ℕ, Bool, true, false, Result, Ok, Err, List, []}
+use Rattle.std.specs.Prelude.{◌≡◌, ◌⊎◌, ℕ, Bool, true, false, Option, None, IsSomeAnd, Result, Ok, Err, List, []}
 use Rattle.nj_scope.specs.Readings.{Reading}
 use Rattle.nj_scope.specs.Sources.{SourceState}
 use Rattle.nj_scope.specs.ReadingList.{ReadStatement}
 use Rattle.nj_faults.specs.declared.fault.GraphFault.{GraphFault}
 use Rattle.nj_faults.specs.FaultLines.{fault_line}
 use Rattle.nj_faults.specs.Faults.{no_memory}
+use Rattle.nj_graph.specs.Graph.{IsGraphOf}
 use Rattle.nj_graph.specs.Joining.{joined_after}
-use Rattle.nj_graph.specs.Loads.{IsWhole, LoadingFails, main_reached}
+use Rattle.nj_graph.specs.Loads.{LoadedText, IsWhole, LoadingFails, main_reached}
 use Rattle.nj_graph.specs.Runs.{IsRead}
+use Rattle.nj_tools.specs.Lines.{line}
 use Rattle.nj_tools.specs.Sinks.{SinkState, Takes}
 use Rattle.nj_tools.specs.Texts.{FailsWithin, TakesFront}
 use Rattle.nj_args.specs.FaultLines as usage
 use Rattle.nj_args.specs.Requests.{ActionText, RequestText, request_of}
 use Rattle.nj_args.specs.declared.faults.UsageFault.{UsageFault}
-use Rattle.nj_cli.specs.Answers.{output_of, Ending, EndsWith, with_line_end, follows_validations, error_of, status_of, status_untold}
-use Rattle.nj_cli.specs.Reported.{Took, Failed, Reported}
+use Rattle.nj_cli.specs.Answers.{output_of, Ending, EndsWith, follows_validations, error_of, status_of, status_untold}
+use Rattle.nj_cli.specs.Reported.{Took, Reported}
 use Rattle.nj_cli.specs.Targets.{edges_by_path, NoEdgeNeedsItself}
 use Rattle.nj_cli.specs.declared.status.Status.{Status}
 use Rattle.nj_cli.specs.declared.status.Status.TheVariants.{Fault, Usage, OutputFailed}
@@ -34,21 +36,13 @@ out_of_memory = fault_line no_memory
 
 -- ---- by the statements of its files
 
--- all was output and reported
+-- All was output. The error output took what is reported; or it failed, and a run that stopped cannot be resumed.
 pub record IsReported (entries : List ReadStatement) (action : ActionText) (old new : Around) (status : Status) : Type 0 where
   pub ending : Ending
   pub ends : EndsWith entries action ending
   pub output : Takes old.output new.output (output_of entries action)
-  pub error : Took old.error new.error (error_of (follows_validations action) ending)
-  pub status_is : status ≡ status_of ending
-
--- all was output, and the error output failed
-pub record IsUntold (entries : List ReadStatement) (action : ActionText) (old new : Around) (status : Status) : Type 0 where
-  pub ending : Ending
-  pub ends : EndsWith entries action ending
-  pub output : Takes old.output new.output (output_of entries action)
-  pub error : Failed old.error new.error (error_of (follows_validations action) ending)
-  pub status_is : status ≡ status_untold ending
+  pub error : (Took old.error new.error (error_of (follows_validations action) ending) × (status ≡ status_of ending))
+      ⊎ (FailsWithin old.error new.error (error_of (follows_validations action) ending) × (status ≡ status_untold ending))
 
 -- the output failed; nothing is reported
 pub record OutputFails (entries : List ReadStatement) (action : ActionText) (old new : Around) (status : Status) : Type 0 where
@@ -59,14 +53,8 @@ pub record OutputFails (entries : List ReadStatement) (action : ActionText) (old
 -- an allocation failed, after a prefix of the output
 pub record MemoryFails (entries : List ReadStatement) (action : ActionText) (old new : Around) (status : Status) : Type 0 where
   pub output : TakesFront old.output new.output (output_of entries action)
-  pub error : Reported old.error new.error (with_line_end out_of_memory)
+  pub error : Reported old.error new.error (line out_of_memory)
   pub status_is : status ≡ Fault
-
-pub data RunEnds (entries : List ReadStatement) (action : ActionText) (old new : Around) (status : Status) : Type 0 where
-  reported : IsReported entries action old new status → RunEnds entries action old new status
-  untold : IsUntold entries action old new status → RunEnds entries action old new status
-  output_failed : OutputFails entries action old new status → RunEnds entries action old new status
-  memory_failed : MemoryFails entries action old new status → RunEnds entries action old new status
 
 -- ---- by its files
 
@@ -102,7 +90,7 @@ pub record IsRefused (request : RequestText) (files : List Reading) (old new : A
   pub fault : GraphFault
   pub reading : HaveFault request.file request.dyndep old.source new.source files fault
   pub output : new.output ≡ old.output
-  pub error : Reported old.error new.error (with_line_end (fault_line fault)) ⊎ Reported old.error new.error (with_line_end out_of_memory)
+  pub error : Reported old.error new.error (line (fault_line fault)) ⊎ Reported old.error new.error (line out_of_memory)
   pub status_is : status ≡ Fault
 
 -- the files were read, and no edge of their statements needs itself by a chain
@@ -110,7 +98,8 @@ pub record IsAnswered (request : RequestText) (files : List Reading) (old new : 
   pub entries : List ReadStatement
   pub statements : AreStatements request.file request.dyndep old.source new.source files entries
   pub acyclic : NoEdgeNeedsItself (edges_by_path entries)
-  pub outcomes : RunEnds entries request.action old new status
+  pub outcomes : IsReported entries request.action old new status
+      ⊎ (OutputFails entries request.action old new status ⊎ MemoryFails entries request.action old new status)
 
 -- ---- the run
 
@@ -120,24 +109,40 @@ RunsAs request old new status =
     (files : List Reading) × IsRead old.source new.source [] files
     × (IsRefused request files old new status ⊎ IsAnswered request files old new status)
 
--- the words are not a valid request: no file is read, and the error output gives the reason
-pub record IsMisused (fault : UsageFault) (old new : Around) (status : Status) : Type 0 where
+-- no file is read and nothing is output; the error output gives the reason
+pub record EndsAtOnce (reason : List ℕ) (old new : Around) : Type 0 where
   pub source : new.source ≡ old.source
   pub output : new.output ≡ old.output
-  pub error : Reported old.error new.error (usage.fault_line fault)
-  pub status_is : status ≡ Usage
+  pub error : Reported old.error new.error reason
 
--- an allocation failed before any file was read
-pub record MemoryFailsAtOnce (old new : Around) (status : Status) : Type 0 where
-  pub source : new.source ≡ old.source
-  pub output : new.output ≡ old.output
-  pub error : Reported old.error new.error (with_line_end out_of_memory)
-  pub status_is : status ≡ Fault
-
--- what a run with words does, by the request that they are
+-- what a run with words does, by the request that they are, or by the fault that they have
 abbrev pub RunsWith : Result RequestText UsageFault → (old new : Around) → Status → Type 0
 RunsWith (Ok request) old new status = RunsAs request old new status
-RunsWith (Err fault) old new status = IsMisused fault old new status
+RunsWith (Err fault) old new status = EndsAtOnce (usage.fault_line fault) old new × (status ≡ Usage)
 
+-- or an allocation failed before any file was read
 abbrev pub RunsWords : (words : List (List ℕ)) → (old new : Around) → Status → Type 0
-RunsWords words old new status = RunsWith (request_of words) old new status ⊎ MemoryFailsAtOnce old new status
+RunsWords words old new status =
+    RunsWith (request_of words) old new status ⊎ (EndsAtOnce (line out_of_memory) old new × (status ≡ Fault))
+
+-- ---- what is kept of a run
+
+-- What a run of this request does, and what is kept of it: where it was answered, the files that were read and the graph of their
+-- statements; nothing where it was refused.
+abbrev pub RunsAsAndKeeps : RequestText → (old new : Around) → Status → Option LoadedText → Type 0
+RunsAsAndKeeps request old new status kept =
+    (files : List Reading) × IsRead old.source new.source [] files
+    × ((IsRefused request files old new status × (kept ≡ None))
+    ⊎ ((answered : IsAnswered request files old new status)
+    × IsSomeAnd kept (λ loaded. (loaded.files ≡ files) × IsGraphOf loaded.graph answered.entries)))
+
+-- nothing is kept where the words are not a valid request
+abbrev pub RunsAndKeepsWith : Result RequestText UsageFault → (old new : Around) → Status → Option LoadedText → Type 0
+RunsAndKeepsWith (Ok request) old new status kept = RunsAsAndKeeps request old new status kept
+RunsAndKeepsWith (Err fault) old new status kept = EndsAtOnce (usage.fault_line fault) old new × (status ≡ Usage) × (kept ≡ None)
+
+-- what a run with words does, and what is kept of it
+abbrev pub RunsAndKeeps : (words : List (List ℕ)) → (old new : Around) → Status → Option LoadedText → Type 0
+RunsAndKeeps words old new status kept =
+    RunsAndKeepsWith (request_of words) old new status kept
+    ⊎ (EndsAtOnce (line out_of_memory) old new × (status ≡ Fault) × (kept ≡ None))

@@ -1,16 +1,13 @@
 -- The targets of a run.
-use Rattle.std.specs.Prelude.{◌≡◌, ◌⊎◌, ℕ, Bool, true, false, Result, Ok, Err, List, [], ◌∷◌, length}
-use Rattle.std.specs.Global.{Vec}
+use Rattle.std.specs.Prelude.{ℕ, Bool, true, false, Result, Ok, List, [], ◌∷◌, length}
+use Rattle.nj_manifest.specs.LineSteps.{◌>>=◌}
 use Rattle.nj_scope.specs.ReadingList.{ReadStatement}
-use Rattle.nj_edges.specs.declared.files.FileNo.{FileNo}
 use Rattle.nj_edges.specs.Edges.{EdgePaths}
-use Rattle.nj_edges.specs.Files.{AreFiles}
 use Rattle.nj_edges.specs.Needs.{makers_of_inputs}
 use Rattle.nj_cycles.specs.Cycles.{IsAcyclic}
 use Rattle.nj_statements.specs.Built.{defaults_in_force}
 use Rattle.nj_statements.specs.EdgeList.{edges_read, paths_of_edges, defaults_read}
 use Rattle.nj_faults.specs.declared.fault.GraphFault.{GraphFault}
-use Rattle.nj_faults.specs.Faults.{no_memory}
 use Rattle.nj_graph.specs.Targets.{picked}
 use Rattle.nj_needs.specs.Growing.{grown_targets}
 
@@ -18,15 +15,10 @@ use Rattle.nj_needs.specs.Growing.{grown_targets}
 abbrev pub edges_by_path : List ReadStatement → List EdgePaths
 edges_by_path entries = paths_of_edges (edges_read entries)
 
-abbrev pub and_target : Result (List ℕ) GraphFault → Result (List (List ℕ)) GraphFault → Result (List (List ℕ)) GraphFault
-and_target (Err fault) others = Err fault
-and_target (Ok path) (Err fault) = Err fault
-and_target (Ok path) (Ok paths) = Ok (path ∷ paths)
-
 -- the paths of the targets that words name, or the fault of the first word that names none
 abbrev pub targets_named : List EdgePaths → (words : List (List ℕ)) → Result (List (List ℕ)) GraphFault
 targets_named edges [] = Ok []
-targets_named edges (word ∷ words) = and_target (picked edges word) (targets_named edges words)
+targets_named edges (word ∷ words) = picked edges word >>= (λ path. targets_named edges words >>= (λ paths. Ok (path ∷ paths)))
 
 -- no edge needs itself by a chain
 abbrev pub NoEdgeNeedsItself : List EdgePaths → Type 0
@@ -42,12 +34,8 @@ abbrev pub with_validations : (validations : Bool) → List EdgePaths → (targe
 with_validations false edges targets = targets
 with_validations true edges targets = grown_targets edges targets
 
-abbrev pub targets_from : List ReadStatement → (validations : Bool) → Result (List (List ℕ)) GraphFault → Result (List (List ℕ)) GraphFault
-targets_from entries validations (Ok targets) = Ok (with_validations validations (edges_by_path entries) (or_defaults entries targets))
-targets_from entries validations (Err fault) = Err fault
-
 -- the targets of a run with these words
 abbrev pub targets_of : List ReadStatement → (validations : Bool) → (words : List (List ℕ)) → Result (List (List ℕ)) GraphFault
-targets_of entries validations words = targets_from entries validations (targets_named (edges_by_path entries) words)
-
--- ---- what the code returns
+targets_of entries validations words = do
+  targets ← targets_named (edges_by_path entries) words
+  Ok (with_validations validations (edges_by_path entries) (or_defaults entries targets))

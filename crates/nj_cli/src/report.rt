@@ -4,7 +4,8 @@ ghost use Rattle.std.specs.Prelude.{◌≡◌, ◌++◌, ◌∷◌, [], codes, I
 ghost use Rattle.nj_faults.specs.FaultLines.{fault_line};
 ghost use Rattle.nj_args.specs.FaultLines as usage;
 ghost use Rattle.nj_args.specs.declared.faults.UsageFault.TheVariants.{Unparsed};
-ghost use Rattle.nj_cli.specs.Answers.{with_line_end, mark_line};
+ghost use Rattle.nj_tools.specs.Lines.{line};
+ghost use Rattle.nj_cli.specs.Answers.{mark_line};
 ghost use Rattle.nj_cli.specs.Reported.{Reported};
 ghost use Rattle.nj_cli.specs.Inside.RunSteps.{Concludes, ReportsLine, ReportsMark, ReportsMisuse};
 ghost use Rattle.nj_cli.specs.Runs.{out_of_memory};
@@ -61,7 +62,7 @@ fn report_mark<E: Sink>(alloc: Global, err: &mut E, validations: bool, mark: &Ma
 
 // The line that reports a mark.
 fn mark_line(alloc: Global, validations: bool, mark: &Mark) -> Result<Vec<u8>, AllocError>
-    ensures { IfOk result (λ line. line.items ≡ mark_line validations mark.now) }
+    ensures { IfOk result (λ made. made.items ≡ mark_line validations mark.now) }
 {
     let text = mark.to_text(alloc)?;
     let mut line = Vec::from_slice(alloc, if validations { b"mark v" } else { b"mark " })?;
@@ -73,7 +74,7 @@ fn mark_line(alloc: Global, validations: bool, mark: &Mark) -> Result<Vec<u8>, A
 /// Reports a fault, or out of memory if its line has to be made first and cannot be.
 pub(crate) fn report_fault<E: Sink>(alloc: Global, err: &mut E, fault: &GraphFault) -> Status
     ensures line { ReportsLine (E.state err.old) (E.state err.new)
-        (with_line_end (fault_line fault.now)) }
+        (line (fault_line fault.now)) }
     ensures status { result ≡ Status.Fault }
 {
     match line_of_fault(alloc, fault) {
@@ -85,7 +86,7 @@ pub(crate) fn report_fault<E: Sink>(alloc: Global, err: &mut E, fault: &GraphFau
 
 // The line that reports a fault.
 fn line_of_fault(alloc: Global, fault: &GraphFault) -> Result<Vec<u8>, AllocError>
-    ensures { IfOk result (λ line. line.items ≡ with_line_end (fault_line fault.now)) }
+    ensures { IfOk result (λ made. made.items ≡ line (fault_line fault.now)) }
 {
     let mut line = fault.line(alloc)?;
     line.push(b'\n')?;
@@ -120,7 +121,7 @@ pub fn refuse_words<E: Sink>(err: &mut E) -> Status
 
 /// Reports that an allocation failed.
 pub fn report_out_of_memory<E: Sink>(err: &mut E) -> Status
-    ensures line { Reported (E.state err.old) (E.state err.new) (with_line_end out_of_memory) }
+    ensures line { Reported (E.state err.old) (E.state err.new) (line out_of_memory) }
     ensures status { result ≡ Status.Fault }
 {
     report_line(err, OUT_OF_MEMORY);

@@ -3,7 +3,7 @@
 ghost use Rattle.std.specs.Prelude.{map, string_bytes};
 ghost use Rattle.nj_args.specs.Requests.{request_text};
 ghost use Rattle.nj_cli.specs.Inside.RunSteps.{ReadsGraph};
-ghost use Rattle.nj_cli.specs.Runs.{RunsAs, RunsWords, around};
+ghost use Rattle.nj_cli.specs.Runs.{RunsAs, RunsWords, RunsAsAndKeeps, RunsAndKeeps, around};
 
 use crate::perform::{follows_validations, perform};
 use crate::report::{conclude, report_fault, report_misuse};
@@ -38,7 +38,8 @@ pub fn run_words<S: FileSource, O: Sink, E: Sink>(
     run_words_and_keep(alloc, source, words, out, err).status
 }
 
-/// The same as [`run_words`], but what the run loaded is handed to the caller.
+/// The same as [`run_words`], but what the run loaded is handed to the caller: where the run was
+/// answered, the files that were read and the graph of their statements; else nothing.
 pub fn run_words_and_keep<S: FileSource, O: Sink, E: Sink>(
     alloc: Global,
     source: &mut S,
@@ -46,9 +47,10 @@ pub fn run_words_and_keep<S: FileSource, O: Sink, E: Sink>(
     out: &mut O,
     err: &mut E,
 ) -> Ended
-    ensures { RunsWords (map string_bytes words.now)
+    ensures { RunsAndKeeps (map string_bytes words.now)
         (around (S.state source.old) (O.state out.old) (E.state err.old))
-        (around (S.state source.new) (O.state out.new) (E.state err.new)) result.status }
+        (around (S.state source.new) (O.state out.new) (E.state err.new))
+        result.status result.loaded }
 {
     match read_words(alloc, words) {
         Ok(request) => run_tool_and_keep(alloc, source, &request, out, err),
@@ -84,9 +86,10 @@ fn run_tool_and_keep<S: FileSource, O: Sink, E: Sink>(
     out: &mut O,
     err: &mut E,
 ) -> Ended
-    ensures { RunsAs (request_text request.now)
+    ensures { RunsAsAndKeeps (request_text request.now)
         (around (S.state source.old) (O.state out.old) (E.state err.old))
-        (around (S.state source.new) (O.state out.new) (E.state err.new)) result.status }
+        (around (S.state source.new) (O.state out.new) (E.state err.new))
+        result.status result.loaded }
 {
     let loaded = match read_graph(alloc, source, request) {
         Ok(loaded) => loaded,

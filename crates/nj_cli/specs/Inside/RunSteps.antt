@@ -10,15 +10,16 @@ use Rattle.nj_faults.specs.Faults.{no_memory, unplaced}
 use Rattle.nj_graph.specs.Graph.{IsGraphOf}
 use Rattle.nj_graph.specs.Loads.{LoadedText}
 use Rattle.nj_graph.specs.Runs.{IsRead}
+use Rattle.nj_tools.specs.Lines.{line}
 use Rattle.nj_tools.specs.Sinks.{SinkState, Takes}
 use Rattle.nj_tools.specs.Texts.{FailsWithin, TakesFront}
 use Rattle.nj_args.specs.Requests.{ActionText, RequestText}
 use Rattle.nj_args.specs.FaultLines as lines
 use Rattle.nj_args.specs.declared.faults.UsageFault.{UsageFault}
 use Rattle.nj_args.specs.declared.faults.UsageFault.TheVariants as usage
-use Rattle.nj_cli.specs.Answers.{output_of, finished, stopped, faulty, out_of_range, EndsWith, with_line_end, mark_line}
-use Rattle.nj_cli.specs.Reported.{Failed, Reported}
-use Rattle.nj_cli.specs.Runs.{out_of_memory, AreStatements, HaveFault}
+use Rattle.nj_cli.specs.Answers.{output_of, finished, stopped, faulty, out_of_range, EndsWith, mark_line}
+use Rattle.nj_cli.specs.Reported.{Reported}
+use Rattle.nj_cli.specs.Runs.{Around, out_of_memory, IsReported, OutputFails, MemoryFails, AreStatements, HaveFault}
 use Rattle.nj_cli.specs.declared.fault.RunFault.{RunFault}
 use Rattle.nj_cli.specs.declared.fault.RunFault.TheVariants as fault
 use Rattle.nj_marks.specs.declared.fault.MarkFault.{MarkFault}
@@ -40,6 +41,7 @@ PicksTargets files expected (Err fault) = (fault ≡ no_memory) ⊎ (expected �
 abbrev pub GraphOr : RequestText → (before after : SourceState) → List Reading → Result LoadedText GraphFault → Type 0
 GraphOr request before after files (Ok loaded) =
     (entries : List ReadStatement) × AreStatements request.file request.dyndep before after files entries × IsGraphOf loaded.graph entries
+    × (loaded.files ≡ files)
 GraphOr request before after files (Err fault) = HaveFault request.file request.dyndep before after files fault
 
 -- these files were read, each path once
@@ -56,6 +58,11 @@ fault_of_tool (tool.TextNotUtf8 edge) = fault.Graph (unplaced TextNotUtf8)
 fault_of_tool tool.Write = fault.Write
 fault_of_tool tool.OutOfMemory = fault.OutOfMemory
 
+-- how a run ends by its statements
+abbrev pub RunEnds : (entries : List ReadStatement) (action : ActionText) (old new : Around) → Status → Type 0
+RunEnds entries action old new status =
+    IsReported entries action old new status ⊎ (OutputFails entries action old new status ⊎ MemoryFails entries action old new status)
+
 -- what was output, and how the run ends accordingly
 abbrev pub ReturnsFor : List ReadStatement → ActionText → (old new : SinkState) → Result (Option (List ℕ)) RunFault → Type 0
 ReturnsFor entries action old new (Ok None) = EndsWith entries action finished × Takes old new (output_of entries action)
@@ -67,28 +74,28 @@ ReturnsFor entries action old new (Err fault.MarkOutOfRange) =
 ReturnsFor entries action old new (Err fault.Write) = FailsWithin old new (output_of entries action)
 ReturnsFor entries action old new (Err fault.OutOfMemory) = TakesFront old new (output_of entries action)
 
--- the line was reported, or out of memory if there was no memory to make it
-abbrev pub ReportsLine : (old new : SinkState) → (line : List ℕ) → Type 0
-ReportsLine old new line = Reported old new line ⊎ Reported old new (with_line_end out_of_memory)
+-- the text was reported, or out of memory if there was no memory to make it
+abbrev pub ReportsLine : (old new : SinkState) → (text : List ℕ) → Type 0
+ReportsLine old new text = Reported old new text ⊎ Reported old new (line out_of_memory)
 
 -- the mark was reported; or the error output failed; or its line could not be made
 abbrev pub ReportsMark : (validations : Bool) → (old new : SinkState) → (mark : List ℕ) → Status → Type 0
 ReportsMark validations old new mark Stopped = Takes old new (mark_line validations mark)
-ReportsMark validations old new mark OutputFailed = Failed old new (mark_line validations mark)
-ReportsMark validations old new mark Fault = Reported old new (with_line_end out_of_memory)
+ReportsMark validations old new mark OutputFailed = FailsWithin old new (mark_line validations mark)
+ReportsMark validations old new mark Fault = Reported old new (line out_of_memory)
 ReportsMark validations old new mark other = ⊥
 
 -- what is reported of an outcome
 abbrev pub Concludes : (validations : Bool) → (old new : SinkState) → Result (Option (List ℕ)) RunFault → Status → Type 0
 Concludes validations old new (Ok None) status = (new ≡ old) × (status ≡ Done)
 Concludes validations old new (Ok (Some mark)) status = ReportsMark validations old new mark status
-Concludes validations old new (Err (fault.Graph f)) status = ReportsLine old new (with_line_end (fault_line f)) × (status ≡ Fault)
-Concludes validations old new (Err fault.MarkOutOfRange) status = Reported old new (with_line_end out_of_range) × (status ≡ Fault)
+Concludes validations old new (Err (fault.Graph f)) status = ReportsLine old new (line (fault_line f)) × (status ≡ Fault)
+Concludes validations old new (Err fault.MarkOutOfRange) status = Reported old new (line out_of_range) × (status ≡ Fault)
 Concludes validations old new (Err fault.Write) status = (new ≡ old) × (status ≡ OutputFailed)
-Concludes validations old new (Err fault.OutOfMemory) status = Reported old new (with_line_end out_of_memory) × (status ≡ Fault)
+Concludes validations old new (Err fault.OutOfMemory) status = Reported old new (line out_of_memory) × (status ≡ Fault)
 
 -- what is reported of words that are not a valid request
 abbrev pub ReportsMisuse : (old new : SinkState) → UsageFault → Status → Type 0
-ReportsMisuse old new usage.OutOfMemory status = Reported old new (with_line_end out_of_memory) × (status ≡ Fault)
+ReportsMisuse old new usage.OutOfMemory status = Reported old new (line out_of_memory) × (status ≡ Fault)
 ReportsMisuse old new fault status =
-    (Reported old new (lines.fault_line fault) × (status ≡ Usage)) ⊎ (Reported old new (with_line_end out_of_memory) × (status ≡ Fault))
+    (Reported old new (lines.fault_line fault) × (status ≡ Usage)) ⊎ (Reported old new (line out_of_memory) × (status ≡ Fault))

@@ -1,9 +1,9 @@
-use Rattle.std.proofs.Common.{Bool, inr, sym, subst}
+use Rattle.std.proofs.Common.{Bool, sym, subst}
 use Rattle.nj_graph.specs.Graph.{IsGraphOf}
 use Rattle.nj_args.specs.Requests.{request_text}
 use Rattle.nj_cli.specs.Inside.RunSteps.{Concludes}
 use Rattle.nj_cli.specs.Runs.{around}
-use Rattle.nj_cli.proofs.RunLemmas.{Answers-from, IsAnswered-from}
+use Rattle.nj_cli.proofs.RunLemmas.{Answers-from, Keeps-answered}
 use Rattle.nj_cli.proofs.run.run_tool_and_keep.Goals as goal
 
 pub returns : goal.returns
@@ -17,9 +17,6 @@ returns g c =
     let entries = reads.2.0 in
     let is_graph = reads.2.2 in
     let concludes = subst (λ (b : Bool). Concludes b old.error new.error c.perform-outcome.result c.conclude-status.result) c.follows_validations.ensures c.conclude-status.ensures in
-    let outcomes = c.perform-outcome.ensures entries (subst (λ h. IsGraphOf h entries) (sym c.graph.ensures) is_graph) in (
-      reads.0,
-      reads.1,
-      inr (IsAnswered-from request reads.0 old new c.in-Ok.loaded.graph entries c.conclude-status.result reads.2.1 is_graph
-          (Answers-from entries request.action old new c.conclude-status.result c.perform-outcome.result outcomes concludes)),
-    )
+    let outcomes = c.perform-outcome.ensures entries (subst (λ h. IsGraphOf h entries) (sym c.graph.ensures) is_graph) in
+    Keeps-answered request reads.0 old new c.in-Ok.loaded entries c.conclude-status.result reads.1 reads.2.1 is_graph reads.2.3
+    (Answers-from entries request.action old new c.conclude-status.result c.perform-outcome.result outcomes concludes)

@@ -1,0 +1,21 @@
+-- Of a run that was answered its graph is kept: where it was not refused, nothing or the graph of other edges does not keep the contract.
+use Rattle.std.proofs.Common.{◌≡◌, inl, inr, Some, None, List}
+use Rattle.nj_scope.specs.Readings.{Reading}
+use Rattle.nj_graph.specs.Graph.{edges_of}
+use Rattle.nj_graph.specs.Loads.{LoadedText}
+use Rattle.nj_args.specs.Requests.{RequestText}
+use Rattle.nj_cli.specs.Runs.{Around, IsRefused, IsAnswered, RunsAsAndKeeps}
+use Rattle.nj_cli.specs.Targets.{edges_by_path}
+use Rattle.nj_cli.specs.declared.status.Status.{Status}
+
+module _ (request : RequestText) (old new : Around) (status : Status)
+    (unrefused : (files : List Reading) → ¬ IsRefused request files old new status) where
+  pub not_nothing : ¬ RunsAsAndKeeps request old new status None
+  not_nothing (files, read, inl (refused, none)) = unrefused files refused
+  not_nothing (files, read, inr (answered, keeps)) = keeps
+
+  pub its_edges : (loaded : LoadedText) → RunsAsAndKeeps request old new status (Some loaded)
+      → (files : List Reading) × (answered : IsAnswered request files old new status) × (loaded.files ≡ files)
+      × (edges_of loaded.graph ≡ edges_by_path answered.entries)
+  its_edges loaded (files, read, inl (refused, none)) = absurd (unrefused files refused)
+  its_edges loaded (files, read, inr (answered, (files_are, graph_is))) = (files, answered, files_are, graph_is.built.paths)
