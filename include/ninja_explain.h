@@ -27,8 +27,9 @@
  * Every call returns a status, one of `enum nx_status`. Texts are bytes with a length; they need not
  * be UTF-8 and have no zero byte at their end. A call that gives a text copies it into the buffer of
  * the caller and gives its length through `needed`; if the buffer is too small the status is
- * NX_SHORT, the length is given all the same, and the buffer stays as it is. Nothing that a call
- * gives points into the session. Edges (one for each build statement) and files have numbers from 0,
+ * NX_SHORT, the length is given all the same, and the buffer stays as it is. After any other status
+ * than NX_DONE no number that a call gives is to be read. Nothing that a call gives points into the
+ * session. Edges (one for each build statement) and files have numbers from 0,
  * in reading order. Lists are asked for by an index, until the status is NX_NOTHING.
  *
  * What the library does is proved for all that C may hand in, as long as C keeps its side, which no
@@ -76,7 +77,8 @@ enum nx_status {
     NX_NOT_UTF8 = 8,
     /* The session is not open. */
     NX_NOT_OPEN = 9,
-    /* An allocation failed. The session can be used and closed as before. */
+    /* An allocation failed, and nothing else happened, but for what nx_load and nx_run say below. The
+       session can be used and closed as before. */
     NX_OUT_OF_MEMORY = 10
 };
 
@@ -200,11 +202,14 @@ int32_t nx_add_file(nx_session *session, const uint8_t *path, size_t path_length
 int32_t nx_add_absent(nx_session *session, const uint8_t *path, size_t path_length);
 
 /*
- * Loads the main file at a path and all files that it includes, from those that were handed in. If
- * `joins_dyndeps` is not 0, the dyndep files to which edges are bound are joined too, and a failed
- * join is a failed load. What was loaded before is freed, and what nx_affected or nx_page listed.
+ * Loads the main file at a path and all files that it includes, from those that were handed in; a
+ * file that was not is taken for an empty one, and is wanted. If `joins_dyndeps` is not 0, the dyndep
+ * files to which edges are bound are joined too, and a failed join is a failed load. What was loaded
+ * before is freed, and what nx_affected or nx_page listed, whatever the status is.
  * NX_DONE; NX_FAULT, with the first fault; NX_WANTED if files are wanted that were not handed in:
- * hand them in, or record that they are absent, and load again; NX_NOT_UTF8; NX_OUT_OF_MEMORY.
+ * hand them in, or record that they are absent, and load again; NX_NOT_UTF8; NX_OUT_OF_MEMORY. There
+ * is a graph only after NX_DONE and a fault only after NX_FAULT, and files are wanted only after
+ * NX_WANTED.
  */
 int32_t nx_load(nx_session *session, const uint8_t *main, size_t main_length,
                 uint32_t joins_dyndeps);
@@ -373,7 +378,8 @@ int32_t nx_page_mark(nx_session *session, uint8_t *buffer, size_t size, size_t *
  * --take stopped the run, which then names the mark for --resume. What was loaded and listed stays.
  * NX_DONE, with the exit status; NX_WANTED as for nx_load: hand the files in, or record that they
  * are absent, and run again; NX_NOT_UTF8; NX_OUT_OF_MEMORY. After all but NX_DONE both outputs are
- * empty. An allocation that fails while the program runs may also end as a fault of the run.
+ * empty, and files are wanted only after NX_WANTED. An allocation that fails while the program runs
+ * may also end as a fault of the run.
  */
 int32_t nx_run(nx_session *session, const uint8_t *words, size_t words_length, int32_t *exit);
 

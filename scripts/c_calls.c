@@ -541,6 +541,13 @@ static int hand_in_all(void)
     return 1;
 }
 
+/* Files are wanted only after that status. */
+static void try_wanted(int32_t status)
+{
+    if (status != NX_WANTED)
+        TEXT(if_open, nx_wanted, 0, OF(NOTHING));
+}
+
 static int32_t load_once(const char *main, uint32_t joins)
 {
     unsigned loaded = OF(DONE) | OF(FAULT) | OF(WANTED) | OF(OUT_OF_MEMORY);
@@ -548,6 +555,7 @@ static int32_t load_once(const char *main, uint32_t joins)
     int32_t status = IF_OPEN(loaded, nx_load(&session, path, main ? strlen(main) : 0, joins));
     if (state != CLOSED)
         state = status == NX_DONE ? LOADED : OPEN;
+    try_wanted(status);
     if (status == NX_FAULT)
         try_fault(1);
     return status;
@@ -585,6 +593,7 @@ static int32_t run_once(struct text words, unsigned statuses)
     TEXT(if_open, give_errors, 0, OF(DONE));
     expect(status == NX_DONE || state == CLOSED || given_length == 0, "nx_run_errors", "length",
            (long long)given_length);
+    try_wanted(status);
     return status;
 }
 

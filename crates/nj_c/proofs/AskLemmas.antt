@@ -2,12 +2,11 @@
 use Rattle.std.proofs.Common.{◌≡◌, ℤ, Option, Some, subst}
 use Rattle.nj_c.specs.declared.kept.Kept.{Kept}
 use Rattle.nj_c.specs.declared.status.Status.{Status}
-use Rattle.nj_c.specs.Asking.{IfOpen}
 use Rattle.nj_c.specs.Loading.{Changes}
 use Rattle.nj_c.specs.Statuses.{code_of}
 
 pub changes : (session : Option Kept) (kept new : Kept) (after : Option Kept) (result : ℤ) (status : Status) (does : Kept → Kept → Status → Type 0)
     → Some kept ≡ session → after ≡ Some new → result ≡ code_of status → does kept new status
-    → IfOpen session result (λ k. Changes k after result (does k))
+    → Changes session after result does
 changes session kept new after result status does was put is done =
-    subst (λ s. IfOpen s result (λ k. Changes k after result (does k))) was (new, put, (status, is, done))
+    subst (λ s. Changes s after result does) was (new, put, (status, is, done))

@@ -3,6 +3,7 @@ mod AskLemmas
 mod HandedLemmas
 mod ItemLemmas
 mod LoadLemmas
+mod LoadRows
 mod MachineValues
 mod PageLemmas
 mod RunLemmas

@@ -1,6 +1,6 @@
 -- What a load gives, and what a session keeps of it.
 use Rattle.std.specs.Global.{Vec}
-use Rattle.std.proofs.Common.{◌≡◌, inl, inr, ℕ, Bool, true, false, None, Result, Ok, Err, List, [], map, refl, sym, ap, subst, ◌∙◌, ◌∷◌, true≢false}
+use Rattle.std.proofs.Common.{◌≡◌, ◌≢◌, inl, inr, ℕ, Bool, true, false, Result, Ok, Err, List, [], map, refl, sym, ap, subst, ◌∙◌, ◌∷◌, true≢false}
 use Rattle.std.specs.Str.{is_utf8}
 use Rattle.nj_scope.specs.Sources.{SourceState}
 use Rattle.nj_faults.specs.declared.fault.GraphFault.{GraphFault}
@@ -9,9 +9,9 @@ use Rattle.nj_graph.specs.Loads.{LoadedText, Loads}
 use Rattle.nj_c.specs.declared.kept.Kept.{Kept}
 use Rattle.nj_c.specs.declared.status.Status.{Status}
 use Rattle.nj_c.specs.declared.status.Status.TheVariants.{Done, Nothing, Short, Fault, Wanted, NotLoaded, BadNumber, BadMark, NotUtf8, NotOpen, OutOfMemory}
-use Rattle.nj_c.specs.HandedIn.{handed_in, handed_state, wanted_paths}
-use Rattle.nj_c.specs.Loading.{unread, GivesGraph, ListsNothing, LoadsGraph, LoadsAs, LoadsKept, SameRun}
-use Rattle.nj_c.specs.Inside.Results.{FinishesLoad, KeepsResult, KeepsWanted, SameLists}
+use Rattle.nj_c.specs.HandedIn.{Handed, handed_in, handed_state, wanted_paths, ReadsAsHanded, SameFiles}
+use Rattle.nj_c.specs.Loading.{unread, GivesGraph, KeepsNothing, ListsNothing, LoadsGraph, LoadsKept, SameRun}
+use Rattle.nj_c.specs.Inside.Results.{FinishesLoad, KeepsFault, KeepsGraph, KeepsResult}
 
 -- the graph of what was loaded
 pub gives_same : (state : SourceState) (loaded : LoadedText) (joins : Bool) (graph : GraphText) → joins ≡ false → graph ≡ loaded.graph
@@ -47,20 +47,7 @@ same_files before after main joins (Err fault) (inl loads) path = loads-same bef
 same_files before after main joins (Err fault) (inr (between, loaded, loads, gives)) path =
     gives-files main before between after joins loaded (Err fault) loads gives path ∙ loads-same before between main (Ok loaded) loads path
 
--- what is kept of a load
-pub finishes_load : (kept : Kept) (result : Result GraphText GraphFault) (status : Status)
-    → KeepsWanted kept → KeepsResult kept result status → FinishesLoad kept result status
-finishes_load kept result Done wanted keeps = (keeps, wanted)
-finishes_load kept result Fault wanted keeps = (keeps, wanted)
-finishes_load kept result Wanted wanted keeps = (keeps, wanted)
-finishes_load kept result OutOfMemory wanted keeps = keeps
-finishes_load kept result Nothing wanted keeps = absurd keeps
-finishes_load kept result Short wanted keeps = absurd keeps
-finishes_load kept result NotLoaded wanted keeps = absurd keeps
-finishes_load kept result BadNumber wanted keeps = absurd keeps
-finishes_load kept result BadMark wanted keeps = absurd keeps
-finishes_load kept result NotUtf8 wanted keeps = absurd keeps
-finishes_load kept result NotOpen wanted keeps = absurd keeps
+-- ---- what is kept of a load
 
 abbrev is-nil : List (List ℕ) → Bool
 is-nil [] = true
@@ -70,40 +57,74 @@ no-items : (paths : List (Vec ℕ)) → map (λ p. p.items) paths ≡ [] → pat
 no-items [] is = refl
 no-items (p ∷ ps) is = absurd (true≢false (sym (ap is-nil is)))
 
-none-wanted : (kept : Kept) → kept.wanted.items ≡ [] → KeepsWanted kept → wanted_paths kept.files ≡ []
-none-wanted kept none wanted = sym wanted ∙ ap (map (λ p. p.items)) none
+module _ (before middle : Kept) (files : Handed) (main : List ℕ) (joins : Bool) (begun : middle.files ≡ unread before.files) (none : KeepsNothing middle)
+    (nothing : ListsNothing middle) (run : SameRun before middle) where
+  -- the session after the load, whose result is not kept yet
+  abbrev read : Kept
+  read = record middle { files = files }
 
-loads-as : (before after : Kept) (main : List ℕ) (joins : Bool) (result : Result GraphText GraphFault) (status : Status)
-    → LoadsGraph (handed_state (unread before.files)) (handed_state after.files) main joins result
-    → FinishesLoad after result status → LoadsAs before after main joins status
-loads-as before after main joins result Done loads (keeps, wanted) =
-    (keeps.0, keeps.2, keeps.3, subst (LoadsGraph (handed_state (unread before.files)) (handed_state after.files) main joins) keeps.1 loads, none-wanted after keeps.4 wanted)
-loads-as before after main joins result Fault loads (keeps, wanted) =
-    (keeps.0, keeps.2, keeps.3, subst (LoadsGraph (handed_state (unread before.files)) (handed_state after.files) main joins) keeps.1 loads, none-wanted after keeps.4 wanted)
-loads-as before after main joins result Wanted loads (keeps, wanted) =
-    (result, keeps.0.0, keeps.0.1, loads, (λ none. keeps.1 (no-items after.wanted.items (wanted ∙ none))), wanted)
-loads-as before after main joins result OutOfMemory loads keeps = keeps
-loads-as before after main joins result Nothing loads keeps = absurd keeps
-loads-as before after main joins result Short loads keeps = absurd keeps
-loads-as before after main joins result NotLoaded loads keeps = absurd keeps
-loads-as before after main joins result BadNumber loads keeps = absurd keeps
-loads-as before after main joins result BadMark loads keeps = absurd keeps
-loads-as before after main joins result NotUtf8 loads keeps = absurd keeps
-loads-as before after main joins result NotOpen loads keeps = absurd keeps
+  abbrev Loaded : Result GraphText GraphFault → Type 0
+  Loaded result = LoadsGraph (handed_state (unread before.files)) (handed_state files) main joins result
 
-pub loads_kept : (before middle after : Kept) (main : List ℕ) (joins : Bool) (result : Result GraphText GraphFault) (status : Status)
-    → middle.files ≡ unread before.files → ListsNothing middle → SameRun before middle → SameLists middle after
-    → LoadsGraph (handed_state middle.files) (handed_state after.files) main joins result
-    → FinishesLoad after result status → LoadsKept before after main joins status
-loads_kept before middle after main joins result status begun nothing run same loads finishes =
-    let from = subst (λ f. LoadsGraph (handed_state f) (handed_state after.files) main joins result) begun loads in (
-      same_files (handed_state (unread before.files)) (handed_state after.files) main joins result from,
-      (ap (λ v. v.items) same.found ∙ nothing.0, ap (λ v. v.items) same.mark ∙ nothing.1),
-      record { output = same.run.output ∙ run.output; errors = same.run.errors ∙ run.errors },
-      loads-as before after main joins result status from finishes,
-    )
+  same : (result : Result GraphText GraphFault) → Loaded result → SameFiles before.files files
+  same result loads = same_files (handed_state (unread before.files)) (handed_state files) main joins result loads
 
-pub not_loaded : (before after : Kept) (main : List ℕ) (joins : Bool) → after.files ≡ unread before.files → after.wanted.items ≡ [] → after.graph ≡ None
-    → after.fault ≡ None → ListsNothing after → SameRun before after → is_utf8 main ≡ false → LoadsKept before after main joins NotUtf8
-not_loaded before after main joins files wanted graph fault nothing run none =
-    ((λ path. ap (λ f. handed_in f path) files), nothing, run, (graph, fault, wanted, none))
+  lacks : (after : Kept) (result : Result GraphText GraphFault) → Loaded result → after ≡ read → LoadsKept before after main joins OutOfMemory
+  lacks after result loads is = subst (λ k. LoadsKept before k main joins OutOfMemory) (sym is)
+      (same result loads, nothing, record { output = run.output; errors = run.errors }, record { graph = none.graph; fault = none.fault; wanted = none.wanted })
+
+  module _ (wanted : Vec (Vec ℕ)) (are : map (λ p. p.items) wanted.items ≡ wanted_paths files) (found : ReadsAsHanded files) where
+    whole : wanted.items ≡ [] → wanted_paths files ≡ []
+    whole empty = sym are ∙ ap (map (λ p. p.items)) empty
+
+    some : wanted.items ≢ [] → wanted_paths files ≢ []
+    some any none-there = any (no-items wanted.items (are ∙ none-there))
+
+    wants : (after : Kept) (result : Result GraphText GraphFault) → Loaded result → (after ≡ record read { wanted = wanted }) × (wanted.items ≢ [])
+        → LoadsKept before after main joins Wanted
+    wants after result loads (is, any) = subst (λ k. LoadsKept before k main joins Wanted) (sym is)
+        (same result loads, nothing, record { output = run.output; errors = run.errors }, (result, none.graph, none.fault, are, (loads, found), some any))
+
+    of-graph : (after : Kept) (graph : GraphText) (status : Status) → Loaded (Ok graph) → KeepsGraph read after graph wanted status → LoadsKept before after main joins status
+    of-graph after graph Done loads (is, empty) = subst (λ k. LoadsKept before k main joins Done) (sym is)
+        (same (Ok graph) loads, nothing, record { output = run.output; errors = run.errors }, (graph, refl, none.fault, none.wanted, (loads, found), whole empty))
+    of-graph after graph Wanted loads keeps = wants after (Ok graph) loads keeps
+    of-graph after graph Nothing loads keeps = absurd keeps
+    of-graph after graph Short loads keeps = absurd keeps
+    of-graph after graph Fault loads keeps = absurd keeps
+    of-graph after graph NotLoaded loads keeps = absurd keeps
+    of-graph after graph BadNumber loads keeps = absurd keeps
+    of-graph after graph BadMark loads keeps = absurd keeps
+    of-graph after graph NotUtf8 loads keeps = absurd keeps
+    of-graph after graph NotOpen loads keeps = absurd keeps
+    of-graph after graph OutOfMemory loads keeps = absurd keeps
+
+    of-fault : (after : Kept) (fault : GraphFault) (status : Status) → Loaded (Err fault) → KeepsFault read after fault wanted status → LoadsKept before after main joins status
+    of-fault after fault Fault loads (is, empty, other) = subst (λ k. LoadsKept before k main joins Fault) (sym is)
+        (same (Err fault) loads, nothing, record { output = run.output; errors = run.errors }, (fault, none.graph, refl, none.wanted, other, (loads, found), whole empty))
+    of-fault after fault Wanted loads keeps = wants after (Err fault) loads keeps
+    of-fault after fault OutOfMemory loads is = lacks after (Err fault) loads is
+    of-fault after fault Done loads keeps = absurd keeps
+    of-fault after fault Nothing loads keeps = absurd keeps
+    of-fault after fault Short loads keeps = absurd keeps
+    of-fault after fault NotLoaded loads keeps = absurd keeps
+    of-fault after fault BadNumber loads keeps = absurd keeps
+    of-fault after fault BadMark loads keeps = absurd keeps
+    of-fault after fault NotUtf8 loads keeps = absurd keeps
+    of-fault after fault NotOpen loads keeps = absurd keeps
+
+    of-result : (after : Kept) (result : Result GraphText GraphFault) (status : Status) → Loaded result → KeepsResult read after result wanted status
+        → LoadsKept before after main joins status
+    of-result after (Ok graph) status loads keeps = of-graph after graph status loads keeps
+    of-result after (Err fault) status loads keeps = of-fault after fault status loads keeps
+
+  pub loads_kept : (after : Kept) (result : Result GraphText GraphFault) (status : Status) → LoadsGraph (handed_state middle.files) (handed_state files) main joins result
+      → FinishesLoad read after result status → LoadsKept before after main joins status
+  loads_kept after result status loads (inl (wanted, are, found, keeps)) =
+      of-result wanted are found after result status (subst (λ f. LoadsGraph (handed_state f) (handed_state files) main joins result) begun loads) keeps
+  loads_kept after result status loads (inr (is, left)) = subst (LoadsKept before after main joins) (sym is)
+      (lacks after result (subst (λ f. LoadsGraph (handed_state f) (handed_state files) main joins result) begun loads) left)
+
+pub not_loaded : (before after : Kept) (main : List ℕ) (joins : Bool) → after.files ≡ unread before.files → KeepsNothing after → ListsNothing after
+    → SameRun before after → is_utf8 main ≡ false → LoadsKept before after main joins NotUtf8
+not_loaded before after main joins files none nothing run text = ((λ path. ap (λ f. handed_in f path) files), nothing, run, (none, text))

@@ -51,11 +51,12 @@ from-new words before after ended none runs =
 module _ (words : List (List ℕ)) (begun : Handed) (mid after : Kept) (ended : run.Status) where
   pub ends-done : (before exit : ℤ) → Ran begun mid words ended → after.files ≡ mid.files → exit ≡ pos (exit_code ended) → FinishesRun mid after Done
       → LeavesRun begun after words before exit Done
-  ends-done before exit ran files is (none, (same, whole, wanted)) = (
+  ends-done before exit ran files is (none, found, (same, whole, wanted)) = (
     ended,
     is,
     record {
       runs = rw (files, same.output, same.errors) ran;
+      found = found;
       no_failures = (ap (λ m. m.failures) same.output ∙ none.output, ap (λ m. m.failures) same.errors ∙ none.errors);
     },
     whole,
@@ -65,15 +66,15 @@ module _ (words : List (List ℕ)) (begun : Handed) (mid after : Kept) (ended : 
   pub ends-other : (exit : ℤ) (status : Status) → Ran begun mid words ended → after.files ≡ mid.files → (status ≡ Done → ⊥) → FinishesRun mid after status
       → LeavesRun begun after words exit exit status
   ends-other exit Done ran files other finishes = absurd (other refl)
-  ends-other exit Wanted ran files other (none, (nothing, some, wanted)) = (
+  ends-other exit Wanted ran files other (none, found, (nothing, some, wanted)) = (
     ended,
     mid.output,
     mid.errors,
     refl,
-    record { runs = rw files ran; no_failures = (none.output, none.errors) },
+    record { runs = rw files ran; found = found; no_failures = (none.output, none.errors) },
     no-output after nothing,
-    some,
     wanted,
+    some,
   )
   ends-other exit OutOfMemory ran files other (nothing, wanted) = (refl, no-output after nothing, wanted)
   ends-other exit Nothing ran files other finishes = absurd finishes

@@ -1,11 +1,11 @@
 -- The paths that were read and not handed in.
-use Rattle.std.proofs.Common.{◌≡◌, ◌<◌, ◌+◌, ℕ, Bool, true, false, cond, Option, Some, None, is_some, List, [], ◌∷◌, ◌++◌, map, length, take, get_or, slice_get, option_and_then, position, bytes_eq, refl, sym, ap, ◌∙◌}
+use Rattle.std.proofs.Common.{◌≡◌, ◌<◌, ◌+◌, ℕ, Bool, true, false, cond, Option, Some, None, is_some, List, [], ◌∷◌, ◌++◌, map, length, take, get_or, slice_get, unwrap_or, option_and_then, position, bytes_eq, true≢false, refl, sym, ap, ◌∙◌}
 use Rattle.std.specs.Global.{Vec}
 use Rattle.std.specs.List.{AllByRecursion, cons_option, filter_map, flat_map}
 use Rattle.std.proofs.lemmas.List.{append-nil, flat_map_more, map_push, take_more}
 use Rattle.nj_scope.specs.Readings.{Reading}
 use Rattle.nj_c.specs.declared.handed_in.HandedReading.{HandedReading}
-use Rattle.nj_c.specs.Inside.HandedHeld.{reading_held, wanted_of}
+use Rattle.nj_c.specs.Inside.HandedHeld.{read_bytes, reading_held, wanted_of}
 use Rattle.nj_c.proofs.HandedLemmas.{is-known}
 
 abbrev pub bytes_of : Vec ℕ → List ℕ
@@ -45,3 +45,22 @@ wanted-held paths files (r ∷ rs) same are =
     ap (λ ws. wanted_of r ++ ws) (wanted-held paths files rs same are.1)
     ∙ ap (λ b. cond b [] (r.path.items ∷ []) ++ others) (ap is_some are.0 ∙ sym (is-known paths files r.path.items same))
     ∙ wanted-one r.path.items others (is_some (option_and_then (slice_get files) (position (bytes_eq r.path.items) paths)))
+
+-- each reading, as it is held, found what was handed in or an empty file
+found-one : (files : List (Option (List ℕ))) (at : Option ℕ) → is_some (option_and_then (slice_get files) at) ≡ is_some at
+    → read_bytes files at ≡ unwrap_or (option_and_then (slice_get files) at) (Some [])
+found-one files None known = refl
+found-one files (Some n) known = by_file (slice_get files n) known
+  where
+    by_file : (file : Option (Option (List ℕ))) → is_some file ≡ true → unwrap_or file None ≡ unwrap_or file (Some [])
+    by_file None there = absurd (true≢false (sym there))
+    by_file (Some f) there = refl
+
+pub found-held : (paths : List (List ℕ)) (files : List (Option (List ℕ))) (read : List HandedReading) → length files ≡ length paths
+    → AllByRecursion (λ r. r.number ≡ position (bytes_eq r.path.items) paths) read
+    → AllByRecursion (λ r. r.bytes ≡ unwrap_or (option_and_then (slice_get files) (position (bytes_eq r.path) paths)) (Some [])) (map (reading_held files) read)
+found-held paths files [] same are = tt
+found-held paths files (r ∷ rs) same are = (
+  ap (read_bytes files) are.0 ∙ found-one files (position (bytes_eq r.path.items) paths) (is-known paths files r.path.items same),
+  found-held paths files rs same are.1,
+)

@@ -62,14 +62,15 @@ kind_code OrderOnly = pos 2
 abbrev pub bool_code : Bool → ℤ
 bool_code is = if is then pos 1 else pos 0
 
--- a call does this, or an allocation failed
-abbrev pub OrNoMemory : ℤ → Type 0 → Type 0
-OrNoMemory result does = does ⊎ (result ≡ code_of OutOfMemory)
+-- a text was given out; or an allocation failed, and its length was not given out
+abbrev pub GivesTextOrNot : (text before after : List ℕ) → (needed_before needed_after : ℕ) → ℤ → Type 0
+GivesTextOrNot text before after needed_before needed_after result = GivesText text before after needed_after result
+    ⊎ ((result ≡ code_of OutOfMemory) × (needed_after ≡ needed_before))
 
 -- The value of a variable for an edge was given out. The graph is that of statements which were read.
-abbrev pub GivesValue : GraphText → (edge : ℕ) → (name before after : List ℕ) → (needed : ℕ) → ℤ → Type 0
-GivesValue g edge name before after needed result = (entries : List ReadStatement) → IsGraphOf g entries
-    → OrNoMemory result (GivesText (late_text_of entries edge name) before after needed result)
+abbrev pub GivesValue : GraphText → (edge : ℕ) → (name before after : List ℕ) → (needed_before needed_after : ℕ) → ℤ → Type 0
+GivesValue g edge name before after needed_before needed_after result = (entries : List ReadStatement) → IsGraphOf g entries
+    → GivesTextOrNot (late_text_of entries edge name) before after needed_before needed_after result
 
 -- the text of a list at an index was given out, or there is none
 abbrev pub GivesTextAt : List (List ℕ) → (index : ℕ) → (before after : List ℕ) → (needed : ℕ) → ℤ → Type 0

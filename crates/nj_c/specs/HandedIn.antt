@@ -1,6 +1,6 @@
 -- The files that C hands in, as a source of files.
-use Rattle.std.specs.Prelude.{◌≡◌, ℕ, List, [], Option, Some, None, option_and_then, is_some, position, slice_get, bytes_eq, if◌then◌else◌}
-use Rattle.std.specs.List.{filter_map}
+use Rattle.std.specs.Prelude.{◌≡◌, ℕ, List, [], Option, Some, None, option_and_then, is_some, unwrap_or, position, slice_get, bytes_eq, if◌then◌else◌}
+use Rattle.std.specs.List.{AllByRecursion, filter_map}
 use Rattle.nj_scope.specs.Readings.{Reading}
 use Rattle.nj_scope.specs.Sources.{SourceState}
 
@@ -21,6 +21,14 @@ SameFiles before after = (path : List ℕ) → handed_in after path ≡ handed_i
 -- the paths that were read and not handed in
 abbrev pub wanted_paths : Handed → List (List ℕ)
 wanted_paths h = filter_map (λ r. if is_some (handed_in h r.path) then None else Some r.path) h.read
+
+-- what the file at a path reads as: what was handed in, or an empty file if nothing was
+abbrev pub reads_as : Handed → List ℕ → Option (List ℕ)
+reads_as h path = unwrap_or (handed_in h path) (Some [])
+
+-- each reading found that
+abbrev pub ReadsAsHanded : Handed → Type 0
+ReadsAsHanded h = AllByRecursion (λ r. r.bytes ≡ reads_as h r.path) h.read
 
 -- it reports what was read, and never fails; it declares what was handed in
 abbrev pub handed_state : Handed → SourceState

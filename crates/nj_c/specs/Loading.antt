@@ -1,25 +1,27 @@
 -- What opening a session, handing in files and loading do.
-use Rattle.std.specs.Prelude.{◌≡◌, ◌≢◌, ◌⊎◌, ℕ, ℤ, Bool, true, false, List, [], map, Option, Some, None, Result, Ok, Err}
+use Rattle.std.specs.Prelude.{◌≡◌, ◌≢◌, ◌⊎◌, ℕ, ℤ, Bool, true, false, List, [], map, Option, Some, None, MatchOption, Result, Ok, Err}
 use Rattle.std.specs.Str.{is_utf8}
 use Rattle.nj_scope.specs.ReadingList.{ReadStatement}
 use Rattle.nj_scope.specs.Sources.{SourceState}
 use Rattle.nj_faults.specs.declared.fault.GraphFault.{GraphFault}
+use Rattle.nj_faults.specs.Faults.{no_memory}
 use Rattle.nj_graph.specs.Graph.{GraphText, IsGraphOf}
 use Rattle.nj_graph.specs.Loads.{LoadedText, Loads}
 use Rattle.nj_graph.specs.Joining.{Joins}
 use Rattle.nj_c.specs.declared.kept.Kept.{Kept}
 use Rattle.nj_c.specs.declared.status.Status.{Status}
-use Rattle.nj_c.specs.declared.status.Status.TheVariants.{Done, Fault, Wanted, NotUtf8, OutOfMemory}
+use Rattle.nj_c.specs.declared.status.Status.TheVariants.{Done, Fault, Wanted, NotUtf8, NotOpen, OutOfMemory}
 use Rattle.nj_c.specs.Statuses.{code_of}
-use Rattle.nj_c.specs.HandedIn.{Handed, handed_state, wanted_paths, SameFiles, SetsFile}
+use Rattle.nj_c.specs.HandedIn.{Handed, handed_state, wanted_paths, ReadsAsHanded, SameFiles, SetsFile}
 
 -- a status was returned, of which this is so
 abbrev pub Returns : ℤ → (Status → Type 0) → Type 0
 Returns result is = (status : Status) × (result ≡ code_of status) × is status
 
--- an open session does this, by its status
-abbrev pub Changes : (before : Kept) → (after : Option Kept) → ℤ → ((after : Kept) → Status → Type 0) → Type 0
-Changes before after result does = (kept : Kept) × (after ≡ Some kept) × Returns result (does kept)
+-- an open session stays open and does this, by its status; one that is not open stays so
+abbrev pub Changes : (before after : Option Kept) → ℤ → ((before after : Kept) → Status → Type 0) → Type 0
+Changes before after result does = MatchOption before ((after ≡ None) × (result ≡ code_of NotOpen))
+    (λ kept. (new : Kept) × (after ≡ Some new) × Returns result (does kept new))
 
 -- no edges are listed, and there is no mark after them
 abbrev pub ListsNothing : Kept → Type 0
@@ -81,24 +83,34 @@ LoadsGraph before after main joins (Err fault) =
 abbrev pub unread : Handed → Handed
 unread h = record { paths = h.paths; files = h.files; read = [] }
 
+-- the load of a main file from what was handed in
 abbrev pub LoadsFiles : (before after : Handed) → (main : List ℕ) → (joins : Bool) → Result GraphText GraphFault → Type 0
-LoadsFiles before after main joins result = LoadsGraph (handed_state (unread before)) (handed_state after) main joins result
+LoadsFiles before after main joins result =
+    LoadsGraph (handed_state (unread before)) (handed_state after) main joins result × ReadsAsHanded after
+
+-- the paths that were read and not handed in are listed
+abbrev pub ListsWanted : Kept → Type 0
+ListsWanted kept = map (λ p. p.items) kept.wanted.items ≡ wanted_paths kept.files
+
+-- neither a graph nor a fault is kept, and no path is wanted
+pub record KeepsNothing (kept : Kept) : Type 0 where
+  pub graph : kept.graph ≡ None
+  pub fault : kept.fault ≡ None
+  pub wanted : kept.wanted.items ≡ []
 
 -- What a load leaves, by its status. All files that it read were handed in, unless some are wanted.
 abbrev pub LoadsAs : (before after : Kept) → (main : List ℕ) → (joins : Bool) → Status → Type 0
 LoadsAs before after main joins Done =
-    (graph : GraphText) × (after.graph ≡ Some graph) × (after.fault ≡ None)
+    (graph : GraphText) × (after.graph ≡ Some graph) × (after.fault ≡ None) × (after.wanted.items ≡ [])
     × LoadsFiles before.files after.files main joins (Ok graph) × (wanted_paths after.files ≡ [])
 LoadsAs before after main joins Fault =
-    (fault : GraphFault) × (after.graph ≡ None) × (after.fault ≡ Some fault)
+    (fault : GraphFault) × (after.graph ≡ None) × (after.fault ≡ Some fault) × (after.wanted.items ≡ []) × (fault ≢ no_memory)
     × LoadsFiles before.files after.files main joins (Err fault) × (wanted_paths after.files ≡ [])
 LoadsAs before after main joins Wanted =
-    (result : Result GraphText GraphFault) × (after.graph ≡ None) × (after.fault ≡ None)
+    (result : Result GraphText GraphFault) × (after.graph ≡ None) × (after.fault ≡ None) × ListsWanted after
     × LoadsFiles before.files after.files main joins result × (wanted_paths after.files ≢ [])
-    × (map (λ p. p.items) after.wanted.items ≡ wanted_paths after.files)
-LoadsAs before after main joins NotUtf8 =
-    (after.graph ≡ None) × (after.fault ≡ None) × (after.wanted.items ≡ []) × (is_utf8 main ≡ false)
-LoadsAs before after main joins OutOfMemory = (after.graph ≡ None) × (after.fault ≡ None)
+LoadsAs before after main joins NotUtf8 = KeepsNothing after × (is_utf8 main ≡ false)
+LoadsAs before after main joins OutOfMemory = KeepsNothing after
 LoadsAs before after main joins other = ⊥
 
 -- What was handed in stays as it is in a load, and what was listed of an earlier graph is gone.

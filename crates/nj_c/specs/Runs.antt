@@ -1,5 +1,5 @@
 -- Runs of the program over the files that were handed in.
-use Rattle.std.specs.Prelude.{◌≡◌, ◌≢◌, ◌==◌, ℕ, ℤ, pos, Bool, false, List, [], ◌∷◌, ◌++◌, All, map, Some}
+use Rattle.std.specs.Prelude.{◌≡◌, ◌≢◌, ◌==◌, ℕ, ℤ, pos, Bool, false, List, [], ◌∷◌, ◌++◌, All, Some}
 use Rattle.std.specs.List.{flat_map, slice_split}
 use Rattle.std.specs.Str.{is_utf8}
 use Rattle.nj_tools.specs.Sinks.{SinkState}
@@ -11,8 +11,8 @@ use Rattle.nj_cli.specs.Status.{exit_code}
 use Rattle.nj_c.specs.declared.kept.Kept.{Kept}
 use Rattle.nj_c.specs.declared.status.Status.{Status}
 use Rattle.nj_c.specs.declared.status.Status.TheVariants.{Done, Wanted, NotUtf8, OutOfMemory}
-use Rattle.nj_c.specs.HandedIn.{Handed, handed_state, wanted_paths, SameFiles}
-use Rattle.nj_c.specs.Loading.{unread}
+use Rattle.nj_c.specs.HandedIn.{Handed, handed_state, wanted_paths, ReadsAsHanded, SameFiles}
+use Rattle.nj_c.specs.Loading.{unread, ListsWanted}
 
 -- ---- the words
 
@@ -48,6 +48,7 @@ untouched = record { taken = Some []; failures = 0; took_since_failure = false }
 pub record HasRun (begun after : Handed) (words : List (List ℕ)) (output errors : Memory) (ended : run.Status) : Type 0 where
   pub runs : RunsWords words (around (handed_state begun) untouched untouched)
       (around (handed_state after) (state_of output) (state_of errors)) ended
+  pub found : ReadsAsHanded after
   pub no_failures : (output.failures ≡ 0) × (errors.failures ≡ 0)
 
 -- So it never ends as a run whose output could not be written.
@@ -74,8 +75,8 @@ LeavesRun begun after words exit_before exit_after Done =
     × (wanted_paths after.files ≡ []) × (after.wanted.items ≡ [])
 LeavesRun begun after words exit_before exit_after Wanted =
     (ended : run.Status) × (output : Memory) × (errors : Memory) × (exit_after ≡ exit_before)
-    × HasRun begun after.files words output errors ended × KeepsNoOutput after
-    × (wanted_paths after.files ≢ []) × (map (λ p. p.items) after.wanted.items ≡ wanted_paths after.files)
+    × HasRun begun after.files words output errors ended × KeepsNoOutput after × ListsWanted after
+    × (wanted_paths after.files ≢ [])
 LeavesRun begun after words exit_before exit_after OutOfMemory =
     (exit_after ≡ exit_before) × KeepsNoOutput after × (after.wanted.items ≡ [])
 LeavesRun begun after words exit_before exit_after other = ⊥

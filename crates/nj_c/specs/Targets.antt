@@ -8,13 +8,14 @@ use Rattle.nj_c.specs.declared.status.Status.{Status}
 use Rattle.nj_c.specs.declared.status.Status.TheVariants.{Done, Fault, NotLoaded, OutOfMemory}
 
 -- The number of the file of this path was given out; or the fault is kept.
-abbrev pub PicksFile : (before after : Kept) → (word : List ℕ) → (file : ℕ) → Status → Type 0
-PicksFile before after word file Done =
+abbrev pub PicksFile : (before after : Kept) → (word : List ℕ) → (file_before file_after : ℕ) → Status → Type 0
+PicksFile before after word file_before file_after Done =
     (g : GraphText) × (before.graph ≡ Some g) × (after ≡ before)
-    × ((path : List ℕ) × (picked (edges_of g) word ≡ Ok path) × (slice_get (files_of g) file ≡ Some path))
-PicksFile before after word file Fault =
-    (g : GraphText) × (before.graph ≡ Some g)
+    × ((path : List ℕ) × (picked (edges_of g) word ≡ Ok path) × (slice_get (files_of g) file_after ≡ Some path))
+PicksFile before after word file_before file_after Fault =
+    (g : GraphText) × (before.graph ≡ Some g) × (file_after ≡ file_before)
     × ((fault : GraphFault) × (picked (edges_of g) word ≡ Err fault) × (after ≡ record before { fault = Some fault }))
-PicksFile before after word file NotLoaded = (before.graph ≡ None) × (after ≡ before)
-PicksFile before after word file OutOfMemory = after ≡ before
-PicksFile before after word file other = ⊥
+PicksFile before after word file_before file_after NotLoaded =
+    (before.graph ≡ None) × (after ≡ before) × (file_after ≡ file_before)
+PicksFile before after word file_before file_after OutOfMemory = (after ≡ before) × (file_after ≡ file_before)
+PicksFile before after word file_before file_after other = ⊥

@@ -3,7 +3,7 @@
 ghost use Rattle.std.specs.Prelude.{◌≡◌, MatchOption, option_and_then, option_copied};
 ghost use Rattle.nj_faults.specs.FaultLines.{bare_line};
 ghost use Rattle.nj_c.specs.declared.status.Status.TheVariants.{Done, Nothing};
-ghost use Rattle.nj_c.specs.Asking.{GivesItem, GivesText, IfPlace, KeptUnlessDone, OfFault, OfPlace, OrNoMemory};
+ghost use Rattle.nj_c.specs.Asking.{GivesItem, GivesText, GivesTextOrNot, IfPlace, KeptUnlessDone, OfFault, OfPlace};
 ghost use Rattle.nj_c.specs.FaultKinds.{kind_of};
 ghost use Rattle.nj_c.specs.Statuses.{code_of};
 
@@ -123,8 +123,8 @@ pub extern "C" fn nx_fault_line(
     needed: &mut usize,
 ) -> i32
     ensures kept { session.new.kept ≡ session.old.kept }
-    ensures line { OfFault session.old.kept result (λ fault. OrNoMemory result
-        (GivesText (bare_line fault) buffer.old buffer.new needed.new result)) }
+    ensures line { OfFault session.old.kept result (λ fault.
+        GivesTextOrNot (bare_line fault) buffer.old buffer.new needed.old needed.new result) }
     ensures buffer { KeptUnlessDone buffer.old buffer.new result }
 {
     let Some(seal) = session.take(alloc) else {
@@ -137,8 +137,8 @@ pub extern "C" fn nx_fault_line(
 
 fn fault_line(alloc: Global, seal: &Seal, buffer: &mut [u8], needed: &mut usize) -> Status
     ensures gives { MatchOption seal.now.kept.fault (code_of result ≡ code_of Nothing) (λ fault.
-        OrNoMemory (code_of result)
-        (GivesText (bare_line fault) buffer.old buffer.new needed.new (code_of result))) }
+        GivesTextOrNot (bare_line fault) buffer.old buffer.new needed.old needed.new
+        (code_of result)) }
     ensures buffer { KeptUnlessDone buffer.old buffer.new (code_of result) }
 {
     let Some(fault) = &seal.get().fault else {

@@ -3,7 +3,7 @@
 ghost use Rattle.std.specs.Prelude.{◌≡◌, ◌<◌, ◌++◌, [], ◌∷◌, false, is_some, length, map, set, position, bytes_eq, IfOk, IfSome, OnOk, OnErr};
 ghost use Rattle.std.specs.List.{flat_map, list_any};
 ghost use Rattle.nj_scope.specs.Sources.{outcome_bytes};
-ghost use Rattle.nj_c.specs.HandedIn.{wanted_paths, SetsFile};
+ghost use Rattle.nj_c.specs.HandedIn.{wanted_paths, ReadsAsHanded, SetsFile};
 ghost use Rattle.nj_c.specs.Inside.HandedHeld.{read_bytes, wanted_of};
 
 use nj_edges::{FileNo, Files};
@@ -114,7 +114,9 @@ impl HandedIn {
 
     /// The paths that were read and not handed in, in the order in which they were read.
     pub(crate) fn wanted(&self, alloc: Global) -> Result<Vec<Vec<u8>>, AllocError>
-        ensures { IfOk result (λ paths. map (λ p. p.items) paths.items ≡ wanted_paths self.now) }
+        ensures paths { IfOk result (λ paths.
+            map (λ p. p.items) paths.items ≡ wanted_paths self.now) }
+        ensures found { ReadsAsHanded self.now }
     {
         wanted_in(alloc, &self.read)
     }

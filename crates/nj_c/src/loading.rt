@@ -1,11 +1,12 @@
 //! Loads.
 
-ghost use Rattle.std.specs.Prelude.{◌≡◌, None, [], true, map, not, nat_eq};
+ghost use Rattle.std.specs.Prelude.{◌≡◌, true, map, not, nat_eq};
+ghost use Rattle.nj_c.specs.declared.status.Status.TheVariants.{Wanted};
 ghost use Rattle.nj_c.specs.Asking.{GivesTextAt, IfOpen, KeptUnlessDone};
 ghost use Rattle.nj_c.specs.HandedIn.{handed_state};
-ghost use Rattle.nj_c.specs.Loading.{unread, Changes, GivesGraph, ListsNothing, LoadsGraph, LoadsKept, SameRun};
+ghost use Rattle.nj_c.specs.Loading.{unread, Changes, GivesGraph, KeepsNothing, ListsNothing, LoadsGraph, LoadsKept, SameRun};
 ghost use Rattle.nj_c.specs.Statuses.{code_of};
-ghost use Rattle.nj_c.specs.Inside.Results.{FinishesLoad, KeepsFault, KeepsGraph, KeepsResult, SameLists};
+ghost use Rattle.nj_c.specs.Inside.Results.{FinishesLoad, KeepsFault, KeepsGraph, KeepsResult};
 
 use crate::buffers::copy_text;
 use crate::handed_in::HandedIn;
@@ -28,8 +29,8 @@ pub extern "C" fn nx_load(
     main: &[u8],
     joins_dyndeps: u32,
 ) -> i32
-    ensures { IfOpen session.old.kept result (λ kept. Changes kept session.new.kept
-        result (λ after. LoadsKept kept after main.now (not (nat_eq joins_dyndeps 0)))) }
+    ensures { Changes session.old.kept session.new.kept result (λ kept after.
+        LoadsKept kept after main.now (not (nat_eq joins_dyndeps 0))) }
 {
     let Some(seal) = session.take(alloc) else {
         return Status::NotOpen.code();
@@ -94,20 +95,12 @@ fn load_main(alloc: Global, kept: &mut Kept, main: &[u8], joins: bool) -> Status
     finish_load(alloc, kept, result)
 }
 
-// Keeps what a load gave, and the paths that it wanted.
-#[tactic(auto, using(crate::proofs::LoadLemmas::finishes_load))]
+// Keeps what a load gave, or the paths that it wanted.
 fn finish_load(alloc: Global, kept: &mut Kept, loaded: Result<Graph, GraphFault>) -> Status
-    requires graph { kept.old.graph ≡ None }
-    requires fault { kept.old.fault ≡ None }
-    ensures files { kept.new.files ≡ kept.old.files }
-    ensures lists { SameLists kept.old kept.new }
-    ensures finishes { FinishesLoad kept.new loaded result }
+    ensures { FinishesLoad kept.old kept.new loaded result }
 {
     match kept.files.wanted(alloc) {
-        Ok(wanted) => {
-            drop(mem::replace(&mut kept.wanted, wanted));
-            keep_result(kept, loaded)
-        }
+        Ok(wanted) => keep_result(kept, loaded, wanted),
         Err(_) => {
             drop(loaded);
             Status::OutOfMemory
@@ -118,9 +111,7 @@ fn finish_load(alloc: Global, kept: &mut Kept, loaded: Result<Graph, GraphFault>
 // Forgets what was loaded, read and listed.
 fn forget_load(kept: &mut Kept)
     ensures files { kept.new.files ≡ unread kept.old.files }
-    ensures wanted { kept.new.wanted.items ≡ [] }
-    ensures graph { kept.new.graph ≡ None }
-    ensures fault { kept.new.fault ≡ None }
+    ensures nothing { KeepsNothing kept.new }
     ensures lists { ListsNothing kept.new }
     ensures run { SameRun kept.old kept.new }
 {
@@ -174,51 +165,44 @@ fn joined_graph(alloc: Global, files: &mut HandedIn, loaded: Loaded) -> Result<G
     }
 }
 
-// Keeps what a load gave, unless files are wanted.
-fn keep_result(kept: &mut Kept, loaded: Result<Graph, GraphFault>) -> Status
-    requires graph { kept.old.graph ≡ None }
-    requires fault { kept.old.fault ≡ None }
-    ensures files { kept.new.files ≡ kept.old.files }
-    ensures wanted { kept.new.wanted ≡ kept.old.wanted }
-    ensures lists { SameLists kept.old kept.new }
-    ensures keeps { KeepsResult kept.new loaded result }
+// Keeps what a load gave, unless it wanted files.
+fn keep_result(kept: &mut Kept, loaded: Result<Graph, GraphFault>, wanted: Vec<Vec<u8>>) -> Status
+    ensures { KeepsResult kept.old kept.new loaded wanted result }
 {
     match loaded {
-        Ok(graph) => keep_graph(kept, graph),
-        Err(fault) => keep_fault(kept, fault),
+        Ok(graph) => keep_graph(kept, graph, wanted),
+        Err(fault) => keep_fault(kept, fault, wanted),
     }
 }
 
-fn keep_graph(kept: &mut Kept, graph: Graph) -> Status
-    requires { kept.old.graph ≡ None }
-    ensures files { kept.new.files ≡ kept.old.files }
-    ensures wanted { kept.new.wanted ≡ kept.old.wanted }
-    ensures lists { SameLists kept.old kept.new }
-    ensures fault { kept.new.fault ≡ kept.old.fault }
-    ensures keeps { KeepsGraph kept.new graph result }
+fn keep_graph(kept: &mut Kept, graph: Graph, wanted: Vec<Vec<u8>>) -> Status
+    ensures { KeepsGraph kept.old kept.new graph wanted result }
 {
-    if !kept.wanted.as_slice().is_empty() {
-        drop(graph);
-        return Status::Wanted;
+    if wanted.as_slice().is_empty() {
+        drop(kept.graph.replace(graph));
+        return Status::Done;
     }
-    drop(kept.graph.replace(graph));
-    Status::Done
+    drop(graph);
+    keep_wanted(kept, wanted)
 }
 
-fn keep_fault(kept: &mut Kept, fault: GraphFault) -> Status
-    requires { kept.old.fault ≡ None }
-    ensures files { kept.new.files ≡ kept.old.files }
-    ensures wanted { kept.new.wanted ≡ kept.old.wanted }
-    ensures lists { SameLists kept.old kept.new }
-    ensures graph { kept.new.graph ≡ kept.old.graph }
-    ensures keeps { KeepsFault kept.new fault result }
+fn keep_fault(kept: &mut Kept, fault: GraphFault, wanted: Vec<Vec<u8>>) -> Status
+    ensures { KeepsFault kept.old kept.new fault wanted result }
 {
     if matches!(fault.cause, Cause::OutOfMemory) {
         return Status::OutOfMemory;
     }
-    if !kept.wanted.as_slice().is_empty() {
-        return Status::Wanted;
+    if wanted.as_slice().is_empty() {
+        drop(kept.fault.replace(fault));
+        return Status::Fault;
     }
-    drop(kept.fault.replace(fault));
-    Status::Fault
+    keep_wanted(kept, wanted)
+}
+
+fn keep_wanted(kept: &mut Kept, wanted: Vec<Vec<u8>>) -> Status
+    ensures kept { kept.new ≡ record kept.old { wanted = wanted } }
+    ensures status { result ≡ Wanted }
+{
+    drop(mem::replace(&mut kept.wanted, wanted));
+    Status::Wanted
 }

@@ -3,7 +3,6 @@
 ghost use Rattle.std.specs.Prelude.{◌≡◌, None, Some, IfOk};
 ghost use Rattle.nj_scope.specs.Sources.{outcome_bytes};
 ghost use Rattle.nj_c.specs.declared.status.Status.TheVariants.{Done};
-ghost use Rattle.nj_c.specs.Asking.{IfOpen};
 ghost use Rattle.nj_c.specs.Loading.{Changes, IsEmpty, Opens, TakesFile, TakesPath};
 ghost use Rattle.nj_c.specs.Statuses.{code_of};
 
@@ -69,8 +68,8 @@ pub extern "C" fn nx_add_file(
     path: &[u8],
     bytes: &[u8],
 ) -> i32
-    ensures { IfOpen session.old.kept result (λ kept. Changes kept session.new.kept
-        result (λ after. TakesPath kept after path.now (Some bytes.now))) }
+    ensures { Changes session.old.kept session.new.kept result (λ kept after.
+        TakesPath kept after path.now (Some bytes.now)) }
 {
     let Some(seal) = session.take(alloc) else {
         return Status::NotOpen.code();
@@ -83,8 +82,8 @@ pub extern "C" fn nx_add_file(
 /// Records that no file is at a path.
 #[unsafe(no_mangle)]
 pub extern "C" fn nx_add_absent(alloc: Global, session: &mut Session, path: &[u8]) -> i32
-    ensures { IfOpen session.old.kept result (λ kept. Changes kept session.new.kept
-        result (λ after. TakesPath kept after path.now None)) }
+    ensures { Changes session.old.kept session.new.kept result (λ kept after.
+        TakesPath kept after path.now None) }
 {
     let Some(seal) = session.take(alloc) else {
         return Status::NotOpen.code();

@@ -23,8 +23,8 @@ use std::mem;
 /// chain of inputs, phony edges among them, each once, by number. `nx_found` gives them.
 #[unsafe(no_mangle)]
 pub extern "C" fn nx_affected(alloc: Global, session: &mut Session, files: &[usize]) -> i32
-    ensures { IfOpen session.old.kept result (λ kept. Changes kept session.new.kept result
-        (λ after. ListsReached kept after files.now)) }
+    ensures { Changes session.old.kept session.new.kept result (λ kept after.
+        ListsReached kept after files.now) }
 {
     let Some(seal) = session.take(alloc) else {
         return Status::NotOpen.code();
@@ -45,8 +45,8 @@ pub extern "C" fn nx_page(
     mark: &[u8],
     take: usize,
 ) -> i32
-    ensures { IfOpen session.old.kept result (λ kept. Changes kept session.new.kept result
-        (λ after. ListsPage kept after targets.now mark.now take)) }
+    ensures { Changes session.old.kept session.new.kept result (λ kept after.
+        ListsPage kept after targets.now mark.now take) }
 {
     let Some(seal) = session.take(alloc) else {
         return Status::NotOpen.code();

@@ -25,8 +25,8 @@ use std::mem;
 /// `nx_wanted` gives their paths, and nothing is kept of the outputs.
 #[unsafe(no_mangle)]
 pub extern "C" fn nx_run(alloc: Global, session: &mut Session, words: &[u8], exit: &mut i32) -> i32
-    ensures { IfOpen session.old.kept result (λ kept. Changes kept session.new.kept result
-        (λ after. RunsKept kept after words.now exit.old exit.new)) }
+    ensures { Changes session.old.kept session.new.kept result (λ kept after.
+        RunsKept kept after words.now exit.old exit.new) }
 {
     let Some(seal) = session.take(alloc) else {
         return Status::NotOpen.code();

@@ -1,7 +1,6 @@
 //! Targets, as words of a command line name them.
 
 ghost use Rattle.std.specs.Prelude.{◌≡◌};
-ghost use Rattle.nj_c.specs.Asking.{IfOpen};
 ghost use Rattle.nj_c.specs.Loading.{Changes};
 ghost use Rattle.nj_c.specs.Targets.{PicksFile};
 ghost use Rattle.nj_c.specs.Inside.Results.{KeepsTargetFault};
@@ -22,8 +21,8 @@ pub extern "C" fn nx_pick_target(
     word: &[u8],
     file: &mut usize,
 ) -> i32
-    ensures { IfOpen session.old.kept result (λ kept. Changes kept session.new.kept result
-        (λ after. PicksFile kept after word.now file.new)) }
+    ensures { Changes session.old.kept session.new.kept result (λ kept after.
+        PicksFile kept after word.now file.old file.new) }
 {
     let Some(seal) = session.take(alloc) else {
         return Status::NotOpen.code();
@@ -34,7 +33,7 @@ pub extern "C" fn nx_pick_target(
 }
 
 fn pick_file(alloc: Global, seal: Seal, word: &[u8], file: &mut usize) -> (Seal, Status)
-    ensures { PicksFile seal.kept result.0.kept word.now file.new result.1 }
+    ensures { PicksFile seal.kept result.0.kept word.now file.old file.new result.1 }
 {
     let Some(graph) = &seal.get().graph else {
         return (seal, Status::NotLoaded);

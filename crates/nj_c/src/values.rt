@@ -28,7 +28,7 @@ pub extern "C" fn nx_variable(
 ) -> i32
     ensures kept { session.new.kept ≡ session.old.kept }
     ensures value { OfEdge session.old.kept edge result (λ g.
-        GivesValue g edge name.now buffer.old buffer.new needed.new result) }
+        GivesValue g edge name.now buffer.old buffer.new needed.old needed.new result) }
     ensures buffer { KeptUnlessDone buffer.old buffer.new result }
 {
     let Some(seal) = session.take(alloc) else {
@@ -50,7 +50,7 @@ pub extern "C" fn nx_command(
 ) -> i32
     ensures kept { session.new.kept ≡ session.old.kept }
     ensures value { OfEdge session.old.kept edge result (λ g.
-        GivesValue g edge (codes "command") buffer.old buffer.new needed.new result) }
+        GivesValue g edge (codes "command") buffer.old buffer.new needed.old needed.new result) }
     ensures buffer { KeptUnlessDone buffer.old buffer.new result }
 {
     nx_variable(alloc, session, edge, b"command", buffer, needed)
@@ -66,7 +66,8 @@ fn variable(
 ) -> Status
     ensures gives { IfLoaded seal.now.kept.graph (code_of result) (λ g.
         IfNumber edge (length (edges_of g)) (code_of result)
-        (GivesValue g edge name.now buffer.old buffer.new needed.new (code_of result))) }
+        (GivesValue g edge name.now buffer.old buffer.new needed.old needed.new
+        (code_of result))) }
     ensures buffer { KeptUnlessDone buffer.old buffer.new (code_of result) }
 {
     let Some(graph) = &seal.get().graph else {
@@ -87,8 +88,8 @@ fn value(
     needed: &mut usize,
 ) -> Status
     requires { edge.0 < length (edges_of graph.now) }
-    ensures gives { GivesValue graph.now edge.0 name.now buffer.old buffer.new needed.new
-        (code_of result) }
+    ensures gives { GivesValue graph.now edge.0 name.now buffer.old buffer.new
+        needed.old needed.new (code_of result) }
     ensures buffer { KeptUnlessDone buffer.old buffer.new (code_of result) }
 {
     match graph.variable(alloc, edge, name) {

@@ -1,56 +1,41 @@
 -- What is kept of the result of a load.
-use Rattle.std.specs.Prelude.{◌≡◌, ◌≢◌, [], map, Some, None, Result, Ok, Err}
+use Rattle.std.specs.Prelude.{◌≡◌, ◌≢◌, ◌⊎◌, ℕ, [], map, Some, Result, Ok, Err}
+use Rattle.std.specs.Global.{Vec}
 use Rattle.nj_faults.specs.declared.fault.GraphFault.{GraphFault}
 use Rattle.nj_faults.specs.Faults.{no_memory}
 use Rattle.nj_graph.specs.Graph.{GraphText}
-use Rattle.nj_c.specs.HandedIn.{wanted_paths}
-use Rattle.nj_c.specs.Loading.{SameRun}
+use Rattle.nj_c.specs.HandedIn.{wanted_paths, ReadsAsHanded}
 use Rattle.nj_c.specs.declared.kept.Kept.{Kept}
 use Rattle.nj_c.specs.declared.status.Status.{Status}
 use Rattle.nj_c.specs.declared.status.Status.TheVariants.{Done, Fault, Wanted, OutOfMemory}
 
-abbrev pub KeepsNone : Kept → Type 0
-KeepsNone kept = (kept.graph ≡ None) × (kept.fault ≡ None)
-
-abbrev pub KeepsResult : Kept → Result GraphText GraphFault → Status → Type 0
-KeepsResult kept result Done =
-    (graph : GraphText) × (result ≡ Ok graph) × (kept.graph ≡ Some graph) × (kept.fault ≡ None) × (kept.wanted.items ≡ [])
-KeepsResult kept result Fault =
-    (fault : GraphFault) × (result ≡ Err fault) × (kept.graph ≡ None) × (kept.fault ≡ Some fault) × (kept.wanted.items ≡ [])
-KeepsResult kept result Wanted = KeepsNone kept × (kept.wanted.items ≢ [])
-KeepsResult kept result OutOfMemory = KeepsNone kept
-KeepsResult kept result other = ⊥
+-- the paths that a load wanted are kept, which are some
+abbrev pub KeepsPaths : (before after : Kept) → (wanted : Vec (Vec ℕ)) → Type 0
+KeepsPaths before after wanted = (after ≡ record before { wanted = wanted }) × (wanted.items ≢ [])
 
 -- a graph is kept, or files are wanted
-abbrev pub KeepsGraph : Kept → GraphText → Status → Type 0
-KeepsGraph kept graph Done = (kept.graph ≡ Some graph) × (kept.wanted.items ≡ [])
-KeepsGraph kept graph Wanted = (kept.graph ≡ None) × (kept.wanted.items ≢ [])
-KeepsGraph kept graph other = ⊥
+abbrev pub KeepsGraph : (before after : Kept) → GraphText → (wanted : Vec (Vec ℕ)) → Status → Type 0
+KeepsGraph before after graph wanted Done = (after ≡ record before { graph = Some graph }) × (wanted.items ≡ [])
+KeepsGraph before after graph wanted Wanted = KeepsPaths before after wanted
+KeepsGraph before after graph wanted other = ⊥
 
--- a fault is kept, unless files are wanted or an allocation failed
-abbrev pub KeepsFault : Kept → GraphFault → Status → Type 0
-KeepsFault kept fault Fault = (kept.fault ≡ Some fault) × (kept.wanted.items ≡ [])
-KeepsFault kept fault Wanted = (kept.fault ≡ None) × (kept.wanted.items ≢ [])
-KeepsFault kept fault OutOfMemory = kept.fault ≡ None
-KeepsFault kept fault other = ⊥
+-- a fault is kept, or files are wanted, or an allocation failed
+abbrev pub KeepsFault : (before after : Kept) → GraphFault → (wanted : Vec (Vec ℕ)) → Status → Type 0
+KeepsFault before after fault wanted Fault = (after ≡ record before { fault = Some fault }) × (wanted.items ≡ []) × (fault ≢ no_memory)
+KeepsFault before after fault wanted Wanted = KeepsPaths before after wanted
+KeepsFault before after fault wanted OutOfMemory = after ≡ before
+KeepsFault before after fault wanted other = ⊥
 
--- the same edges are listed, with the same mark after them, and what the last run wrote is kept
-pub record SameLists (before after : Kept) : Type 0 where
-  pub found : after.found ≡ before.found
-  pub mark : after.mark ≡ before.mark
-  pub run : SameRun before after
+abbrev pub KeepsResult : (before after : Kept) → Result GraphText GraphFault → (wanted : Vec (Vec ℕ)) → Status → Type 0
+KeepsResult before after (Ok graph) wanted status = KeepsGraph before after graph wanted status
+KeepsResult before after (Err fault) wanted status = KeepsFault before after fault wanted status
 
--- the paths that are wanted are kept
-abbrev pub KeepsWanted : Kept → Type 0
-KeepsWanted kept = map (λ p. p.items) kept.wanted.items ≡ wanted_paths kept.files
-
--- what is kept of a load, and of the paths that it wanted
-abbrev pub FinishesLoad : Kept → Result GraphText GraphFault → Status → Type 0
-FinishesLoad kept result OutOfMemory = KeepsNone kept
-FinishesLoad kept result Done = KeepsResult kept result Done × KeepsWanted kept
-FinishesLoad kept result Fault = KeepsResult kept result Fault × KeepsWanted kept
-FinishesLoad kept result Wanted = KeepsResult kept result Wanted × KeepsWanted kept
-FinishesLoad kept result other = ⊥
+-- the paths that are wanted of what was read, and what is kept of that and of the result; or an allocation failed
+abbrev pub FinishesLoad : (before after : Kept) → Result GraphText GraphFault → Status → Type 0
+FinishesLoad before after result status =
+    ((wanted : Vec (Vec ℕ)) × (map (λ p. p.items) wanted.items ≡ wanted_paths before.files) × ReadsAsHanded before.files
+    × KeepsResult before after result wanted status)
+    ⊎ ((status ≡ OutOfMemory) × (after ≡ before))
 
 -- a fault of a target is kept, unless an allocation failed
 abbrev pub KeepsTargetFault : (before after : Kept) → GraphFault → Status → Type 0

@@ -7,10 +7,9 @@ use Rattle.nj_cli.specs.Runs.{RunsWords, around}
 use Rattle.nj_c.specs.declared.kept.Kept.{Kept}
 use Rattle.nj_c.specs.declared.status.Status.{Status}
 use Rattle.nj_c.specs.declared.status.Status.TheVariants.{Done, Wanted, NotUtf8, OutOfMemory}
-use Rattle.nj_c.specs.HandedIn.{Handed, handed_state, wanted_paths}
-use Rattle.nj_c.specs.Loading.{SameRun}
+use Rattle.nj_c.specs.HandedIn.{Handed, handed_state, wanted_paths, ReadsAsHanded}
+use Rattle.nj_c.specs.Loading.{ListsWanted, SameRun}
 use Rattle.nj_c.specs.Runs.{untouched}
-use Rattle.nj_c.specs.Inside.Results.{KeepsWanted}
 
 -- why a text gives no words
 abbrev pub WordsRefused : (text : List ℕ) → Status → Type 0
@@ -40,12 +39,12 @@ pub record NoFailures (kept : Kept) : Type 0 where
 -- what was written is kept, unless files are wanted
 abbrev pub KeepsRun : (before after : Kept) → Status → Type 0
 KeepsRun before after Done = SameRun before after × (wanted_paths after.files ≡ []) × (after.wanted.items ≡ [])
-KeepsRun before after Wanted = NoRun after × (wanted_paths after.files ≢ []) × KeepsWanted after
+KeepsRun before after Wanted = NoRun after × (wanted_paths after.files ≢ []) × ListsWanted after
 KeepsRun before after other = ⊥
 
 -- or an allocation failed
 abbrev pub FinishesRun : (before after : Kept) → Status → Type 0
-FinishesRun before after Done = NoFailures before × KeepsRun before after Done
-FinishesRun before after Wanted = NoFailures before × KeepsRun before after Wanted
+FinishesRun before after Done = NoFailures before × ReadsAsHanded after.files × KeepsRun before after Done
+FinishesRun before after Wanted = NoFailures before × ReadsAsHanded after.files × KeepsRun before after Wanted
 FinishesRun before after OutOfMemory = NoRun after × (after.wanted.items ≡ [])
 FinishesRun before after other = ⊥
