@@ -1,7 +1,8 @@
 """Watches what runs ask of the system.
 
 Where there is `strace`, runs of every tool are traced, which no contract can state: a run opens
-files for reading alone, writes to its two outputs alone, and starts no program.
+files for reading alone, writes to its two outputs alone, and starts no program. Other runs get 128
+KB of stack while 32 files are open, and have to end as they do with more.
 """
 
 import itertools
@@ -10,8 +11,8 @@ import subprocess
 import tempfile
 
 from lib.checks import Skipped, check
-from lib.programs import Program, shown
-from lib.projects import PROJECTS, RUNS, runs_of
+from lib.programs import DONE, STOPPED, Program, shown
+from lib.projects import MAIN, PROJECTS, RUNS, Project, runs_of
 
 # ---- system calls
 
@@ -72,3 +73,68 @@ def runs_change_nothing(program, folder):
             yield f"{case}: there is no trace"
         for line in itertools.islice(changes(trace), 1):
             yield f"{case}: {line[:200]}"
+
+
+# ---- the stack
+
+KILOBYTES = 128
+# In the last file each variable of a rule refers to the next one.
+KEYS = """command description depfile deps msvc_deps_prefix rspfile rspfile_content restat
+    generator""".split()
+DEEPEST = "rule deep\n" + "".join(
+    f"  {key} = x ${below}\n" for key, below in zip(KEYS, [*KEYS[1:], "in"])
+)
+DEEPEST += """\
+pool p
+  depth = 2
+build a | a2: deep b || dd |@ v
+  dyndep = dd
+  pool = p
+build b: deep c d
+build v: deep a
+build all: phony a v
+"""
+DD = "ninja_dyndep_version = 1\nbuild a | a3: dyndep | d\n"
+MOST_OPEN = 32
+NESTED_RUNS = [
+    "--stdin -t commands",
+    "-t commands",
+    "-t commands --validations",
+    "-t commands --take 1",
+    "-t commands --resume 0",
+    "-t commands -s a b",
+    "-t inputs",
+    "-t inputs --dependency-order --no-shell-escape --print0 --validations",
+    "-t targets",
+    "-t targets depth 0",
+    "-t targets all",
+    "-t targets rule deep",
+    "-t targets rule",
+    "-t query a b c d v",
+    "-t rules -d",
+    "-t compdb -x --directory /w",
+]
+
+
+def nested(count):
+    """Files of which each includes the next one, or has it as a file of its own scope."""
+    files = {MAIN: "include f1\n", "dd": DD}
+    for number in range(1, count - 1):
+        kind = "subninja" if number % 2 else "include"
+        files[f"f{number}"] = f"x = 1\n{kind} f{number + 1}\n"
+    files[f"f{count - 1}"] = DEEPEST
+    return Project(files, {})
+
+
+@check
+def stack_of_32_files(program, folder):
+    """Every tool does with little stack what it does with much."""
+    project = nested(MOST_OPEN)
+    project.write_to(folder)
+    for line in [*NESTED_RUNS, *(f"--dyndep {line}" for line in NESTED_RUNS)]:
+        words = line.split()
+        text = project.input_for(words)
+        usual = program.run(words, folder, text)
+        ran = program.run_by_shell(words, folder, text, before=f"ulimit -s {KILOBYTES};")
+        if ran != usual or ran.status not in (DONE, STOPPED):
+            yield f"{line}, in {KILOBYTES} KB of stack: it ends with {shown(ran)}"
