@@ -62,8 +62,8 @@ abbrev pub dyndep_not_input : (file : List ℕ) → Spot → (inputs : List (Lis
 dyndep_not_input file spot inputs dyndep =
     then_some (not (is_empty dyndep || is_among inputs (clean_path_of dyndep))) (fault_at file spot (DyndepNotInput (clean_path_of dyndep)))
 
--- The first of these faults. The edge is the one that the statement makes, with its block and without the inputs that it loses. A name of the file has the
--- value that it has before the statement.
+-- The first of these faults. The edge is the one that the statement makes, with its block and without the inputs that it loses.
+-- A name of the file has the value that it has before the statement.
 abbrev pub late_fault : (before : List ReadStatement) → EdgeText → Option GraphFault
 late_fault before edge =
     let n = names_of_edge before edge in

@@ -1,5 +1,5 @@
-//! Laws of edges and of what dyndep files add to them. A law is a theorem, stated as a function with an empty
-//! body.
+//! Laws of edges and of what dyndep files add to them. A law is a theorem, stated as a function with
+//! an empty body.
 
 ghost use Rattle.nj_scope.specs.Laws.{IsInReadingOrder};
 ghost use Rattle.nj_statements.specs.EdgeList.{edge_given, edges_read, assigned_given, assigned_read};
