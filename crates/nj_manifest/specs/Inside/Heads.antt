@@ -58,8 +58,8 @@ head_next s = do
 unfoldable pub whole_rule : Spot → List LineText → Result (List LineText) Fault
 whole_rule spot lines =
     if beq (gives (codes "rspfile") lines) (gives (codes "rspfile_content") lines)
-        then (if gives (codes "command") lines then Ok lines else Err (MissingCommand spot))
-        else Err (RspPair spot)
+    then (if gives (codes "command") lines then Ok lines else Err (MissingCommand spot))
+    else Err (RspPair spot)
 
 -- whether a line has this key
 abbrev pub names : (key : List ℕ) → List LineText → Bool

@@ -50,4 +50,4 @@ returns-clause-files c entries graph =
     let all = take_all c.edges.number (edges_read entries) (omega (arith, count, (rw c.deref-2.ensures at c.edge_count-number-end.ensures.count))) in
     subst (λ fs. AreOf (files_of g) fs (outputs_of_rule entries rule)) (sym c.into_files.ensures)
     (subst (λ es. AreOf (files_of g) c.edges.outputs.files (flat_map (λ e. outputs_of e.paths) (filter (λ e. bytes_eq (rule_name_of entries e) rule) es)))
-        all (c.edges.invariant.are entries graph))
+    all (c.edges.invariant.are entries graph))
