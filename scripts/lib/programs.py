@@ -53,7 +53,7 @@ class Program:
     """A built program, or one that is on the PATH."""
 
     def __init__(self, path):
-        self.path = shutil.which(path) or os.path.abspath(path)
+        self.path = os.path.abspath(shutil.which(path) or path)
 
     def run(
         self, words, folder, text=b"", seconds=SECONDS, output=None, error=None, **environment
