@@ -43,7 +43,7 @@ impl HashKeys {
     /// factor, and the halves of the product of both sums, joined by xor, are the next state.
     /// Whoever chooses names knows neither the state nor the factor, so only by a guess can a
     /// number make the product 0, which would drop the other one. As in [`NameHasher`], there are
-    /// names of which two collide for one drawn number of 350 million; nothing is known that makes
+    /// names of which two collide for one drawn number of 300 million; nothing is known that makes
     /// a flood of them. How many bytes there are is taken in last, in a step of its own: so `a` and
     /// `\0a` differ, which are the same number, and bytes that make up for more or fewer of them
     /// can only be guessed.

@@ -23,7 +23,7 @@ const GOLDEN_RATIO: u64 = 0x9e37_79b9_7f4a_7c15;
 /// known to collide whatever was drawn.
 ///
 /// Two blocks can collide more often than once in 2^64 numbers. The worst pairs that are known
-/// differ by a third of 2^64, and collide for about one number of 350 million. So names may collide
+/// differ by a third of 2^64, and collide for about one number of 300 million. So names may collide
 /// in pairs, but nothing is known that makes a flood of them. If blocks were joined with the state
 /// by xor, a block and its complement would collide for one number of 100 million.
 ///
