@@ -6,6 +6,9 @@
                values mostly repeat the edge before
     folders    what GN writes: build.ninja, and for each of N folders (1,500) a file, read by
                `subninja`, with its own bindings, rules and some 58 edges
+    chromium   what GN writes for Chromium: build.ninja, a file of the toolchain's rules, and for each
+               of N targets (5,000) a file, read by `subninja` from that one, with its own bindings,
+               two to four rules of actions and some 62 edges
 
 The same shape and N give the same bytes.
 """
@@ -188,7 +191,110 @@ def write_folders(folder, count):
             file.writelines(folder_lines(number))
 
 
-PROJECTS = {"llvm": (write_llvm, 44_570), "folders": (write_folders, 1_500)}
+TOOLCHAIN = """\
+rule cxx
+  command = ../../third_party/llvm-build/bin/clang++ -MD -MF ${out}.d ${defines} ${include_dirs} ${cflags} ${cflags_cc} -c ${in} -o ${out}
+  description = CXX ${out}
+  depfile = ${out}.d
+  deps = gcc
+
+rule alink
+  command = "python3" ../../build/toolchain/ar.py ${out} @${out}.rsp
+  description = AR ${out}
+  rspfile = ${out}.rsp
+  rspfile_content = ${in}
+
+rule stamp
+  command = touch ${out}
+  description = STAMP ${out}
+
+rule copy
+  command = ln -f ${in} ${out} 2>/dev/null || (rm -rf ${out} && cp -af ${in} ${out})
+  description = COPY ${in} ${out}
+
+"""
+
+AREAS_OF_TARGETS = ["base", "cc/paint", "components/viz/service", "content/browser", "media/gpu", "net/third_party/quiche", "ui/views", "v8/src"]
+# A target has at least this many compilations, and fewer than this many more.
+FEWEST_COMPILED, MORE_COMPILED = 30, 32
+
+
+def target_name(number):
+    return f"{AREAS_OF_TARGETS[number % 8].rpartition('/')[2]}_target_{number:04}"
+
+
+def target_folder(number):
+    return f"{AREAS_OF_TARGETS[number % 8]}/part_{number // 8:03}"
+
+
+def target_stamp(number):
+    return f"obj/{target_folder(number)}/{target_name(number)}.stamp"
+
+
+def action_lines(number, action):
+    """A rule that one edge uses, and this edge."""
+    name = f"__{target_name(number)}_action_{action}___build_toolchain_linux_clang_x64__rule"
+    folder = target_folder(number)
+    made = f"gen/{folder}/{target_name(number)}/generated_{action}"
+    yield f"""\
+rule {name}
+  command = python3 ../../{folder}/tools/generate_{action}.py --target {number} --output-dir gen/{folder} --input ../../{folder}/data_{action}.json
+  description = ACTION //{folder}:{target_name(number)}_action_{action}(//build/toolchain/linux:clang_x64)
+  restat = 1
+  pool = build_toolchain_action_pool
+
+"""
+    needed = target_stamp(number - 1) if number else "build.ninja.stamp"
+    yield f"build {made}.cc {made}.h: {name} | ../../{folder}/tools/generate_{action}.py ../../{folder}/data_{action}.json || {needed}\n"
+
+
+def target_lines(number):
+    folder, name = target_folder(number), target_name(number)
+    yield f"""\
+defines = -DUSE_UDEV -DUSE_AURA=1 -DUSE_GLIB=1 -D_FILE_OFFSET_BITS=64 -D_LARGEFILE_SOURCE -DNDEBUG -DTARGET={number}
+include_dirs = -I../.. -Igen -I../../third_party/perfetto/include -Igen/third_party/perfetto -I../../{folder}
+cflags = -fno-delete-null-pointer-checks -fno-ident -fno-strict-aliasing -fstack-protector -funwind-tables -fPIC -pthread -O2
+cflags_cc = -std=c++20 -Wno-trigraphs -fno-exceptions -fno-rtti -nostdinc++ -fvisibility-inlines-hidden
+label_name = {name}
+target_out_dir = obj/{folder}
+target_output_name = lib{name}
+
+"""
+    actions = range(2 + number % 3)
+    for action in actions:
+        yield from action_lines(number, action)
+    generated = " ".join(f"gen/{folder}/{name}/generated_{action}.h" for action in actions)
+    inputs = f"obj/{folder}/{name}.inputdeps.stamp"
+    yield f"build {inputs}: stamp {generated}\n"
+    for copied in range(8 + number % 7):
+        yield f"build gen/{folder}/include/header_{copied:02}.h: copy ../../{folder}/include/header_{copied:02}.h\n"
+    objects = []
+    for unit in range(FEWEST_COMPILED + number * 7 % MORE_COMPILED):
+        objects.append(f"obj/{folder}/{name}/unit_{unit:02}.o")
+        yield f"build {objects[-1]}: cxx ../../{folder}/unit_{unit:02}.cc || {inputs}\n"
+        yield f"  source_file_part = unit_{unit:02}.cc\n  source_name_part = unit_{unit:02}\n"
+    needed = " ".join(target_stamp(other) for other in range(max(number - 4, 0), number))
+    yield f"build obj/{folder}/lib{name}.a: alink {' '.join(objects)} || {inputs} {needed}\n"
+    yield f"build {target_stamp(number)}: stamp obj/{folder}/lib{name}.a || {needed}\n"
+
+
+def write_chromium(folder, count):
+    main = "ninja_required_version = 1.7.2\n\npool build_toolchain_action_pool\n  depth = 8\n\n"
+    main += "subninja toolchain.ninja\n\nrule gn\n  command = ../../buildtools/linux64/gn --root=../.. -q gen .\n"
+    main += "  description = Regenerating ninja files\n\nbuild build.ninja.stamp: gn\n  generator = 1\n  depfile = build.ninja.d\n"
+    files = {"build.ninja": [main], "toolchain.ninja": [TOOLCHAIN]}
+    paths = [f"obj/{target_folder(number)}/{target_name(number)}.ninja" for number in range(count)]
+    files["toolchain.ninja"] += [f"subninja {path}\n" for path in paths]
+    for number, path in enumerate(paths):
+        files[path] = target_lines(number)
+    for path, lines in files.items():
+        place = os.path.join(folder, path)
+        os.makedirs(os.path.dirname(place), exist_ok=True)
+        with open(place, "w") as file:
+            file.writelines(lines)
+
+
+PROJECTS = {"llvm": (write_llvm, 44_570), "folders": (write_folders, 1_500), "chromium": (write_chromium, 5_000)}
 
 
 def write_project(shape, folder, count=None):

@@ -43,6 +43,7 @@ SHAPES = {
     "dense_100000": manifest_of("dense", 100_000),
     "folders_1500": project_of("folders", 1_500),
     "folders_9000": project_of("folders", 9_000),
+    "chromium": project_of("chromium"),
     "cmake_10000": manifest_of("cmake", 10_000),
 }
 
