@@ -28,6 +28,7 @@ EDGES = 200_000
 # A mark in a chain has a number for each edge that is left, and a word of the command line has at
 # most 128 KiB.
 TAKEN = 150_000
+LEVELS = 1000
 PAGE = 7
 MOST_BYTES = 1 << 30
 
@@ -311,3 +312,14 @@ def long_chain(program, folder):
     yield from expect("chain in two pages", pages, (STOPPED, wanted, b""))
     closed = run_to_closing_reader(program, folder)
     yield from expect("reader that closes the pipe", closed, (OUTPUT_FAILED, wanted[:1], b""))
+
+
+@check
+def deep_tree(program, folder):
+    """A tree of so many levels that its indents take a megabyte."""
+    edges = "".join(f"build e{i}: mk e{i - 1}\n" for i in range(1, LEVELS))
+    manifest = f"rule mk\n  command = mk $out\nbuild e0: mk\n{edges}"
+    write_files(folder, {"build.ninja": manifest.encode()})
+    tree = "".join(f"{'  ' * level}e{LEVELS - 1 - level}: mk\n" for level in range(LEVELS))
+    ran = program.run(["-t", "targets", "depth", "0"], folder)
+    yield from expect("deep tree", ran, (DONE, tree.encode(), b""))
