@@ -1,8 +1,8 @@
 # The toolchain is the command `rt`; `rt version` names it.
 PROGRAM := crates/ninja_explain
 BUILT := $(PROGRAM)/out/ninja_explain
-# The same program with sinks in memory, to which `make sweep` refuses memory.
-SINKS := crates/memory_sinks
+# It runs rows over sinks in memory, to which `make sweep` refuses memory.
+ROWS := crates/nj_run_rows
 # Four programs as clients write them.
 AFFECTED := crates/affected_tests/out/affected_tests
 DRAW := crates/draw_graph/out/draw_graph
@@ -107,7 +107,7 @@ c-test: $(BUILT) $(AFFECTED) $(LIBRARY).so
 
 # Makes everything that can fail do so once, changes each byte of small projects, runs every tool on
 # 100,000 edges, and runs the program on 100,000 hostile manifests.
-sweep: $(BUILT) $(SINKS)/out/memory_sinks
+sweep: $(BUILT) $(ROWS)/out/nj_run_rows
 	@python3 scripts/sweep --jobs $(JOBS) $(CHECKS)
 
 # `make` and `make gate` build it.
@@ -115,8 +115,8 @@ $(BUILT): $(wildcard crates/*/src/*.rt)
 	$(MAKE) all
 
 # `make gate` builds it.
-$(SINKS)/out/memory_sinks: $(wildcard crates/*/src/*.rt)
-	cd $(SINKS) && rt run > /dev/null
+$(ROWS)/out/nj_run_rows: $(wildcard crates/*/src/*.rt)
+	cd $(ROWS) && rt run > /dev/null
 
 # `make gate` leaves them.
 $(AFFECTED) $(DRAW) $(KEYS) $(AUDIT): $(wildcard crates/*/src/*.rt)

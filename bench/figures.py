@@ -1,13 +1,12 @@
 #!/usr/bin/env python3
 """Measures what docs/BENCHMARKS.md shows, and writes its tables and pictures:
 
-    figures.py PROGRAM [--parser PARSER] [--only runs,tools,..] [--rounds N]
+    figures.py PROGRAM [--only runs,tools,..] [--rounds N]
     figures.py --draw
 
-PROGRAM is ninja-explain, PARSER is crates/parse_bench. Each program runs beside ninja on the same files, all in turn, five times or
-N times; medians count, and the greatest memory. The figures of each question are kept in bench/figures.json, so a part of them can
-be measured anew, and --draw writes the tables and pictures again without measuring. Take a quiet machine: all of it takes about
-half an hour.
+PROGRAM is ninja-explain. It runs beside ninja on the same files, in turn, five times or N times; medians count, and the greatest
+memory. The figures of each question are kept in bench/figures.json, so a part of them can be measured anew, and --draw writes the
+tables and pictures again without measuring. Take a quiet machine: all of it takes about half an hour.
 """
 
 import argparse
@@ -26,7 +25,6 @@ import ratios
 import tools
 import validations
 from bindings import FLAGS, write_far, write_near, write_tree
-from manifest import write_manifest
 from plots import bars
 from runs import MB, measure, middle
 from shapes import SHAPES as HOSTILE, cycle_line, write_shape
@@ -40,7 +38,6 @@ ROUNDS = 5
 # Of the shapes in which N edges have a rule with N references, fewer are made.
 FEWER = {"bound": 10, "pool-line": 200, "references": 10}
 HOSTILE_SIZES = [100_000, 1_000_000]
-PARSED = [("cmake", 100_000), ("dense", 100_000), ("headings", 100_000)]
 FILES, BINDINGS = 2_000, 200_000
 PICTURED = {"llvm": "LLVM, 44,570 edges", "cmake_100000": "CMake, 100,000 edges", "folders_1500": "GN, 1,501 files"}
 
@@ -116,20 +113,6 @@ def loading(words):
             yield [f"{name}, {length}", size / MB, time, share(figures, 0), memory / size, share(figures, 1)]
 
 
-def parsing(words):
-    """Statements are read and dropped."""
-    for shape, count in PARSED:
-        with tempfile.TemporaryDirectory() as folder:
-            path = os.path.join(folder, "build.ninja")
-            with open(path, "w") as file:
-                write_manifest(count, file, shape)
-            programs = {"ours": [words.parser], "ninja": ["ninja", "-f", path, "-t", "rules"]}
-            figures = figures_of(programs, words, folder, stdin=path)
-            size = os.path.getsize(path)
-        time, memory = figures["ours"]
-        yield [shape, size / MB, size / MB / time, share(figures, 0), (memory - size) / MB]
-
-
 def doubling(words):
     """Instructions for twice the manifest, at each of three doublings."""
     for shape in growth.SHAPES:
@@ -170,8 +153,6 @@ SECTIONS = {
                 ["`{}`", "{:,}", "{:.3f} s", "{:.2f}", "{:.1f}", "{:.1f} MB", "{:.2f}"]),
     "loading": (loading, ["Bindings", "Read", "Time", "of Ninja's", "Memory, of the bytes", "of Ninja's"],
                 ["{}", "{:.1f} MB", "{:.3f} s", "{:.2f}", "{:.2f}", "{:.2f}"]),
-    "parsing": (parsing, ["Shape", "Read", "Speed", "Time, of Ninja's", "Memory beside the file"],
-                ["`{}`", "{:.1f} MB", "{:.0f} MB/s", "{:.2f}", "{:.1f} MB"]),
     "doubling": (doubling, ["Shape and tool", "Instructions", "twice", "four times", "eight times"],
                  ["{}", "{:.1f} million", "{:.2f}", "{:.2f}", "{:.2f}"]),
     "names": (chosen_names, ["Table of", "Chosen names", "Other names", "Ratio"], ["{}", "{:.3f} s", "{:.3f} s", "{:.2f}"]),
@@ -218,7 +199,6 @@ def machine():
 def main():
     parser = argparse.ArgumentParser()
     parser.add_argument("program", type=os.path.abspath, nargs="?")
-    parser.add_argument("--parser", type=os.path.abspath)
     parser.add_argument("--only", default=",".join(SECTIONS))
     parser.add_argument("--rounds", type=int, default=ROUNDS)
     parser.add_argument("--draw", action="store_true")
@@ -226,8 +206,6 @@ def main():
     figures = json.loads(FIGURES.read_text()) if FIGURES.exists() else {"rows": {}}
     if not words.draw:
         for section in words.only.split(","):
-            if section == "parsing" and not words.parser:
-                continue
             print(section, flush=True)
             figures["rows"][section] = [list(row) for row in SECTIONS[section][0](words)]
         figures["machine"] = machine()

@@ -16,18 +16,18 @@ TIME = shutil.which("time")
 
 
 class Run:
-    """A run of a program in a folder, with a file as its standard input. The output goes to the
-    file `out`, or else is kept. The program has to end with the status."""
+    """A run of a program in a folder, without standard input. The output goes to the file `out`, or
+    else is kept. The program has to end with the status."""
 
-    def __init__(self, words, stdin=os.devnull, folder=None, status=0, out=None):
+    def __init__(self, words, folder=None, status=0, out=None):
         with contextlib.ExitStack() as files:
-            file = files.enter_context(open(stdin, "rb"))
             peak = files.enter_context(tempfile.NamedTemporaryFile("r"))
             errors = files.enter_context(tempfile.TemporaryFile())
             stdout = files.enter_context(open(out, "wb")) if out else subprocess.PIPE
             counting = [TIME, "-q", "-f", "%M", "-o", peak.name] if TIME else []
             start = time.perf_counter()
-            process = subprocess.Popen([*counting, *words], stdin=file, stdout=stdout, stderr=errors, cwd=folder)
+            given = {"stdin": subprocess.DEVNULL, "stdout": stdout, "stderr": errors, "cwd": folder}
+            process = subprocess.Popen([*counting, *words], **given)
             self.output = b"" if out else process.stdout.read()
             _, ended, usage = os.wait4(process.pid, 0)
             self.seconds = time.perf_counter() - start
@@ -40,12 +40,12 @@ class Run:
             self.memory = 1024 * int(peak.read() if TIME else usage.ru_maxrss)
 
 
-def measure(programs, rounds, stdin=os.devnull, folder=None, status=0, out=None):
+def measure(programs, rounds, folder=None, status=0, out=None):
     """Runs the programs in turn. Returns the runs of each."""
     runs = {name: [] for name in programs}
     for _ in range(rounds):
         for name, words in programs.items():
-            runs[name].append(Run(words, stdin, folder, status, out))
+            runs[name].append(Run(words, folder, status, out))
     return runs
 
 

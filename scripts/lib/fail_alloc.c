@@ -1,8 +1,8 @@
 /* sweep/memory.py and smoke/memory.py preload this. The allocation with the number FAIL_ALLOC,
-   counted from 1, fails; if FAIL_ALLOC_AFTER is set, so does every later one. When the first one
-   fails, the file FAIL_ALLOC_REPORT is created. At the end the number of allocations, 0 if
-   FAIL_ALLOC is not set, is written to the file FAIL_ALLOC_COUNT. The program calls only `malloc`
-   and `realloc`; the other functions are here in case that changes. */
+   counted from 1, fails, and so do the ones after it: as many in all as FAIL_ALLOC_TIMES, or it
+   alone. When the first one fails, the file FAIL_ALLOC_REPORT is created. At the end the number of
+   allocations, 0 if FAIL_ALLOC is not set, is written to the file FAIL_ALLOC_COUNT. The program
+   calls only `malloc` and `realloc`; the other functions are here in case that changes. */
 #include <errno.h>
 #include <fcntl.h>
 #include <stddef.h>
@@ -19,6 +19,7 @@ extern void *__libc_memalign(size_t, size_t);
 
 static long count;
 static long first;
+static long times;
 
 /* Writes a text to the file that a variable names. This makes system calls itself, since `open` may
    belong to another preloaded library. */
@@ -43,13 +44,15 @@ static int fails(void) {
         if (!number) {
             return 0;
         }
+        const char *many = getenv("FAIL_ALLOC_TIMES");
         first = atol(number);
+        times = many ? atol(many) : 1;
     }
     count++;
     if (count == first) {
         write_to("FAIL_ALLOC_REPORT", "", 0);
     }
-    if (count == first || (count > first && getenv("FAIL_ALLOC_AFTER"))) {
+    if (count >= first && count - first < times) {
         errno = ENOMEM;
         return 1;
     }

@@ -6,9 +6,11 @@ runs get a limited address space, as by `ulimit -v`, from the least in which the
 what the run needs. A run has to end as it does with ample memory, or to write a prefix of its
 output and the line `ninja-explain: out of memory`, with status 1.
 
-Allocations are also refused to crates/memory_sinks, which writes to sinks in memory. A
-sink without memory fails like any other sink: a failed output is status 4 with nothing on the error
-output, a lost mark line is status 4, and a lost fault line does not change the status.
+The same runs are rows of crates/nj_run_rows too, which runs them over sinks in memory. There one
+allocation or two in a row are refused: after more, the rows could not say what came. A sink without
+memory fails like any other sink: a failed output is status 4 with nothing on the error output, a
+lost mark line is status 4, and a lost fault line does not change the status. With ample memory such
+a run ends as the program does.
 """
 
 import tempfile
@@ -19,6 +21,7 @@ from pathlib import Path
 from lib.checks import check
 from lib.programs import FAULT, LACKS_MEMORY, OUTPUT_FAILED, STOPPED, USAGE, compiled, shown
 from lib.projects import MAIN, PROJECTS, RUNS, Project, runs_of
+from lib.rows import FILE, came_of, lossy, row_of
 from lib.sweeps import Sweep
 
 # In KB: the steps, and the most that a run of one of the small projects can need.
@@ -41,72 +44,123 @@ def is_wrong(ran, ample):
     return ran != ample and not (lacks and ample.output.startswith(ran.output))
 
 
+# ---- allocations
+
+# How many allocations are refused, from one on: it alone, it and the next one, or it and all after it.
+ALONE, TWO, ALL = 1, 2, 1 << 62
+REFUSALS = {ALONE: "alone", TWO: "with the next one", ALL: "with all after it"}
+
+
+class Runs:
+    """Runs of the same words on one project, to which allocations are refused."""
+
+    def __init__(self, program, name, words, folder):
+        self.program, self.words, self.folder = program, words, folder
+        self.text = PROJECTS[name].input_for(words)
+        PROJECTS[name].write_to(folder)
+        self.ample = self.run()
+
+    def run(self, **environment):
+        return self.program.run(self.words, self.folder, self.text, **environment)
+
+    def refusals(self, library, times):
+        """How a run ends to which so many allocations are refused, from each one on in turn."""
+        report, number = Path(self.folder) / "report", 1
+        fails = {"LD_PRELOAD": library, "FAIL_ALLOC_REPORT": str(report)}
+        while True:
+            fails |= {"FAIL_ALLOC": str(number), "FAIL_ALLOC_TIMES": str(times)}
+            ran = self.run(**fails)
+            if not report.exists():
+                break
+            report.unlink()
+            yield number, ran
+            number += 1
+
+
+class RowRuns(Runs):
+    """The same over sinks in memory. A run is `None` if its row lacked the memory to tell of it."""
+
+    def __init__(self, rows, name, words, folder):
+        Path(folder, FILE).write_text(row_of(PROJECTS[name].files, words))
+        super().__init__(rows, name, [FILE], folder)
+
+    def run(self, **environment):
+        return came_of(super().run(**environment))
+
+
+def try_allocations(program, library, task):
+    """Refuses allocations to a run of the program. Returns the counts, and what is wrong."""
+    name, words, times = task
+    number, wrong = 0, []
+    with tempfile.TemporaryDirectory() as folder:
+        runs = Runs(program, name, words, folder)
+        for number, ran in runs.refusals(library, times):
+            if is_wrong(ran, runs.ample):
+                wrong.append(case(task, number, ran))
+    return {f"allocations refused {REFUSALS[times]}": number}, wrong
+
+
+def case(task, number, ran):
+    name, words, times = task
+    return f"{name}, {words}, allocation {number} {REFUSALS[times]}: it ends with {shown(ran)}"
+
+
+def tasks(runs, *refusals):
+    """Each run with each number of refusals."""
+    return [(*run, times) for run in runs for times in refusals]
+
+
+@check(needs=["cc"], alone=True)
+def allocations(program, folder, jobs):
+    sweep = Sweep("memory")
+    task = partial(try_allocations, program, compiled("fail_alloc", folder))
+    sweep.in_parallel(jobs, task, tasks(runs_of(RUNS), ALONE, ALL))
+    return sweep.problems()
+
+
 # ---- sinks in memory
 
 
-def failed_sink(ran, ample, after):
+def failed_sink(ran, ample, times):
     """Which sink in memory failed in a run, or `None` if none did."""
     if (ran.status, ran.error) == (OUTPUT_FAILED, b""):
         if ran.output == ample.output and ample.status == STOPPED:
             return "mark lines lost"
         return "outputs failed" if ample.output.startswith(ran.output) else None
     # The line that reports the lack of memory may be lost as well.
-    lacks = after and ran.status == FAULT and ample.output.startswith(ran.output)
+    lacks = times > ALONE and ran.status == FAULT and ample.output.startswith(ran.output)
     lost = ran.status == ample.status in (FAULT, USAGE) and ran.output == ample.output
     return "fault lines lost" if not ran.error and (lacks or lost) else None
 
 
-# ---- allocations
-
-
-def try_allocations(program, library, has_sinks, task):
-    """Refuses each allocation of a run in turn. Returns the counts, and what is wrong."""
-    name, words, after = task
-    what = "with all after it" if after else "alone"
-    what += ", by sinks in memory" if has_sinks else ""
-    refused, wrong, sinks = 0, [], Counter()
+def try_row(program, rows, library, task):
+    """Refuses allocations to a run over sinks in memory. Returns the counts, and what is wrong."""
+    name, words, times = task
+    counts, wrong = Counter(), []
     with tempfile.TemporaryDirectory() as folder:
-        PROJECTS[name].write_to(folder)
-        text, report = PROJECTS[name].input_for(words), Path(folder) / "report"
-        ample = program.run(words, folder, text)
-        fails = {"LD_PRELOAD": library, "FAIL_ALLOC_REPORT": str(report)}
-        if after:
-            fails["FAIL_ALLOC_AFTER"] = "1"
-        report.touch()
-        while report.exists():
-            report.unlink()
-            ran = program.run(words, folder, text, FAIL_ALLOC=str(refused + 1), **fails)
-            refused += report.exists()
-            if has_sinks and (sink := failed_sink(ran, ample, after)):
-                sinks[sink] += 1
-            elif is_wrong(ran, ample):
-                case = f"{name}, {words}, allocation {refused} {what}"
-                wrong.append(f"{case}: it ends with {shown(ran)}")
-    return {f"allocations refused {what}": refused, **sinks}, wrong
-
-
-def allocation_tasks(has_sinks):
-    """Each run twice: refusing one allocation, and refusing that one and all after it. The program
-    with sinks in memory has no standard input."""
-    for name, words in runs_of(RUNS):
-        if words and "--stdin" not in words or not has_sinks:
-            yield name, words, False
-            yield name, words, True
+        usual = lossy(Runs(program, name, words, folder).ample)
+        runs = RowRuns(rows, name, words, folder)
+        if runs.ample != usual:
+            return {}, [f"{name}, {words}, a row: it ends with {runs.ample}, and not {usual}"]
+        for number, ran in runs.refusals(library, times):
+            if ran is None:
+                counts["allocations of rows themselves"] += 1
+                continue
+            counts[f"allocations refused {REFUSALS[times]}"] += 1
+            if sink := failed_sink(ran, usual, times):
+                counts[sink] += 1
+            elif is_wrong(ran, usual):
+                wrong.append(f"a row, {case(task, number, ran)}")
+    return counts, wrong
 
 
 @check(needs=["cc"], alone=True)
-def allocations(program, folder, jobs):
-    sweep = Sweep("memory")
-    task = partial(try_allocations, program, compiled("fail_alloc", folder), False)
-    sweep.in_parallel(jobs, task, allocation_tasks(False))
-    return sweep.problems()
-
-
-@check(needs=["cc"], alone=True)
-def allocations_by_sinks(sinks, folder, jobs):
+def sinks_in_memory(program, rows, folder, jobs):
     sweep = Sweep("memory of sinks")
-    task = partial(try_allocations, sinks, compiled("fail_alloc", folder), True)
-    sweep.in_parallel(jobs, task, allocation_tasks(True))
+    task = partial(try_row, program, rows, compiled("fail_alloc", folder))
+    # rows give no standard input
+    runs = [run for run in runs_of(RUNS) if run[1] and "--stdin" not in run[1]]
+    sweep.in_parallel(jobs, task, tasks(runs, ALONE, TWO))
     sweep.wants("outputs failed", "mark lines lost", "fault lines lost")
     return sweep.problems()
 
