@@ -108,8 +108,12 @@ def results(words, given, jobs):
 
 def run(words, given, jobs):
     """Runs the checks that the words name, or all. Prints what is wrong, and last how many passed,
-    failed and were skipped, and why. Returns the exit status: 1 if one failed, or there was none."""
-    passed, failed, skipped = 0, 0, {}
+    failed and were skipped, and why. Returns the exit status: 1 if one failed, or there was none. A
+    word that names no check counts as one that failed."""
+    unknown = [word for word in words if not any(each.is_meant([word], given) for each in CHECKS)]
+    for word in unknown:
+        print(f"{word}: there is no such check")
+    passed, failed, skipped = 0, len(unknown), {}
     for each, problems, why in results(words, given, jobs):
         for problem in problems:
             print(f"{each.name}: {problem}", flush=True)

@@ -3,7 +3,8 @@
 import subprocess
 from pathlib import Path
 
-from lib.programs import EXAMPLES
+from lib.checks import expect
+from lib.programs import DONE, EXAMPLES
 
 MAIN = "build.ninja"
 
@@ -253,6 +254,14 @@ RUNS = {
 def runs_of(table):
     """The runs of a table such as `RUNS`, each as the name of a project and words."""
     return [(name, line.split()) for name, lines in table.items() for line in lines]
+
+
+def targets_differ(program, folder):
+    """What is wrong if the program does not list the targets of a project. What only compares runs of
+    a program with one another would not see that it does nothing."""
+    PROJECTS["diamond"].write_to(folder)
+    wanted = (DONE, b"a: mk\nb1: mk\nb2: mk\nd: mk\n", b"")
+    yield from expect("targets", program.run(["-t", "targets", "all"], folder), wanted)
 
 
 def write_cmake(folder):

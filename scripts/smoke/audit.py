@@ -125,9 +125,16 @@ def audit_differs(audit, folder, wanted):
     yield from expect("lines of JSON", found, lines)
 
 
+# What is odd in examples/project, by hand: the test is no input, and there are no sources.
+SOURCES = ["main.c", "text/lines.c", "text/words.c", "text/words_test.c"]
+ODD_IN_PROJECT = [("unused output", "test"), *(("missing source", path) for path in SOURCES)]
+
+
 @check
 def project(audit, program):
-    return audit_differs(audit, PROJECT, wanted_of(program, PROJECT, {"out/count"}))
+    wanted = Counter(ODD_IN_PROJECT)
+    yield from audit_differs(audit, PROJECT, wanted)
+    yield from expect("by query", wanted_of(program, PROJECT, {"out/count"}), wanted)
 
 
 USES = b"""\

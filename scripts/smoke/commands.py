@@ -229,8 +229,9 @@ def validations_in_pages(program, folder):
 def styles_of_inputs(program, folder):
     """The inputs are the words of the commands, each once, since each command is its inputs."""
     write_files(folder, {"build.ninja": validations.PLAIN.encode()})
-    words = program.run(COMMANDS, folder).output.split()
-    wanted = b"".join(word + b"\n" for word in dict.fromkeys(words))
+    ran = program.run(COMMANDS, folder)
+    yield from expect("commands", ran, (DONE, validations.PLAIN_COMMANDS.encode(), b""))
+    wanted = b"".join(word + b"\n" for word in dict.fromkeys(ran.output.split()))
     style = ["-t", "inputs", "--dependency-order", "--no-shell-escape"]
     yield from expect("inputs in order", program.run(style, folder), (DONE, wanted, b""))
     ended = program.run([*style, "--print0"], folder)

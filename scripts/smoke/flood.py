@@ -11,6 +11,7 @@ import sys
 
 from lib.checks import check
 from lib.programs import ROOT
+from lib.projects import targets_differ
 
 sys.path.append(str(ROOT / "bench"))
 import flood  # noqa: E402
@@ -33,4 +34,5 @@ def slow_tables(words, folder):
 
 @check(needs=["cc"], alone=True)
 def colliding_names(program, folder):
-    return filter(None, slow_tables([program.path, "-t", "rules"], folder))
+    yield from targets_differ(program, folder)
+    yield from filter(None, slow_tables([program.path, "-t", "rules"], folder))

@@ -1,14 +1,15 @@
 """Compares what cache-keys writes with keys computed here.
 
-The edges of examples/project are read from what `ninja-explain -t targets`, `-t query` and
-`-t commands` write; those of the crate's data, which has a response file, a phony edge and a
-generated source, are listed below as its manifest has them.
+The edges of examples/project are read from what `ninja-explain -t query` and `-t commands` write;
+those of the crate's data, which has a response file, a phony edge and a generated source, are
+listed below as its manifest has them.
 """
 
 import hashlib
 
 from lib.checks import check, expect
 from lib.programs import CRATES, EXAMPLES
+from smoke import outputs
 
 PROJECT, DATA = EXAMPLES / "project", CRATES / "cache_keys/data"
 # The statuses of cache-keys.
@@ -84,7 +85,8 @@ def read_edge(program, output):
 
 
 def read_edges(program):
-    listed = run(program, PROJECT, ["-t", "targets", "all"]).output.splitlines()
+    """The edges of the project, each of which has one output."""
+    listed = outputs.OUTPUTS["-t targets all"].splitlines()
     return [read_edge(program, line.rsplit(": ", 1)[0]) for line in listed]
 
 

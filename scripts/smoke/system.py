@@ -136,5 +136,5 @@ def stack_of_32_files(program, folder):
         text = project.input_for(words)
         usual = program.run(words, folder, text)
         ran = program.run_by_shell(words, folder, text, before=f"ulimit -s {KILOBYTES};")
-        if ran != usual or ran.status not in (DONE, STOPPED):
+        if ran != usual or ran.status not in (DONE, STOPPED) or not ran.output:
             yield f"{line}, in {KILOBYTES} KB of stack: it ends with {shown(ran)}"

@@ -73,3 +73,8 @@ build a: list s2 s1 u
 build b: list a s3 s2
 build c: list b a z s1
 """
+PLAIN_COMMANDS = """\
+s2 s1 u
+a s3 s2
+b a z s1
+"""

@@ -20,7 +20,7 @@ from pathlib import Path
 
 from lib.checks import check
 from lib.programs import FAULT, LACKS_MEMORY, OUTPUT_FAILED, STOPPED, USAGE, compiled, shown
-from lib.projects import MAIN, PROJECTS, RUNS, Project, runs_of
+from lib.projects import MAIN, PROJECTS, RUNS, Project, runs_of, targets_differ
 from lib.rows import FILE, came_of, lossy, row_of
 from lib.sweeps import Sweep
 
@@ -115,7 +115,7 @@ def allocations(program, folder, jobs):
     sweep = Sweep("memory")
     task = partial(try_allocations, program, compiled("fail_alloc", folder))
     sweep.in_parallel(jobs, task, tasks(runs_of(RUNS), ALONE, ALL))
-    return sweep.problems()
+    return [*targets_differ(program, folder), *sweep.problems()]
 
 
 # ---- sinks in memory
@@ -219,7 +219,7 @@ def space_tasks(program):
 
 
 @check(alone=True)
-def address_space(program, jobs):
+def address_space(program, folder, jobs):
     sweep = Sweep("address space")
     sweep.in_parallel(jobs, partial(try_spaces, program), space_tasks(program))
-    return sweep.problems()
+    return [*targets_differ(program, folder), *sweep.problems()]

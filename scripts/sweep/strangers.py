@@ -17,7 +17,7 @@ from functools import partial
 from lib.checks import check, expect
 from lib.faults import ending_is_wrong
 from lib.programs import OUTPUT_FAILED
-from lib.projects import write_files
+from lib.projects import targets_differ, write_files
 from lib.strangers import Maker, colliding_names, flood
 from lib.sweeps import Sweep
 
@@ -64,9 +64,9 @@ def names_collide():
 
 
 @check(alone=True)
-def hostile_manifests(program, seeds, jobs):
+def hostile_manifests(program, seeds, folder, jobs):
     sweep = Sweep("strangers")
     starts = range(seeds.start, seeds.stop, TASK)
     tasks = [range(at, min(at + TASK, seeds.stop)) for at in starts]
     sweep.in_parallel(jobs, partial(try_cases, program, Maker()), tasks)
-    return sweep.problems()
+    return [*targets_differ(program, folder), *sweep.problems()]
