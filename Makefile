@@ -19,7 +19,8 @@ FILES := $(shell cd $(PROJECT) && find * -type f)
 # run at once.
 JOBS ?= $(shell nproc)
 
-# Where `make install` puts things, with DESTDIR in front of every path.
+# What `make install` installs, and where it puts things, with DESTDIR in front of every path.
+BIN := bin/ninja-explain
 PREFIX ?= /usr/local
 SHARE := $(DESTDIR)$(PREFIX)/share
 INSTALLED_PROGRAM := $(DESTDIR)$(PREFIX)/bin/ninja-explain
@@ -123,19 +124,21 @@ $(AFFECTED) $(DRAW) $(KEYS) $(AUDIT): $(wildcard crates/*/src/*.rt)
 	cd $(dir $@).. && rt run -- -f /dev/null < /dev/null > /dev/null
 
 # Installs the program that `make` built, its man page, and completions for three shells; and the
-# library for C where `make c` built it.
+# library for C where `make c` built it. Refuses what names no logic in which it was proved.
 install:
-	@test -x bin/ninja-explain || \
-	{ echo "there is no bin/ninja-explain to install: prove and build it first, with 'make'" >&2; exit 1; }
-	install -D -m 755 bin/ninja-explain "$(INSTALLED_PROGRAM)"
+	@test -x "$(BIN)" || \
+	{ echo "there is no $(BIN) to install: prove and build it first, with 'make'" >&2; exit 1; }
+	@python3 scripts/is_proved.py "$(BIN)"
+	@if [ -d lib ]; then $(MAKE) install-c; fi
+	install -D -m 755 "$(BIN)" "$(INSTALLED_PROGRAM)"
 	install -D -m 644 man/ninja-explain.1 "$(INSTALLED_PAGE)"
 	install -D -m 644 completions/ninja-explain.bash "$(INSTALLED_BASH)"
 	install -D -m 644 completions/_ninja-explain "$(INSTALLED_ZSH)"
 	install -D -m 644 completions/ninja-explain.fish "$(INSTALLED_FISH)"
-	@if [ -d lib ]; then $(MAKE) install-c; fi
 
 # Installs the library for C with its header.
 install-c:
+	@python3 scripts/is_proved.py $(LIBRARY).a $(LIBRARY).so.1
 	install -D -m 644 include/ninja_explain.h "$(INSTALLED_HEADER)"
 	install -D -m 644 $(LIBRARY).a "$(INSTALLED_LIBRARY).a"
 	install -D -m 755 $(LIBRARY).so.1 "$(INSTALLED_LIBRARY).so.1"
