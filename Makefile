@@ -32,12 +32,12 @@ INSTALLED_HEADER := $(DESTDIR)$(PREFIX)/include/ninja_explain.h
 INSTALLED_LIBRARY := $(DESTDIR)$(PREFIX)/$(LIBRARY)
 INSTALLED_PC := $(DESTDIR)$(PREFIX)/lib/pkgconfig/ninja_explain.pc
 
-.PHONY: all c run test check gate lint smoke c-test sweep install install-c uninstall clean
+.PHONY: all c run test check gate lint smoke c-test sweep install install-c uninstall dist clean
 
 # Proves and builds the program as bin/ninja-explain. `rt all` proves the program and the crates below
 # it, several at once; `rt run` then builds the program from what was proved.
 all:
-	cd $(PROGRAM) && rt all check --jobs $(JOBS)
+	python3 scripts/prove.py ninja_explain --jobs $(JOBS)
 	cd $(PROGRAM) && rt run --jobs 1 < stdin > /dev/null
 	mkdir -p bin
 	cp $(BUILT) bin/ninja-explain
@@ -45,11 +45,12 @@ all:
 # Proves the library for C and builds it in lib/, static and shared, with a file for pkg-config that
 # finds it here. docs/C.md describes it.
 c:
-	cd crates/nj_c && rt all check --jobs $(JOBS)
+	python3 scripts/prove.py nj_c --jobs $(JOBS)
 	cd crates/nj_c && rt lib
 	$(MAKE) $(LIBRARY).so lib/pkgconfig/ninja_explain.pc
 
 $(PROVED_C): $(wildcard crates/*/src/*.rt)
+	python3 scripts/prove.py nj_c --jobs $(JOBS)
 	cd crates/nj_c && rt lib
 
 $(LIBRARY).a: $(PROVED_C)
@@ -152,5 +153,11 @@ uninstall:
 	"$(INSTALLED_FISH)" "$(INSTALLED_HEADER)" "$(INSTALLED_LIBRARY).a" "$(INSTALLED_LIBRARY).so.1" \
 	"$(INSTALLED_LIBRARY).so" "$(INSTALLED_PC)"
 
+# Packs the program and the library for C, which are proved first if they were not, in dist/: an
+# archive, Debian packages, what they were made from, and checksums. With LOG=FILE the verdicts come
+# from a log of the gate; else they are those that `make` and `make c` kept.
+dist: $(BUILT) $(LIBRARY).so
+	@python3 scripts/dist $(if $(LOG),--log "$(LOG)")
+
 clean:
-	rm -rf bin lib crates/*/out
+	rm -rf bin lib dist crates/*/out

@@ -1,0 +1,131 @@
+"""Packs what is proved: python3 scripts/dist [--crates FOLDER] [--library FOLDER] [--log FILE] [OUT]
+
+Writes to OUT, an empty folder or by default dist/, an archive and two Debian packages of the programs that were built
+below FOLDER, by default crates/, and of the library for C, by default in lib/; PROVENANCE, which
+says what they were made from; and SHA256SUMS. The same programs and commit give the same bytes.
+
+The verdicts on the crates are those that `make` and `make c` kept, or that a log of `rt` has. A
+binary that names no logic in which it was proved, or another one than that of `rt version`, is
+refused, and so is one that needs more of the system than the C library.
+"""
+
+import argparse
+import hashlib
+import shutil
+import sys
+from pathlib import Path
+
+sys.path[0] = str(Path(__file__).resolve().parents[1])
+
+from dist import contents, debian, packing, provenance  # noqa: E402
+from dist.binaries import Refused, libc_needed, numbers  # noqa: E402
+from lib.programs import CRATES, ROOT  # noqa: E402
+from lib.proved import Unproved, logic  # noqa: E402
+from lint.version import version  # noqa: E402
+
+OUT = ROOT / "dist"
+
+
+class Release:
+    """What is packed, and what it was made from."""
+
+    def __init__(self, crates, library):
+        self.crates, self.library = crates, library
+        self.version = version()
+        self.commit, self.time = provenance.commit()
+        self.toolchain = provenance.toolchain()
+        built = [(f"bin/{name}", crates / it / "out" / it) for name, it in contents.PROGRAMS.items()]
+        self.programs = dict(built)
+        shared = [f"{contents.LIBRARY}.a", f"{contents.LIBRARY}.so.1"]
+        self.libraries = {f"lib/{name}": library / name for name in shared}
+        self.logics = {name: self.logic(it) for name, it in self.binaries().items()}
+
+    def binaries(self):
+        return {**self.programs, **self.libraries}
+
+    def logic(self, file):
+        """The logic that a binary names, which has to be that of the toolchain."""
+        if not file.is_file():
+            raise Refused(f"there is no {file}: `make dist` builds it")
+        found = logic(file)
+        known = provenance.LINE.match(self.toolchain)
+        if not known or not found.startswith(f"logic={known[1]}"):
+            raise Refused(f"{file} names {found}, and rt version is {self.toolchain}")
+        return found
+
+    def archive(self):
+        items = contents.of_programs(self.crates)
+        items += contents.of_library(self.library, "${pcfiledir}/../..") + contents.documents()
+        name = f"ninja-explain-{self.version}-linux-x86_64"
+        return f"{name}.tar.gz", packing.tarball(name, items, self.time)
+
+    def debian(self, package, items, binaries, out):
+        """Packs for Debian, and returns the name of the package's file."""
+        libc = max(map(libc_needed, binaries), key=numbers)
+        name = f"{package.name}_{self.version}_amd64.deb"
+        items = debian.package_items(package, items, self.version, libc, self.time)
+        packing.deb(items, self.time, out / name)
+        return name
+
+    def provenance(self, log):
+        items = [contents.copy(file, name) for name, file in self.binaries().items()]
+        sums = packing.checksums(items, "sha256")
+        return provenance.text(self.version, self.commit, self.toolchain, self.logics, sums, log)
+
+
+def pack(release, log, out):
+    """Packs into an empty folder. Returns the names of the files."""
+    name, content = release.archive()
+    (out / name).write_bytes(content)
+    programs = contents.of_programs(release.crates)
+    library = contents.of_library(release.library, "/usr", debian.LIBRARIES)
+    shared = [it for name, it in release.libraries.items() if ".so." in name]
+    names = [
+        name,
+        release.debian(debian.PROGRAM_PACKAGE, programs, release.programs.values(), out),
+        release.debian(debian.LIBRARY_PACKAGE, library, shared, out),
+        "PROVENANCE",
+    ]
+    (out / "PROVENANCE").write_text(release.provenance(log))
+    items = [contents.copy(out / name, name) for name in names]
+    (out / "SHA256SUMS").write_text(packing.checksums(items, "sha256"))
+    return [*names, "SHA256SUMS"]
+
+
+def emptied(out):
+    """The folder OUT, which is only emptied if it is the default one."""
+    if out == OUT:
+        shutil.rmtree(out, ignore_errors=True)
+    out.mkdir(parents=True, exist_ok=True)
+    if any(out.iterdir()):
+        raise Refused(f"{out} is not empty")
+    return out
+
+
+def parsed():
+    layout = argparse.RawDescriptionHelpFormatter
+    words = argparse.ArgumentParser(description=__doc__, formatter_class=layout)
+    words.add_argument("--crates", type=Path, default=CRATES, metavar="FOLDER")
+    words.add_argument("--library", type=Path, default=ROOT / "lib", metavar="FOLDER")
+    words.add_argument("--log", type=Path, metavar="FILE")
+    words.add_argument("out", nargs="?", type=Path, default=OUT, metavar="OUT")
+    return words.parse_args()
+
+
+def main():
+    words = parsed()
+    log = words.log.read_text(errors="replace") if words.log else ""
+    try:
+        release = Release(words.crates, words.library)
+        names = pack(release, log, emptied(words.out))
+    except (Refused, Unproved) as problem:
+        print(f"dist: {problem}", file=sys.stderr)
+        return 1
+    for name in names:
+        content = (words.out / name).read_bytes()
+        print(f"{hashlib.sha256(content).hexdigest()}  {len(content):>8}  {words.out / name}")
+    return 0
+
+
+if __name__ == "__main__":
+    sys.exit(main())

@@ -1,0 +1,110 @@
+"""What the Debian packages hold beside the files of `make install`."""
+
+import re
+import textwrap
+from dataclasses import dataclass, replace
+from email.utils import formatdate
+
+from dist.contents import LIBRARY, Item
+from dist.packing import checksums, compressed
+from lib.programs import ROOT
+
+MAINTAINER = "Valerianpost maintainers <maintainers@users.noreply.valerianpost.example>"
+LIBRARIES = "lib/x86_64-linux-gnu"
+WRAPPED = {"width": 76, "subsequent_indent": "  ", "break_long_words": False}
+# Programs and libraries have the bytes with which they were built, and so their symbols.
+AS_BUILT = "unstripped-binary-or-object"
+
+
+@dataclass(frozen=True)
+class Package:
+    """A Debian package: its name, what its control file says of it, and what lintian finds that is
+    as it should be."""
+
+    name: str
+    section: str
+    title: str
+    about: str
+    overrides: tuple = ()
+
+
+PROGRAM_PACKAGE = Package(
+    "ninja-explain",
+    "devel",
+    "explain a Ninja manifest without building anything",
+    "It writes what Ninja's own tools write of a manifest: commands, inputs,\n"
+    "targets, rules and a compilation database; or the first fault with its file,\n"
+    "line and column. It starts no program and changes no file. Every function is\n"
+    "proved to keep its contract, to be safe, and to end.",
+    (AS_BUILT,),
+)
+LIBRARY_PACKAGE = Package(
+    "libninja-explain-dev",
+    "libdevel",
+    "graph of the build statements of a Ninja manifest, for C",
+    "A static and a shared library with a header: a program hands in the files of\n"
+    "a manifest and asks for edges, files, commands and variables, without building\n"
+    "anything. Every function is proved to keep its contract.",
+    # There is no package of the shared library alone.
+    (AS_BUILT, "package-name-doesnt-match-sonames", "link-to-shared-library-in-wrong-package"),
+)
+
+
+def changelog(package, version, time):
+    """The first section of CHANGELOG.md as Debian has it."""
+    text = (ROOT / "CHANGELOG.md").read_text().split("\n## ")[1]
+    items = [" ".join(it.split()) for it in re.split(r"^- ", text, flags=re.M)[1:]]
+    lines = "\n".join(textwrap.indent(textwrap.fill(f"* {it}", **WRAPPED), "  ") for it in items)
+    head = f"{package.name} ({version}) unstable; urgency=medium"
+    return f"{head}\n\n{lines}\n\n -- {MAINTAINER}  {formatdate(time)}\n"
+
+
+def on_debian(item):
+    """A file of `make install` where Debian has it."""
+    path = item.path.replace("share/zsh/site-functions", "share/zsh/vendor-completions")
+    if path.startswith("share/man/"):
+        return replace(item, path=f"usr/{path}.gz", content=compressed(item.content))
+    return replace(item, path=f"usr/{path}")
+
+
+def control(package, version, libc, items):
+    size = sum(max(1, -(-len(it.content) // 1024)) for it in items)
+    about = "\n".join(f" {line}" for line in package.about.split("\n"))
+    return f"""\
+Package: {package.name}
+Version: {version}
+Architecture: amd64
+Maintainer: {MAINTAINER}
+Installed-Size: {size}
+Depends: libc6 (>= {libc})
+Section: {package.section}
+Priority: optional
+Description: {package.title}
+{about}
+"""
+
+
+def for_linker(package, version):
+    """The control files of a package with a shared library."""
+    yield Item("DEBIAN/shlibs", f"{LIBRARY} 1 {package.name} (>= {version})\n".encode())
+    yield Item("DEBIAN/triggers", b"activate-noawait ldconfig\n")
+
+
+def package_items(package, items, version, libc, time):
+    """All files of a package, with its control files."""
+    documents = f"share/doc/{package.name}"
+    overrides = "".join(f"{package.name}: {it}\n" for it in package.overrides)
+    added = [
+        Item(f"{documents}/changelog.gz", compressed(changelog(package, version, time).encode())),
+        Item(f"{documents}/copyright", (ROOT / "LICENSE").read_bytes()),
+    ]
+    if overrides:
+        added.append(Item(f"share/lintian/overrides/{package.name}", overrides.encode()))
+    items = [on_debian(it) for it in [*items, *added]]
+    has_library = any(".so." in it.path for it in items)
+    return [
+        *items,
+        *(for_linker(package, version) if has_library else ()),
+        Item("DEBIAN/control", control(package, version, libc, items).encode()),
+        Item("DEBIAN/md5sums", checksums(items, "md5").encode()),
+    ]

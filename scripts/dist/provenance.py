@@ -1,0 +1,54 @@
+"""What a release was made from, in words: the commit, the toolchain, what each binary says of its
+proof, and the verdict on each crate."""
+
+import re
+import subprocess
+
+from dist.contents import LIBRARY_CRATE, PROGRAMS
+from gate_table import crates_below
+from lib import verdicts
+from lib.programs import ROOT
+
+LINE = re.compile(r"rattle-kit-\S+ logic ([0-9a-f]{16})")
+
+
+def output_of(*words):
+    ran = subprocess.run(words, cwd=ROOT, capture_output=True, text=True, check=True)
+    return ran.stdout.strip()
+
+
+def toolchain():
+    return output_of("rt", "version")
+
+
+def commit():
+    """The commit, with a word if files differ from it, and its time in seconds."""
+    name, time = output_of("git", "log", "-1", "--format=%H %ct").split()
+    changed = output_of("git", "status", "--porcelain")
+    return name + " and changes that are not committed" * bool(changed), int(time)
+
+
+def packed_crates():
+    """The crates of which the programs and the library are made, in the order of crates.txt."""
+    below, found, open_ones = crates_below(ROOT), set(), [*PROGRAMS.values(), LIBRARY_CRATE]
+    while open_ones:
+        name = open_ones.pop()
+        if name not in found:
+            found.add(name)
+            open_ones += below[name]
+    return [name for name in below if name in found]
+
+
+def text(version, commit, toolchain, logics, sums, log):
+    """The file PROVENANCE. `logics` has what each binary says of its proof, `sums` the lines of
+    their checksums, and `log`, if any, what `rt` printed."""
+    told = verdicts.kept(packed_crates()) | (verdicts.read(log) if log else {})
+    width = max(map(len, logics))
+    lines = [f"ninja-explain {version}", "", f"commit {commit}", f"toolchain {toolchain}", ""]
+    lines += ["The logic in which each was proved, by its section .comment:", ""]
+    lines += [f"    {name:{width}}  {logic}" for name, logic in logics.items()]
+    lines += ["", "The verdict on each crate:", ""]
+    lines += [f"    {name:{width}}  {told.get(name, 'not kept')}" for name in packed_crates()]
+    lines += ["", "Checksums by SHA-256:", ""]
+    lines += [f"    {line}" for line in sums.splitlines()]
+    return "\n".join([*lines, ""])

@@ -1,0 +1,59 @@
+"""The verdict of `rt` on each crate, as its last line about the crate says it."""
+
+import re
+import subprocess
+
+from lib.programs import CRATES, ROOT
+
+HEAD = re.compile(r"== (\w+)$")
+VERDICT = re.compile(r"logic=proved .*")
+# Where `make` keeps them: for each crate the files that were proved, and the verdict.
+KEPT = ROOT / "bin/verdicts"
+
+
+class Reader:
+    """Reads what `rt all check` or `rt ci` prints."""
+
+    def __init__(self):
+        self.crate = None
+
+    def take(self, line):
+        """The crate and its verdict, if the line is one of a crate without its tests."""
+        if head := HEAD.match(line):
+            self.crate = head[1]
+        verdict = VERDICT.match(line)
+        if self.crate and verdict and " tests=" not in line:
+            return self.crate, verdict[0]
+        return None
+
+
+def read(log):
+    """The verdicts in a whole log."""
+    reader = Reader()
+    return dict(filter(None, map(reader.take, log.splitlines())))
+
+
+def state_of(crate):
+    """What git names the files of a crate, or nothing if they are not as they were committed."""
+    folder = f"crates/{crate}"
+    changed = subprocess.run(["git", "status", "--porcelain", folder], cwd=ROOT, capture_output=True)
+    named = subprocess.run(["git", "rev-parse", f"HEAD:{folder}"], cwd=ROOT, capture_output=True)
+    is_known = changed.returncode == named.returncode == 0 and not changed.stdout
+    return named.stdout.decode().strip() if is_known else ""
+
+
+def keep(crate, verdict):
+    if (CRATES / crate).is_dir():
+        KEPT.mkdir(parents=True, exist_ok=True)
+        (KEPT / crate).write_text(f"{state_of(crate)}\n{verdict}\n")
+
+
+def kept(crates):
+    """The verdicts that were kept, of crates whose files are still the same."""
+    found = {}
+    for crate in crates:
+        if (KEPT / crate).is_file():
+            state, verdict = (KEPT / crate).read_text().splitlines()
+            if state and state == state_of(crate):
+                found[crate] = verdict
+    return found
