@@ -39,7 +39,7 @@ ROUNDS = 5
 FEWER = {"bound": 10, "pool-line": 200, "references": 10}
 HOSTILE_SIZES = [100_000, 1_000_000]
 FILES, BINDINGS = 2_000, 200_000
-PICTURED = {"llvm": "LLVM, 44,570 edges", "cmake_100000": "CMake, 100,000 edges", "folders_1500": "GN, 1,501 files"}
+PICTURED = {"llvm": "LLVM, 44,570 edges", "cmake_100000": "CMake, 100,000 edges", "folders_1500": "GN, 1,501 files", "chromium": "Chromium, 5,002 files"}
 
 
 def figures_of(programs, words, folder, **more):
@@ -67,6 +67,34 @@ def runs(words):
                 of_tools[tool] = figures_of(programs, words, folder)
         rules = of_tools["rules"]
         yield [shape, *(share(of_tools[tool], 0) for tool in ratios.TOOLS), share(rules, 1), rules["ours"][0], rules["ours"][1] / MB]
+
+
+def compiled_floor(folder):
+    """The program of floor.c."""
+    program = os.path.join(folder, "floor")
+    subprocess.run([os.environ.get("CC", "cc"), "-O2", "-o", program, ROOT / "bench/floor.c"], check=True)
+    return program
+
+
+def manifests_in(folder):
+    """The paths of the manifests, and how many edges they have."""
+    paths = [os.path.join(place, name) for place, _, names in os.walk(folder) for name in names if name.endswith(".ninja")]
+    return paths, sum(Path(path).read_bytes().count(b"\nbuild ") for path in paths)
+
+
+def limits(words):
+    """How far a run is from reading the bytes alone, and what a million edges take."""
+    with tempfile.TemporaryDirectory() as room:
+        floor, listed = compiled_floor(room), os.path.join(room, "list")
+        for shape, write in ratios.SHAPES.items():
+            with tempfile.TemporaryDirectory() as folder:
+                write(folder)
+                paths, edges = manifests_in(folder)
+                Path(listed).write_text("".join(f"{path}\n" for path in paths))
+                size = sum(map(os.path.getsize, paths))
+                figures = figures_of({"ours": [words.program, "-t", "rules"], "floor": [floor, listed]}, words, folder)
+            (time, memory), millions = figures["ours"], edges / 1_000_000
+            yield [shape, edges, len(paths), size / MB, time / figures["floor"][0], time / millions, memory / MB / millions]
 
 
 def every_tool(words):
@@ -148,6 +176,8 @@ def validating(words):
 SECTIONS = {
     "runs": (runs, ["Manifest", "`rules`", "`commands`", "`compdb`", "`inputs`", "Memory", "Time of `rules`", "its memory"],
              ["{}", "{:.2f}", "{:.2f}", "{:.2f}", "{:.2f}", "{:.2f}", "{:.3f} s", "{:.0f} MB"]),
+    "limits": (limits, ["Manifest", "Edges", "Files", "Read", "Time, of reading alone", "For a million edges", "their memory"],
+               ["{}", "{:,}", "{:,}", "{:.1f} MB", "{:.1f}", "{:.2f} s", "{:,.0f} MB"]),
     "tools": (every_tool, ["Tool", "`cmake`, time", "memory", "`dense`, time", "memory"], ["`{}`", "{:.2f}", "{:.2f}", "{:.2f}", "{:.2f}"]),
     "hostile": (hostile, ["Shape", "N", "Time", "of Ninja's", "Growth", "Memory", "of Ninja's"],
                 ["`{}`", "{:,}", "{:.3f} s", "{:.2f}", "{:.1f}", "{:.1f} MB", "{:.2f}"]),
@@ -180,10 +210,10 @@ def draw(figures):
     DOCUMENT.write_text(machine.sub(lambda found: f"{found[1]}{figures['machine']}\n{found[2]}", document))
     by_shape = {row[0]: row for row in figures["rows"].get("runs", [])}
     pictured = {name: [by_shape[shape][1], by_shape[shape][5]] for shape, name in PICTURED.items() if shape in by_shape}
-    title = "Processor time and memory of ninja-explain -t rules, as parts of ninja's"
+    title = "Processor time and memory of ninja-explain -t rules (Ninja = 1.0)"
     (PICTURES / "beside-ninja.svg").write_text(bars(title, ["processor time", "memory"], pictured))
     of_tools = {row[0]: [row[1], row[3]] for row in figures["rows"].get("tools", [])}
-    title = "Processor time of each tool, as parts of the same tool of ninja"
+    title = "Processor time of each tool (the same tool of Ninja = 1.0)"
     (PICTURES / "tools.svg").write_text(bars(title, ["cmake, 100,000 edges", "dense, 100,000 edges"], of_tools))
 
 

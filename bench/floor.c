@@ -1,6 +1,6 @@
-// The least that a reader of manifests can take: reads whole files, whose paths come on the standard
-// input, a line each, and finds the line feeds of each by memchr. Writes how many bytes and line
-// feeds there are.
+// The least that a reader of manifests can take: `floor LIST` reads whole the files whose paths are in
+// the file LIST, a line each, and finds the line feeds of each by memchr. Writes how many bytes and
+// line feeds there are.
 #include <fcntl.h>
 #include <stdio.h>
 #include <stdlib.h>
@@ -37,10 +37,12 @@ static size_t line_feeds(const char *bytes, size_t length) {
     return count;
 }
 
-int main(void) {
+int main(int count, char **words) {
     char path[4096];
     size_t bytes = 0, lines = 0;
-    while (fgets(path, sizeof path, stdin) != NULL) {
+    FILE *list = fopen(count == 2 ? words[1] : "", "r");
+    if (list == NULL) fail("LIST");
+    while (fgets(path, sizeof path, list) != NULL) {
         size_t length;
         path[strcspn(path, "\n")] = '\0';
         const char *text = read_whole(path, &length);

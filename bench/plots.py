@@ -50,7 +50,7 @@ def bars(title, series, rows):
     parts.append(f'<rect width="{width}" height="{height}" fill="#fff"/>')
     parts += legend(series)
     parts.append(f'<line x1="{one:.1f}" y1="25" x2="{one:.1f}" y2="{height - 12}" stroke="#999" stroke-dasharray="3"/>')
-    parts.append(text(f"{one:.1f}", height - 1, "ninja", "middle"))
+    parts.append(text(f"{one:.1f}", height - 1, "Ninja = 1.0", "middle"))
     for index, (name, values) in enumerate(rows.items()):
         parts += group(30 + index * step, name, values, greatest)
     return "\n".join([*parts, "</svg>"]) + "\n"
