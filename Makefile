@@ -32,7 +32,8 @@ INSTALLED_HEADER := $(DESTDIR)$(PREFIX)/include/ninja_explain.h
 INSTALLED_LIBRARY := $(DESTDIR)$(PREFIX)/$(LIBRARY)
 INSTALLED_PC := $(DESTDIR)$(PREFIX)/lib/pkgconfig/ninja_explain.pc
 
-.PHONY: all c run test check gate lint smoke c-test sweep install install-c uninstall dist clean
+.PHONY: all c run test check gate lint smoke c-test sweep install install-c uninstall dist dist-check
+.PHONY: clean
 
 # Proves and builds the program as bin/ninja-explain. `rt all` proves the program and the crates below
 # it, several at once; `rt run` then builds the program from what was proved.
@@ -158,6 +159,11 @@ uninstall:
 # from a log of the gate; else they are those that `make` and `make c` kept.
 dist: $(BUILT) $(LIBRARY).so
 	@python3 scripts/dist $(if $(LOG),--log "$(LOG)")
+
+# Packs twice, plants what must be refused, and runs in empty folders what was unpacked there; with
+# debootstrap and as root, also in a Debian that it makes.
+dist-check: $(BUILT) $(LIBRARY).so
+	@python3 scripts/dist_check --jobs $(JOBS) $(CHECKS)
 
 clean:
 	rm -rf bin lib dist crates/*/out

@@ -34,11 +34,13 @@ class Release:
         self.version = version()
         self.commit, self.time = provenance.commit()
         self.toolchain = provenance.toolchain()
-        built = [(f"bin/{name}", crates / it / "out" / it) for name, it in contents.PROGRAMS.items()]
-        self.programs = dict(built)
-        shared = [f"{contents.LIBRARY}.a", f"{contents.LIBRARY}.so.1"]
-        self.libraries = {f"lib/{name}": library / name for name in shared}
+        names = contents.PROGRAMS.items()
+        self.programs = {f"bin/{name}": crates / it / "out" / it for name, it in names}
+        names = [f"{contents.LIBRARY}.a", f"{contents.LIBRARY}.so.1"]
+        self.libraries = {f"lib/{name}": library / name for name in names}
         self.logics = {name: self.logic(it) for name, it in self.binaries().items()}
+        self.libc = max(map(libc_needed, self.programs.values()), key=numbers)
+        self.library_libc = libc_needed(library / f"{contents.LIBRARY}.so.1")
 
     def binaries(self):
         return {**self.programs, **self.libraries}
@@ -59,9 +61,8 @@ class Release:
         name = f"ninja-explain-{self.version}-linux-x86_64"
         return f"{name}.tar.gz", packing.tarball(name, items, self.time)
 
-    def debian(self, package, items, binaries, out):
+    def debian(self, package, items, libc, out):
         """Packs for Debian, and returns the name of the package's file."""
-        libc = max(map(libc_needed, binaries), key=numbers)
         name = f"{package.name}_{self.version}_amd64.deb"
         items = debian.package_items(package, items, self.version, libc, self.time)
         packing.deb(items, self.time, out / name)
@@ -79,11 +80,10 @@ def pack(release, log, out):
     (out / name).write_bytes(content)
     programs = contents.of_programs(release.crates)
     library = contents.of_library(release.library, "/usr", debian.LIBRARIES)
-    shared = [it for name, it in release.libraries.items() if ".so." in name]
     names = [
         name,
-        release.debian(debian.PROGRAM_PACKAGE, programs, release.programs.values(), out),
-        release.debian(debian.LIBRARY_PACKAGE, library, shared, out),
+        release.debian(debian.PROGRAM_PACKAGE, programs, release.libc, out),
+        release.debian(debian.LIBRARY_PACKAGE, library, release.library_libc, out),
         "PROVENANCE",
     ]
     (out / "PROVENANCE").write_text(release.provenance(log))
@@ -120,6 +120,9 @@ def main():
         names = pack(release, log, emptied(words.out))
     except (Refused, Unproved) as problem:
         print(f"dist: {problem}", file=sys.stderr)
+        return 1
+    except FileNotFoundError as missing:
+        print(f"dist: {missing.filename} is needed", file=sys.stderr)
         return 1
     for name in names:
         content = (words.out / name).read_bytes()

@@ -1,0 +1,38 @@
+"""Checks what `make dist` packs: python3 scripts/dist_check [--crates FOLDER] [--library FOLDER]
+[--jobs N] [NAME..]
+
+Packs the programs that were built below FOLDER, by default crates/, and the library for C, by
+default in lib/, unpacks them into empty folders, and runs there what a user would.
+
+Prints what is wrong, and last how many checks passed. The exit status is 1 if one failed.
+"""
+
+import sys
+import tempfile
+from pathlib import Path
+
+sys.path[0] = str(Path(__file__).resolve().parents[1])
+
+from dist_check.packed import Built, pack  # noqa: E402
+from lib import checks  # noqa: E402
+from lib.programs import CRATES, ROOT  # noqa: E402
+
+
+def main():
+    parser = checks.parser_of(__doc__)
+    parser.add_argument("--crates", type=Path, default=CRATES, metavar="FOLDER")
+    parser.add_argument("--library", type=Path, default=ROOT / "lib", metavar="FOLDER")
+    words = parser.parse_args()
+    built = Built(words.crates.resolve(), words.library.resolve())
+    checks.load("dist_check")
+    with tempfile.TemporaryDirectory() as room:
+        packed = Path(room).resolve() / "dist"
+        ran = pack(built, packed)
+        if ran.returncode:
+            print(ran.stderr, end="")
+            return 1
+        return checks.run(words.names, {"built": built, "packed": packed}, words.jobs)
+
+
+if __name__ == "__main__":
+    sys.exit(main())
