@@ -33,7 +33,7 @@ INSTALLED_LIBRARY := $(DESTDIR)$(PREFIX)/$(LIBRARY)
 INSTALLED_PC := $(DESTDIR)$(PREFIX)/lib/pkgconfig/ninja_explain.pc
 
 .PHONY: all c run test check gate lint smoke c-test sweep install install-c uninstall dist dist-check
-.PHONY: clean
+.PHONY: save-proofs load-proofs clean
 
 # Proves and builds the program as bin/ninja-explain. `rt all` proves the program and the crates below
 # it, several at once; `rt run` then builds the program from what was proved.
@@ -164,6 +164,14 @@ dist: $(BUILT) $(LIBRARY).so
 # debootstrap and as root, also in a Debian that it makes.
 dist-check: $(BUILT) $(LIBRARY).so
 	@python3 scripts/dist_check --jobs $(JOBS) $(CHECKS)
+
+# Packs in FILE what checks kept in this clone; in another clone, `make load-proofs FILE=..` unpacks it,
+# and then `make` proves only what differs. CONTRIBUTING.md says whom it trusts then.
+FILE ?= proofs.tar.zst
+save-proofs:
+	@python3 scripts/proofs.py save "$(FILE)"
+load-proofs:
+	@python3 scripts/proofs.py load "$(FILE)"
 
 clean:
 	rm -rf bin lib dist crates/*/out
