@@ -12,8 +12,10 @@ pub mod Gathered
 pub mod LineStarts
 pub mod Bridges
 pub mod Steps
+pub mod PlainWords
 pub mod States
 pub mod SignsTaken
+pub mod PlainBindings
 pub mod UnitLaws
 pub mod PartLaws
 pub mod Pairs

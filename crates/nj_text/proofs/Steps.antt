@@ -59,7 +59,7 @@ continues_here spot bytes expected e = ap (λ o. unless_fault o expected) (fault
 
 -- ---- identifiers
 
-identifier_is_ordinary : (b : ℕ) → is_identifier_byte b ≡ true → is_ordinary_byte b ≡ true
+pub identifier_is_ordinary : (b : ℕ) → is_identifier_byte b ≡ true → is_ordinary_byte b ≡ true
 identifier_is_ordinary b h = by_tests (eqb b 36) (eqb b 10) (eqb b 13) (eqb b 0) (excluded 36 refl) (excluded 10 refl) (excluded 13 refl) (excluded 0 refl)
   where
     excluded : (n : ℕ) → is_identifier_byte n ≡ false → eqb b n ≡ true → ⊥

@@ -10,11 +10,13 @@ use Rattle.nj_text.specs.declared.sign.Sign.{Sign}
 use Rattle.nj_text.specs.declared.sign.Sign.TheVariants as sign
 use Rattle.nj_text.specs.declared.line_start.LineStart.{LineStart}
 use Rattle.nj_text.specs.declared.line_start.LineStart.TheVariants as start
+use Rattle.nj_text.specs.declared.plain_words.PlainWord.{PlainWord}
+use Rattle.nj_text.specs.declared.plain_words.PlainWord.TheVariants as plain
 use Rattle.nj_text.specs.declared.spot.Spot.{Spot}
 use Rattle.nj_text.specs.Bytes.{drop_while}
 use Rattle.nj_text.specs.Units.{TextUnit, first_spot}
 use Rattle.nj_text.specs.Lines.{Line, text_lines, line_spot, with_units, lines_after, Kind, CommentLine, TabLine, BlankLine, IndentedLine, PlainLine, kind_of, is_space_unit}
-use Rattle.nj_text.specs.Words.{is_blank, after_opening, in_identifier, opens_word, in_word, begins_with_byte, next_fault, first_fault, parts_of, WordText}
+use Rattle.nj_text.specs.Words.{is_blank, after_opening, in_identifier, opens_word, in_word, begins_with_byte, next_fault, first_fault, parts_of, WordText, plain_text}
 
 -- Where a lexer is: between lines, before those that are left; inside a line, before what is left of it and the lines
 -- after it; or at a fault, for good.
@@ -196,3 +198,22 @@ FailsOrLacksMemory None before after expected = (is_inside before ≡ true) × (
 abbrev pub ReturnsOrLacksMemory : {X Y : Type 0} → (X → Y) → Result X LexFault → (before after : State) → Reply Y → Type 0
 ReturnsOrLacksMemory view (Ok x) before after expected = expected ≡ Ok (view x, after)
 ReturnsOrLacksMemory view (Err f) before after expected = FailsOrLacksMemory (unit_of f) before after expected
+
+-- ---- what is taken at once
+
+-- It takes what `path_word` takes, or nothing.
+abbrev pub TakesPlainWord : PlainWord → (before after : State) → Type 0
+TakesPlainWord (plain.Word spot bytes) before after = path_word_of before ≡ Ok (Some (plain_text spot bytes.now), after)
+TakesPlainWord plain.NoWord before after = path_word_of before ≡ Ok (None, after)
+TakesPlainWord plain.Unknown before after = after ≡ before
+
+-- `NAME = VALUE` to the end of its line, as the calls take it one by one
+pub record TakesBinding (before after : State) (spot : Spot) (name : List ℕ) (value : WordText) : Type 0 where
+  pub place : spot_of (skip_blanks_of before) ≡ spot
+  pub after_name : State
+  pub name_taken : ident_of (skip_blanks_of before) ≡ Ok (Some name, after_name)
+  pub after_equals : State
+  pub equals_taken : sign_of sign.Equals after_name ≡ Ok (true, after_equals)
+  pub after_value : State
+  pub value_taken : value_of after_equals ≡ Ok (value, after_value)
+  pub end_taken : sign_of sign.LineEnd after_value ≡ Ok (true, after)

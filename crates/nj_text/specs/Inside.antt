@@ -3,6 +3,7 @@ pub mod Chunks
 pub mod Cleaning
 pub mod Gathering
 pub mod Meanings
+pub mod PlainWords
 pub mod Quoting
 pub mod Runs
 pub mod Scans

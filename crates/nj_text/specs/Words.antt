@@ -93,6 +93,10 @@ pub record WordText : Type 0 where
   pub spot : Spot
   pub parts : List PartText
 
+-- a word of bytes that mean themselves
+abbrev pub plain_text : Spot → List ℕ → WordText
+plain_text spot bytes = record { spot = spot; parts = Text bytes ∷ [] }
+
 -- ---- the same of the program's values
 
 abbrev pub part_text : Part → PartText

@@ -1,15 +1,17 @@
 //! The lexer.
 
-ghost use Rattle.std.specs.Prelude.{◌≡◌, List, ℕ, Some};
+ghost use Rattle.std.specs.Prelude.{◌≡◌, List, ℕ, Some, MatchOption};
 ghost use Rattle.std.specs.Option.{option_map};
 ghost use Rattle.nj_text.specs.Words.{word_text};
-ghost use Rattle.nj_text.specs.Calls.{Answers, ReturnsOrLacksMemory, at_front, start_line_of, ident_of, sign_of, path_word_of, value_of, spot_of, skip_blanks_of, Failed, unit_of};
+ghost use Rattle.nj_text.specs.Calls.{Answers, ReturnsOrLacksMemory, at_front, start_line_of, ident_of, sign_of, path_word_of, value_of, spot_of, skip_blanks_of, TakesPlainWord, TakesBinding, Failed, unit_of};
 ghost use Rattle.nj_text.specs.Inside.States.{FinishesValue};
 
 use crate::blanks::skip_blanks;
 use crate::cursor::Cursor;
 use crate::fault::{LexFault, UnitFault, WordFault};
 use crate::line_start::{Begun, LineStart, begin_line};
+use crate::plain_bindings::{PlainBinding, plain_binding};
+use crate::plain_words::{PlainWord, plain_word};
 use crate::sign::{Sign, SignTaken, take_sign};
 use crate::spot::Spot;
 use crate::state::State;
@@ -21,10 +23,10 @@ use std::marker::Model;
 
 /// Reads a text line by line ("Lexical syntax" in the Ninja manual).
 ///
-/// Each line is begun by [`Lexer::start_line`] and ended by [`Lexer::sign`] with [`Sign::LineEnd`].
-/// A bad unit is reported by the call that meets it, and by every call but [`Lexer::spot`] from
-/// then on. Only [`Lexer::path_word`] and [`Lexer::value`] allocate, inside a line: out of memory
-/// leaves the lexer as it was.
+/// Each line is begun by [`Lexer::start_line`], and ended by [`Lexer::sign`] with [`Sign::LineEnd`]
+/// or by [`Lexer::plain_binding`]. A bad unit is reported by the call that meets it, and by every
+/// call but [`Lexer::spot`] from then on. Only [`Lexer::path_word`] and [`Lexer::value`] allocate,
+/// inside a line: out of memory leaves the lexer as it was.
 #[derive(Drop)]
 pub struct Lexer<'a> {
     cursor: Cursor<'a>,
@@ -122,6 +124,28 @@ impl<'a> Lexer<'a> {
         }
     }
 
+    /// Takes a plain binding at once, as [`Lexer::skip_blanks`], [`Lexer::ident`], [`Lexer::sign`],
+    /// [`Lexer::value`] and [`Lexer::sign`] do one by one; `None` if it took nothing.
+    #[inline(always)]
+    pub fn plain_binding(&mut self, alloc: Global) -> Option<PlainBinding<'a>>
+        ensures { MatchOption result (self.new ≡ self.old) (λ found.
+            TakesBinding self.old self.new found.spot found.name.now (word_text found.value)) }
+    {
+        match self.state {
+            State::Failed(_) => None,
+            State::Between => None,
+            State::OpeningJoin(_, _) => None,
+            State::Inside => match plain_binding(alloc, self.cursor) {
+                Some((binding, after)) => {
+                    self.cursor = after;
+                    self.state = State::Between;
+                    Some(binding)
+                }
+                None => None,
+            },
+        }
+    }
+
     /// Skips blanks and takes the wanted sign, and returns whether it was there. [`Sign::LineEnd`]
     /// ends the line; the end of the text ends a line too. Skips nothing between lines.
     ///
@@ -151,6 +175,23 @@ impl<'a> Lexer<'a> {
                 }
                 SignTaken::Fault(fault) => Err(self.fail(fault)),
             },
+        }
+    }
+
+    /// Takes what [`Lexer::path_word`] takes, if it is a plain word or none; else nothing.
+    #[inline(always)]
+    pub fn plain_word(&mut self) -> PlainWord<'a>
+        ensures { TakesPlainWord result self.old self.new }
+    {
+        match self.state {
+            State::Failed(_) => PlainWord::Unknown,
+            State::Between => PlainWord::Unknown,
+            State::OpeningJoin(_, _) => PlainWord::Unknown,
+            State::Inside => {
+                let (word, after) = plain_word(self.cursor);
+                self.cursor = after;
+                word
+            }
         }
     }
 

@@ -1,7 +1,11 @@
 //! Words and values: texts with references.
 
+ghost use Rattle.std.specs.Prelude.{◌≡◌};
+ghost use Rattle.nj_text.specs.Words.{plain_text, word_text};
+
 use crate::spot::Spot;
 use smallvec::SmallVec;
+use std::alloc::Global;
 use std::default::Default;
 
 /// A part of a word or of a value.
@@ -28,4 +32,16 @@ pub struct Word<'a> {
     /// Its parts from left to right, each a slice of the text. A run of ordinary bytes is one part.
     /// Nearly all words are one part, which takes no memory of its own.
     pub parts: SmallVec<Part<'a>, 1>,
+}
+
+impl<'a> Word<'a> {
+    /// A word of bytes that mean themselves, at this place.
+    #[inline(always)]
+    pub fn plain(alloc: Global, spot: Spot, bytes: &'a [u8]) -> Word<'a>
+        ensures { word_text result ≡ plain_text spot bytes.now }
+    {
+        let mut parts = SmallVec::new(alloc);
+        parts.push_reserved(Part::Bytes(bytes));
+        Word { spot, parts }
+    }
 }
