@@ -1,5 +1,5 @@
 -- What a call of the lexer gave, as a step.
-use Rattle.std.proofs.Common.{◌≡◌, Result, Ok, Err, ap}
+use Rattle.std.proofs.Common.{◌≡◌, Result, Ok, Err, sym, ap, ◌∙◌}
 use Rattle.std.specs.Result.{IsErr, IsErrAnd}
 use Rattle.nj_text.specs.declared.fault.UnitFault.{UnitFault}
 use Rattle.nj_text.specs.declared.fault.UnitFault.TheVariants as unit_fault
@@ -45,3 +45,7 @@ fails-so (fault.UnknownKey s k) whole h = h
 fails-so (fault.MissingDepth s) whole h = h
 fails-so (fault.DyndepVersion s) whole h = h
 fails-so (fault.DyndepShape s) whole h = h
+
+-- a call that is made where another one took nothing
+pub made-there : {Y : Type 0} (call : State → Reply Y) (before there : State) (step : Step Y) → there ≡ before → called (call there) ≡ step → called (call before) ≡ step
+made-there call before there step e h = ap (λ s. called (call s)) (sym e) ∙ h

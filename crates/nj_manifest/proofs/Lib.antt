@@ -57,3 +57,4 @@ pub mod StatementRows
 pub mod WordLimits
 pub mod LexStrings
 pub mod Shown
+pub mod PlainLines

@@ -77,6 +77,16 @@ fn line_next<'a>(
 ) -> Result<Line<'a>, ParseFault<'a>>
     ensures { TakesStep line_text result lexer.new (line_next allowed lexer.old) }
 {
+    if let Some(binding) = lexer.plain_binding(alloc) {
+        if !allows(allowed, binding.name) {
+            return Err(ParseFault::UnknownKey(binding.spot, binding.name));
+        }
+        return Ok(Line {
+            spot: binding.spot,
+            name: binding.name,
+            value: binding.value,
+        });
+    }
     let key = name_next(lexer, Wanted::VariableName)?;
     if !allows(allowed, key.name) {
         return Err(ParseFault::UnknownKey(key.spot, key.name));

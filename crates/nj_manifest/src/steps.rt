@@ -7,7 +7,7 @@ ghost use Rattle.nj_manifest.specs.LineSteps.{name_next, expect_sign, words_next
 
 use crate::buffers::empty_list;
 use crate::fault::{ParseFault, Wanted};
-use nj_text::{Lexer, Sign, Spot, Word};
+use nj_text::{Lexer, PlainWord, Sign, Spot, Word};
 use std::alloc::Global;
 
 /// A name and the place of its first byte.
@@ -59,10 +59,16 @@ pub fn words_next<'a>(
         (words_next lexer.old) }
 {
     let mut words = empty_list(alloc, kept);
-    'words: while let Some(word) = lexer.path_word(alloc)? {
-        words.push(word)?;
+    'words: loop {
+        match lexer.plain_word() {
+            PlainWord::Word(spot, bytes) => words.push(Word::plain(alloc, spot, bytes))?,
+            PlainWord::NoWord => return Ok(words),
+            PlainWord::Unknown => match lexer.path_word(alloc)? {
+                Some(word) => words.push(word)?,
+                None => return Ok(words),
+            },
+        }
     }
-    Ok(words)
 }
 
 /// The words of a section that begins with this sign; none if the sign is not there.
