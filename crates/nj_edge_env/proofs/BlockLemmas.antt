@@ -1,12 +1,13 @@
 -- Lemmas on the values of all names.
-use Rattle.std.proofs.Common.{◌≡◌, ℕ, zero, suc, ◌+◌, ◌<◌, ◌≤◌, nat_eq, Bool, true, false, cond, not, ◌&&◌, ◌||◌, ◌⊎◌, inl, inr, Option, Some, None, is_some, option_map, option_and_then, List, [], ◌∷◌, ◌++◌, length, map, get_or, set, bytes_eq, arith, refl, sym, ap, subst, ◌∙◌, true≢false}
+use Rattle.std.proofs.Common.{◌≡◌, ℕ, zero, suc, ◌+◌, ◌<◌, ◌≤◌, nat_eq, Bool, true, false, cond, not, ◌&&◌, ◌||◌, ◌⊎◌, inl, inr, Option, Some, None, is_some, option_map, option_and_then, unwrap_or, List, [], ◌∷◌, ◌++◌, length, map, get_or, set, bytes_eq, arith, refl, sym, ap, subst, ◌∙◌, true≢false}
 use Rattle.std.specs.Prelude.{position, slice_get}
 use Rattle.std.specs.Global.{Vec}
 use Rattle.std.specs.Map.{lookup}
-use Rattle.std.specs.List.{AllByRecursion, list_any, slice_range}
+use Rattle.std.specs.List.{AllByRecursion, IsDistinct, list_any, slice_range}
 use Rattle.std.proofs.lemmas.List.{map-append, length-append, length-set, get_or_append_left}
 use Rattle.std.proofs.lemmas.List.Quantifiers.{position-Some}
-use Rattle.std.proofs.lemmas.Option.{get_or_from_slice_get}
+use Rattle.std.proofs.lemmas.Map.Keys.{IsDistinct-tail, apart_from_distinct}
+use Rattle.std.proofs.lemmas.Option.{get_or_from_slice_get, slice_get_within}
 use Rattle.std.proofs.lemmas.Slice.Eq.{bytes_eq-Decides}
 use Rattle.nj_edge_env.specs.declared.bounds.Bound.{Bound}
 use Rattle.nj_edge_env.specs.Inside.BlocksHeld.{bound_of, values_of, values_by_name, names_of, bounds_of, list_at, IsPart, BoundsAreHeld, BlocksAreHeld, BeginsWith, IsFirstAt, IsNumberOf}
@@ -44,6 +45,24 @@ first-new name (m ∷ names) absent = by (bytes_eq name m) refl (first-new name 
         → IsFirstAt name ((m ∷ names) ++ name ∷ []) (length (m ∷ names))
     by true same rest none = absurd (true≢false none)
     by false other rest none = (other, rest none)
+
+-- a name at this index, where each is there once
+pub first-distinct : (name : List ℕ) (names : List (List ℕ)) (n : ℕ) → IsDistinct bytes_eq names → slice_get names n ≡ Some name → IsFirstAt name names n
+first-distinct name [] n apart h = absurd (true≢false (sym (ap is_some h)))
+first-distinct name (m ∷ names) zero apart h = (bytes_eq-Decides name m).1 (sym (ap (λ o. unwrap_or o []) h))
+first-distinct name (m ∷ names) (suc n) apart h = (by (bytes_eq name m) refl, first-distinct name names n (IsDistinct-tail bytes_eq m names apart) h)
+  where
+    inside : n < length names
+    inside = slice_get_within names n name h
+
+    differ : bytes_eq m name ≡ false
+    differ = ap (bytes_eq m) (sym (get_or_from_slice_get names n name [] h)) ∙ apart_from_distinct bytes_eq (m ∷ names) 0 (suc n) [] apart (omega arith) (omega (arith, inside))
+
+    by : (b : Bool) → bytes_eq name m ≡ b → bytes_eq name m ≡ false
+    by false other = other
+    by true same =
+        let is : name ≡ m = (bytes_eq-Decides name m).0 same in
+        absurd (true≢false (sym same ∙ ap (λ x. bytes_eq x m) is ∙ ap (bytes_eq m) (sym is) ∙ differ))
 
 pub first-within : (name : List ℕ) (names : List (List ℕ)) (n : ℕ) → IsFirstAt name names n → n < length names
 first-within name [] n h = absurd h

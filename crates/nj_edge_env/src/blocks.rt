@@ -1,11 +1,12 @@
 //! The values that the blocks of edges bind.
 
-ghost use Rattle.std.specs.Prelude.{◌≡◌, ℕ, ◌≤◌, ◌==◌, ◌&&◌, not, if◌then◌else◌, List, [], ◌∷◌, ◌++◌, Some, None, length, slice_get, is_some, option_copied, bytes_eq, IfOk, OnOk, OnErr};
+ghost use Rattle.std.specs.Prelude.{◌≡◌, ℕ, ◌≤◌, ◌==◌, ◌&&◌, not, if◌then◌else◌, true, List, [], ◌∷◌, ◌++◌, Some, None, length, slice_get, is_some, option_copied, bytes_eq, IfOk, OnOk, OnErr};
 ghost use Rattle.nj_edge_env.specs.Blocks.{bound_in, names_in};
-ghost use Rattle.nj_edge_env.specs.Inside.BlocksHeld.{blocks_of, bounds_of, BlocksAreHeld, IsNumberOf};
+ghost use Rattle.nj_edge_env.specs.Inside.BlocksHeld.{blocks_of, bounds_of, BlocksAreHeld, IsFirstAt, IsNumberOf};
 
 use crate::bounds::{Bound, bind_value, bound_of, value_at};
 use crate::lists::NumberLists;
+use crate::order::NameOrder;
 use nj_edges::{FileNo, Files};
 use nj_scope::HashKeys;
 use std::alloc::{AllocError, Global};
@@ -18,6 +19,7 @@ pub struct Blocks {
     alloc: Global,
     // names by their numbers, as paths of files are kept
     names: Files,
+    order: NameOrder,
     // the values of each name
     values: Vec<Vec<Bound>>,
     text: Vec<u8>,
@@ -49,6 +51,7 @@ impl Blocks {
         Blocks {
             alloc,
             names: Files::new(alloc, keys),
+            order: NameOrder::new(alloc),
             values: Vec::new(alloc),
             text: Vec::new(alloc),
             lists: NumberLists::new(alloc),
@@ -77,7 +80,13 @@ impl Blocks {
         ensures last { self.new.last ≡ edge }
     {
         self.last = edge;
-        let number = name_number(self.alloc, &mut self.names, &mut self.values, name)?;
+        let number = name_number(
+            self.alloc,
+            &mut self.names,
+            &mut self.order,
+            &mut self.values,
+            name,
+        )?;
         bind_value(
             &mut self.values[number],
             &mut self.text,
@@ -121,8 +130,44 @@ impl Blocks {
     }
 }
 
-// The number of the name. A name that no block bound yet gets one, and has no values.
+// The number of the name, which is guessed by the order in which names were bound before.
 fn name_number(
+    alloc: Global,
+    names: &mut Files,
+    order: &mut NameOrder,
+    values: &mut Vec<Vec<Bound>>,
+    name: &[u8],
+) -> Result<usize, AllocError>
+    requires { length values.old.items ≡ length names.old }
+    ensures number { IfOk result (λ number. IsNumberOf name.now names.old
+        (bounds_of values.old.items) names.new (bounds_of values.new.items) number) }
+    ensures names { OnErr result (names.new ≡ names.old) }
+    ensures values { OnErr result (values.new.items ≡ values.old.items) }
+{
+    let guess = order.guess();
+    if is_name(names, guess, name) {
+        order.note(guess);
+        return Ok(guess);
+    }
+    order.grow(values.as_slice().len() + 1)?;
+    let number = sought_number(alloc, names, values, name)?;
+    order.note(number);
+    Ok(number)
+}
+
+// Whether there is a name of this number, and it is this one.
+#[inline(always)]
+fn is_name(names: &Files, number: usize, name: &[u8]) -> bool
+    ensures { result ≡ true → IsFirstAt name.now names.now number }
+{
+    if number >= names.count() {
+        return false;
+    }
+    names.path(FileNo(number)) == name
+}
+
+// The number of the name. A name that no block bound yet gets one, and has no values.
+fn sought_number(
     alloc: Global,
     names: &mut Files,
     values: &mut Vec<Vec<Bound>>,

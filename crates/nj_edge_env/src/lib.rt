@@ -10,6 +10,7 @@ mod laws;
 mod lists;
 mod memo;
 mod names;
+mod order;
 mod paths;
 mod references;
 mod strings;
