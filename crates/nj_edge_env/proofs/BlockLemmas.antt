@@ -10,8 +10,9 @@ use Rattle.std.proofs.lemmas.Map.Keys.{IsDistinct-tail, apart_from_distinct}
 use Rattle.std.proofs.lemmas.Option.{get_or_from_slice_get, slice_get_within}
 use Rattle.std.proofs.lemmas.Slice.Eq.{bytes_eq-Decides}
 use Rattle.nj_edge_env.specs.declared.bounds.Bound.{Bound}
-use Rattle.nj_edge_env.specs.Inside.BlocksHeld.{bound_of, values_of, values_by_name, names_of, bounds_of, list_at, IsPart, BoundsAreHeld, BlocksAreHeld, BeginsWith, IsFirstAt, IsNumberOf}
-use Rattle.nj_edge_env.proofs.BoundLemmas.{values_at, values_kept, longer, bounds_grow, swapped}
+use Rattle.nj_edge_env.specs.Inside.BlocksHeld.{bound_of, values_of, values_by_name, names_of, bounds_of, list_at, IsPart, BoundsAreHeld, BlocksAreHeld, BeginsWith, IsFirstAt, IsNumberOf, BindNeitherAfter, is_pool_or_dyndep}
+use Rattle.nj_edge_env.specs.Blocks.{BlocksText, bound_in}
+use Rattle.nj_edge_env.proofs.BoundLemmas.{values_at, values_kept, longer, bounds_grow, swapped, test-from_apart}
 
 abbrev pub Rows : Type 0
 Rows = List (ℕ × List ℕ)
@@ -252,6 +253,34 @@ later len last edge names bounds lists from held = record {
   listed = held.listed;
   lists_end = omega (arith, held.lists_end);
 }
+
+-- ---- `pool` and `dyndep`
+
+-- a block of this edge binds a name, and nothing else changes
+pub neither-after : (assigning edge : ℕ) (name : List ℕ) (old new : BlocksText) → old.last ≤ edge → new.last ≡ edge
+    → ((e : ℕ) (x : List ℕ) → (nat_eq e edge && bytes_eq x name) ≡ false → bound_in new e x ≡ bound_in old e x)
+    → BindNeitherAfter assigning old → BindNeitherAfter (cond (is_pool_or_dyndep name) edge assigning) new
+neither-after assigning edge name old new from now same neither = by (is_pool_or_dyndep name) refl
+  where
+    both-false : (s t : Bool) → t ≡ false → (s && t) ≡ false
+    both-false true t h = h
+    both-false false t h = refl
+
+    other : (x : List ℕ) → is_pool_or_dyndep name ≡ false → is_pool_or_dyndep x ≡ true → (t : Bool) → bytes_eq x name ≡ t → bytes_eq x name ≡ false
+    other x not_name is false apart = apart
+    other x not_name is true equal = absurd (true≢false (sym is ∙ ap is_pool_or_dyndep ((bytes_eq-Decides x name).0 equal) ∙ not_name))
+
+    by : (b : Bool) → is_pool_or_dyndep name ≡ b → BindNeitherAfter (cond b edge assigning) new
+    by true is = record {
+      within = subst (λ l. edge ≤ l) (sym now) (omega arith);
+      none = λ e x pool after.
+          same e x (ap (λ b. b && bytes_eq x name) (test-from_apart e edge (λ equal. omega (arith, equal, after))))
+          ∙ neither.none e x pool (let within = neither.within in omega (arith, after, from, within));
+    }
+    by false is = record {
+      within = subst (λ l. assigning ≤ l) (sym now) (let within = neither.within in omega (arith, from, within));
+      none = λ e x pool after. same e x (both-false (nat_eq e edge) (bytes_eq x name) (other x is pool (bytes_eq x name) refl)) ∙ neither.none e x pool after;
+    }
 
 abbrev pub Bound-now : (text new : List ℕ) (edge : ℕ) (value : List ℕ) (before after : List Bound) → Type 0
 Bound-now text new edge value before after =

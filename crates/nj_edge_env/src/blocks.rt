@@ -2,10 +2,11 @@
 
 ghost use Rattle.std.specs.Prelude.{◌≡◌, ℕ, ◌≤◌, ◌==◌, ◌&&◌, not, if◌then◌else◌, true, List, [], ◌∷◌, ◌++◌, Some, None, length, slice_get, is_some, option_copied, bytes_eq, IfOk, OnOk, OnErr};
 ghost use Rattle.nj_edge_env.specs.Blocks.{bound_in, names_in};
-ghost use Rattle.nj_edge_env.specs.Inside.BlocksHeld.{blocks_of, bounds_of, BlocksAreHeld, IsFirstAt, IsNumberOf};
+ghost use Rattle.nj_edge_env.specs.Inside.BlocksHeld.{blocks_of, bounds_of, BlocksAreHeld, IsFirstAt, IsNumberOf, is_pool_or_dyndep};
 
 use crate::bounds::{Bound, bind_value, bound_of, value_at};
 use crate::lists::NumberLists;
+use crate::names::is_pool_or_dyndep;
 use crate::order::NameOrder;
 use nj_edges::{FileNo, Files};
 use nj_scope::HashKeys;
@@ -26,19 +27,23 @@ pub struct Blocks {
     // the numbers of the names that each block binds
     lists: NumberLists,
     last: usize,
+    // No block of an edge after this one binds `pool` or `dyndep`. Few do, and both are looked up
+    // for every edge.
+    assigning: usize,
 }
 
 impl Model for Blocks {
     ghost use Rattle.std.specs.Prelude.{length};
     ghost use Rattle.nj_edge_env.specs.Blocks.{BlocksText};
-    ghost use Rattle.nj_edge_env.specs.Inside.BlocksHeld.{blocks_of, bounds_of, BlocksAreHeld};
+    ghost use Rattle.nj_edge_env.specs.Inside.BlocksHeld.{blocks_of, bounds_of, BindNeitherAfter, BlocksAreHeld};
 
     ghost Value = { BlocksText };
 
     ghost view = { λ b. blocks_of b.text.items b.names (bounds_of b.values.items) b.lists b.last };
 
     ghost invariant = { λ b. BlocksAreHeld (length b.text.items) b.last b.names
-        (bounds_of b.values.items) b.lists };
+        (bounds_of b.values.items) b.lists × BindNeitherAfter b.assigning (blocks_of b.text.items
+        b.names (bounds_of b.values.items) b.lists b.last) };
 }
 
 impl Blocks {
@@ -56,6 +61,7 @@ impl Blocks {
             text: Vec::new(alloc),
             lists: NumberLists::new(alloc),
             last: 0,
+            assigning: 0,
         }
     }
 
@@ -80,6 +86,7 @@ impl Blocks {
         ensures last { self.new.last ≡ edge }
     {
         self.last = edge;
+        self.assigning = last_assigning(self.assigning, edge, name);
         let number = name_number(
             self.alloc,
             &mut self.names,
@@ -101,6 +108,9 @@ impl Blocks {
     pub fn value(&self, edge: usize, name: &[u8]) -> Option<&[u8]>
         ensures { option_copied result ≡ bound_in self.now edge name.now }
     {
+        if edge > self.assigning && is_pool_or_dyndep(name) {
+            return None;
+        }
         let bounds = match self.names.number(name) {
             Some(file) => self.values[file.0].as_slice(),
             None => return None,
@@ -127,6 +137,18 @@ impl Blocks {
             Some(number) => Some(self.names.path(FileNo(*number as usize))),
             None => None,
         }
+    }
+}
+
+// The last edge whose block may bind `pool` or `dyndep`, once the block of this edge, which none
+// comes after, binds the name.
+fn last_assigning(assigning: usize, edge: usize, name: &[u8]) -> usize
+    ensures { result ≡ (if is_pool_or_dyndep name.now then edge else assigning) }
+{
+    if is_pool_or_dyndep(name) {
+        edge
+    } else {
+        assigning
     }
 }
 

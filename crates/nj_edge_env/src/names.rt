@@ -2,6 +2,7 @@
 
 ghost use Rattle.std.specs.Prelude.{◌≡◌};
 ghost use Rattle.nj_edge_env.specs.LateStrings.{names_paths, is_of_command, is_quoted};
+ghost use Rattle.nj_edge_env.specs.Inside.BlocksHeld.{is_pool_or_dyndep};
 
 /// Whether the name means paths of an edge.
 pub(crate) fn names_paths(name: &[u8]) -> bool
@@ -26,4 +27,12 @@ pub(crate) fn is_quoted(asked: &[u8]) -> bool
     !(asked == b"rspfile".as_slice()
         || asked == b"depfile".as_slice()
         || asked == b"dyndep".as_slice())
+}
+
+/// Whether the name assigns a pool or a dyndep file to an edge.
+#[inline(always)]
+pub(crate) fn is_pool_or_dyndep(name: &[u8]) -> bool
+    ensures { result ≡ is_pool_or_dyndep name.now }
+{
+    name == b"pool".as_slice() || name == b"dyndep".as_slice()
 }

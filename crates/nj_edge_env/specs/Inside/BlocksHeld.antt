@@ -1,9 +1,10 @@
 -- How the values of blocks are held: as parts of one text, by the numbers of names. Nothing here has to be believed.
-use Rattle.std.specs.Prelude.{◌≡◌, ◌⊎◌, ℕ, zero, suc, ◌+◌, ◌<◌, ◌≤◌, ◌==◌, Bool, true, false, if◌then◌else◌, Option, Some, None, List, [], ◌∷◌, ◌++◌, map, length, drop, bytes_eq, slice_index_or, slice_range}
+use Rattle.std.specs.Prelude.{◌≡◌, ◌⊎◌, ℕ, zero, suc, ◌+◌, ◌<◌, ◌≤◌, ◌==◌, Bool, true, false, if◌then◌else◌, Option, Some, None, List, [], ◌∷◌, ◌++◌, map, length, drop, codes, bytes_eq, slice_index_or, slice_range}
 use Rattle.std.specs.Global.{Vec}
 use Rattle.std.specs.List.{AllByRecursion}
 use Rattle.nj_edge_env.specs.declared.bounds.Bound.{Bound}
-use Rattle.nj_edge_env.specs.Blocks.{BlocksText}
+use Rattle.nj_edges.specs.Edges.{is_among}
+use Rattle.nj_edge_env.specs.Blocks.{BlocksText, bound_in}
 
 -- ---- lists of numbers
 
@@ -68,6 +69,15 @@ pub record BlocksAreHeld (len last : ℕ) (names : List (List ℕ)) (bounds : Li
   pub values : AllByRecursion (BoundsAreHeld len last) bounds
   pub listed : (edge : ℕ) → AllByRecursion (λ number. number < length names) (list_at lists edge)
   pub lists_end : length lists ≤ last + 1
+
+-- the variables that assign a pool or a dyndep file to an edge
+abbrev pub is_pool_or_dyndep : (name : List ℕ) → Bool
+is_pool_or_dyndep name = is_among (codes "pool" ∷ codes "dyndep" ∷ []) name
+
+-- no block of an edge after this one binds one of them, and it is no edge after the last
+pub record BindNeitherAfter (assigning : ℕ) (blocks : BlocksText) : Type 0 where
+  pub within : assigning ≤ blocks.last
+  pub none : (edge : ℕ) (name : List ℕ) → is_pool_or_dyndep name ≡ true → assigning < edge → bound_in blocks edge name ≡ None
 
 -- the index of the first one that is this name
 abbrev pub IsFirstAt : (name : List ℕ) → (names : List (List ℕ)) → (number : ℕ) → Type 0
