@@ -5,15 +5,18 @@ Each crate with tests, and each program on the files that lie beside its `src/` 
 `data/`), is built with run-time checks and run by `rt try`, several side by side. A program has to
 write what its file `stdout` has and to end with the status in its file `status`. Where it ends with
 the line `N rows, M differ`, each of its rows counts. Then comes `make lint`. With names of crates
-only these are run.
+only these are run; without, the four programs on the library are not, which `make smoke` and `rt ci`
+run: most of the time is that of a build, and they would double it.
 
 A failure is told with the name of its test or row. A run that does not say how it ended fails. The
 last line is `N passed, M failed`, and the status is 1 if anything failed.
 """
 
 import argparse
+import contextlib
 import os
 import re
+import signal
 import subprocess
 import sys
 import threading
@@ -30,8 +33,10 @@ CRATES = TOP / "crates"
 # What reads files alone, and how it says how much passed.
 LINT = "lint"
 LINTED = re.compile(r"^(\d+) checks passed, (\d+) failed")
-# These take longest, so they begin first.
-LONGEST = ("nj_run_tests", "nj_run_rows")
+# It takes longest, so it begins first.
+LONGEST = "nj_run_rows"
+# What `make smoke` runs, on more than the stored files.
+SMOKED = ("affected_tests", "audit_build", "cache_keys", "draw_graph")
 # How `rt try` says that a program ended, and how often what may differ is told.
 ENDED = re.compile(r"^run=ended status=(\d+) .*proved=no$", re.M)
 ROWS = re.compile(r"^(\d+) rows, (\d+) differ$")
@@ -41,8 +46,8 @@ RESULT = re.compile(r"^test result: (\w+)\. (\d+) passed; (\d+) failed", re.M)
 MOST_LINES = 20
 # How long a program or a test may take, with run-time checks and with others beside it.
 SECONDS = "300"
-# A word of the checks that `rt try` makes beside a run, and the priority that they get.
-HINT, LEAST = b"\0no function\0", 19
+# A word of the checks that `rt try` makes beside a run.
+HINT = b"\0no function\0"
 
 
 @dataclass
@@ -160,20 +165,17 @@ def timed(call, name):
     return outcome
 
 
-def yield_to_runs(is_over):
-    """Gives the least of the processors to the checks of names that `rt try` makes beside its runs.
+def end_hints(is_over):
+    """Ends the checks of names that `rt try` makes beside its runs.
 
-    They give only hints, and would take as much as the runs. `rt try` ends them with its run.
+    They give only hints, which are not told here, and would take as much as the runs.
     """
     family = Family(os.getpid())
     while not is_over.wait(0.5):
         for pid in family.look():
-            try:
+            with contextlib.suppress(OSError):
                 if HINT in Path(f"/proc/{pid}/cmdline").read_bytes():
-                    for thread in os.listdir(f"/proc/{pid}/task"):
-                        os.setpriority(os.PRIO_PROCESS, int(thread), LEAST)
-            except OSError:
-                pass
+                    os.kill(pid, signal.SIGKILL)
 
 
 def has_tests(crate):
@@ -186,7 +188,7 @@ def work_for(names):
     """What is to be run, as calls and names, the longest first."""
     work = [(run_tests, name) for name in names if has_tests(name)]
     work += [(run_program, name) for name in names if (CRATES / name / "src/main.rt").is_file()]
-    return sorted(work, key=lambda it: it[1] not in LONGEST)
+    return sorted(work, key=lambda it: it[1] != LONGEST)
 
 
 def run_all(work, jobs):
@@ -216,10 +218,10 @@ def main():
     unknown = [name for name in words.crates if name not in crates]
     if unknown:
         raise SystemExit(f"crates.txt names no crate {unknown[0]}")
-    work = work_for(words.crates or crates)
+    work = work_for(words.crates or [name for name in crates if name not in SMOKED])
     work += [] if words.crates else [(run_lint, LINT)]
     is_over = threading.Event()
-    threading.Thread(target=yield_to_runs, args=[is_over], daemon=True).start()
+    threading.Thread(target=end_hints, args=[is_over], daemon=True).start()
     passed, failed = run_all(work, words.jobs)
     is_over.set()
     print("Nothing was proved: `make gate` proves, and runs what was proved.")
