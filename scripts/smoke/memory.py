@@ -9,7 +9,7 @@ them.)
 
 from lib.checks import check, expect
 from lib.programs import DONE, compiled, shown
-from lib.projects import MAIN, write_files
+from lib.projects import MAIN, targets_differ, write_files
 
 SHORT, LONG = 1_000, 100_000
 WALKS, LOADS = ["-t", "commands"], ["-t", "targets", "rule", "none"]
@@ -44,6 +44,7 @@ def of_walk(program, library, folder, edges):
 
 @check(needs=["cc"])
 def allocations_of_a_walk(program, folder):
+    yield from targets_differ(program, folder)
     library = compiled("fail_alloc", folder)
     short, long = (of_walk(program, library, folder, edges) for edges in (SHORT, LONG))
     yield from expect(f"allocations of a walk over {LONG:,} edges", long, short)

@@ -9,7 +9,7 @@ import subprocess
 
 from lib.checks import check, expect
 from lib.programs import EXAMPLES, ROOT, Ending, Program
-from lib.projects import write_cmake, write_files
+from lib.projects import targets_differ, write_cmake, write_files
 
 RECIPE = re.compile(r"^```sh\n(if ninja-explain .*?)^```$", re.M | re.S)
 DATABASE = "compile_commands.json"
@@ -59,6 +59,7 @@ def of_meson(program, folder):
 @check
 def of_neither(program, folder):
     """It writes nothing where no rule is found, and says so."""
+    yield from targets_differ(program, folder)
     build = folder / "build"
     write_files(build, {"build.ninja": (EXAMPLES / "hello/build.ninja").read_bytes()})
     yield from expect("the recipe", follow(program, folder, build), Ending(0, b"", NONE))

@@ -12,7 +12,7 @@ import tempfile
 
 from lib.checks import Skipped, check
 from lib.programs import DONE, STOPPED, Program, shown
-from lib.projects import MAIN, PROJECTS, RUNS, Project, runs_of
+from lib.projects import MAIN, PROJECTS, RUNS, Project, runs_of, targets_differ
 
 # ---- system calls
 
@@ -62,6 +62,7 @@ def runs_change_nothing(program, folder):
     words = [*TRACE, "-o", "/dev/null", "true"]
     if subprocess.run(words, stderr=subprocess.DEVNULL).returncode:
         raise Skipped("strace may not trace here")
+    yield from targets_differ(program, folder)
     for number, (name, words) in enumerate(runs_of(RUNS)):
         project, case, place = PROJECTS[name], f"{name}, {words}", folder / str(number)
         project.write_to(place)
