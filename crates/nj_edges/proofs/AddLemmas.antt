@@ -13,8 +13,8 @@ use Rattle.nj_edges.specs.declared.edges.KindEnds.{KindEnds}
 use Rattle.nj_edges.specs.Edges.{first_edge, is_among}
 use Rattle.nj_edges.specs.Inside.EdgesHeld.{within, table_of, row_between, with_maker, is_edge, is_made_by, has_number, AreNumbers, AreNamed, OpenAreNew, output_rows, EdgesAreHeld, TableIsHeld}
 use Rattle.nj_edges.specs.EdgeTables.{EdgeTable, naming, EndWithin, plus_output, plus_input, plus_validation, with_output, with_input, with_validation, is_made}
-use Rattle.nj_edges.specs.Files.{with_path}
-use Rattle.nj_edges.proofs.EdgeLemmas.{all-drop, ends_of, first-last, first-more, get-last, has-push, held-ended, held-input, held-new, held-output, held-validation, IsNew, IsOld, made-at, named-cases, none-front, open-among, rows-same, table-input, table-named, table-output, table-validation, unmade}
+use Rattle.nj_edges.specs.Files.{path_at, with_path}
+use Rattle.nj_edges.proofs.EdgeLemmas.{all-drop, among-get, ends_of, get-path, first-last, first-more, get-last, has-push, held-ended, held-input, held-new, held-output, held-validation, IsNew, IsOld, made-at, named-cases, none-front, open-among, rows-same, table-input, table-named, table-output, table-validation, unmade}
 use Rattle.nj_edges.proofs.GraphLemmas.{first-below}
 
 -- ---- tests
@@ -271,6 +271,41 @@ module _ (files : List (List ℕ)) (makers : List (Option ℕ)) (outputs inputs 
 
   pub other-table : is_made_by ms f.0 (length rows) ≡ false → table_of fs outputs (inputs ++ f ∷ []) validations rows starts ≡ cond (is_among t.«open».outputs path) t (with_input t path)
   other-table other = input-table ∙ ap (λ b. cond b t (with_input t path)) (sym other ∙ own-is)
+
+-- ---- an input whose file was there
+
+module _ (files : List (List ℕ)) (makers : List (Option ℕ)) (outputs inputs validations : List FileNo) (rows : List EdgeRow) (starts : OpenStarts) (held : TableIsHeld files makers outputs inputs validations rows starts) (f : FileNo) (t : EdgeTable)
+    (is : table_of files outputs inputs validations rows starts ≡ t) where
+  module _ (path : List ℕ) (here' : slice_get t.files f.0 ≡ Some path) where
+    here : slice_get files f.0 ≡ Some path
+    here = ap (λ (u : EdgeTable). slice_get u.files f.0) is ∙ here'
+
+    known : list_any (bytes_eq path) files ≡ true
+    known = among-get files f.0 path here
+
+    files-stay : files ≡ with_path files path
+    files-stay = sym (ap (λ b. cond b files (files ++ path ∷ [])) known)
+
+    makers-stay : makers ≡ with_maker files path makers
+    makers-stay = sym (ap (λ b. cond b makers (makers ++ None ∷ [])) known)
+
+    pub known-table : table_of files outputs (inputs ++ f ∷ []) validations rows starts ≡ with_input t path
+    known-table = input-table files makers outputs inputs validations rows starts held path files makers f files-stay makers-stay held.edges_are.distinct here t is
+
+    pub known-own-table : is_made_by makers f.0 (length rows) ≡ true → t ≡ cond (is_among t.«open».outputs path) t (with_input t path)
+    known-own-table own = sym is ∙ own-table files makers outputs inputs validations rows starts held path files makers f files-stay makers-stay held.edges_are.distinct here t is own
+
+    pub known-other-table : is_made_by makers f.0 (length rows) ≡ false → table_of files outputs (inputs ++ f ∷ []) validations rows starts ≡ cond (is_among t.«open».outputs path) t (with_input t path)
+    known-other-table other = other-table files makers outputs inputs validations rows starts held path files makers f files-stay makers-stay held.edges_are.distinct here t is other
+
+  pub known-within : f.0 < length t.files → f.0 < length makers
+  known-within below = subst (λ k. f.0 < k) (sym held.edges_are.makers_count) (subst (λ (u : EdgeTable). f.0 < length u.files) (sym is) below)
+
+  pub known-held : f.0 < length t.files → TableIsHeld files makers outputs (inputs ++ f ∷ []) validations rows starts
+  known-held below =
+      let path = path_at t.files f in
+      let here' : slice_get t.files f.0 ≡ Some path = get-path t.files f below in
+      input-held files makers outputs inputs validations rows starts held path files makers f (files-stay path here') (makers-stay path here') held.edges_are.distinct (here path here') t is
 
 -- ---- the end of an edge
 

@@ -155,6 +155,34 @@ impl Edges {
         Ok(())
     }
 
+    /// Appends an input to the edge that is being read, by the number of its file.
+    pub fn add_known_input(&mut self, file: FileNo) -> Result<(), AllocError>
+        requires { file.0 < length self.old.files }
+        ensures added { (path : List ℕ) → slice_get self.old.files file.0 ≡ Some path
+            → OnOk result (self.new ≡ with_input self.old path) }
+        ensures refused { OnErr result (self.new ≡ self.old) }
+    {
+        self.inputs.push(file)?;
+        Ok(())
+    }
+
+    /// Appends an input to the edge that is being read, by the number of its file, unless that edge
+    /// makes the file itself.
+    pub fn add_known_input_of_another(&mut self, file: FileNo) -> Result<(), AllocError>
+        requires { file.0 < length self.old.files }
+        ensures added { (path : List ℕ) → slice_get self.old.files file.0 ≡ Some path
+            → OnOk result (self.new ≡ (if is_among self.old.«open».outputs path then self.old
+            else with_input self.old path)) }
+        ensures refused { OnErr result (self.new ≡ self.old) }
+    {
+        let edge = self.rows.count();
+        if is_made_by(&self.makers, file, edge) {
+            return Ok(());
+        }
+        self.inputs.push(file)?;
+        Ok(())
+    }
+
     /// Appends a validation to the edge that is being read.
     pub fn add_validation(&mut self, path: &[u8]) -> Result<(), AllocError>
         ensures added { OnOk result (self.new ≡ with_validation self.old path.now) }
