@@ -7,12 +7,13 @@ use Rattle.nj_edges.specs.declared.edges.EdgeNo.{EdgeNo}
 use Rattle.nj_edges.specs.declared.edges.EdgeRow.{EdgeRow}
 use Rattle.nj_edges.specs.declared.edges.OpenStarts.{OpenStarts}
 use Rattle.nj_edges.specs.declared.users.RowPart.{RowPart}
+use Rattle.nj_edges.specs.declared.users.Users.{Users}
 use Rattle.nj_edges.specs.declared.users.RowPart.TheVariants.{Inputs, Validations}
 use Rattle.nj_edges.specs.EdgeGraphs.{EdgeGraph}
 use Rattle.nj_edges.specs.Edges.{EdgePaths, edges_from, inputs_of, is_among, users_of, validation_users_of}
 use Rattle.nj_edges.specs.Inside.EdgesHeld.{has_number, paths_at, within, edge_of, edges_of, RowIsWithin, EdgesAreHeld}
 use Rattle.nj_edges.specs.Files.{path_at}
-use Rattle.nj_edges.specs.Inside.UsersHeld.{AreParts, HaveUsers, numbers_of, using_edges}
+use Rattle.nj_edges.specs.Inside.UsersHeld.{AreParts, HaveUsers, HaveUsersIfAny, numbers_of, using_edges}
 use Rattle.nj_edges.proofs.EdgeLemmas.{all-of, get-path, has-among, within-numbers}
 use Rattle.nj_edges.proofs.GraphLemmas.{kinds-joined}
 
@@ -78,3 +79,6 @@ parts-lent count starts ss edges es uses s e held = rw (s, e) held.parts_are
 
 pub held-users : (count n : ℕ) (starts numbers : List ℕ) (part : RowPart) (fs files : List FileNo) (rows : List EdgeRow) → count ≡ n → fs ≡ files → HaveUsers count starts numbers (using_edges fs part 0 rows) → HaveUsers n starts numbers (using_edges files part 0 rows)
 held-users count n starts numbers part fs files rows c f held = rw (← c, ← f) held
+
+pub held-if-any : (count n : ℕ) (found : Option Users) (part : RowPart) (fs files : List FileNo) (rows : List EdgeRow) → count ≡ n → fs ≡ files → HaveUsersIfAny count found (using_edges fs part 0 rows) → HaveUsersIfAny n found (using_edges files part 0 rows)
+held-if-any count n found part fs files rows c f held = rw (← c, ← f) held

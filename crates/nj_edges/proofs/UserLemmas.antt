@@ -7,6 +7,7 @@ use Rattle.std.proofs.lemmas.List.{drop-map, take_more, take-append-drop, length
 use Rattle.nj_edges.specs.declared.files.FileNo.{FileNo}
 use Rattle.nj_edges.specs.declared.edges.EdgeNo.{EdgeNo}
 use Rattle.nj_edges.specs.declared.edges.EdgeRow.{EdgeRow}
+use Rattle.nj_edges.specs.declared.edges.Span.{Span}
 use Rattle.nj_edges.specs.declared.users.RowPart.{RowPart}
 use Rattle.nj_edges.specs.Edges.{edges_from}
 use Rattle.nj_edges.specs.Inside.EdgesHeld.{has_number, within}
@@ -316,3 +317,29 @@ part-inside edges start end users part = subst (λ n. end ≤ n) (length-map edg
 
 pub part-users : (edges found : List EdgeNo) (start end : ℕ) (users : List ℕ) → found ≡ slice_range edges start end → IsPart (numbers_of edges) start end users → numbers_of found ≡ users
 part-users edges found start end users is part = ap numbers_of is ∙ sym (numbers-part edges start end) ∙ part.users_are
+
+-- ---- no edge has files in a part
+
+take-none : {A : Type 0} (n : ℕ) → take {A = A} n [] ≡ []
+take-none zero = refl
+take-none (suc n) = refl
+
+drop-none : {A : Type 0} (n : ℕ) → drop {A = A} n [] ≡ []
+drop-none zero = refl
+drop-none (suc n) = refl
+
+none-has : (n : ℕ) (span : Span) → has_number n (within [] span) ≡ false
+none-has n span = ap (λ ns. has_number n (take (span.end - span.start) ns)) (drop-none span.start) ∙ ap (has_number n) (take-none (span.end - span.start))
+
+none-use : (part : RowPart) (edge : ℕ) (rows : List EdgeRow) (n : ℕ) → using_edges [] part edge rows n ≡ []
+none-use part edge [] n = refl
+none-use part edge (row ∷ rows) n =
+    ap (λ b. cond b (edge ∷ using_edges [] part (edge + 1) rows n) (using_edges [] part (edge + 1) rows n)) (none-has n (span_of part row)) ∙ none-use part (edge + 1) rows n
+
+pub no-users : (files : List FileNo) (part : RowPart) (rows : List EdgeRow) → (length files == 0) ≡ true → (n : ℕ) → using_edges files part 0 rows n ≡ []
+no-users [] part rows none n = none-use part 0 rows n
+no-users (f ∷ files) part rows none n = by (eqb_tells (length (f ∷ files)) 0)
+  where
+    by : ((length (f ∷ files) == 0) ≡ true × (length (f ∷ files) ≡ 0)) ⊎ ((length (f ∷ files) == 0) ≡ false × (length (f ∷ files) ≢ 0)) → using_edges (f ∷ files) part 0 rows n ≡ []
+    by (inl same) = let count : length (f ∷ files) ≡ 0 = same.1 in absurd (omega arith)
+    by (inr apart) = absurd (true≢false (sym none ∙ apart.0))

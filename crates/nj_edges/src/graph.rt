@@ -17,7 +17,7 @@ use crate::lists::{first, part};
 use crate::makers::Makers;
 use crate::roots::roots;
 use crate::rows::Rows;
-use crate::users::{RowPart, Users, users_at, users_of_files};
+use crate::users::{RowPart, Users, users_at, users_if_any, users_of_files};
 use nj_cycles::{EdgeInputs, first_on_cycle};
 use std::alloc::{AllocError, Global};
 use std::marker::Model;
@@ -33,7 +33,8 @@ pub struct EdgeGraph {
     pub(crate) rows: Rows,
     roots: Vec<FileNo>,
     users: Users,
-    validation_users: Users,
+    // none where no edge has validations
+    validation_users: Option<Users>,
 }
 
 impl Model for EdgeGraph {
@@ -203,11 +204,10 @@ impl EdgeGraph {
             ≡ validation_users_of self.now.edges (path_at self.now.files file) }
         ensures known { All (λ edge. edge.0 < length self.now.edges) result.now }
     {
-        users_at(
-            &self.validation_users.starts,
-            &self.validation_users.edges,
-            file,
-        )
+        match &self.validation_users {
+            Some(users) => users_at(&users.starts, &users.edges, file),
+            None => &[],
+        }
     }
 
     /// The table of the files that the edges name; for this library's own crates.
@@ -328,7 +328,7 @@ impl Edges {
         let count = files.count();
         let roots = roots(alloc, count, &outputs, &inputs)?;
         let users = users_of_files(alloc, count, &inputs, &rows, RowPart::Inputs)?;
-        let validation_users = users_of_files(
+        let validation_users = users_if_any(
             alloc,
             count,
             &validations,

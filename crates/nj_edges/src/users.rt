@@ -3,7 +3,7 @@
 ghost use Rattle.std.specs.Prelude.{◌≡◌, ℕ, List, ◌+◌, ◌<◌, ◌≤◌, ◌^◌, Some, length, slice_get, slice_index_or, IfOk, OnOk};
 ghost use Rattle.std.specs.List.{AllByRecursion};
 ghost use Rattle.nj_edges.specs.Inside.EdgesHeld.{AreNumbers, IsWithin, within};
-ghost use Rattle.nj_edges.specs.Inside.UsersHeld.{AreCounted, AreCounts, AreEnds, AreMarks, AreParts, ArePlaced, HaveCapacity, HaveUsers, numbers_of, plus_use, plus_uses, span_of, starts_with, users_before, using_edges};
+ghost use Rattle.nj_edges.specs.Inside.UsersHeld.{AreCounted, AreCounts, AreEnds, AreMarks, AreParts, ArePlaced, HaveCapacity, HaveUsers, HaveUsersIfAny, numbers_of, plus_use, plus_uses, span_of, starts_with, users_before, using_edges};
 
 use crate::edges::{EdgeNo, EdgeRow, Span};
 use crate::files::FileNo;
@@ -48,6 +48,27 @@ pub(crate) fn users_of_files(
     let user_count = add_up(&mut starts)?;
     let edges = placed_users(alloc, &mut starts, user_count, files, rows, row_part)?;
     Ok(Users { starts, edges })
+}
+
+/// The same; `None` if this part is empty in every edge.
+pub(crate) fn users_if_any(
+    alloc: Global,
+    file_count: usize,
+    files: &[FileNo],
+    rows: &Rows,
+    row_part: RowPart,
+) -> Result<Option<Users>, AllocError>
+    requires files { AreNumbers file_count files.now }
+    requires rows { AllByRecursion (λ row. IsWithin (span_of row_part row) (length files.now))
+        rows.now }
+    ensures { IfOk result (λ users. HaveUsersIfAny file_count users
+        (using_edges files.now row_part 0 rows.now)) }
+{
+    if files.is_empty() {
+        return Ok(None);
+    }
+    let users = users_of_files(alloc, file_count, files, rows, row_part)?;
+    Ok(Some(users))
 }
 
 // The users of a file.

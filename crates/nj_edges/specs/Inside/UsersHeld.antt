@@ -1,5 +1,5 @@
 -- How the users of files are held and found.
-use Rattle.std.specs.Prelude.{◌≡◌, ℕ, zero, suc, ◌+◌, ◌<◌, ◌≤◌, ◌==◌, Bool, false, if◌then◌else◌, List, [], ◌∷◌, map, length}
+use Rattle.std.specs.Prelude.{◌≡◌, ℕ, zero, suc, ◌+◌, ◌<◌, ◌≤◌, ◌==◌, Bool, false, if◌then◌else◌, Option, Some, None, List, [], ◌∷◌, map, length}
 use Rattle.std.specs.Prelude.{slice_index_or, slice_range}
 use Rattle.nj_edges.specs.declared.files.FileNo.{FileNo}
 use Rattle.nj_edges.specs.declared.edges.EdgeNo.{EdgeNo}
@@ -7,6 +7,7 @@ use Rattle.nj_edges.specs.declared.edges.EdgeRow.{EdgeRow}
 use Rattle.nj_edges.specs.declared.edges.Span.{Span}
 use Rattle.nj_edges.specs.declared.users.RowPart.{RowPart}
 use Rattle.nj_edges.specs.declared.users.RowPart.TheVariants.{Inputs, Validations}
+use Rattle.nj_edges.specs.declared.users.Users.{Users}
 use Rattle.nj_edges.specs.Edges.{edges_from}
 use Rattle.nj_edges.specs.Inside.EdgesHeld.{has_number, within}
 
@@ -36,6 +37,11 @@ AreParts starts numbers users = (n : ℕ) → n + 1 < length starts → IsPart n
 pub record HaveUsers (count : ℕ) (starts numbers : List ℕ) (users : ℕ → List ℕ) : Type 0 where
   pub count_is : length starts ≡ count + 1
   pub parts_are : AreParts starts numbers users
+
+-- no list is held where no file has users
+abbrev pub HaveUsersIfAny : (count : ℕ) → Option Users → (users : ℕ → List ℕ) → Type 0
+HaveUsersIfAny count None users = (n : ℕ) → users n ≡ []
+HaveUsersIfAny count (Some held) users = HaveUsers count held.starts.items (numbers_of held.edges.items) users
 
 -- ---- the uses that were seen, while edges are taken from the last one on
 

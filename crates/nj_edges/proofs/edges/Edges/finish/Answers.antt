@@ -8,7 +8,7 @@ use Rattle.nj_edges.specs.EdgeTables.{EdgeTable}
 use Rattle.nj_edges.specs.Needs.{makers_of_inputs}
 use Rattle.nj_edges.proofs.CycleLemmas.{row-below, outputs-end, some-output, first-output}
 use Rattle.nj_edges.proofs.GraphLemmas.{held-whole, inputs-below, maker-below, rows-end, rows-rise, first-paths, first-table, same-first, on-edge}
-use Rattle.nj_edges.proofs.GraphUsers.{held-users}
+use Rattle.nj_edges.proofs.GraphUsers.{held-if-any, held-users}
 use Rattle.nj_edges.proofs.RootLemmas.{roots-held}
 use Rattle.nj_edges.proofs.edges.Edges.finish.Goals as goal
 
@@ -33,7 +33,7 @@ invariant_of-result c =
       acyclic = first-paths _ _ _ _ _ _ held None found;
       roots_are = roots-held _ _ _ _ _ _ held c.in_ok-roots.roots.items _ _ c.deref-2.ensures.value c.deref-3.ensures.value c.in_ok-roots.ensures;
       users_are = held-users _ _ _ _ Inputs _ _ c.self.inside.rows c.count-count.ensures.count c.deref-4.ensures.value c.in_ok-users.ensures;
-      validation_users_are = held-users _ _ _ _ Validations _ _ c.self.inside.rows c.count-count.ensures.count c.deref-5.ensures.value c.in_ok-validation_users.ensures;
+      validation_users_are = held-if-any _ _ _ Validations _ _ c.self.inside.rows c.count-count.ensures.count c.deref-5.ensures.value c.in_ok-validation_users.ensures;
     }
 
 pub row_at-row-requires : goal.row_at-row-requires
