@@ -71,10 +71,11 @@ lib/pkgconfig/ninja_explain.pc: include/ninja_explain.pc.in
 	sed 's|@PREFIX@|$(CURDIR)|' $< > $@
 
 # Builds the program without any proof, and prints the commands of a project in three files. With
-# FOLDER=.. it runs on the *.ninja files in that folder and below, with the words WORDS='..'.
+# FOLDER=.. it runs on the *.ninja files in that folder and below, with the words WORDS='..'; after a
+# word `;` comes another question. Both are passed on through the environment, so quotes stay.
 run:
 ifdef FOLDER
-	@python3 scripts/try_folder.py "$(FOLDER)" $(WORDS)
+	@python3 scripts/try_folder.py "$$FOLDER" "$$WORDS"
 else
 	cd $(PROGRAM) && rt try $(foreach file,$(FILES),--data $(file)=../../$(PROJECT)/$(file)) -- -t commands
 endif

@@ -1,0 +1,29 @@
+"""Tries pieces of scripts on rows, where nothing else runs them."""
+
+from pathlib import Path
+
+import try_folder
+from lib.checks import check, expect
+
+# The words of `make run`, and the questions that they are.
+WORDS = {
+    "": [],
+    "-t rules": [["-t", "rules"]],
+    "-t query 'a b' \"c'd\"": [["-t", "query", "a b", "c'd"]],
+    "-t rules ; -t query 'a b'": [["-t", "rules"], ["-t", "query", "a b"]],
+    " ; -t rules ; ; -t targets a;b ; ": [["-t", "rules"], ["-t", "targets", "a;b"]],
+}
+
+
+@check
+def words_of_make_run():
+    for words, wanted in WORDS.items():
+        yield from expect(repr(words), try_folder.questions(words), wanted)
+
+
+@check
+def cases_of_make_run(folder):
+    try_folder.write_cases([["-t", "rules"], ["-t", "query", "a b"]], folder)
+    found = {it.name: it.read_text() for it in Path(folder).iterdir()}
+    wanted = {"1": "", "1.args": "-t\nrules\n", "2": "", "2.args": "-t\nquery\na b\n"}
+    yield from expect("the cases", found, wanted)
