@@ -13,5 +13,6 @@ pub mod SourceLemmas
 pub mod ValueLaws
 pub mod ValueRows
 pub mod DeclarationLemmas
+pub mod NamesNotBound
 pub mod RuleNames
 pub mod NewRules

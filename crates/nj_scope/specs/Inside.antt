@@ -2,5 +2,6 @@
 pub mod KeysHeld
 pub mod LateHeld
 pub mod MemoryHeld
+pub mod PoolOrDyndep
 pub mod ScopesHeld
 pub mod TableHeld

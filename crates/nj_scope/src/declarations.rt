@@ -9,6 +9,7 @@ ghost use Rattle.nj_scope.specs.Scopes.{IsScope, expanded, parent_at, rule_at};
 ghost use Rattle.nj_scope.specs.Pools.{is_pool};
 ghost use Rattle.nj_scope.specs.Declarations.{DeclaredBy, TakesIn, Keeps, SameScopes};
 ghost use Rattle.nj_scope.specs.ReadingList.{ReadStatement, value_after, value_if_bound, is_declared, rule_in_force};
+ghost use Rattle.nj_scope.specs.Inside.PoolOrDyndep.{is_pool_or_dyndep};
 
 use crate::pools::Pools;
 use crate::rule::Rule;
@@ -33,14 +34,20 @@ pub struct Declarations {
     pools: Pools,
     // The buffer in which a value is expanded, before it is kept in as much memory as it needs.
     buffer: Vec<u8>,
+    // Whether a scope may bind `pool` or `dyndep`. Few do, and both are looked up for every edge.
+    binds_pool_or_dyndep: bool,
 }
 
 impl Model for Declarations {
+    ghost use Rattle.std.specs.Prelude.{◌≡◌, false};
     ghost use Rattle.nj_scope.specs.Declarations.{DeclarationsText};
+    ghost use Rattle.nj_scope.specs.Inside.PoolOrDyndep.{BindNeither};
 
     ghost Value = { DeclarationsText };
 
     ghost view = { λ d. record { scopes = d.scopes; rules = d.rules.items; pools = d.pools } };
+
+    ghost invariant = { λ d. d.binds_pool_or_dyndep ≡ false → BindNeither d.scopes };
 }
 
 impl Declarations {
@@ -59,6 +66,7 @@ impl Declarations {
             rules,
             pools: Pools::new(alloc, keys),
             buffer: Vec::new(alloc),
+            binds_pool_or_dyndep: false,
         })
     }
 
@@ -82,6 +90,7 @@ impl Declarations {
         self.buffer.clear();
         self.scopes.append_expanded(scope, value, &mut self.buffer)?;
         let value = Vec::from_slice(alloc, &self.buffer)?;
+        self.binds_pool_or_dyndep = self.binds_pool_or_dyndep || is_pool_or_dyndep(name);
         self.scopes.bind(scope, name, value)
     }
 
@@ -186,6 +195,9 @@ impl Declarations {
             → IsScope (parent_at self.now.scopes) scope (scope ∷ around)
             → result.now ≡ value_after entries (scope ∷ around) name.now }
     {
+        if !self.binds_pool_or_dyndep && is_pool_or_dyndep(name) {
+            return &[];
+        }
         self.scopes.value(scope, name)
     }
 
@@ -197,6 +209,9 @@ impl Declarations {
             → IsScope (parent_at self.now.scopes) scope (scope ∷ around)
             → option_copied result ≡ value_if_bound entries (scope ∷ around) name.now }
     {
+        if !self.binds_pool_or_dyndep && is_pool_or_dyndep(name) {
+            return None;
+        }
         self.scopes.value_if_bound(scope, name)
     }
 
@@ -256,4 +271,12 @@ impl Declarations {
     {
         self.rules.as_slice()
     }
+}
+
+/// Whether it is a variable that assigns a pool or a dyndep file to an edge.
+#[inline(always)]
+fn is_pool_or_dyndep(name: &[u8]) -> bool
+    ensures { result ≡ is_pool_or_dyndep name.now }
+{
+    name == b"pool".as_slice() || name == b"dyndep".as_slice()
 }
