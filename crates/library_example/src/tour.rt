@@ -25,13 +25,14 @@ use errors::{is_of_words, log_line};
 use lines::append_line;
 use loading::{load_folder, load_text};
 use nj_disk::DiskFiles;
-use nj_graph::{FileNo, Graph, pick_target};
+use nj_graph::{FileNo, Graph, Loaded, pick_target};
+use nj_needs::Mark;
 use nj_tools::{Error, WriteSink, write_whole};
 use sources::FolderFiles;
 use std::alloc::{AllocError, Global};
 use targets::{append_defaults, append_target};
 use variables::{append_assigned, append_commands, append_whole_commands};
-use walks::{append_order, write_page};
+use walks::{append_order, mark_text, write_page};
 use writers::write_lists;
 
 /// Writes what all of them return.
@@ -56,12 +57,23 @@ fn show_files(rt: HostRuntime) -> Result<(), Error> {
 
 /// Shows a graph.
 fn show_graph(rt: HostRuntime, graph: &Graph) -> Result<(), Error> {
-    let mut text = Vec::new(rt.alloc());
-    append_edges_and_targets(rt.alloc(), &mut text, graph)?;
-    append_variables(rt.alloc(), &mut text, graph)?;
-    append_declared(rt.alloc(), &mut text, graph)?;
-    write_text(rt, &text)?;
+    show_facts(rt, graph)?;
     show_target(rt, graph, pick_target(rt.alloc(), graph, b"hello")?)
+}
+
+/// Writes what a graph has, and what its files declare.
+fn show_facts(rt: HostRuntime, graph: &Graph) -> Result<(), Error> {
+    let mut text = Vec::new(rt.alloc());
+    append_facts(rt.alloc(), &mut text, graph)?;
+    write_text(rt, &text)
+}
+
+/// Appends this.
+fn append_facts(alloc: Global, text: &mut Vec<u8>, graph: &Graph) -> Result<(), nj_graph::Error> {
+    append_edges_and_targets(alloc, text, graph)?;
+    append_variables(alloc, text, graph)?;
+    append_declared(alloc, text, graph)?;
+    Ok(())
 }
 
 /// Appends what a graph has of edges, files and targets.
@@ -100,41 +112,63 @@ fn append_declared(alloc: Global, text: &mut Vec<u8>, graph: &Graph) -> Result<(
 fn show_target(rt: HostRuntime, graph: &Graph, target: FileNo) -> Result<(), Error>
     requires { target.0 < length (files_of graph.now) }
 {
-    let mut text = Vec::new(rt.alloc());
-    append_line(&mut text, &[b"== a walk"])?;
-    append_order(rt.alloc(), &mut text, graph, target)?;
-    write_text(rt, &text)?;
+    show_order(rt, graph, target)?;
     show_page(rt, graph, target, "start")?;
     show_page(rt, graph, target, "0.1")?;
     write_text(rt, b"== lists\n")?;
-    let mut out = WriteSink::new(rt.stdout());
-    write_lists(rt.alloc(), graph, target, &mut out)?;
+    write_lists(rt.alloc(), graph, target, &mut WriteSink::new(rt.stdout()))?;
     Ok(())
+}
+
+/// Writes the order of what a target needs.
+fn show_order(rt: HostRuntime, graph: &Graph, target: FileNo) -> Result<(), Error>
+    requires { target.0 < length (files_of graph.now) }
+{
+    write_text(rt, b"== a walk\n")?;
+    let mut text = Vec::new(rt.alloc());
+    append_order(rt.alloc(), &mut text, graph, target)?;
+    write_text(rt, &text)
 }
 
 /// Writes a page of commands, and the mark of the next one.
 fn show_page(rt: HostRuntime, graph: &Graph, target: FileNo, mark: &str) -> Result<(), Error>
     requires { target.0 < length (files_of graph.now) }
 {
-    let mut out = WriteSink::new(rt.stdout());
-    let next = write_page(rt.alloc(), graph, target, mark, &mut out)?;
-    let next = next.as_deref().unwrap_or("none");
+    let mark = Mark::read(rt.alloc(), mark)?;
+    let next = write_page(
+        rt.alloc(),
+        graph,
+        target,
+        &mark,
+        &mut WriteSink::new(rt.stdout()),
+    )?;
+    show_mark(rt, next.as_ref())
+}
+
+/// Writes the mark of the next page.
+fn show_mark(rt: HostRuntime, next: Option<&Mark>) -> Result<(), Error> {
+    let next = mark_text(rt.alloc(), next)?;
     let line = format!(in rt.alloc(); "next mark: {next}\n")?;
     write_text(rt, line.as_bytes())
 }
 
 /// Writes what a change of `greet.h` reaches once dyndep files are joined.
 fn show_joined_files(rt: HostRuntime) -> Result<(), Error> {
-    let source = DiskFiles::new(rt, rt.alloc(), None)?;
-    let mut files = FolderFiles { source };
-    let joined = load_joined(rt.alloc(), &mut files, "build.ninja")?;
+    let joined = load_joined_folder(rt)?;
     show_joined_graph(rt, joined.graph())
 }
 
-/// The same in a graph to which they were joined.
+/// The files of the working folder alone, and what their dyndep files discover.
+fn load_joined_folder(rt: HostRuntime) -> Result<Loaded, nj_graph::Error> {
+    let source = DiskFiles::new(rt, rt.alloc(), None)?;
+    let mut files = FolderFiles { source };
+    load_joined(rt.alloc(), &mut files, "build.ninja")
+}
+
+/// Writes the same of a graph to which they were joined.
 fn show_joined_graph(rt: HostRuntime, graph: &Graph) -> Result<(), Error> {
+    write_text(rt, b"== with dyndep files\n")?;
     let mut text = Vec::new(rt.alloc());
-    append_line(&mut text, &[b"== with dyndep files"])?;
     append_affected(rt.alloc(), &mut text, graph, b"greet.h")?;
     write_text(rt, &text)
 }
@@ -142,16 +176,16 @@ fn show_joined_graph(rt: HostRuntime, graph: &Graph) -> Result<(), Error> {
 /// Writes what is wrong with two manifests, and with a word.
 fn show_faults(rt: HostRuntime) -> Result<(), Error> {
     let mut text = Vec::new(rt.alloc());
-    append_line(&mut text, &[b"== errors"])?;
-    append_fault(rt.alloc(), &mut text, b"rule cc\n  depth = 1\n", b"a")?;
-    append_fault(
-        rt.alloc(),
-        &mut text,
-        b"build a: phony b\nbuild b: phony a\n",
-        b"a",
-    )?;
-    append_fault(rt.alloc(), &mut text, b"build a: phony\n", b"b")?;
+    append_faults(rt.alloc(), &mut text)?;
     write_text(rt, &text)
+}
+
+/// Appends this, a line each.
+fn append_faults(alloc: Global, text: &mut Vec<u8>) -> Result<(), AllocError> {
+    append_line(text, &[b"== errors"])?;
+    append_fault(alloc, text, b"rule cc\n  depth = 1\n", b"a")?;
+    append_fault(alloc, text, b"build a: phony b\nbuild b: phony a\n", b"a")?;
+    append_fault(alloc, text, b"build a: phony\n", b"b")
 }
 
 /// Appends the line of the error of a manifest, or of a word that is asked of its graph.
@@ -185,6 +219,11 @@ fn blamed(error: &Error) -> &'static [u8] {
 /// Asks for the target that a word means in the graph of a manifest.
 fn ask(alloc: Global, manifest: &[u8], word: &[u8]) -> Result<(), Error> {
     let loaded = load_text(alloc, manifest)?;
-    pick_target(alloc, loaded.graph(), word)?;
+    ask_graph(alloc, loaded.graph(), word)
+}
+
+/// Asks a graph for it.
+fn ask_graph(alloc: Global, graph: &Graph, word: &[u8]) -> Result<(), Error> {
+    pick_target(alloc, graph, word)?;
     Ok(())
 }

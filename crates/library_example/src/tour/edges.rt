@@ -20,11 +20,18 @@ pub fn append_sources(text: &mut Vec<u8>, graph: &Graph) -> Result<(), AllocErro
 /// Appends a line for each edge: where its statement is, and its rule.
 pub fn append_edges(alloc: Global, text: &mut Vec<u8>, graph: &Graph) -> Result<(), AllocError> {
     for edge in graph.edge_numbers() {
-        let place = graph.edge_place(edge).to_place(alloc)?;
-        let place = format!(in alloc; "{place}: ")?;
-        append_line(text, &[place.as_bytes(), graph.rule_name(edge)])?;
+        let place = place_text(alloc, graph, edge)?;
+        append_line(text, &[place.as_bytes(), b": ", graph.rule_name(edge)])?;
     }
     Ok(())
+}
+
+/// Where the statement of an edge is: `FILE:LINE:COLUMN`.
+fn place_text(alloc: Global, graph: &Graph, edge: EdgeNo) -> Result<String, AllocError>
+    requires { edge.0 < length (edges_of graph.now) }
+{
+    let place = graph.edge_place(edge).to_place(alloc)?;
+    format!(in alloc; "{place}")
 }
 
 /// Appends a line for each input of an edge: its kind and its path.

@@ -26,22 +26,27 @@ pub fn append_order(
     Ok(())
 }
 
-/// Writes two of the commands that a target needs, from a mark on, which `start` or an earlier call
-/// gives. Returns the mark of the next page, if there is one.
+/// Writes two of the commands that a target needs, from a mark on. Returns the mark of the next page,
+/// if there is one.
 pub fn write_page<S: Sink>(
     alloc: Global,
     graph: &Graph,
     target: FileNo,
-    mark: &str,
+    mark: &Mark,
     out: &mut S,
-) -> Result<Option<String>, Error>
+) -> Result<Option<Mark>, Error>
     requires { target.0 < length (files_of graph.now) }
 {
     let targets = [target];
-    let mark = Mark::read(alloc, mark)?;
-    let mut needs = Needs::resume(alloc, graph.edge_graph(), &targets, &mark)?;
-    match write_commands(alloc, graph, &mut needs, Some(2), out)? {
-        Some(next) => Ok(Some(next.to_text(alloc)?)),
-        None => Ok(None),
+    let mut needs = Needs::resume(alloc, graph.edge_graph(), &targets, mark)?;
+    let next = write_commands(alloc, graph, &mut needs, Some(2), out)?;
+    Ok(next)
+}
+
+/// A mark as a text, which `Mark::read` reads in another process too; `none` where there is none.
+pub fn mark_text(alloc: Global, mark: Option<&Mark>) -> Result<String, AllocError> {
+    match mark {
+        Some(mark) => mark.to_text(alloc),
+        None => String::from_str(alloc, "none"),
     }
 }
