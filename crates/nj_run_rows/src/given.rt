@@ -60,6 +60,16 @@ impl<'b> Given<'b> {
         Ok(source)
     }
 
+    /// The bytes of a file that is given; nothing if it is not.
+    pub fn bytes(&self, name: &str) -> &'b [u8] {
+        'files: for (given, bytes) in self.files.iter().rev() {
+            if *given == name {
+                return bytes;
+            }
+        }
+        b""
+    }
+
     /// The output of a run.
     pub fn output(&self) -> MemorySink {
         MemorySink::new(self.alloc, self.output)

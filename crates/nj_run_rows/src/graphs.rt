@@ -3,6 +3,7 @@
 ghost use Rattle.std.specs.Prelude.{◌<◌, length, All};
 ghost use Rattle.nj_graph.specs.Graph.{edges_of, files_of};
 
+use crate::calls::put_written;
 use nj_graph::{EdgeNo, FileNo, Graph, Kind, PlaceRef, pick_target};
 use std::alloc::{AllocError, Global};
 
@@ -27,6 +28,7 @@ pub fn put_of_graph(
         "declared" => put_declared(alloc, text, graph),
         "openings" => put_openings(alloc, text, graph),
         "blocks" => put_blocks(text, graph),
+        "written" => put_written(alloc, text, graph.rules(), word),
         _ => text.extend_from_slice(b"no row is of this kind\n"),
     }
 }

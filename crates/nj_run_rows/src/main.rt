@@ -3,6 +3,7 @@
 //! rows are written.
 #![tactic(auto)]
 
+mod calls;
 mod given;
 mod graphs;
 mod outcomes;

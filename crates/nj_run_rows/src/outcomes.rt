@@ -1,5 +1,6 @@
 //! What rows ask for, as text.
 
+use crate::calls::of_call;
 use crate::given::Given;
 use crate::graphs::put_of_graph;
 use crate::requests::asked;
@@ -18,7 +19,10 @@ pub(crate) fn outcome(
         "run" => run(alloc, given, row.rest),
         "load" => first_fault(alloc, &mut given.source()?, row.rest),
         "request" => asked(alloc, &words_of(alloc, row.rest)?),
-        _ => of_graph(alloc, given, row),
+        _ => match of_call(alloc, given, row)? {
+            Some(text) => Ok(text),
+            None => of_graph(alloc, given, row),
+        },
     }
 }
 
