@@ -55,7 +55,7 @@ pub struct Building {
 impl Model for Building {
     ghost use Rattle.std.specs.Prelude.{◌≤◌, length, map};
     ghost use Rattle.nj_statements.specs.Answers.{BuildingText};
-    ghost use Rattle.nj_statements.specs.Inside.EdgeSteps.{detail_text};
+    ghost use Rattle.nj_statements.specs.Inside.EdgeSteps.{AreClean, detail_text};
 
     ghost Value = { BuildingText };
 
@@ -69,7 +69,8 @@ impl Model for Building {
       references = b.references.items;
     } };
 
-    ghost invariant = { λ b. b.block_values.last ≤ length b.details.items };
+    ghost invariant = { λ b. (b.block_values.last ≤ length b.details.items)
+        × AreClean b.edges.files };
 }
 
 impl Building {

@@ -85,8 +85,8 @@ pub(crate) fn clean_bytes<'b>(word: &'b Word<'_>) -> Option<&'b [u8]>
     if is_clean(bytes) { Some(bytes) } else { None }
 }
 
-// The bytes of a word that has no reference and no escape.
-fn only_bytes<'b>(word: &'b Word<'_>) -> Option<&'b [u8]>
+/// The bytes of a word that has no reference and no escape.
+pub(crate) fn only_bytes<'b>(word: &'b Word<'_>) -> Option<&'b [u8]>
     ensures { IfSome result (λ bytes. (word_text word.now).parts ≡ Text bytes.now ∷ []) }
 {
     match word.parts.as_slice() {

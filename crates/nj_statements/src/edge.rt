@@ -1,8 +1,10 @@
 //! The files that a build statement names.
 
-ghost use Rattle.std.specs.Prelude.{◌≡◌, ◌==◌, ◌<◌, ◌≤◌, ◌+◌, ◌++◌, ◌∷◌, false, Some, length, slice_get, codes, IfOk, OnOk, OnErr};
-ghost use Rattle.nj_scope.specs.Scopes.{first_given};
+ghost use Rattle.std.specs.Prelude.{◌≡◌, ℕ, List, ◌==◌, ◌<◌, ◌≤◌, ◌+◌, ◌++◌, ◌∷◌, false, Some, length, slice_get, codes, IfOk, IfSome, OnOk, OnErr};
+ghost use Rattle.nj_scope.specs.Scopes.{expanded, first_given};
 ghost use Rattle.std.specs.Option.{option_or};
+ghost use Rattle.nj_text.specs.Calls.{is_empty};
+ghost use Rattle.nj_text.specs.Paths.{clean_path_of};
 ghost use Rattle.nj_text.specs.Words.{word_text};
 ghost use Rattle.nj_manifest.specs.Contents.{words_text, outputs_text, inputs_text};
 ghost use Rattle.nj_scope.specs.ReadingList.{value_after, pools};
@@ -14,11 +16,11 @@ ghost use Rattle.nj_edge_env.specs.LateStrings.{asked_text};
 ghost use Rattle.nj_edge_env.specs.ReferencesHeld.{TellsCycles};
 ghost use Rattle.nj_statements.specs.EdgeList.{Values, path_given, paths_given, stated_paths, loses_own, edge_paths, file_given};
 ghost use Rattle.nj_statements.specs.BuildFaults.{empty_path, target_fault, outputs_fault, inputs_fault, paths_fault};
-ghost use Rattle.nj_statements.specs.Answers.{Checks, KeepsRead};
+ghost use Rattle.nj_statements.specs.Answers.{Checks};
 ghost use Rattle.nj_statements.specs.Inside.Details.{AreNumbersOf};
-ghost use Rattle.nj_statements.specs.Inside.EdgeSteps.{SeesNames, IsFileGiven, assigned_by, bound_by, Grows, AddsInputs, AddsEdge, names_read, with_outputs, with_input_unless, with_inputs, with_validations, names_fault};
+ghost use Rattle.nj_statements.specs.Inside.EdgeSteps.{AreClean, KeepsClean, SeesNames, IsFileGiven, assigned_by, bound_by, Grows, AddsInputs, AddsEdge, names_read, with_outputs, with_input_unless, with_inputs, with_validations, names_fault};
 
-use crate::capacity::Capacity;
+use crate::capacity::{Capacity, only_bytes};
 use crate::context::Context;
 use crate::detail::Assigned;
 use crate::references::{PHONY, UsedRule};
@@ -56,7 +58,7 @@ impl Context<'_> {
     }
 
     /// Appends outputs to the edge that is being read.
-    #[tactic(auto, using(crate::proofs::Keeps::keeps_same, crate::proofs::Keeps::keeps_output))]
+    #[tactic(auto, using(crate::proofs::Keeps::keeps_all, crate::proofs::Keeps::keeps_same, crate::proofs::Keeps::keeps_output))]
     pub(crate) fn add_outputs(
         self,
         capacity: &mut Capacity,
@@ -70,7 +72,7 @@ impl Context<'_> {
             → OnOk result (edges.new
             ≡ with_outputs edges.old (paths_given values (words_text words.now))) }
         ensures grows { OnOk result (Grows (length words.now) edges.old edges.new) }
-        ensures keeps { KeepsRead edges.old edges.new }
+        ensures keeps { KeepsClean edges.old edges.new }
     {
         'words: for word in words {
             let path = self.path(capacity, word)?;
@@ -83,7 +85,7 @@ impl Context<'_> {
     }
 
     /// Appends inputs to the edge that is being read, without its own outputs if it loses them.
-    #[tactic(auto, using(crate::proofs::Keeps::keeps_same))]
+    #[tactic(auto, using(crate::proofs::Keeps::keeps_all, crate::proofs::Keeps::keeps_same))]
     pub(crate) fn add_inputs(
         self,
         capacity: &mut Capacity,
@@ -91,6 +93,7 @@ impl Context<'_> {
         words: &[Word<'_>],
         loses_own: bool,
     ) -> Result<(), GraphFault>
+        requires { AreClean edges.old.files }
         ensures fault { (values : Values) → SeesNames self.entry values
             → Checks (first_given (empty_path self.entry.place.file.now values)
             (words_text words.now)) result }
@@ -98,17 +101,44 @@ impl Context<'_> {
             → OnOk result (edges.new
             ≡ with_inputs loses_own edges.old (paths_given values (words_text words.now))) }
         ensures grows { OnOk result (Grows 0 edges.old edges.new) }
-        ensures keeps { KeepsRead edges.old edges.new }
+        ensures keeps { KeepsClean edges.old edges.new }
     {
         'words: for word in words {
-            let path = self.path(capacity, word)?;
-            add_input(edges, path, loses_own)?;
+            self.add_input(capacity, edges, word, loses_own)?;
         }
         Ok(())
     }
 
+    // Appends the input that a word names. A file that an edge names already is found by the word as
+    // it is, so that its path is not looked at again.
+    fn add_input(
+        self,
+        capacity: &mut Capacity,
+        edges: &mut Edges,
+        word: &Word<'_>,
+        loses_own: bool,
+    ) -> Result<(), GraphFault>
+        requires { AreClean edges.old.files }
+        ensures fault { (values : Values) → SeesNames self.entry values
+            → Checks (empty_path self.entry.place.file.now values (word_text word.now)) result }
+        ensures added { (values : Values) → SeesNames self.entry values
+            → OnOk result (edges.new ≡ with_input_unless loses_own edges.old
+            (path_given values (word_text word.now))) }
+        ensures named { OnOk result ((path : List ℕ) × (clean_path_of path ≡ path)
+            × (edges.new ≡ with_input_unless loses_own edges.old path)) }
+        ensures refused { OnErr result (edges.new ≡ edges.old) }
+    {
+        if let Some(file) = known_file(edges, word) {
+            add_known_input(edges, file, loses_own)?;
+            return Ok(());
+        }
+        let path = self.path(capacity, word)?;
+        add_input(edges, path, loses_own)?;
+        Ok(())
+    }
+
     /// Appends validations to the edge that is being read.
-    #[tactic(auto, using(crate::proofs::Keeps::keeps_same, crate::proofs::Keeps::keeps_validation))]
+    #[tactic(auto, using(crate::proofs::Keeps::keeps_all, crate::proofs::Keeps::keeps_same, crate::proofs::Keeps::keeps_validation))]
     pub(crate) fn add_validations(
         self,
         capacity: &mut Capacity,
@@ -122,13 +152,41 @@ impl Context<'_> {
             → OnOk result (edges.new
             ≡ with_validations edges.old (paths_given values (words_text words.now))) }
         ensures grows { OnOk result (Grows 0 edges.old edges.new) }
-        ensures keeps { KeepsRead edges.old edges.new }
+        ensures keeps { KeepsClean edges.old edges.new }
     {
         'words: for word in words {
             let path = self.path(capacity, word)?;
             edges.add_validation(path)?;
         }
         Ok(())
+    }
+}
+
+// The file of a word that is the path of a file as it is. Such a word is clean, since the paths of
+// all files are.
+fn known_file(edges: &Edges, word: &Word<'_>) -> Option<FileNo>
+    requires { AreClean edges.now.files }
+    ensures file { (values : Values) → IfSome result (λ file. slice_get edges.now.files file.0
+        ≡ Some (path_given values (word_text word.now))) }
+    ensures meant { (values : Values) → IfSome result (λ _.
+        is_empty (expanded values (word_text word.now).parts) ≡ false) }
+{
+    let path = only_bytes(word)?;
+    edges.file_named(path)
+}
+
+// Appends an input to the edge that is being read, by the number of its file, unless it is an own
+// output of an edge that loses these.
+fn add_known_input(edges: &mut Edges, file: FileNo, loses_own: bool) -> Result<(), AllocError>
+    requires { file.0 < length edges.old.files }
+    ensures added { (path : List ℕ) → slice_get edges.old.files file.0 ≡ Some path
+        → OnOk result (edges.new ≡ with_input_unless loses_own edges.old path) }
+    ensures refused { OnErr result (edges.new ≡ edges.old) }
+{
+    if loses_own {
+        edges.add_known_input_of_another(file)
+    } else {
+        edges.add_known_input(file)
     }
 }
 
@@ -163,7 +221,7 @@ fn add_all_outputs(
         (paths_given values (outputs_text build.now).implicit)) }
     ensures grows { OnOk result (Grows (length build.now.explicit_outs.items
         + length build.now.implicit_outs.items) edges.old edges.new) }
-    ensures keeps { KeepsRead edges.old edges.new }
+    ensures keeps { KeepsClean edges.old edges.new }
 {
     context.add_outputs(capacity, edges, build.explicit_outs.as_slice())?;
     context.add_outputs(capacity, edges, build.implicit_outs.as_slice())
@@ -179,6 +237,7 @@ fn add_all_inputs(
     build: &Build<'_>,
     loses_own: bool,
 ) -> Result<(usize, usize), GraphFault>
+    requires { AreClean edges.old.files }
     ensures fault { (values : Values) → SeesNames context.entry values
         → Checks (inputs_fault context.entry.place.file.now values (inputs_text build.now)) result }
     ensures added { (values : Values) → SeesNames context.entry values
@@ -187,7 +246,7 @@ fn add_all_inputs(
     ensures within { IfOk result (λ ends. (ends.0 ≤ ends.1)
         × (ends.1 ≤ length edges.new.«open».inputs)) }
     ensures grows { OnOk result (Grows 0 edges.old edges.new) }
-    ensures keeps { KeepsRead edges.old edges.new }
+    ensures keeps { KeepsClean edges.old edges.new }
 {
     context.add_inputs(capacity, edges, build.explicit.as_slice(), loses_own)?;
     let explicit = edges.open_inputs();
@@ -208,6 +267,7 @@ fn add_files(
     build: &Build<'_>,
     is_phony: bool,
 ) -> Result<KindEnds, GraphFault>
+    requires { AreClean edges.old.files }
     ensures fault { (values : Values) → SeesNames context.entry values
         → edges.old.«open» ≡ no_files
         → Checks (paths_fault context.entry.place.file.now values edges.old.edges
@@ -219,7 +279,7 @@ fn add_files(
         is_phony)) }
     ensures within { IfOk result (λ kinds. EndWithin kinds (length edges.new.«open».outputs)
         (length edges.new.«open».inputs)) }
-    ensures keeps { KeepsRead edges.old edges.new }
+    ensures keeps { KeepsClean edges.old edges.new }
 {
     add_all_outputs(context, capacity, edges, build)?;
     let loses_own = loses_own(build, is_phony);
@@ -271,6 +331,7 @@ pub(crate) fn add_edge(
     rule: UsedRule<'_>,
     references: &KeyReferences,
 ) -> Result<Assigned, GraphFault>
+    requires { AreClean edges.old.files }
     ensures fault { (values : Values) (sees : SeesNames context.entry values)
         → edges.old.«open» ≡ no_files
         → TellsCycles rule.entry.rule.now.lines references.now
@@ -300,7 +361,8 @@ pub(crate) fn add_edge(
         (names_read paths (bound_by context.entry) rule.entry.rule.now
         (value_after sees.entries (context.entry.scope ∷ sees.around))))) }
     ensures grows { IsPrefix strings.old strings.new }
-    ensures refused { OnErr result (KeepsRead edges.old edges.new) }
+    ensures clean { OnOk result (AreClean edges.new.files) }
+    ensures refused { OnErr result (KeepsClean edges.old edges.new) }
 {
     let is_phony = rule.number == PHONY;
     let kinds = add_files(context, capacity, edges, build, is_phony)?;

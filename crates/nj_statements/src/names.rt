@@ -1,6 +1,7 @@
 //! The names on a line, and the paths that its words give.
 
 ghost use Rattle.std.specs.Prelude.{◌≡◌, IfOk, OnOk};
+ghost use Rattle.nj_text.specs.Paths.{clean_path_of};
 ghost use Rattle.nj_text.specs.Words.{part_text, word_text};
 ghost use Rattle.nj_scope.specs.Scopes.{part_expanded, expanded};
 ghost use Rattle.nj_statements.specs.EdgeList.{Values, path_given};
@@ -58,6 +59,7 @@ impl Context<'_> {
             → IfOk result (λ path. path.now ≡ path_given values (word_text word.now)) }
         ensures fault { (values : Values) → SeesNames self.entry values
             → Checks (empty_path self.entry.place.file.now values (word_text word.now)) result }
+        ensures clean { IfOk result (λ path. clean_path_of path.now ≡ path.now) }
     {
         if let Some(path) = clean_bytes(word) {
             return Ok(path);

@@ -2,7 +2,9 @@
 use Rattle.std.specs.Prelude.{◌≡◌, ℕ, Bool, true, false, if◌then◌else◌, Option, Some, None, option_map, unwrap_or}
 use Rattle.std.specs.Prelude.{List, [], ◌∷◌, ◌++◌, ◌+◌, ◌≤◌, length, slice_get, slice_index_or, codes, bytes_eq}
 use Rattle.std.specs.Option.{option_or}
+use Rattle.std.specs.List.{AllByRecursion}
 use Rattle.nj_text.specs.declared.spot.Spot.{Spot}
+use Rattle.nj_text.specs.Paths.{clean_path_of}
 use Rattle.nj_manifest.specs.Statements.{InputsText}
 use Rattle.nj_scope.specs.Rules.{RuleText, RuleLineText, phony}
 use Rattle.nj_scope.specs.Readings.{IsPrefix}
@@ -24,7 +26,7 @@ use Rattle.nj_statements.specs.declared.building.DyndepEdge.{DyndepEdge}
 use Rattle.nj_statements.specs.EdgeList.{Values, Block, AssignedText, on_line, paths_given, name_given, file_given}
 use Rattle.nj_faults.specs.declared.fault.GraphFault.{GraphFault}
 use Rattle.nj_statements.specs.BuildFaults.{variable_cycle_fault, unknown_pool, dyndep_not_input}
-use Rattle.nj_statements.specs.Answers.{DetailText}
+use Rattle.nj_statements.specs.Answers.{DetailText, KeepsRead}
 use Rattle.nj_statements.specs.Inside.Details.{spot_of}
 
 -- the faults of an edge's names in their order, where these pools are declared and the edge has these inputs
@@ -67,6 +69,15 @@ with_inputs loses_own t (path ∷ paths) = with_inputs loses_own (with_input_unl
 abbrev pub with_validations : EdgeTable → List (List ℕ) → EdgeTable
 with_validations t [] = t
 with_validations t (path ∷ paths) = with_validations (with_validation t path) paths
+
+-- each of these paths is its own clean path
+abbrev pub AreClean : (files : List (List ℕ)) → Type 0
+AreClean files = AllByRecursion (λ path. clean_path_of path ≡ path) files
+
+-- the edges that were read stay as they are, and where all paths were clean they are still
+pub record KeepsClean (before after : EdgeTable) : Type 0 where
+  pub read : KeepsRead before after
+  pub clean : AreClean before.files → AreClean after.files
 
 -- the edge that is being read has this many more outputs, and no fewer inputs
 pub record Grows (outputs : ℕ) (before after : EdgeTable) : Type 0 where

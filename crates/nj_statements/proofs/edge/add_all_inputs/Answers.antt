@@ -61,3 +61,9 @@ returns-clause-fault c = λ values sees.
     let split = first-four of e i o v in
     let F = first_given of in
     split ∙ both-none (F e) (option_or (F i) (option_or (F o) (F v))) (subst (λ ws. F (words_text ws) ≡ None) c.as_slice.ensures.value (c.in_ok-add_inputs.ensures.fault values sees)) (both-none (F i) (option_or (F o) (F v)) (subst (λ ws. F (words_text ws) ≡ None) c.as_slice-2.ensures.value (c.in_ok-add_inputs-2.ensures.fault values sees)) (both-none (F o) (F v) (subst (λ ws. F (words_text ws) ≡ None) c.as_slice-3.ensures.value (c.in_ok-add_inputs-3.ensures.fault values sees)) (subst (λ ws. F (words_text ws) ≡ None) c.as_slice-4.ensures.value (c.in_ok-add_validations.ensures.fault values sees))))
+
+pub add_inputs-requires-2 : goal.add_inputs-requires-2
+add_inputs-requires-2 c = c.in_ok-add_inputs.ensures.keeps.clean c.requires
+
+pub add_inputs-requires-3 : goal.add_inputs-requires-3
+add_inputs-requires-3 c = c.in_ok-add_inputs-2.ensures.keeps.clean (c.in_ok-add_inputs.ensures.keeps.clean c.requires)

@@ -28,7 +28,7 @@ returns-clause-fault c = λ values sees.
     let paths = paths_given values (words_text c.args.build.now.explicit_outs.items) in
     let split = outputs-append file values old.edges old.«open».outputs (words_text c.args.build.now.explicit_outs.items) implicit in
     let after = subst (λ ws. c.add_outputs.new.edges ≡ with_outputs old (paths_given values (words_text ws))) c.as_slice.ensures.value (c.in_ok-add_outputs.ensures.added values sees) in
-    let edges = c.in_ok-add_outputs.ensures.keeps.edges in
+    let edges = c.in_ok-add_outputs.ensures.keeps.read.edges in
     let outputs = ap (λ t. t.«open».outputs) after ∙ ap (λ o. o.outputs) (outputs-open old paths) in
     subst (λ o. Checks o c.add_outputs-2.result) (sym split)
     (checks-second (outputs_fault file values old.edges old.«open».outputs (words_text c.args.build.now.explicit_outs.items)) (outputs_fault file values old.edges (old.«open».outputs ++ paths) implicit) c.add_outputs-2.result (subst (λ ws. outputs_fault file values old.edges old.«open».outputs (words_text ws) ≡ None) c.as_slice.ensures.value (c.in_ok-add_outputs.ensures.fault values sees))

@@ -8,7 +8,7 @@ use Rattle.nj_edge_env.specs.LateStrings.{LateNames, asked_text}
 use Rattle.nj_faults.specs.Faults.{IsFault}
 use Rattle.nj_statements.specs.EdgeList.{stated_paths, edge_paths, file_given}
 use Rattle.nj_statements.specs.BuildFaults.{paths_fault}
-use Rattle.nj_statements.specs.Inside.EdgeSteps.{IsFileGiven, SeesLate, bound_by, names_read, names_fault}
+use Rattle.nj_statements.specs.Inside.EdgeSteps.{AreClean, IsFileGiven, SeesLate, bound_by, names_read, names_fault}
 use Rattle.nj_statements.proofs.Faults.{fault-second, both-none, err-checks}
 use Rattle.nj_statements.proofs.Adding.{adds-edge}
 use Rattle.nj_statements.proofs.LateLemmas.{inputs-read, sees-late}
@@ -55,7 +55,7 @@ returns-clause-fault c = λ values sees none tells.
 pub returns-clause-added : goal.returns-clause-added
 returns-clause-added c = λ values sees none.
     adds-edge c.args.edges.now c.add_files.new.edges c.end_edge.new.self c.in_ok-kinds.kinds (c.args.rule.number == 0) (edge_paths (stated_paths values (outputs_text c.args.build.now) (inputs_text c.args.build.now) (c.args.rule.number == 0)))
-    c.in_ok-kinds.ensures.keeps (c.in_ok-kinds.ensures.named values sees none) c.in_ok-end_edge.ensures.ended
+    c.in_ok-kinds.ensures.keeps.read (c.in_ok-kinds.ensures.named values sees none) c.in_ok-end_edge.ensures.ended
 
 pub returns-clause-dyndep : goal.returns-clause-dyndep
 returns-clause-dyndep c = λ values sees none.
@@ -82,3 +82,6 @@ returns-clause-assigned c = λ values sees none.
     let late : SeesLate c.late_edge-edge.result sees.entries n = sees-late c.late_edge-edge.result c.args.context.declarations.now c.args.context.scope sees.entries sees.around (edge_read open_edge c.in_ok-kinds.kinds (c.args.rule.number == 0)) paths block c.args.rule.rule.now
     c.late_edge-edge.ensures.declarations c.late_edge-edge.ensures.scope c.late_edge-edge.ensures.names named sees.declared sees.within in
     c.in_ok-assigned.ensures.assigned sees.entries n late
+
+pub returns-clause-clean : goal.returns-clause-clean
+returns-clause-clean c = subst (λ t. AreClean t.files) (sym c.in_ok-end_edge.ensures.ended) (c.in_ok-kinds.ensures.keeps.clean c.requires)

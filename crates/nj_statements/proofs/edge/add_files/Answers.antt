@@ -25,3 +25,6 @@ returns-clause-named c = λ values sees none.
     edge-named values (outputs_text c.args.build.now) (inputs_text c.args.build.now) c.args.is_phony c.loses_own-loses_own.result c.args.edges.now c.add_all_outputs.new.edges c.add_all_inputs.new.edges (c.in_ok-explicit_inputs.explicit_inputs, c.in_ok-explicit_inputs.implicit_inputs)
     none (c.loses_own-loses_own.ensures values) (c.in_ok-add_all_outputs.ensures.added values sees) (c.in_ok-explicit_inputs.ensures.added values sees)
     (length c.as_slice.result.now) (ap length c.as_slice.ensures.value ∙ sym (length-map (words_text c.args.build.now.explicit_outs.items) (path_given values) ∙ length-map c.args.build.now.explicit_outs.items word_text))
+
+pub add_all_inputs-requires : goal.add_all_inputs-requires
+add_all_inputs-requires c = c.in_ok-add_all_outputs.ensures.keeps.clean c.requires

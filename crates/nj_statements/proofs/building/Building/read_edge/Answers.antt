@@ -143,7 +143,7 @@ returns-in_err-assigned-clause-refused c =
     let edge = length c.as_slice-edge.result.now in
     let count : edge ≡ length old.details = ap length c.as_slice-edge.ensures.value ∙ sym (length-map c.self.inside.details.items detail_text) in
     on-err c.from_residual-in_err-assigned.result (subst (λ b. AddsNothing b new) c.self.view_is (record {
-      edges = c.in_err-assigned.ensures.refused;
+      edges = c.in_err-assigned.ensures.refused.read;
       blocks = λ number name below. c.in_ok-bind_block.ensures.others number name (subst (λ n. number < n) (sym count) below);
       block_names = λ number below. c.in_ok-bind_block.ensures.other_names number (ne_eqb number edge (λ is. omega (arith, is, below, count)));
       names = prefix-trans old.names c.file.new.self c.add_edge.new.strings c.in_ok-file.ensures.grows c.in_err-assigned.ensures.grows;

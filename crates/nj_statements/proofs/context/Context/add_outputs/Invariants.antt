@@ -2,14 +2,13 @@ use Rattle.std.proofs.Common.{◌≡◌, drop, take, length}
 use Rattle.nj_manifest.specs.Contents.{words_text}
 use Rattle.nj_statements.specs.EdgeList.{Values, paths_given}
 use Rattle.nj_statements.specs.BuildFaults.{outputs_fault}
-use Rattle.nj_statements.specs.Answers.{KeepsRead}
-use Rattle.nj_statements.specs.Inside.EdgeSteps.{SeesNames, Grows, with_outputs}
+use Rattle.nj_statements.specs.Inside.EdgeSteps.{KeepsClean, SeesNames, Grows, with_outputs}
 use Rattle.nj_statements.proofs.context.Context.add_outputs.Given as goal
 
 abbrev pub invariant-words : goal.invariant-words
 invariant-words l = record {
   grows : Grows (length (take l.word-index l.words)) l.fn.edges l.edges;
-  keeps : KeepsRead l.fn.edges l.edges;
+  keeps : KeepsClean l.fn.edges l.edges;
   added : (values : Values) → SeesNames l.self values
       → with_outputs l.edges (paths_given values (words_text (drop l.word-index l.words))) ≡ with_outputs l.fn.edges (paths_given values (words_text l.words));
   fault : (values : Values) → SeesNames l.self values

@@ -3,14 +3,13 @@ use Rattle.nj_scope.specs.Scopes.{first_given}
 use Rattle.nj_manifest.specs.Contents.{words_text}
 use Rattle.nj_statements.specs.EdgeList.{Values, paths_given}
 use Rattle.nj_statements.specs.BuildFaults.{empty_path}
-use Rattle.nj_statements.specs.Answers.{KeepsRead}
-use Rattle.nj_statements.specs.Inside.EdgeSteps.{SeesNames, Grows, with_validations}
+use Rattle.nj_statements.specs.Inside.EdgeSteps.{KeepsClean, SeesNames, Grows, with_validations}
 use Rattle.nj_statements.proofs.context.Context.add_validations.Given as goal
 
 abbrev pub invariant-words : goal.invariant-words
 invariant-words l = record {
   grows : Grows 0 l.fn.edges l.edges;
-  keeps : KeepsRead l.fn.edges l.edges;
+  keeps : KeepsClean l.fn.edges l.edges;
   added : (values : Values) → SeesNames l.self values
       → with_validations l.edges (paths_given values (words_text (drop l.word-index l.words))) ≡ with_validations l.fn.edges (paths_given values (words_text l.words));
   fault : (values : Values) → SeesNames l.self values
