@@ -4,9 +4,7 @@ use Rattle.std.proofs.lemmas.Bool.{ne_eqb}
 use Rattle.std.proofs.lemmas.List.{at_drop_all, take_all}
 use Rattle.nj_manifest.specs.declared.statement.Line.{Line}
 use Rattle.nj_manifest.specs.Contents.{line_text, lines_text}
-use Rattle.nj_scope.specs.Scopes.{expanded}
 use Rattle.nj_scope.specs.ReadingList.{value_after}
-use Rattle.nj_text.specs.Words.{word_text}
 use Rattle.nj_edge_env.specs.Blocks.{bound_in, names_in}
 use Rattle.nj_statements.specs.EdgeList.{Values, block_of}
 use Rattle.nj_edges.specs.Repeats.{each_once}
@@ -20,21 +18,20 @@ lines-preserved c = record {
   last = let is = c.bind.ensures.last in omega (arith, is);
   others = λ e name below.
       c.in_ok-bind.ensures.bound e name
-      ∙ ap (λ b. if b && bytes_eq name c.line-item.result.name.now then Some c.as_slice.result.now else bound_in c.lines.blocks e name) (ne_eqb e c.args.edge (λ is. omega (arith, is, below)))
+      ∙ ap (λ b. if b && bytes_eq name c.line-item.result.name.now then Some c.in_ok-value.value.now else bound_in c.lines.blocks e name) (ne_eqb e c.args.edge (λ is. omega (arith, is, below)))
       ∙ c.lines.invariant.others e name below;
   names = λ none empty.
       subst (AreNamesSoFar c.bind.new.self c.args.edge) (sym (names-next c.args.lines.now c.lines.line-index c.line-item.result c.lines-test.true c.line-item.is))
-      (names-turn c.lines.blocks c.bind.new.self c.args.edge (line_names (take c.lines.line-index c.args.lines.now)) c.line-item.result.name.now c.as_slice.result.now (c.lines.invariant.names none empty) c.in_ok-bind.ensures.bound c.in_ok-bind.ensures.names);
+      (names-turn c.lines.blocks c.bind.new.self c.args.edge (line_names (take c.lines.line-index c.args.lines.now)) c.line-item.result.name.now c.in_ok-value.value.now (c.lines.invariant.names none empty) c.in_ok-bind.ensures.bound c.in_ok-bind.ensures.names);
   other_names = λ e other.
       c.in_ok-bind.ensures.names e
       ∙ ap (λ b. if b && not (is_some (bound_in c.lines.blocks c.args.edge c.line-item.result.name.now)) then names_in c.lines.blocks e ++ c.line-item.result.name.now ∷ [] else names_in c.lines.blocks e) other
       ∙ c.lines.invariant.other_names e other;
   bound = λ entries around declared within e name.
       let values : Values = value_after entries (c.args.scope ∷ around) in
-      let gives = c.in_ok-append_expanded.ensures entries around declared within ∙ ap (λ front. front ++ expanded values (word_text c.line-item.result.value).parts) c.clear.ensures.items in
       let bound = c.in_ok-bind.ensures.bound e name in
       block-turn values c.args.edge e (line_text c.line-item.result) (lines_text (drop (c.lines.line-index + 1) c.args.lines.now)) name (bound_in c.bind.new.self e name) (bound_in c.lines.blocks e name)
-      (bound ∙ ap (λ value. if e == c.args.edge && bytes_eq name c.line-item.result.name.now then Some value else bound_in c.lines.blocks e name) (c.as_slice.ensures.value ∙ gives))
+      (bound ∙ ap (λ value. if e == c.args.edge && bytes_eq name c.line-item.result.name.now then Some value else bound_in c.lines.blocks e name) (c.in_ok-value.ensures entries around declared within))
       ∙ sym (at-next (λ (ls : List Line). if e == c.args.edge then option_or (block_of values (lines_text ls) name) (bound_in c.lines.blocks e name) else bound_in c.lines.blocks e name) c.args.lines.now c.lines.line-index c.line-item.result c.lines-test.true c.line-item.is)
       ∙ c.lines.invariant.bound entries around declared within e name;
 }
