@@ -25,7 +25,7 @@ use texts::{put_clean, put_hash, put_in_turn, put_meant};
 /// What a row asks of a library; `None` if no library has rows of this kind.
 pub(crate) fn of_call(
     alloc: Global,
-    given: &Given<'_>,
+    given: &Given,
     row: &Block<'_>,
 ) -> Result<Option<Vec<u8>>, AllocError> {
     let subject = subject_of(alloc, given, row)?;
@@ -39,7 +39,7 @@ pub(crate) fn of_call(
 }
 
 /// The text that a row is about: what comes after its kind, or if that is nothing the file `text`.
-fn subject_of(alloc: Global, given: &Given<'_>, row: &Block<'_>) -> Result<Vec<u8>, AllocError> {
+fn subject_of(alloc: Global, given: &Given, row: &Block<'_>) -> Result<Vec<u8>, AllocError> {
     if row.rest.is_empty() {
         return Vec::from_slice(alloc, given.bytes("text"));
     }
@@ -70,7 +70,7 @@ fn put_of_text(
 fn put_of_words(
     alloc: Global,
     text: &mut Vec<u8>,
-    given: &Given<'_>,
+    given: &Given,
     row: &Block<'_>,
 ) -> Result<bool, AllocError> {
     let edges = given.bytes("edges");

@@ -4,6 +4,7 @@ ghost use Rattle.std.specs.Prelude.{◌<◌, length, All};
 ghost use Rattle.nj_graph.specs.Graph.{edges_of, files_of};
 
 use crate::calls::put_written;
+use crate::declared::{put_edge_rules, put_rule_lines, put_values};
 use nj_graph::{EdgeNo, FileNo, Graph, Kind, PlaceRef, pick_target};
 use std::alloc::{AllocError, Global};
 
@@ -29,6 +30,9 @@ pub fn put_of_graph(
         "openings" => put_openings(alloc, text, graph),
         "blocks" => put_blocks(text, graph),
         "written" => put_written(alloc, text, graph.rules(), word),
+        "rule-lines" => put_rule_lines(alloc, text, graph),
+        "edge-rules" => put_edge_rules(alloc, text, graph),
+        "values" => put_values(text, graph, word),
         _ => text.extend_from_slice(b"no row is of this kind\n"),
     }
 }

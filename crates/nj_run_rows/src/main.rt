@@ -4,13 +4,24 @@
 #![tactic(auto)]
 
 mod calls;
+mod changes;
+mod clients;
+mod declared;
+mod faults;
 mod given;
 mod graphs;
+mod keys;
 mod outcomes;
+mod pages;
+mod repeats;
 mod requests;
 mod rows;
+mod runs;
+mod sinks;
+mod walks;
 
 use crate::given::Given;
+use crate::keys::DrawnKeys;
 use crate::outcomes::outcome;
 use crate::rows::{Block, blocks_of};
 use std::process::ExitCode;
@@ -32,9 +43,10 @@ impl Count {
 }
 
 fn main(rt: HostRuntime) -> io::Result<ExitCode> {
+    let keys = DrawnKeys::draw(rt)?;
     let mut all = Count { rows: 0, differ: 0 };
     'files: for name in env::args(&rt)?.skip(1) {
-        let count = run_file(&rt, &name)?;
+        let count = run_file(&rt, keys, &name)?;
         println!(rt; "{name}: {} rows", count.rows)?;
         all.add(count);
     }
@@ -43,10 +55,14 @@ fn main(rt: HostRuntime) -> io::Result<ExitCode> {
 }
 
 /// Runs the rows of a file.
-fn run_file(rt: &(impl Files + Print + AllocGlobal), name: &str) -> io::Result<Count> {
+fn run_file(
+    rt: &(impl Files + Print + AllocGlobal),
+    keys: DrawnKeys,
+    name: &str,
+) -> io::Result<Count> {
     let text = fs::read_to_string(rt, name)?;
     let blocks = blocks_of(rt.alloc(), &text)?;
-    let mut given = Given::new(rt.alloc());
+    let mut given = Given::new(rt.alloc(), keys);
     let mut count = Count { rows: 0, differ: 0 };
     'blocks: for block in &blocks {
         if !given.read(block)? {
@@ -61,14 +77,15 @@ fn run_file(rt: &(impl Files + Print + AllocGlobal), name: &str) -> io::Result<C
 fn run_row(
     rt: &(impl Print + AllocGlobal),
     name: &str,
-    given: &Given<'_>,
+    given: &Given,
     row: &Block<'_>,
 ) -> io::Result<Count> {
+    let wanted = given.wanted(row)?;
     let came = outcome(rt.alloc(), given, row)?;
-    if came.as_slice() == row.text.as_slice() {
+    if came.as_slice() == wanted.as_slice() {
         return Ok(Count { rows: 1, differ: 0 });
     }
-    let wanted = String::from_utf8_lossy(rt.alloc(), &row.text)?;
+    let wanted = String::from_utf8_lossy(rt.alloc(), &wanted)?;
     let came = String::from_utf8_lossy(rt.alloc(), &came)?;
     println!(rt; "{name}:{}: wanted {wanted:?}, came {came:?}", row.line)?;
     Ok(Count { rows: 1, differ: 1 })

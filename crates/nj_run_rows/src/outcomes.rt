@@ -1,24 +1,36 @@
 //! What rows ask for, as text.
 
 use crate::calls::of_call;
+use crate::clients::{outcome_of_work, taken_in};
+use crate::faults::{cause, comparison, first_fault, kept, line_of};
 use crate::given::Given;
 use crate::graphs::put_of_graph;
-use crate::requests::asked;
-use crate::rows::{Block, bytes_of, words_of};
-use nj_cli::{MemoryFiles, MemorySink, Status, run_words};
-use nj_graph::{Graph, GraphFault, load};
+use crate::pages::paged;
+use crate::requests::{asked, quoted};
+use crate::rows::{Block, bytes_of};
+use crate::runs::{cut_off, run, run_and_read, run_by_request};
+use crate::sinks::{put_to_memory, put_to_writer};
+use nj_graph::{Graph, load};
 use std::alloc::{AllocError, Global};
 
 /// What a row asks for.
 pub(crate) fn outcome(
     alloc: Global,
-    given: &Given<'_>,
+    given: &Given,
     row: &Block<'_>,
 ) -> Result<Vec<u8>, AllocError> {
     match row.kind {
-        "run" => run(alloc, given, row.rest),
-        "load" => first_fault(alloc, &mut given.source()?, row.rest),
-        "request" => asked(alloc, &words_of(alloc, row.rest)?),
+        "run" | "run-and-read" | "run-request" | "cut-off" | "pages" => of_run(alloc, given, row),
+        "load" | "cause" | "same-fault" | "kept" => of_loading(alloc, given, row),
+        "request" => asked(alloc, row.rest),
+        "quoted" => quoted(alloc, row.rest),
+        "turns" | "client" | "affected" | "affected-joined" => {
+            outcome_of_work(alloc, given, row.kind, row.rest)
+        }
+        "one-error" => taken_in(alloc),
+        "memory" => put_to_memory(alloc, row.rest),
+        "writer" => put_to_writer(alloc, row.rest),
+        "hash-keys" => given.keys.compared(alloc),
         _ => match of_call(alloc, given, row)? {
             Some(text) => Ok(text),
             None => of_graph(alloc, given, row),
@@ -26,57 +38,29 @@ pub(crate) fn outcome(
     }
 }
 
-/// How a run with these words ends.
-fn run(alloc: Global, given: &Given<'_>, words: &str) -> Result<Vec<u8>, AllocError> {
-    let words = words_of(alloc, words)?;
-    let mut files = given.source()?;
-    let mut output = given.output();
-    let mut error = given.error();
-    let status = run_words(alloc, &mut files, &words, &mut output, &mut error);
-    ending(alloc, status, output.bytes(), error.bytes())
-}
-
-/// What a run wrote, its status in brackets, and what it wrote to its error output. If this does
-/// not end with a line end, `<end>` is there in its place.
-fn ending(
-    alloc: Global,
-    status: Status,
-    output: &[u8],
-    error: &[u8],
-) -> Result<Vec<u8>, AllocError> {
-    let mut text = Vec::from_slice(alloc, output)?;
-    text.push(b'[')?;
-    text.push(b'0'.saturating_add(status.code()))?;
-    if error.is_empty() {
-        text.extend_from_slice(b"]\n")?;
-        return Ok(text);
-    }
-    text.extend_from_slice(b"] ")?;
-    text.extend_from_slice(error)?;
-    if !error.ends_with(b"\n") {
-        text.extend_from_slice(b"<end>\n")?;
-    }
-    Ok(text)
-}
-
-/// The line of the first fault of files, of which `main` is the main one; `accepted` if they have
-/// none.
-fn first_fault(alloc: Global, files: &mut MemoryFiles, main: &str) -> Result<Vec<u8>, AllocError> {
-    match load(alloc, files, main) {
-        Ok(_) => Vec::from_slice(alloc, b"accepted\n"),
-        Err(fault) => line_of(alloc, &fault),
+/// How a run ends.
+fn of_run(alloc: Global, given: &Given, row: &Block<'_>) -> Result<Vec<u8>, AllocError> {
+    match row.kind {
+        "run-and-read" => run_and_read(alloc, given, row.rest),
+        "run-request" => run_by_request(alloc, given, row.rest),
+        "cut-off" => cut_off(alloc, given, row.rest),
+        "pages" => paged(alloc, given, row.rest),
+        _ => run(alloc, given, row.rest),
     }
 }
 
-/// The line of a fault, with its end.
-pub fn line_of(alloc: Global, fault: &GraphFault) -> Result<Vec<u8>, AllocError> {
-    let mut line = fault.line(alloc)?;
-    line.push(b'\n')?;
-    Ok(line)
+/// What a load gives.
+fn of_loading(alloc: Global, given: &Given, row: &Block<'_>) -> Result<Vec<u8>, AllocError> {
+    match row.kind {
+        "cause" => cause(alloc, given, row.rest),
+        "same-fault" => comparison(alloc, given, row.rest),
+        "kept" => kept(alloc, given, row.rest),
+        _ => first_fault(alloc, given, row.rest),
+    }
 }
 
 /// What the graph of the files has, or the line of their first fault.
-fn of_graph(alloc: Global, given: &Given<'_>, row: &Block<'_>) -> Result<Vec<u8>, AllocError> {
+fn of_graph(alloc: Global, given: &Given, row: &Block<'_>) -> Result<Vec<u8>, AllocError> {
     let mut files = given.source()?;
     match load(alloc, &mut files, "build.ninja") {
         Ok(loaded) => given_by(alloc, loaded.graph(), row),

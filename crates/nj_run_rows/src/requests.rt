@@ -1,6 +1,7 @@
 //! What words ask for, as a text.
 
-use nj_cli::{Action, InputsStyle, Mark, Request, TargetsView, read_words};
+use crate::rows::words_of;
+use nj_cli::{Action, InputsStyle, Mark, Request, TargetsView, UsageFault, read_words};
 use std::alloc::{AllocError, Global};
 use std::fmt::Write;
 
@@ -121,10 +122,35 @@ fn request_text(alloc: Global, request: &Request) -> Result<String, AllocError> 
 }
 
 /// What words ask for, or the line of their fault.
-pub fn asked(alloc: Global, words: &[String]) -> Result<Vec<u8>, AllocError> {
-    let line = match read_words(alloc, words) {
+pub(crate) fn asked(alloc: Global, words: &str) -> Result<Vec<u8>, AllocError> {
+    let words = words_of(alloc, words)?;
+    let line = match read_words(alloc, &words) {
         Ok(request) => request_text(alloc, &request)?,
         Err(fault) => fault.line(alloc)?,
     };
     Vec::from_slice(alloc, line.as_bytes())
+}
+
+/// What the fault of words quotes, and its text.
+pub(crate) fn quoted(alloc: Global, words: &str) -> Result<Vec<u8>, AllocError> {
+    let words = words_of(alloc, words)?;
+    match read_words(alloc, &words) {
+        Ok(_) => Vec::from_slice(alloc, b"no fault\n"),
+        Err(fault) => quoted_by(alloc, &fault),
+    }
+}
+
+/// What a fault quotes, and its text.
+fn quoted_by(alloc: Global, fault: &UsageFault) -> Result<Vec<u8>, AllocError> {
+    let text = match fault {
+        UsageFault::ForeignOption { option, tool } => {
+            format!(in alloc; "{} of {}: {fault}\n", option.text(), tool.as_str())?
+        }
+        UsageFault::UnknownTool(word)
+        | UsageFault::BadNumber(word)
+        | UsageFault::BadMark(word)
+        | UsageFault::BadWords(word) => format!(in alloc; "{}: {fault}\n", word.as_str())?,
+        _ => format!(in alloc; "nothing: {fault}\n")?,
+    };
+    Vec::from_slice(alloc, text.as_bytes())
 }

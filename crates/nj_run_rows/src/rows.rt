@@ -32,7 +32,7 @@ pub fn blocks_of<'r>(alloc: Global, rows: &'r str) -> Result<Vec<Block<'r>>, All
 
 /// The block that begins with this line, without the lines below it.
 fn block_of<'r>(alloc: Global, number: usize, line: &'r str) -> Block<'r> {
-    let (kind, rest) = line.split_once(' ').unwrap_or((line, ""));
+    let (kind, rest) = first_of(line);
     Block {
         line: number,
         kind,
@@ -82,6 +82,11 @@ pub fn bytes_of(alloc: Global, text: &str) -> Result<Vec<u8>, AllocError> {
     let mut bytes = Vec::new(alloc);
     put_bytes(&mut bytes, text)?;
     Ok(bytes)
+}
+
+/// A word, and what comes after the space that ends it.
+pub fn first_of(words: &str) -> (&str, &str) {
+    words.split_once(' ').unwrap_or((words, ""))
 }
 
 /// The words between spaces; `<>` is the empty word.

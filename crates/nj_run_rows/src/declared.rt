@@ -1,0 +1,56 @@
+//! What the files of a run declare.
+
+use nj_graph::{EdgeNo, Graph, Rule};
+use std::alloc::{AllocError, Global};
+
+/// Appends the rules as they were written, a line each: the numbers of their scopes, their names
+/// and lines.
+pub(crate) fn put_rule_lines(
+    alloc: Global,
+    text: &mut Vec<u8>,
+    graph: &Graph,
+) -> Result<(), AllocError> {
+    'rules: for rule in graph.rules() {
+        text.extend_from_slice(format!(in alloc; "{} ", rule.scope())?.as_bytes())?;
+        text.extend_from_slice(rule.name())?;
+        put_lines(alloc, text, rule)?;
+        text.push(b'\n')?;
+    }
+    Ok(())
+}
+
+/// Appends the lines of a rule, each after a space.
+fn put_lines(alloc: Global, text: &mut Vec<u8>, rule: &Rule) -> Result<(), AllocError> {
+    'lines: for index in 0..rule.line_count() {
+        text.push(b' ')?;
+        text.extend_from_slice(rule.line_key(index))?;
+        text.push(b'=')?;
+        text.extend_from_slice(&rule.line_value(index).written(alloc)?)?;
+    }
+    Ok(())
+}
+
+/// Appends the number of the rule of each edge, and that of the scope of the edge, a line each.
+pub(crate) fn put_edge_rules(
+    alloc: Global,
+    text: &mut Vec<u8>,
+    graph: &Graph,
+) -> Result<(), AllocError> {
+    'edges: for number in 0..graph.edge_count() {
+        let edge = EdgeNo(number);
+        let (rule, scope) = (graph.edge_rule(edge), graph.edge_scope(edge));
+        text.extend_from_slice(format!(in alloc; "{rule} in {scope}\n")?.as_bytes())?;
+    }
+    Ok(())
+}
+
+/// Appends the values that a name has in the scopes, in brackets; `-` where it has none.
+pub(crate) fn put_values(text: &mut Vec<u8>, graph: &Graph, name: &[u8]) -> Result<(), AllocError> {
+    'scopes: for scope in 0..graph.scope_count() {
+        text.push(b'[')?;
+        text.extend_from_slice(graph.scope_value(scope, name).unwrap_or(b"-".as_slice()))?;
+        text.push(b']')?;
+    }
+    text.push(b'\n')?;
+    Ok(())
+}

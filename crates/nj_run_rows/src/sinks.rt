@@ -1,0 +1,72 @@
+//! Sinks, to which whole texts are written.
+
+use crate::rows::first_of;
+use nj_tools::{MemorySink, WriteSink, write_whole};
+use std::alloc::{AllocError, Global};
+use std::io;
+use std::io::{ErrorKind, Write};
+
+/// What is written to the sinks.
+const LINES: &[u8] = b"mk a\nmk b1\n";
+
+/// What a sink in memory takes of two lines within a limit, and how often it failed.
+pub(crate) fn put_to_memory(alloc: Global, limit: &str) -> Result<Vec<u8>, AllocError> {
+    let mut sink = MemorySink::new(alloc, limit.parse().ok());
+    let is_well = write_whole(&mut sink, LINES).is_ok();
+    let mut text = Vec::from_slice(alloc, sink.bytes())?;
+    put_ending(alloc, &mut text, is_well, "failures", sink.failures())?;
+    Ok(text)
+}
+
+/// What a writer takes of two lines that takes at most so many bytes at a call, and whose call of
+/// this number is interrupted; and how often it was called.
+pub(crate) fn put_to_writer(alloc: Global, numbers: &str) -> Result<Vec<u8>, AllocError> {
+    let (most, interrupted) = first_of(numbers);
+    let mut writer = Slow {
+        taken: Vec::new(alloc),
+        most: most.parse().unwrap_or(0),
+        calls: 0,
+        interrupted: interrupted.parse().unwrap_or(0),
+    };
+    let is_well = write_whole(&mut WriteSink::new(&mut writer), LINES).is_ok();
+    let mut text = Vec::from_slice(alloc, &writer.taken)?;
+    put_ending(alloc, &mut text, is_well, "calls", writer.calls)?;
+    Ok(text)
+}
+
+/// Appends how a writing ended, as a line.
+fn put_ending(
+    alloc: Global,
+    text: &mut Vec<u8>,
+    is_well: bool,
+    counted: &str,
+    count: u64,
+) -> Result<(), AllocError> {
+    let ending = if is_well { "done" } else { "failed" };
+    text.extend_from_slice(format!(in alloc; "[{ending}, {count} {counted}]\n")?.as_bytes())
+}
+
+/// Takes at most a given number of bytes at a call, and counts the calls. One call is interrupted.
+#[derive(Drop)]
+struct Slow {
+    taken: Vec<u8>,
+    most: usize,
+    calls: u64,
+    interrupted: u64,
+}
+
+impl Write for Slow {
+    fn write(&mut self, buf: &[u8]) -> io::Result<usize> {
+        self.calls = self.calls.saturating_add(1);
+        if self.calls == self.interrupted {
+            return Err(io::Error::from(ErrorKind::Interrupted));
+        }
+        let count = buf.len().min(self.most);
+        self.taken.extend_from_slice(&buf[..count])?;
+        Ok(count)
+    }
+
+    fn flush(&mut self) -> io::Result<()> {
+        Ok(())
+    }
+}
