@@ -81,8 +81,8 @@ else
 endif
 	@echo "Nothing is proved yet: 'make' proves and builds the program, 'make gate' proves all."
 
-# Runs all tests and rows, and the stored runs of ninja-explain and of the program of README.md, with
-# run-time checks and without any proof, and the checks that read files alone.
+# Runs all rows and stored runs, with run-time checks and without any proof, and the checks that read
+# files alone.
 test:
 	@python3 scripts/run_tests.py --jobs $(JOBS)
 

@@ -5,8 +5,7 @@ Each crate with tests, and each program on the files that lie beside its `src/` 
 `data/`), is built with run-time checks and run by `rt try`, several side by side. A program has to
 write what its file `stdout` has and to end with the status in its file `status`. Where it ends with
 the line `N rows, M differ`, each of its rows counts. Then comes `make lint`. With names of crates
-only these are run; without, the four programs on the library are not, which `make smoke` and `rt ci`
-run: most of the time is that of a build, and they would double it.
+only these are run.
 
 A failure is told with the name of its test or row. A run that does not say how it ended fails. The
 last line is `N passed, M failed`, and the status is 1 if anything failed.
@@ -35,8 +34,6 @@ LINT = "lint"
 LINTED = re.compile(r"^(\d+) checks passed, (\d+) failed")
 # It takes longest, so it begins first.
 LONGEST = "nj_run_rows"
-# What `make smoke` runs, on more than the stored files.
-SMOKED = ("affected_tests", "audit_build", "cache_keys", "draw_graph")
 # How `rt try` says that a program ended, and how often what may differ is told.
 ENDED = re.compile(r"^run=ended status=(\d+) .*proved=no$", re.M)
 ROWS = re.compile(r"^(\d+) rows, (\d+) differ$")
@@ -218,7 +215,7 @@ def main():
     unknown = [name for name in words.crates if name not in crates]
     if unknown:
         raise SystemExit(f"crates.txt names no crate {unknown[0]}")
-    work = work_for(words.crates or [name for name in crates if name not in SMOKED])
+    work = work_for(words.crates or crates)
     work += [] if words.crates else [(run_lint, LINT)]
     is_over = threading.Event()
     threading.Thread(target=end_hints, args=[is_over], daemon=True).start()
