@@ -1,7 +1,7 @@
 //! What the calls of a lexer return, as text.
 
 use crate::calls::printer::{put_answer, put_shown, put_word, steps_of};
-use nj_text::{LexFault, Lexer, LineStart, Sign, Word};
+use nj_text::{LexFault, Lexer, LineStart, PlainBinding, PlainWord, Sign, Word};
 use std::alloc::{AllocError, Global};
 
 /// Appends the steps in which a text is read: each call with what it returns.
@@ -44,6 +44,8 @@ fn put_outcome(
         "ident" => put_ident(alloc, text, lexer.ident()),
         "word" => put_path_word(alloc, text, lexer.path_word(alloc)),
         "value" => put_value(alloc, text, lexer.value(alloc)),
+        "plain-word" => put_plain_word(alloc, text, lexer.plain_word()),
+        "plain-binding" => put_plain_binding(alloc, text, lexer.plain_binding(alloc)),
         "spot" => put_shown(alloc, text, &lexer.spot()),
         "stays" => put_kept(alloc, text, lexer),
         ":" => put_sign(alloc, text, lexer.sign(Sign::Colon)),
@@ -103,6 +105,34 @@ fn put_value(
         Ok(value) => put_word(alloc, text, &value),
         Err(fault) => put_shown(alloc, text, &fault),
     }
+}
+
+fn put_plain_word(
+    alloc: Global,
+    text: &mut Vec<u8>,
+    taken: PlainWord<'_>,
+) -> Result<(), AllocError> {
+    match taken {
+        PlainWord::Word(spot, bytes) => put_word(alloc, text, &Word::plain(alloc, spot, bytes)),
+        PlainWord::NoWord => text.extend_from_slice(b"no word"),
+        PlainWord::Unknown => text.extend_from_slice(b"unknown"),
+    }
+}
+
+/// Appends the place of the name, the name, and the value.
+fn put_plain_binding(
+    alloc: Global,
+    text: &mut Vec<u8>,
+    taken: Option<PlainBinding<'_>>,
+) -> Result<(), AllocError> {
+    let Some(binding) = taken else {
+        return text.extend_from_slice(b"none");
+    };
+    put_shown(alloc, text, &binding.spot)?;
+    text.push(b' ')?;
+    text.extend_from_slice(binding.name)?;
+    text.push(b' ')?;
+    put_word(alloc, text, &binding.value)
 }
 
 fn put_sign(
