@@ -84,11 +84,14 @@ def add_to(of, chunk, name):
 
 @cache
 def module(path):
-    """The file of definitions of `Rattle.CRATE.specs.A.B`, or `None` if it is not one of ours."""
+    """The file of definitions of `Rattle.CRATE.specs.A.B`, or `None` if it is not one of ours. If B is
+    a type with constructors, it is the file of `A`."""
     crate, _, *names = path.split(".")[1:]
     if not (CRATES / crate).is_dir():
         return None
     file = CRATES.joinpath(crate, "specs", *names).with_suffix(".antt")
+    if not file.exists():
+        return module(path.rpartition(".")[0])
     of, name, fixity = Module(file), None, ""
     text = re.sub(r"(^|\s)--(\s.*)?$", "", file.read_text(), flags=re.M)
     for chunk in filter(str.strip, re.split(r"\n(?=[^\s})])", text)):

@@ -16,9 +16,10 @@ from lib.programs import ROOT
 PAGE = ROOT / "man/ninja-explain.1"
 # The definitions of the fault lines.
 FAULT_STRINGS = {
+    "crates/nj_text/specs/Faults.antt": ["out_of_memory_text"],
     "crates/nj_faults/specs/FaultLines.antt": ["cause_text"],
     "crates/nj_faults/specs/Versions.antt": ["reader_version_text"],
-    "crates/nj_manifest/specs/Faults.antt": ["wanted_text", "text_of"],
+    "crates/nj_manifest/specs/Faults.antt": ["wanted_text", "syntax_text"],
     "crates/nj_args/specs/FaultLines.antt": ["fault_text"],
     "crates/nj_cli/specs/Answers.antt": ["out_of_range"],
 }

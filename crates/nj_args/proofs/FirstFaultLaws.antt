@@ -8,7 +8,8 @@ use Rattle.nj_args.specs.Fields.{given_rows, is_on, words_in}
 use Rattle.nj_args.specs.FirstFaults.{Mistake, no_tool, unknown_tool, foreign_option, bad_take, bad_mark, bad_words, bad_depth, all_mistakes, NamesTool, HasMistake, toolless, unknown, no_number, no_mark, Lacks, HasNoMistake, IsFirstOf, first, later, FirstFaultIsReported, FaultlessWordsAreRequests}
 use Rattle.nj_args.specs.Inside.Held.{goes_with}
 use Rattle.nj_args.specs.Numbers.{given_number}
-use Rattle.nj_args.specs.Requests.{ActionText, commands, single_commands, inputs, targets, query, rules, compdb, RequestText, main_file, style_of, request_of, request_in, action_of, asked_of, commands_of, take_of, start_of, query_of, rules_of}
+use Rattle.nj_requests.specs.Actions.{ActionText, commands, single_commands, inputs, targets, query, rules, compdb, RequestText}
+use Rattle.nj_args.specs.Requests.{main_file, style_of, request_of, request_in, action_of, asked_of, commands_of, take_of, start_of, query_of, rules_of}
 use Rattle.nj_args.specs.RunMarks.{given_run_mark}
 use Rattle.nj_args.specs.Tools.{tool_named, first_foreign, all_options}
 use Rattle.nj_args.specs.declared.faults.ToolOption.{ToolOption}

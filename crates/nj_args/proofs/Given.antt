@@ -9,7 +9,8 @@ use Rattle.nj_manifest.specs.LineSteps.{◌>>=◌}
 use Rattle.nj_args.specs.CommandLine.{command}
 use Rattle.nj_args.specs.Fields.{is_refused, words_in}
 use Rattle.nj_args.specs.Inside.Held.{word_strings}
-use Rattle.nj_args.specs.Requests.{RequestText, given_request, request_in, request_of, wordless}
+use Rattle.nj_requests.specs.Actions.{RequestText}
+use Rattle.nj_args.specs.Requests.{given_request, request_in, request_of, wordless}
 use Rattle.nj_args.specs.declared.faults.UsageFault.{UsageFault}
 use Rattle.nj_args.specs.declared.faults.UsageFault.TheVariants.{Unparsed, OutOfMemory}
 

@@ -2,15 +2,16 @@
 use Rattle.std.proofs.Common.{◌≡◌, [], ◌∷◌, true, false, Some, None, Result, Ok, Err, refl}
 use Rattle.std.specs.Prelude.{codes}
 use Rattle.clap.proofs.OnLiterals.{clap_on_literals}
-use Rattle.nj_marks.specs.Marks.{given_mark}
-use Rattle.nj_tools.specs.declared.style.InputsStyle.{InputsStyle}
+use Rattle.nj_needs.specs.MarkTexts.{given_mark}
+use Rattle.nj_requests.specs.declared.style.InputsStyle.{InputsStyle}
 use Rattle.nj_args.specs.CommandLine.{command}
 use Rattle.nj_args.specs.FaultLines.{fault_line}
-use Rattle.nj_args.specs.Requests.{ActionText, RequestText, commands, compdb, inputs, query, request_of, rules, single_commands, targets}
+use Rattle.nj_requests.specs.Actions.{ActionText, RequestText, commands, compdb, inputs, query, rules, single_commands, targets}
+use Rattle.nj_args.specs.Requests.{request_of}
 use Rattle.nj_args.specs.declared.faults.UsageFault.{UsageFault}
 use Rattle.nj_args.specs.declared.faults.UsageFault.TheVariants.{Unparsed, UnknownTool, ForeignOption, BadNumber, BadMark, BadWords}
 use Rattle.nj_args.specs.declared.faults.ToolOption.TheVariants.{Single, Descriptions, Expand, Directory, Take, Resume, Validations, DependencyOrder, NoShellEscape, Print0}
-use Rattle.nj_tools.specs.declared.view.TargetsView.TheVariants.{OfRule, Sources, Depth, All}
+use Rattle.nj_requests.specs.declared.view.TargetsView.TheVariants.{OfRule, Sources, Depth, All}
 
 abbrev asks : ActionText → Result RequestText UsageFault
 asks action = Ok (record { file = codes "build.ninja"; from_stdin = false; dyndep = false; action = action })
@@ -435,29 +436,29 @@ short_version_row = refl
 
 -- ---- lines
 
-unparsed_line : fault_line Unparsed ≡ codes "ninja-explain: cannot read the arguments\n"
+unparsed_line : fault_line Unparsed ≡ codes "ninja-explain: cannot read the arguments"
 unparsed_line = refl
 
-tool_line : fault_line (UnknownTool (codes "graph")) ≡ codes "ninja-explain: unknown tool 'graph'\n"
+tool_line : fault_line (UnknownTool (codes "graph")) ≡ codes "ninja-explain: unknown tool 'graph'"
 tool_line = refl
 
-foreign_line : fault_line (ForeignOption Take (codes "commands")) ≡ codes "ninja-explain: option --take does not go with tool 'commands'\n"
+foreign_line : fault_line (ForeignOption Take (codes "commands")) ≡ codes "ninja-explain: option --take does not go with tool 'commands'"
 foreign_line = refl
 
-foreign_mark_line : fault_line (ForeignOption Resume (codes "commands")) ≡ codes "ninja-explain: option --resume does not go with tool 'commands'\n"
+foreign_mark_line : fault_line (ForeignOption Resume (codes "commands")) ≡ codes "ninja-explain: option --resume does not go with tool 'commands'"
 foreign_mark_line = refl
 
-number_line : fault_line (BadNumber (codes "x")) ≡ codes "ninja-explain: not a number: 'x'\n"
+number_line : fault_line (BadNumber (codes "x")) ≡ codes "ninja-explain: not a number: 'x'"
 number_line = refl
 
-mark_line : fault_line (BadMark (codes "00")) ≡ codes "ninja-explain: bad mark '00'\n"
+mark_line : fault_line (BadMark (codes "00")) ≡ codes "ninja-explain: bad mark '00'"
 mark_line = refl
 
-single_line : fault_line (ForeignOption Single (codes "rules")) ≡ codes "ninja-explain: option -s does not go with tool 'rules'\n"
+single_line : fault_line (ForeignOption Single (codes "rules")) ≡ codes "ninja-explain: option -s does not go with tool 'rules'"
 single_line = refl
 
-expand_line : fault_line (ForeignOption Expand (codes "rules")) ≡ codes "ninja-explain: option -x does not go with tool 'rules'\n"
+expand_line : fault_line (ForeignOption Expand (codes "rules")) ≡ codes "ninja-explain: option -x does not go with tool 'rules'"
 expand_line = refl
 
-words_line : fault_line (BadWords (codes "query")) ≡ codes "ninja-explain: wrong words for tool 'query'\n"
+words_line : fault_line (BadWords (codes "query")) ≡ codes "ninja-explain: wrong words for tool 'query'"
 words_line = refl

@@ -5,8 +5,8 @@ use Rattle.std.specs.Borrow.{Bor}
 use Rattle.std.proofs.lemmas.Bool.Decides.{nat_tests}
 use Rattle.std.specs.List.{slice_split, onto_first}
 use Rattle.std.proofs.lemmas.List.Splits.{slice_split-cons_no}
-use Rattle.nj_marks.specs.Marks.{given_mark, number_of, numbers_in, ReadsBack}
-use Rattle.nj_marks.specs.Inside.Scanning.{is_dot}
+use Rattle.nj_needs.specs.MarkTexts.{given_mark, number_of, numbers_in, ReadsBack}
+use Rattle.nj_needs.specs.Inside.MarkScanning.{is_dot}
 use Rattle.nj_args.specs.RunMarks.{run_mark_text, given_run_mark, RunMarksAreApart}
 
 -- a mark that reads back from its text reads back as the mark of a run, of either kind

@@ -10,8 +10,8 @@ use Rattle.nj_args.specs.Numbers.{given_depth}
 use Rattle.nj_args.specs.Requests.{view_of, depth_of}
 use Rattle.nj_args.specs.declared.faults.UsageFault.TheVariants.{BadNumber, BadWords}
 use Rattle.nj_args.specs.declared.tools.Tool.TheVariants.{Targets}
-use Rattle.nj_tools.specs.declared.view.TargetsView.{TargetsView}
-use Rattle.nj_tools.specs.declared.view.TargetsView.TheVariants.{OfRule, Sources, Depth, All}
+use Rattle.nj_requests.specs.declared.view.TargetsView.{TargetsView}
+use Rattle.nj_requests.specs.declared.view.TargetsView.TheVariants.{OfRule, Sources, Depth, All}
 use Rattle.nj_args.proofs.Mistakes.{Ends, in_value, in_fault, lacks_bad_words, refuses}
 
 same_text : (text other : List ℕ) → bytes_eq text other ≡ true → text ≡ other

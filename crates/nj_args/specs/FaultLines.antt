@@ -1,6 +1,6 @@
 -- The line that reports why words are not a valid request.
 use Rattle.std.specs.Prelude.{ℕ, List, ◌++◌, codes}
-use Rattle.nj_tools.specs.Lines.{line}
+use Rattle.nj_text.specs.Faults.{out_of_memory_text}
 use Rattle.nj_args.specs.declared.faults.ToolOption.{ToolOption}
 use Rattle.nj_args.specs.declared.faults.ToolOption.TheVariants as option
 use Rattle.nj_args.specs.declared.faults.UsageFault.{UsageFault}
@@ -29,8 +29,8 @@ fault_text (fault.ForeignOption option tool) = quoting (codes "option " ++ optio
 fault_text (fault.BadNumber text) = quoting (codes "not a number: ") text
 fault_text (fault.BadMark text) = quoting (codes "bad mark ") text
 fault_text (fault.BadWords tool) = quoting (codes "wrong words for tool ") tool
-fault_text fault.OutOfMemory = codes "out of memory"
+fault_text fault.OutOfMemory = out_of_memory_text
 
--- `ninja-explain: TEXT`, and its line end
+-- `ninja-explain: TEXT`
 abbrev pub fault_line : UsageFault → List ℕ
-fault_line fault = line (codes "ninja-explain: " ++ fault_text fault)
+fault_line fault = codes "ninja-explain: " ++ fault_text fault

@@ -1,12 +1,13 @@
 -- What the words of a command line ask for.
-use Rattle.std.specs.Prelude.{ℕ, Bool, true, false, not, if◌then◌else◌, List, [], ◌∷◌, map, codes, string_bytes}
+use Rattle.std.specs.Prelude.{ℕ, Bool, true, false, not, if◌then◌else◌, List, [], ◌∷◌, codes}
 use Rattle.std.specs.Prelude.{Option, Some, None, option_map, unwrap_or, ok_or, Result, Ok, Err}
 use Rattle.std.specs.Option.{option_map_or}
 use Rattle.std.specs.Str.{bytes_eq}
 use Rattle.nj_manifest.specs.LineSteps.{◌>>=◌}
-use Rattle.nj_tools.specs.declared.style.InputsStyle.{InputsStyle}
-use Rattle.nj_tools.specs.declared.view.TargetsView.{TargetsView}
-use Rattle.nj_tools.specs.declared.view.TargetsView.TheVariants.{OfRule, Sources, Depth, All}
+use Rattle.nj_requests.specs.Actions.{ActionText, commands, single_commands, inputs, targets, query, rules, compdb, RequestText}
+use Rattle.nj_requests.specs.declared.style.InputsStyle.{InputsStyle}
+use Rattle.nj_requests.specs.declared.view.TargetsView.{TargetsView}
+use Rattle.nj_requests.specs.declared.view.TargetsView.TheVariants.{OfRule, Sources, Depth, All}
 use Rattle.clap.specs.Words.{Row, first_of}
 use Rattle.nj_args.specs.Fields.{given_rows, is_on, words_in}
 use Rattle.nj_args.specs.Numbers.{given_number, given_depth}
@@ -14,46 +15,8 @@ use Rattle.nj_args.specs.RunMarks.{given_run_mark}
 use Rattle.nj_args.specs.Tools.{tool_named, first_foreign}
 use Rattle.nj_args.specs.declared.faults.UsageFault.{UsageFault}
 use Rattle.nj_args.specs.declared.faults.UsageFault.TheVariants.{Unparsed, UnknownTool, ForeignOption, BadNumber, BadMark, BadWords}
-use Rattle.nj_args.specs.declared.requests.Action.{Action}
-use Rattle.nj_args.specs.declared.requests.Action.TheVariants as action
-use Rattle.nj_args.specs.declared.requests.Request.{Request}
 use Rattle.nj_args.specs.declared.tools.Tool.{Tool}
 use Rattle.nj_args.specs.declared.tools.Tool.TheVariants as tool
-
--- `paths` are of targets or files, `names` of rules; `start` is the numbers of a mark; `validations`: what is to be validated when the
--- targets are built counts as a target too
-pub data ActionText : Type 0 where
-  commands : (paths : List (List ℕ)) (validations : Bool) (take : Option ℕ) (start : List ℕ) → ActionText
-  single_commands : (paths : List (List ℕ)) → ActionText
-  inputs : (paths : List (List ℕ)) (validations : Bool) (style : InputsStyle) → ActionText
-  targets : (view : TargetsView) → ActionText
-  query : (paths : List (List ℕ)) → ActionText
-  rules : (descriptions : Bool) → ActionText
-  compdb : (names : List (List ℕ)) (directory : List ℕ) (expand : Bool) → ActionText
-
--- `dyndep`: what dyndep files discover is joined first
-pub record RequestText : Type 0 where
-  pub file : List ℕ
-  pub from_stdin : Bool
-  pub dyndep : Bool
-  pub action : ActionText
-
-abbrev pub action_text : Action → ActionText
-action_text (action.Commands paths validations take start) = commands (map string_bytes paths.items) validations take start
-action_text (action.SingleCommands paths) = single_commands (map string_bytes paths.items)
-action_text (action.Inputs paths validations style) = inputs (map string_bytes paths.items) validations style
-action_text (action.Targets view) = targets view
-action_text (action.Query paths) = query (map string_bytes paths.items)
-action_text (action.Rules descriptions) = rules descriptions
-action_text (action.Compdb names directory expand) = compdb (map string_bytes names.items) (string_bytes directory) expand
-
-abbrev pub request_text : Request → RequestText
-request_text request = record {
-  file = string_bytes request.file;
-  from_stdin = request.from_stdin;
-  dyndep = request.dyndep;
-  action = action_text request.action;
-}
 
 -- ---- `commands`
 

@@ -1,6 +1,6 @@
 -- The marks of runs in their written form. A run that follows validations has marks of its own, which begin with a `v`.
 use Rattle.std.specs.Prelude.{◌≡◌, ℕ, ◌==◌, Bool, true, false, if◌then◌else◌, Option, Some, None, List, [], ◌∷◌, ◌++◌, codes}
-use Rattle.nj_marks.specs.Marks.{mark_text, given_mark}
+use Rattle.nj_needs.specs.MarkTexts.{mark_text, given_mark}
 
 abbrev pub run_mark_text : (validations : Bool) → (mark : List ℕ) → List ℕ
 run_mark_text false mark = mark_text mark

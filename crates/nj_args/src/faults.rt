@@ -4,6 +4,7 @@ ghost use Rattle.std.specs.Prelude.{◌≡◌, Some, IfOk};
 ghost use Rattle.nj_args.specs.FaultLines.{fault_text, option_text};
 ghost use Rattle.nj_args.specs.declared.faults.UsageFault.TheVariants.{OutOfMemory};
 
+use nj_text::OUT_OF_MEMORY_TEXT;
 use std::alloc::{AllocError, AllocFailed, Global};
 use std::error::Error;
 use std::fmt;
@@ -137,7 +138,7 @@ impl fmt::Display for UsageFault {
             UsageFault::BadNumber(text) => write!(f, "not a number: '{text}'"),
             UsageFault::BadMark(text) => write!(f, "bad mark '{text}'"),
             UsageFault::BadWords(tool) => write!(f, "wrong words for tool '{tool}'"),
-            UsageFault::OutOfMemory => f.write_str("out of memory"),
+            UsageFault::OutOfMemory => f.write_str(OUT_OF_MEMORY_TEXT),
         }
     }
 }

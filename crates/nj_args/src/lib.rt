@@ -12,5 +12,5 @@ mod tools;
 
 pub use faults::{ToolOption, UsageFault, Word};
 pub use laws::{first_fault_law, run_marks_law};
-pub use nj_tools::{InputsStyle, TargetsView};
-pub use requests::{Action, Request, read_words};
+pub use nj_requests::{Action, InputsStyle, Request, TargetsView};
+pub use requests::read_words;

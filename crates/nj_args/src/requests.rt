@@ -1,15 +1,13 @@
 //! Requests: what the words of a command line ask for.
 
 ghost use Rattle.std.specs.Prelude.{◌≡◌, ◌⊎◌, None, Ok, Err, [], ◌∷◌, IfOk, IfErr, IfSome, IfNone, map, string_bytes};
-ghost use Rattle.nj_marks.specs.Marks.{given_mark};
+ghost use Rattle.nj_needs.specs.MarkTexts.{given_mark};
 ghost use Rattle.std.specs.Option.{option_copied};
 ghost use Rattle.nj_args.specs.Requests.{
   request_of,
   given_request,
   request_in,
-  request_text,
   action_of,
-  action_text,
   asked_of,
   commands_of,
   take_of,
@@ -30,6 +28,7 @@ ghost use Rattle.nj_args.specs.Inside.Held.{
   compdb_of,
 };
 ghost use Rattle.nj_args.specs.RunMarks.{given_run_mark};
+ghost use Rattle.nj_requests.specs.Actions.{action_text, request_text};
 ghost use Rattle.nj_args.specs.declared.faults.UsageFault.TheVariants.{OutOfMemory};
 
 use crate::faults::{UsageFault, Word};
@@ -37,77 +36,14 @@ use crate::fields::{is_on, parse, text_of, words_in};
 use crate::numbers::{depth_in, number_in};
 use crate::tools::{Tool, first_foreign, tool_named};
 use clap::ArgMatches;
-use nj_graph::Name;
-use nj_marks::{Mark, MarkFault};
-use nj_tools::{InputsStyle, TargetsView};
+use nj_needs::{Mark, MarkFault};
+use nj_requests::{Action, InputsStyle, Name, Request, TargetsView};
 use std::alloc::{AllocError, Global};
 
 const MAIN_FILE: &str = "build.ninja";
 
 // The working folder, which `compdb` names if no other is given.
 const HERE: &str = ".";
-
-/// What the words of a command line ask for.
-#[derive(Drop)]
-pub struct Request {
-    /// The main file's name ("Running Ninja").
-    pub file: String,
-    /// Whether the main file is standard input.
-    pub from_stdin: bool,
-    /// Whether what dyndep files discover is joined first.
-    pub dyndep: bool,
-    pub action: Action,
-}
-
-/// What is asked of the file ("Extra tools"). Targets, files and names of rules are the words that
-/// are not options, as they were written. Without targets, the file determines them ("Default
-/// target statements").
-#[derive(Drop)]
-pub enum Action {
-    /// `commands`: the commands of the edges that the targets need, from a mark on.
-    Commands {
-        targets: Vec<String>,
-        /// Whether what is to be validated when the targets are built counts as a target too
-        /// ("Validations").
-        validations: bool,
-        /// At most this many commands.
-        take: Option<u64>,
-        start: Mark,
-    },
-    /// `commands` with `-s`: the commands of the edges that make the targets.
-    SingleCommands {
-        targets: Vec<String>,
-    },
-    /// `inputs`: the inputs of the edges whose commands the targets need.
-    Inputs {
-        targets: Vec<String>,
-        /// As for `Commands`.
-        validations: bool,
-        style: InputsStyle,
-    },
-    /// `targets`: files of the graph, by rule, by depth or all.
-    Targets {
-        view: TargetsView,
-    },
-    /// `query`: what each file is made of, and what is made of it. There is one or more.
-    Query {
-        files: Vec<String>,
-    },
-    /// `rules`: the names of the rules.
-    Rules {
-        /// With the description of each.
-        descriptions: bool,
-    },
-    /// `compdb`: a compilation database.
-    Compdb {
-        /// The rules whose edges it has; without any, all rules.
-        rules: Vec<String>,
-        /// The folder in which it says that each command runs.
-        directory: String,
-        /// Whether response files are expanded in the commands.
-        expand: bool,
-    },
-}
 
 /// What the words ask for, without the program's name. The first fault of the words in the order of
 /// [`UsageFault`] is reported.

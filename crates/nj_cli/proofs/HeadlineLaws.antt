@@ -9,7 +9,7 @@ use Rattle.nj_cycles.specs.Cycles.{IsAcyclic}
 use Rattle.nj_edges.specs.Edges.{EdgePaths}
 use Rattle.nj_faults.specs.declared.fault.GraphFault.{GraphFault}
 use Rattle.nj_faults.specs.FaultLines.{fault_line}
-use Rattle.nj_marks.specs.Marks.{ReadsBack}
+use Rattle.nj_needs.specs.MarkTexts.{ReadsBack}
 use Rattle.nj_edges.specs.Needs.{makers_of_inputs}
 use Rattle.nj_needs.specs.Graphs.{row_of_paths, is_phony_in}
 use Rattle.nj_needs.specs.Marks.{rest, IsFirstPlace}
@@ -20,8 +20,9 @@ use Rattle.nj_needs.proofs.OrderLaws.{commands-reached, commands-once, commands-
 use Rattle.nj_needs.proofs.PageLaws.{mark-keeps_the_rest}
 use Rattle.nj_needs.proofs.PlaceLaws.{first-places_are_one}
 use Rattle.nj_needs.proofs.Striking.{without-none}
-use Rattle.nj_args.specs.Requests.{ActionText, commands, single_commands, start_of}
-use Rattle.nj_args.specs.Requests as ask
+use Rattle.nj_requests.specs.Actions.{ActionText, commands, single_commands}
+use Rattle.nj_args.specs.Requests.{start_of}
+use Rattle.nj_requests.specs.Actions as ask
 use Rattle.nj_args.specs.RunMarks.{run_mark_text}
 use Rattle.nj_args.proofs.RunMarks.{run-mark_reads_back}
 use Rattle.nj_args.specs.declared.faults.UsageFault.TheVariants.{BadMark}

@@ -8,7 +8,7 @@ use Rattle.nj_graph.specs.Joining.{joined_after, Joins}
 use Rattle.nj_graph.specs.Loads.{LoadedText, IsWhole, IsLoaded, LoadedOr, main_reached}
 use Rattle.nj_graph.specs.Runs.{IsRead}
 use Rattle.nj_graph.proofs.Tables.{reads-then}
-use Rattle.nj_args.specs.Requests.{RequestText}
+use Rattle.nj_requests.specs.Actions.{RequestText}
 use Rattle.nj_cli.specs.Inside.RunSteps.{GraphOr, ReadsGraph}
 use Rattle.nj_cli.specs.Runs.{ReadsMore, AreStatements, HaveFault}
 use Rattle.nj_cli.proofs.ReturnLemmas.{NoEdgeNeedsItself-stated}

@@ -3,7 +3,7 @@ use Rattle.std.proofs.Common.{◌≡◌, inl, inr, Some, None, List}
 use Rattle.nj_scope.specs.Readings.{Reading}
 use Rattle.nj_graph.specs.Graph.{edges_of}
 use Rattle.nj_graph.specs.Loads.{LoadedText}
-use Rattle.nj_args.specs.Requests.{RequestText}
+use Rattle.nj_requests.specs.Actions.{RequestText}
 use Rattle.nj_cli.specs.Runs.{Around, IsRefused, IsAnswered, RunsAsAndKeeps}
 use Rattle.nj_cli.specs.Targets.{edges_by_path}
 use Rattle.nj_cli.specs.declared.status.Status.{Status}

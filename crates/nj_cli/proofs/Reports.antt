@@ -7,14 +7,15 @@ use Rattle.nj_tools.specs.Lines.{line}
 use Rattle.nj_tools.specs.Sinks.{SinkState}
 use Rattle.nj_cli.specs.Reported.{Reported}
 use Rattle.nj_cli.specs.Inside.RunSteps.{ReportsMisuse}
-use Rattle.nj_args.specs.Requests.{RequestText, request_of}
+use Rattle.nj_requests.specs.Actions.{RequestText}
+use Rattle.nj_args.specs.Requests.{request_of}
 use Rattle.nj_cli.specs.Runs.{Around, out_of_memory, RunsAndKeepsWith, RunsAndKeeps}
 use Rattle.nj_cli.specs.declared.status.Status.{Status}
 use Rattle.nj_cli.specs.declared.status.Status.TheVariants.{Fault, Usage}
 
 -- a fault other than out of memory has a line of its own
 pub ReportsMisuse-other : (old new : SinkState) (fault : UsageFault) (status : Status) → fault ≢ usage.OutOfMemory
-    → (Reported old new (lines.fault_line fault) × (status ≡ Usage)) ⊎ (Reported old new (line out_of_memory) × (status ≡ Fault))
+    → (Reported old new (line (lines.fault_line fault)) × (status ≡ Usage)) ⊎ (Reported old new (line out_of_memory) × (status ≡ Fault))
     → ReportsMisuse old new fault status
 ReportsMisuse-other old new usage.OutOfMemory status other known = absurd (other refl)
 ReportsMisuse-other old new usage.Unparsed status other known = known
@@ -29,7 +30,7 @@ module _ (words : List (List ℕ)) (old new : Around) (source : new.source ≡ o
   early status reported is = inr (record { source = source; output = output; error = reported }, is, refl)
 
   misused : (fault : UsageFault) (status : Status) → request_of words ≡ Err fault
-      → (Reported old.error new.error (lines.fault_line fault) × (status ≡ Usage)) ⊎ (Reported old.error new.error (line out_of_memory) × (status ≡ Fault))
+      → (Reported old.error new.error (line (lines.fault_line fault)) × (status ≡ Usage)) ⊎ (Reported old.error new.error (line out_of_memory) × (status ≡ Fault))
       → RunsAndKeeps words old new status None
   misused fault status why (inl known) =
       inl (subst (λ (r : Result RequestText UsageFault). RunsAndKeepsWith r old new status None) (sym why)

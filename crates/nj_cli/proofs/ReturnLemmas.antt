@@ -24,12 +24,12 @@ use Rattle.nj_needs.specs.Order.{made_by}
 use Rattle.nj_edges.specs.Repeats.{each_once}
 use Rattle.nj_needs.specs.Pages.{IsMarkAfter}
 use Rattle.nj_needs.specs.Resuming.{ResumeIs}
-use Rattle.nj_marks.specs.declared.fault.MarkFault.{MarkFault}
-use Rattle.nj_marks.specs.declared.fault.MarkFault.TheVariants as mark
+use Rattle.nj_needs.specs.declared.mark_fault.MarkFault.{MarkFault}
+use Rattle.nj_needs.specs.declared.mark_fault.MarkFault.TheVariants as mark
 use Rattle.nj_needs.specs.Walks.{WalkState, BeginsAt, rest_of}
 use Rattle.nj_needs.proofs.Bridges.{paths-at, row-paths}
-use Rattle.nj_args.specs.Requests.{ActionText, commands, single_commands}
-use Rattle.nj_args.specs.Requests as ask
+use Rattle.nj_requests.specs.Actions.{ActionText, commands, single_commands}
+use Rattle.nj_requests.specs.Actions as ask
 use Rattle.nj_tools.specs.CommandStrings.{command_lines, written, left_after, StopsAt, single, own_commands_in, own_commands}
 use Rattle.nj_tools.specs.Sinks.{SinkState, Takes}
 use Rattle.nj_tools.specs.Compdb.{compdb_text, unheld_edge}
@@ -37,7 +37,7 @@ use Rattle.nj_tools.specs.Listings.{inputs_text}
 use Rattle.nj_tools.specs.Queries.{query_text}
 use Rattle.nj_tools.specs.Texts.{StopsWithin, TakesFront}
 use Rattle.nj_tools.specs.declared.fault.ToolFault.{ToolFault}
-use Rattle.nj_tools.specs.declared.style.InputsStyle.{InputsStyle}
+use Rattle.nj_requests.specs.declared.style.InputsStyle.{InputsStyle}
 use Rattle.nj_tools.specs.declared.fault.ToolFault.TheVariants as tool
 use Rattle.nj_tools.proofs.SinkLemmas.{Takes-nil}
 use Rattle.nj_cli.specs.Targets.{edges_by_path, NoEdgeNeedsItself, targets_named, or_defaults, with_validations, targets_of}

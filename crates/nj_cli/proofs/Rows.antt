@@ -10,8 +10,8 @@ use Rattle.nj_manifest.proofs.StatementRows.{at}
 use Rattle.nj_scope.specs.ReadingList.{ReadStatement}
 use Rattle.nj_statements.specs.EdgeList.{defaults_read}
 use Rattle.nj_graph.proofs.ReadingRows.{main_file, on_files, read_of}
-use Rattle.nj_marks.specs.Marks.{given_mark, ReadsBack}
-use Rattle.nj_args.specs.Requests.{ActionText, commands, single_commands}
+use Rattle.nj_needs.specs.MarkTexts.{given_mark, ReadsBack}
+use Rattle.nj_requests.specs.Actions.{ActionText, commands, single_commands}
 use Rattle.nj_args.specs.RunMarks.{run_mark_text}
 use Rattle.nj_cli.specs.declared.status.Status.TheVariants.{Done, Fault, Stopped}
 use Rattle.nj_cli.specs.Answers.{output_of, Ending, finished, stopped, faulty, EndsWith, error_of, status_of}

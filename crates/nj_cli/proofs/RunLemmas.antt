@@ -9,7 +9,8 @@ use Rattle.nj_faults.specs.Faults.{no_memory}
 use Rattle.nj_graph.specs.Graph.{IsGraphOf}
 use Rattle.nj_graph.specs.Loads.{LoadedText}
 use Rattle.nj_graph.specs.Runs.{IsRead}
-use Rattle.nj_args.specs.Requests.{ActionText, RequestText, request_of}
+use Rattle.nj_requests.specs.Actions.{ActionText, RequestText}
+use Rattle.nj_args.specs.Requests.{request_of}
 use Rattle.nj_args.specs.declared.faults.UsageFault.{UsageFault}
 use Rattle.nj_tools.specs.Lines.{line}
 use Rattle.nj_tools.specs.Sinks.{SinkState, Takes}

@@ -7,7 +7,7 @@ use Rattle.nj_faults.specs.declared.fault.Cause.TheVariants.{TextNotUtf8}
 use Rattle.nj_faults.specs.declared.fault.GraphFault.{GraphFault}
 use Rattle.nj_faults.specs.Faults.{fault_at, unplaced}
 use Rattle.nj_faults.specs.FaultLines.{fault_line}
-use Rattle.nj_marks.specs.Marks.{ReadsBack}
+use Rattle.nj_needs.specs.MarkTexts.{ReadsBack}
 use Rattle.nj_edges.specs.Needs.{makers_of_inputs}
 use Rattle.nj_needs.specs.Graphs.{row_of_paths, is_phony_in}
 use Rattle.nj_needs.specs.Marks.{is_valid, rest}
@@ -18,8 +18,8 @@ use Rattle.nj_tools.specs.Lines.{line}
 use Rattle.nj_tools.specs.Listings.{inputs_text, targets_text}
 use Rattle.nj_tools.specs.Queries.{query_text}
 use Rattle.nj_tools.specs.RuleLists.{rules_text}
-use Rattle.nj_args.specs.Requests.{ActionText, commands, single_commands}
-use Rattle.nj_args.specs.Requests as ask
+use Rattle.nj_requests.specs.Actions.{ActionText, commands, single_commands}
+use Rattle.nj_requests.specs.Actions as ask
 use Rattle.nj_args.specs.RunMarks.{run_mark_text}
 use Rattle.nj_cli.specs.Targets.{edges_by_path, targets_named, targets_of}
 use Rattle.nj_cli.specs.declared.status.Status.{Status}

@@ -9,7 +9,8 @@ use Rattle.nj_needs.specs.Graphs.{row_of_paths, is_phony_in}
 use Rattle.nj_needs.specs.Laws.{ComesBefore}
 use Rattle.nj_needs.specs.Needs.{Reached}
 use Rattle.nj_needs.specs.Order.{needed_commands}
-use Rattle.nj_args.specs.Requests.{ActionText, commands, start_of}
+use Rattle.nj_requests.specs.Actions.{ActionText, commands}
+use Rattle.nj_args.specs.Requests.{start_of}
 use Rattle.nj_args.specs.RunMarks.{run_mark_text}
 use Rattle.nj_tools.specs.CommandStrings.{command_lines}
 use Rattle.nj_cli.specs.Answers.{output_of, Ending, finished, stopped, EndsWith}

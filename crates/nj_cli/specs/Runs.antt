@@ -14,7 +14,8 @@ use Rattle.nj_tools.specs.Lines.{line}
 use Rattle.nj_tools.specs.Sinks.{SinkState, Takes}
 use Rattle.nj_tools.specs.Texts.{FailsWithin, TakesFront}
 use Rattle.nj_args.specs.FaultLines as usage
-use Rattle.nj_args.specs.Requests.{ActionText, RequestText, request_of}
+use Rattle.nj_requests.specs.Actions.{ActionText, RequestText}
+use Rattle.nj_args.specs.Requests.{request_of}
 use Rattle.nj_args.specs.declared.faults.UsageFault.{UsageFault}
 use Rattle.nj_cli.specs.Answers.{output_of, Ending, EndsWith, follows_validations, error_of, status_of, status_untold}
 use Rattle.nj_cli.specs.Reported.{Took, Reported}
@@ -118,7 +119,7 @@ pub record EndsAtOnce (reason : List ℕ) (old new : Around) : Type 0 where
 -- what a run with words does, by the request that they are, or by the fault that they have
 abbrev pub RunsWith : Result RequestText UsageFault → (old new : Around) → Status → Type 0
 RunsWith (Ok request) old new status = RunsAs request old new status
-RunsWith (Err fault) old new status = EndsAtOnce (usage.fault_line fault) old new × (status ≡ Usage)
+RunsWith (Err fault) old new status = EndsAtOnce (line (usage.fault_line fault)) old new × (status ≡ Usage)
 
 -- or an allocation failed before any file was read
 abbrev pub RunsWords : (words : List (List ℕ)) → (old new : Around) → Status → Type 0
@@ -139,7 +140,7 @@ RunsAsAndKeeps request old new status kept =
 -- nothing is kept where the words are not a valid request
 abbrev pub RunsAndKeepsWith : Result RequestText UsageFault → (old new : Around) → Status → Option LoadedText → Type 0
 RunsAndKeepsWith (Ok request) old new status kept = RunsAsAndKeeps request old new status kept
-RunsAndKeepsWith (Err fault) old new status kept = EndsAtOnce (usage.fault_line fault) old new × (status ≡ Usage) × (kept ≡ None)
+RunsAndKeepsWith (Err fault) old new status kept = EndsAtOnce (line (usage.fault_line fault)) old new × (status ≡ Usage) × (kept ≡ None)
 
 -- what a run with words does, and what is kept of it
 abbrev pub RunsAndKeeps : (words : List (List ℕ)) → (old new : Around) → Status → Option LoadedText → Type 0

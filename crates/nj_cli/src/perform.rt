@@ -4,19 +4,19 @@ ghost use Rattle.std.specs.Prelude.{◌≡◌, ℕ, ◌<◌, List, length, map, 
 ghost use Rattle.nj_scope.specs.ReadingList.{ReadStatement};
 ghost use Rattle.nj_statements.specs.EdgeList.{edges_read};
 ghost use Rattle.nj_graph.specs.Graph.{edges_of, IsGraphOf};
-ghost use Rattle.nj_args.specs.Requests.{action_text, commands, single_commands};
-ghost use Rattle.nj_args.specs.Requests as ask;
+ghost use Rattle.nj_requests.specs.Actions.{action_text, commands, single_commands};
+ghost use Rattle.nj_requests.specs.Actions as ask;
 ghost use Rattle.nj_cli.specs.Answers.{text_fault, follows_validations};
 ghost use Rattle.nj_cli.specs.Inside.RunSteps.{ReturnsFor};
 
 use crate::fault::RunFault;
 use crate::targets::{pick_targets, targets_of};
-use nj_args::Action;
 use nj_graph::{Cause, EdgeNo, Graph, GraphFault};
 use nj_needs::{Mark, Needs};
+use nj_requests::{Action, InputsStyle, TargetsView};
 use nj_tools::{
-    InputsStyle, Sink, TargetsView, ToolFault, write_commands, write_compdb, write_inputs,
-    write_query, write_rules, write_single_commands, write_targets,
+    Sink, ToolFault, write_commands, write_compdb, write_inputs, write_query, write_rules,
+    write_single_commands, write_targets,
 };
 use std::alloc::{AllocError, Global};
 

@@ -101,18 +101,27 @@ pub(crate) fn report_misuse<E: Sink>(alloc: Global, err: &mut E, fault: &UsageFa
     if let UsageFault::OutOfMemory = fault {
         return report_out_of_memory(err);
     }
-    match fault.line(alloc) {
+    match line_of_misuse(alloc, fault) {
         Ok(line) => {
-            report_line(err, line.as_bytes());
+            report_line(err, line.as_slice());
             Status::Usage
         }
         Err(_) => report_out_of_memory(err),
     }
 }
 
+// The line that reports why words are not a valid request.
+fn line_of_misuse(alloc: Global, fault: &UsageFault) -> Result<Vec<u8>, AllocError>
+    ensures { IfOk result (λ made. made.items ≡ line (usage.fault_line fault.now)) }
+{
+    let mut line = fault.line(alloc)?;
+    line.push(b'\n')?;
+    Ok(line)
+}
+
 /// Reports words that are not UTF-8.
 pub fn refuse_words<E: Sink>(err: &mut E) -> Status
-    ensures line { Reported (E.state err.old) (E.state err.new) (usage.fault_line Unparsed) }
+    ensures line { Reported (E.state err.old) (E.state err.new) (line (usage.fault_line Unparsed)) }
     ensures status { result ≡ Status.Usage }
 {
     report_line(err, UNREADABLE);

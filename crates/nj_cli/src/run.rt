@@ -1,7 +1,7 @@
 //! A run of the program.
 
 ghost use Rattle.std.specs.Prelude.{map, string_bytes};
-ghost use Rattle.nj_args.specs.Requests.{request_text};
+ghost use Rattle.nj_requests.specs.Actions.{request_text};
 ghost use Rattle.nj_cli.specs.Inside.RunSteps.{ReadsGraph};
 ghost use Rattle.nj_cli.specs.Runs.{RunsAs, RunsWords, RunsAsAndKeeps, RunsAndKeeps, around};
 

@@ -182,10 +182,10 @@ names-at names [] e = refl
 names-at names (l ∷ lists) zero = refl
 names-at names (l ∷ lists) (suc e) = names-at names lists e
 
-pub name-some : (names : List (List ℕ)) (numbers : List ℕ) (i n : ℕ) (path : List ℕ) → i < length numbers → n ≡ get_or numbers i n → slice_get names n ≡ Some path → Some path ≡ slice_get (names_of names numbers) i
-name-some names [] i n path inside is got = absurd (omega arith)
-name-some names (m ∷ numbers) zero n path inside is got = ap Some (sym (get_or_from_slice_get names n path [] got) ∙ ap (λ k. get_or names k []) is)
-name-some names (m ∷ numbers) (suc i) n path inside is got = name-some names numbers i n path (omega arith) is got
+pub name-some : (names : List (List ℕ)) (numbers : List ℕ) (i n : ℕ) (name : List ℕ) → i < length numbers → n ≡ get_or numbers i n → slice_get names n ≡ Some name → Some name ≡ slice_get (names_of names numbers) i
+name-some names [] i n name inside is got = absurd (omega arith)
+name-some names (m ∷ numbers) zero n name inside is got = ap Some (sym (get_or_from_slice_get names n name [] got) ∙ ap (λ k. get_or names k []) is)
+name-some names (m ∷ numbers) (suc i) n name inside is got = name-some names numbers i n name (omega arith) is got
 
 pub name-none : (names : List (List ℕ)) (numbers : List ℕ) (i : ℕ) → length numbers ≤ i → None ≡ slice_get (names_of names numbers) i
 name-none names [] i past = refl

@@ -1,6 +1,6 @@
 -- The cycle that is computed is the one that is described.
 use Rattle.std.proofs.Common.{◌≡◌, ◌≢◌, ◌<◌, ◌≤◌, ◌⊎◌, inl, inr, ℕ, zero, suc, Bool, true, false, ◌||◌, cond, List, [], ◌∷◌, length, Option, Some, None, unwrap_or, bytes_eq, refl, sym, ap, subst, ◌∙◌, true≢false, arith, Ordering, Less, Equal, Greater}
-use Rattle.nj_edges.specs.Edges.{is_among}
+use Rattle.nj_names.specs.NameTables.{is_among}
 use Rattle.std.specs.Prelude.{filter}
 use Rattle.std.specs.List.{list_any, fold, reduce}
 use Rattle.std.specs.Ordering.{nat_cmp, ordering_reverse, min_by_ordering, is_eq}

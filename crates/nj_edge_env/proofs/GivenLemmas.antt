@@ -1,6 +1,6 @@
 -- What names give: late strings, where no variable of a rule refers back to itself.
 use Rattle.std.proofs.Common.{◌≡◌, ℕ, zero, suc, ◌<◌, ◌≤◌, Bool, true, false, ◌||◌, if◌then◌else◌, List, [], ◌∷◌, ◌++◌, length, Option, None, Some, unwrap_or, option_map, bytes_eq, refl, sym, ap, subst, ◌∙◌, true≢false, arith}
-use Rattle.nj_edges.specs.Edges.{is_among}
+use Rattle.nj_names.specs.NameTables.{is_among}
 use Rattle.std.specs.Option.{option_or}
 use Rattle.std.specs.Prelude.{is_some, codes, find, reverse, ◌⊎◌}
 use Rattle.std.proofs.Common.{inl, inr}

@@ -1,13 +1,13 @@
 -- Late strings: the values of a rule's variables when an edge uses them.
 use Rattle.std.specs.Prelude.{◌≡◌, ℕ, zero, suc, Bool, true, false, not, ◌&&◌, ◌||◌, if◌then◌else◌, Option, Some, None, is_some}
 use Rattle.std.specs.Option.{option_or}
-use Rattle.std.specs.Prelude.{unwrap_or, option_map, List, [], ◌∷◌, ◌++◌, map, length, codes, bytes_eq}
+use Rattle.std.specs.Prelude.{unwrap_or, option_map, List, [], ◌∷◌, map, length, codes, bytes_eq}
 use Rattle.std.specs.List.{list_any, join_with_byte}
 use Rattle.nj_text.specs.Quotes.{quoted}
 use Rattle.nj_text.specs.Words.{PartText, Text, Name}
 use Rattle.nj_scope.specs.Rules.{RuleLineText, given}
 use Rattle.nj_scope.specs.Scopes.{expanded}
-use Rattle.nj_edges.specs.Edges.{is_among}
+use Rattle.nj_names.specs.NameTables.{is_among}
 
 -- What an edge's names depend on: the paths of its explicit inputs and outputs, the values that its block binds, the lines of
 -- its rule, whether that is `phony`, and the values of names in the file that has the edge.

@@ -1,11 +1,9 @@
 -- How it is held which keys of a rule refer to which: for each key, by number, its name and a row that tells for each key whether its value
 -- refers to that one.
-use Rattle.std.specs.Prelude.{◌≡◌, ◌⊎◌, ℕ, ◌<◌, ◌==◌, Bool, false, Option, Some, None, unwrap_or, option_map, List, [], length, slice_get, slice_index_or}
-use Rattle.nj_text.specs.Words.{PartText}
+use Rattle.std.specs.Prelude.{◌≡◌, ◌⊎◌, ℕ, ◌<◌, Bool, false, Option, None, unwrap_or, option_map, List, [], length, slice_get, slice_index_or}
 use Rattle.nj_scope.specs.Rules.{RuleLineText}
 use Rattle.nj_scope.specs.RulesHeld.{key_count, key_at}
-use Rattle.nj_edge_env.specs.declared.references.ReferringKey.{ReferringKey}
-use Rattle.nj_edge_env.specs.LateStrings.{rule_value, refers, refers_in}
+use Rattle.nj_edge_env.specs.LateStrings.{rule_value, refers}
 use Rattle.nj_edge_env.specs.VariableCycles.{variable_cycle_of}
 
 pub record ReferringKeyText : Type 0 where

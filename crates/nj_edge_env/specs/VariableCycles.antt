@@ -8,7 +8,7 @@ use Rattle.nj_text.specs.Words.{PartText}
 use Rattle.nj_cycles.specs.Cycles.{Chain}
 use Rattle.nj_scope.specs.Rules.{RuleLineText}
 use Rattle.nj_edge_env.specs.LateStrings.{rule_value, refers}
-use Rattle.nj_edges.specs.Edges.{is_among}
+use Rattle.nj_names.specs.NameTables.{is_among}
 
 -- the rule's value of this key counts, since the block does not bind it, and a part of it is a reference to the other name
 abbrev pub RefersTo : (block : List ℕ → Option (List ℕ)) → List RuleLineText → (key other : List ℕ) → Type 0

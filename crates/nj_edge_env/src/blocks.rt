@@ -8,8 +8,7 @@ use crate::bounds::{Bound, bind_value, bound_of, value_at};
 use crate::lists::NumberLists;
 use crate::names::is_pool_or_dyndep;
 use crate::order::NameOrder;
-use nj_edges::{FileNo, Files};
-use nj_scope::HashKeys;
+use nj_names::{HashKeys, Names};
 use std::alloc::{AllocError, Global};
 use std::marker::Model;
 
@@ -18,8 +17,8 @@ use std::marker::Model;
 #[derive(Drop)]
 pub struct Blocks {
     alloc: Global,
-    // names by their numbers, as paths of files are kept
-    names: Files,
+    // the names that blocks bind
+    names: Names,
     order: NameOrder,
     // the values of each name
     values: Vec<Vec<Bound>>,
@@ -55,7 +54,7 @@ impl Blocks {
     {
         Blocks {
             alloc,
-            names: Files::new(alloc, keys),
+            names: Names::new(alloc, keys),
             order: NameOrder::new(alloc),
             values: Vec::new(alloc),
             text: Vec::new(alloc),
@@ -112,7 +111,7 @@ impl Blocks {
             return None;
         }
         let bounds = match self.names.number(name) {
-            Some(file) => self.values[file.0].as_slice(),
+            Some(number) => self.values[number].as_slice(),
             None => return None,
         };
         match bound_of(bounds, edge) {
@@ -134,7 +133,7 @@ impl Blocks {
         ensures { option_copied result ≡ slice_get (names_in self.now edge) index }
     {
         match self.lists.list(edge).get(index) {
-            Some(number) => Some(self.names.path(FileNo(*number as usize))),
+            Some(number) => Some(self.names.name(*number as usize)),
             None => None,
         }
     }
@@ -155,7 +154,7 @@ fn last_assigning(assigning: usize, edge: usize, name: &[u8]) -> usize
 // The number of the name, which is guessed by the order in which names were bound before.
 fn name_number(
     alloc: Global,
-    names: &mut Files,
+    names: &mut Names,
     order: &mut NameOrder,
     values: &mut Vec<Vec<Bound>>,
     name: &[u8],
@@ -179,19 +178,19 @@ fn name_number(
 
 // Whether there is a name of this number, and it is this one.
 #[inline(always)]
-fn is_name(names: &Files, number: usize, name: &[u8]) -> bool
+fn is_name(names: &Names, number: usize, name: &[u8]) -> bool
     ensures { result ≡ true → IsFirstAt name.now names.now number }
 {
     if number >= names.count() {
         return false;
     }
-    names.path(FileNo(number)) == name
+    names.name(number) == name
 }
 
 // The number of the name. A name that no block bound yet gets one, and has no values.
 fn sought_number(
     alloc: Global,
-    names: &mut Files,
+    names: &mut Names,
     values: &mut Vec<Vec<Bound>>,
     name: &[u8],
 ) -> Result<usize, AllocError>
@@ -201,12 +200,12 @@ fn sought_number(
     ensures names { OnErr result (names.new ≡ names.old) }
     ensures values { OnErr result (values.new.items ≡ values.old.items) }
 {
-    if let Some(file) = names.number(name) {
-        return Ok(file.0);
+    if let Some(number) = names.number(name) {
+        return Ok(number);
     }
     let number = values.as_slice().len();
     values.reserve(1)?;
-    names.name(name)?;
+    names.add(name)?;
     values.push_reserved(Vec::new(alloc));
     Ok(number)
 }

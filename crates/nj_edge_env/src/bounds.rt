@@ -5,7 +5,8 @@ ghost use Rattle.std.specs.List.{AllByRecursion};
 ghost use Rattle.std.specs.Map.{lookup};
 ghost use Rattle.nj_edge_env.specs.Inside.BlocksHeld.{values_of, AreRising, IsPart, BoundsAreHeld, IsBoundTo, BeginsWith, with_bound, ends_at, bound_of, list_at};
 
-use crate::lists::{NumberLists, short_number};
+use crate::lists::NumberLists;
+use nj_names::short_number;
 use std::alloc::AllocError;
 
 // The value of a name in the block of an edge: a part of the text of all values. There are many of

@@ -1,8 +1,9 @@
 //! Lists of numbers, by edge: parts of one list.
 
-ghost use Rattle.std.specs.Prelude.{◌≡◌, ℕ, ◌+◌, ◌-◌, ◌≤◌, ◌==◌, if◌then◌else◌, [], ◌∷◌, ◌++◌, length, replicate, slice_index_or, slice_range, IfOk, OnOk, OnErr};
+ghost use Rattle.std.specs.Prelude.{◌≡◌, ℕ, ◌+◌, ◌-◌, ◌≤◌, ◌==◌, if◌then◌else◌, [], ◌∷◌, ◌++◌, length, replicate, slice_index_or, slice_range, OnOk, OnErr};
 ghost use Rattle.nj_edge_env.specs.Inside.BlocksHeld.{list_at, lists_of, AreStarts};
 
+use nj_names::short_number;
 use std::alloc::{AllocError, Global};
 use std::marker::Model;
 
@@ -100,14 +101,4 @@ fn part(numbers: &[u32], start: usize, end: usize) -> &[u32]
     ensures { result.now ≡ slice_range numbers.now start end }
 {
     &numbers[start..end]
-}
-
-/// A number in 32 bits. One that does not fit is refused as if there were no memory for it.
-pub(crate) fn short_number(number: usize) -> Result<u32, AllocError>
-    ensures { IfOk result (λ short. short ≡ number) }
-{
-    match u32::try_from(number) {
-        Ok(short) => Ok(short),
-        Err(_) => Err(AllocError),
-    }
 }

@@ -6,6 +6,7 @@ use Rattle.std.proofs.Math.Seq.{drop-length}
 use Rattle.std.proofs.lemmas.Bool.Decides.{eqb_tells}
 use Rattle.std.proofs.lemmas.List.{drop-append-le, length-map}
 use Rattle.std.proofs.lemmas.Option.{slice_get_within, get_or_from_slice_get}
+use Rattle.nj_names.proofs.ListLemmas.{among-get, get-last}
 use Rattle.nj_edges.specs.declared.files.FileNo.{FileNo}
 use Rattle.nj_edges.specs.declared.edges.EdgeRow.{EdgeRow}
 use Rattle.nj_edges.specs.declared.edges.OpenStarts.{OpenStarts}
@@ -14,7 +15,7 @@ use Rattle.nj_edges.specs.Edges.{first_edge, is_among}
 use Rattle.nj_edges.specs.Inside.EdgesHeld.{within, table_of, row_between, with_maker, is_edge, is_made_by, has_number, AreNumbers, AreNamed, OpenAreNew, output_rows, EdgesAreHeld, TableIsHeld}
 use Rattle.nj_edges.specs.EdgeTables.{EdgeTable, naming, EndWithin, plus_output, plus_input, plus_validation, with_output, with_input, with_validation, is_made}
 use Rattle.nj_edges.specs.Files.{path_at, with_path}
-use Rattle.nj_edges.proofs.EdgeLemmas.{all-drop, among-get, ends_of, get-path, first-last, first-more, get-last, has-push, held-ended, held-input, held-new, held-output, held-validation, IsNew, IsOld, made-at, named-cases, none-front, open-among, rows-same, table-input, table-named, table-output, table-validation, unmade}
+use Rattle.nj_edges.proofs.EdgeLemmas.{all-drop, ends_of, get-path, first-last, first-more, has-push, held-ended, held-input, held-new, held-output, held-validation, IsNew, IsOld, made-at, named-cases, none-front, open-among, rows-same, table-input, table-named, table-output, table-validation, unmade}
 use Rattle.nj_edges.proofs.GraphLemmas.{first-below}
 
 -- ---- tests

@@ -7,6 +7,7 @@ use Rattle.std.proofs.lemmas.Option.{slice_get_within, slice_get-get_or, unwrap_
 use Rattle.std.proofs.lemmas.Slice.Eq.{bytes_eq-Decides}
 use Rattle.std.proofs.lemmas.Grind.{flat_map-append}
 use Rattle.std.proofs.Math.Seq.{drop-length, take-length}
+use Rattle.nj_names.proofs.ListLemmas.{among-get, get-last, slice_range-append, slice_range-rest}
 use Rattle.nj_edges.specs.declared.files.FileNo.{FileNo}
 use Rattle.nj_edges.specs.declared.edges.Span.{Span}
 use Rattle.nj_edges.specs.declared.edges.EdgeRow.{EdgeRow}
@@ -16,7 +17,6 @@ use Rattle.nj_edges.specs.Edges.{first_edge, maker_of, is_among, outputs_of}
 use Rattle.nj_edges.specs.Inside.EdgesHeld.{paths_at, within, edge_of, edges_of, table_of, row_between, has_number, AreNumbers, IsWithin, RowIsWithin, output_rows, HaveMakers, AreJoined, EdgesAreHeld}
 use Rattle.nj_edges.specs.EdgeTables.{edge_read, EdgeTable, naming, plus_output, plus_input, plus_validation, is_made, no_files, EndWithin}
 use Rattle.nj_edges.specs.Files.{with_path, path_at}
-use Rattle.nj_edges.proofs.ListLemmas.{slice_range-append, slice_range-rest}
 
 -- ---- lists
 
@@ -24,10 +24,6 @@ pub get-append : {X : Type 0} (xs ys : List X) (i : ℕ) → i < length xs → s
 get-append [] ys i below = absurd (omega arith)
 get-append (x ∷ xs) ys zero below = refl
 get-append (x ∷ xs) ys (suc i) below = get-append xs ys i (omega arith)
-
-pub get-last : {X : Type 0} (xs : List X) (x : X) → slice_get (xs ++ x ∷ []) (length xs) ≡ Some x
-get-last [] x = refl
-get-last (y ∷ xs) x = get-last xs x
 
 pub all-push : {X : Type 0} (P : X → Type 0) (xs : List X) (x : X) → AllByRecursion P xs → P x → AllByRecursion P (xs ++ x ∷ [])
 all-push P [] x all one = (one, tt)
@@ -145,16 +141,6 @@ module _ (files : List (List ℕ)) (outputs inputs validations : List FileNo) (s
       rw (same, more) refl
 
 -- ---- naming a file
-
--- a path in a list is among it
-pub among-get : (files : List (List ℕ)) (n : ℕ) (path : List ℕ) → slice_get files n ≡ Some path → list_any (bytes_eq path) files ≡ true
-among-get [] n path h = absurd (true≢false (sym (ap is_some h)))
-among-get (p ∷ files) zero path h = ap (λ b. b || list_any (bytes_eq path) files) ((bytes_eq-Decides path p).1 (sym (ap (λ o. unwrap_or o []) h)))
-among-get (p ∷ files) (suc n) path h = by (bytes_eq path p) (among-get files n path h)
-  where
-    by : (b : Bool) → list_any (bytes_eq path) files ≡ true → (b || list_any (bytes_eq path) files) ≡ true
-    by true more = refl
-    by false more = more
 
 -- an element of a list with one more is the last one, or one of the others
 pub get-push : {X : Type 0} (xs : List X) (x y : X) (n : ℕ) → slice_get (xs ++ x ∷ []) n ≡ Some y → (n ≡ length xs) ⊎ ((n < length xs) × (slice_get xs n ≡ Some y))

@@ -4,6 +4,7 @@ use Rattle.std.specs.List.{AllByRecursion}
 use Rattle.std.proofs.Math.Bool.{or-false}
 use Rattle.std.proofs.Math.Seq.{drop-length}
 use Rattle.std.proofs.lemmas.List.{length-map, length-set, map-set}
+use Rattle.nj_names.proofs.ListLemmas.{slice_range-rest}
 use Rattle.nj_edges.specs.declared.files.FileNo.{FileNo}
 use Rattle.nj_edges.specs.declared.edges.EdgeRow.{EdgeRow}
 use Rattle.nj_edges.specs.declared.joining.AddedSpans.{AddedSpans}
@@ -13,7 +14,6 @@ use Rattle.nj_edges.specs.Joining.{AddedFiles, JoinTable, changed_at, with_added
 use Rattle.nj_edges.specs.Inside.JoiningHeld.{AddedInputsAreWithin, AddedOutputsAreWithin, AreApart, AreSet, JoinIsHeld, NextAreNew, added_at, added_input_rows, added_inputs_of, added_output_rows, added_outputs_of, is_in_rows, join_held, joined_by, stated_rows, with_found}
 use Rattle.nj_edges.proofs.EdgeLemmas.{first-last, first-more, no-more, within-numbers}
 use Rattle.nj_edges.proofs.JoiningLemmas.{added-at, have-from, in-rows-last}
-use Rattle.nj_edges.proofs.ListLemmas.{slice_range-rest}
 
 -- ---- a row that was empty
 

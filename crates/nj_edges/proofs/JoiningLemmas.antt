@@ -8,6 +8,7 @@ use Rattle.std.proofs.lemmas.Bool.Decides.{eqb_tells}
 use Rattle.std.proofs.lemmas.List.{drop-append-le, get_or-set_other, get_or-set_same, length-map, length-set}
 use Rattle.std.proofs.lemmas.List.Folds.{list_any-append}
 use Rattle.std.proofs.lemmas.Option.{get_or_from_slice_get, slice_get-get_or, slice_get_within}
+use Rattle.nj_names.proofs.ListLemmas.{get-last}
 use Rattle.nj_edges.specs.declared.files.FileNo.{FileNo}
 use Rattle.nj_edges.specs.declared.edges.EdgeRow.{EdgeRow}
 use Rattle.nj_edges.specs.declared.joining.AddedSpans.{AddedSpans}
@@ -17,7 +18,7 @@ use Rattle.nj_edges.specs.Files.{with_path}
 use Rattle.nj_edges.specs.Inside.GraphHeld.{ends_of}
 use Rattle.nj_edges.specs.Joining.{JoinTable, is_made_so_far, with_added_input, with_added_output}
 use Rattle.nj_edges.specs.Inside.JoiningHeld.{AddedInputsAreWithin, AddedOutputsAreWithin, AreApart, AreNamedOrAdded, JoinIsHeld, JoinListsAreHeld, NextAreNew, added_input_rows, added_inputs_of, added_output_rows, added_outputs_of, is_in_rows, join_held, joined_by, stated_rows, with_found}
-use Rattle.nj_edges.proofs.EdgeLemmas.{IsNew, IsOld, AreNumbers-more, all-drop, all-of, all-push, edges_of-more, first-last, first-more, first-none, first-other, get-last, has-among, has-push, held-new, makers-push, maker-read, named-cases, none-front, none-has, open-push, paths_at-more, within-append, within-numbers}
+use Rattle.nj_edges.proofs.EdgeLemmas.{IsNew, IsOld, AreNumbers-more, all-drop, all-of, all-push, edges_of-more, first-last, first-more, first-none, first-other, has-among, has-push, held-new, makers-push, maker-read, named-cases, none-front, none-has, open-push, paths_at-more, within-append, within-numbers}
 use Rattle.nj_edges.proofs.AddLemmas.{same-number}
 
 -- ---- tests

@@ -5,7 +5,6 @@ pub mod ChangeLemmas
 pub mod CycleLemmas
 pub mod EdgeLemmas
 pub mod EndLemmas
-pub mod FileLemmas
 pub mod FinishLemmas
 pub mod GraphLemmas
 pub mod GraphUsers

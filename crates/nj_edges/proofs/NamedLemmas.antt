@@ -7,6 +7,7 @@ use Rattle.std.proofs.lemmas.List.{take-append-drop, map-append}
 use Rattle.std.proofs.lemmas.List.Folds.{list_any-append}
 use Rattle.std.proofs.lemmas.Option.{slice_get_within}
 use Rattle.std.proofs.lemmas.Slice.Eq.{bytes_eq-Decides}
+use Rattle.nj_names.proofs.ListLemmas.{among-get}
 use Rattle.nj_edges.specs.declared.files.FileNo.{FileNo}
 use Rattle.nj_edges.specs.declared.edges.Span.{Span}
 use Rattle.nj_edges.specs.declared.edges.EdgeRow.{EdgeRow}
@@ -17,7 +18,7 @@ use Rattle.nj_edges.specs.Inside.EdgesHeld.{paths_at, within, edge_of, edges_of,
 use Rattle.nj_edges.specs.EdgeTables.{OpenEdge, EdgeTable, no_files, is_named_so_far}
 use Rattle.nj_edges.specs.Files.{AreFiles, path_at}
 use Rattle.nj_edges.specs.Inside.GraphHeld.{ends_of}
-use Rattle.nj_edges.proofs.EdgeLemmas.{all-drop, among-get, get-path, has-among}
+use Rattle.nj_edges.proofs.EdgeLemmas.{all-drop, get-path, has-among}
 use Rattle.nj_edges.proofs.GraphLemmas.{files-at, kinds-joined}
 use Rattle.nj_edges.proofs.RootLemmas.{among-flat}
 

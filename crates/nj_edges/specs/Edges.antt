@@ -1,7 +1,8 @@
 -- Build statements as edges: the files that they name, by their paths.
 use Rattle.std.specs.Prelude.{ℕ, ◌+◌, Bool, false, ◌||◌, not, if◌then◌else◌, Option, Some, None, option_map, List, [], ◌∷◌, ◌++◌, length}
-use Rattle.std.specs.Prelude.{slice_get, slice_index_or, nat_lt, bytes_eq}
+use Rattle.std.specs.Prelude.{slice_get, slice_index_or, nat_lt}
 use Rattle.std.specs.List.{list_any, filter, flat_map}
+pub use Rattle.nj_names.specs.NameTables.{is_among}
 use Rattle.nj_edges.specs.declared.edges.Kind.{Kind}
 use Rattle.nj_edges.specs.declared.edges.Kind.TheVariants.{Explicit, Implicit, OrderOnly}
 
@@ -36,9 +37,6 @@ first_output e = slice_get (outputs_of e) 0
 
 abbrev pub inputs_of : EdgePaths → List (List ℕ)
 inputs_of e = e.explicit_inputs ++ e.implicit_inputs ++ e.order_only_inputs
-
-abbrev pub is_among : List (List ℕ) → (path : List ℕ) → Bool
-is_among paths path = list_any (bytes_eq path) paths
 
 -- the number of the first edge that passes a test
 abbrev pub first_edge : {E : Type 0} → (E → Bool) → List E → Option ℕ

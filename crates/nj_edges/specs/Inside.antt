@@ -1,7 +1,6 @@
 -- How the code meets the definitions beside this folder. No contract of a public call needs these.
 pub mod ChangesHeld
 pub mod EdgesHeld
-pub mod FilesHeld
 pub mod GraphHeld
 pub mod JoiningHeld
 pub mod MakersHeld

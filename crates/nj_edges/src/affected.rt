@@ -1,77 +1,60 @@
 //! What a change of files reaches.
 
-ghost use Rattle.std.specs.Prelude.{◌≡◌, ◌↔◌, ℕ, ◌<◌, false, [], length, map, All, Contains, IfOk, OnOk};
+ghost use Rattle.std.specs.Prelude.{◌≡◌, ◌↔◌, ℕ, ◌<◌, length, map, slice_index, All, Contains, IfOk, OnOk};
 ghost use Rattle.std.specs.List.Sorted.{IsStrictlyIncreasing};
 ghost use Rattle.nj_edges.specs.Changes.{IsAffected, AffectedEdgesNeedTheFiles};
 ghost use Rattle.nj_edges.specs.Edges.{edges_from};
 ghost use Rattle.nj_edges.specs.Files.{path_at};
-ghost use Rattle.nj_edges.specs.Inside.ChangesHeld.{FindsMore, HasInputOf, IsFlagged};
+ghost use Rattle.nj_edges.specs.Inside.ChangesHeld.{FindsMore, HasInputOf};
 ghost use Rattle.nj_edges.specs.Inside.UsersHeld.{numbers_of};
 
 use crate::edges::EdgeNo;
 use crate::files::FileNo;
 use crate::graph::EdgeGraph;
+use nj_names::NumberSet;
 use std::alloc::{AllocError, Global};
 
-/// The edges that were found to be affected: a flag for each edge of the graph, and the numbers of
-/// those with a flag, in the order in which they were found.
-#[derive(Drop)]
-struct Affected {
-    flags: Vec<bool>,
-    numbers: Vec<usize>,
+// Adds each of these edges.
+fn add_all(found: &mut NumberSet, edges: &[EdgeNo]) -> Result<(), AllocError>
+    requires { All (λ edge. edge.0 < found.old.limit) edges.now }
+    ensures { OnOk result (FindsMore (Contains (numbers_of edges.now)) found.old found.new) }
+{
+    'edges: for edge in edges {
+        add(found, *edge)?;
+    }
+    Ok(())
 }
 
-impl Affected {
-    /// None of `edge_count` edges was found.
-    fn none(alloc: Global, edge_count: usize) -> Result<Self, AllocError>
-        ensures flags { IfOk result (λ found. All (λ flag. flag ≡ false) found.flags.items) }
-        ensures count { IfOk result (λ found. length found.flags.items ≡ edge_count) }
-        ensures numbers { IfOk result (λ found. found.numbers.items ≡ []) }
-    {
-        let flags = vec![in alloc; false; edge_count]?;
-        Ok(Affected {
-            flags,
-            numbers: Vec::new(alloc),
-        })
-    }
+// Adds an edge.
+fn add(found: &mut NumberSet, edge: EdgeNo) -> Result<(), AllocError>
+    requires { edge.0 < found.old.limit }
+    ensures { OnOk result (FindsMore (λ e. e ≡ edge.0) found.old found.new) }
+{
+    found.insert(edge.0)?;
+    Ok(())
+}
 
-    /// Adds an edge, unless it was found before.
-    fn add(&mut self, edge: usize) -> Result<(), AllocError>
-        requires { edge < length self.old.flags.items }
-        ensures { OnOk result (FindsMore (λ e. e ≡ edge) self.old self.new) }
-    {
-        if self.flags[edge] {
-            return Ok(());
-        }
-        self.numbers.push(edge)?;
-        self.flags[edge] = true;
-        Ok(())
-    }
+// The edge at a place in the order in which edges were found.
+fn edge_found(found: &NumberSet, place: usize) -> EdgeNo
+    requires { place < length found.now.numbers }
+    ensures edge { result.0 ≡ slice_index found.now.numbers place }
+    ensures known { result.0 < found.now.limit }
+{
+    EdgeNo(found.numbers()[place])
+}
 
-    /// Adds each of these edges.
-    fn add_all(&mut self, edges: &[EdgeNo]) -> Result<(), AllocError>
-        requires { All (λ edge. edge.0 < length self.old.flags.items) edges.now }
-        ensures { OnOk result (FindsMore (Contains (numbers_of edges.now)) self.old self.new) }
-    {
-        'edges: for edge in edges {
-            self.add(edge.0)?;
-        }
-        Ok(())
+// Adds the edges that have one of these files as an input.
+fn add_users(found: &mut NumberSet, graph: &EdgeGraph, files: &[FileNo]) -> Result<(), AllocError>
+    requires limit { found.old.limit ≡ length graph.now.edges }
+    requires files { All (λ file. file.0 < length graph.now.files) files.now }
+    ensures { OnOk result (FindsMore
+        (HasInputOf graph.now.edges (map (path_at graph.now.files) files.now))
+        found.old found.new) }
+{
+    'files: for file in files {
+        add_all(found, graph.users(*file))?;
     }
-
-    /// Adds the edges that have one of these files as an input.
-    fn add_users(&mut self, graph: &EdgeGraph, files: &[FileNo]) -> Result<(), AllocError>
-        requires flags { length self.old.flags.items ≡ length graph.now.edges }
-        requires files { All (λ file. file.0 < length graph.now.files) files.now }
-        ensures { OnOk result (FindsMore
-            (HasInputOf graph.now.edges (map (path_at graph.now.files) files.now))
-            self.old self.new) }
-    {
-        'files: for file in files {
-            self.add_all(graph.users(*file))?;
-        }
-        Ok(())
-    }
+    Ok(())
 }
 
 impl EdgeGraph {
@@ -93,26 +76,26 @@ impl EdgeGraph {
         ensures known { IfOk result (λ found.
             All (λ edge. edge.0 < length self.now.edges) found.items) }
     {
-        let flags = self.affected_flags(alloc, files)?;
-        flagged(alloc, &flags)
+        let found = self.affected_edges(alloc, files)?;
+        flagged(alloc, found.flags())
     }
 
-    // For each edge whether a change of these files affects it.
-    fn affected_flags(&self, alloc: Global, files: &[FileNo]) -> Result<Vec<bool>, AllocError>
+    // The edges that a change of these files affects, in the order in which they are found.
+    fn affected_edges(&self, alloc: Global, files: &[FileNo]) -> Result<NumberSet, AllocError>
         requires { All (λ file. file.0 < length self.now.files) files.now }
-        ensures count { IfOk result (λ flags. length flags.items ≡ length self.now.edges) }
-        ensures flags { IfOk result (λ flags. (edge : ℕ) → IsFlagged flags.items edge
+        ensures limit { IfOk result (λ found. found.limit ≡ length self.now.edges) }
+        ensures found { IfOk result (λ found. (edge : ℕ) → Contains found.numbers edge
             ↔ IsAffected self.now.edges (map (path_at self.now.files) files.now) edge) }
     {
-        let mut found = Affected::none(alloc, self.edge_count())?;
-        found.add_users(self, files)?;
+        let mut found = NumberSet::none_below(alloc, self.edge_count())?;
+        add_users(&mut found, self, files)?;
         let mut place = 0;
-        'edges: while place < found.numbers.as_slice().len() {
-            let edge = EdgeNo(found.numbers[place]);
-            found.add_users(self, self.outputs(edge))?;
+        'edges: while place < found.numbers().len() {
+            let edge = edge_found(&found, place);
+            add_users(&mut found, self, self.outputs(edge))?;
             place += 1;
         }
-        Ok(found.flags)
+        Ok(found)
     }
 }
 

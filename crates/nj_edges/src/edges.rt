@@ -11,7 +11,7 @@ use crate::files::{FileNo, Files};
 use crate::lists::after;
 use crate::makers::{Makers, name};
 use crate::rows::Rows;
-use nj_hash::HashKeys;
+use nj_names::HashKeys;
 use std::alloc::{AllocError, Global};
 use std::marker::Model;
 

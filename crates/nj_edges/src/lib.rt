@@ -19,5 +19,5 @@ pub use edges::{EdgeNo, Edges, Kind, KindEnds};
 pub use files::{FileNo, Files};
 pub use graph::{CycleEdge, EdgeGraph, Finished};
 pub use joining::JoiningEdges;
-pub use nj_hash::HashKeys;
+pub use nj_names::HashKeys;
 pub use numbers::{EdgeNumbers, FileNumbers};

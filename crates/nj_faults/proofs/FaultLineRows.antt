@@ -5,7 +5,7 @@ use Rattle.std.specs.Fmt.{digits}
 use Rattle.nj_text.specs.declared.spot.Spot.{Spot}
 use Rattle.nj_text.specs.declared.fault.UnitFault.TheVariants as unit
 use Rattle.nj_manifest.specs.Faults.{Fault, Bad, Expected, UnknownKey, OutOfMemory}
-use Rattle.nj_manifest.specs.declared.fault.Wanted.TheVariants as wanted
+use Rattle.nj_manifest.specs.declared.cause.Wanted.TheVariants as wanted
 use Rattle.nj_faults.specs.declared.fault.Cause.{Cause}
 use Rattle.nj_faults.specs.declared.fault.GraphFault.{GraphFault}
 use Rattle.nj_faults.specs.declared.fault.Cause.TheVariants.{BadDepth, DuplicateRule, VersionTooNew, Missing, TooManyOpenings, Io, UnknownRule, TwoMakers, UnknownTarget, RuleVariableCycle, UnknownPool, DyndepNotInput, DyndepNoStatement, DyndepTwice, DyndepExtra, Cycle, NoOutEdge, TextNotUtf8}

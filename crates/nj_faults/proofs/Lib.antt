@@ -1,3 +1,4 @@
 pub mod FaultLineRows
+pub mod LimitStrings
 pub mod VersionRows
 pub mod Openings

@@ -3,10 +3,9 @@ use Rattle.std.specs.Prelude.{ℕ, List, [], ◌++◌, unwrap_or, codes}
 use Rattle.std.specs.Fmt.{decimal}
 use Rattle.std.specs.Option.{option_map}
 use Rattle.std.specs.Str.Lossy.{utf8_lossy}
-use Rattle.nj_text.specs.declared.fault.UnitFault.TheVariants as unit
-use Rattle.nj_text.specs.Units.{first_spot}
-use Rattle.nj_text.specs.Faults.{spot_text}
-use Rattle.nj_manifest.specs.Faults.{Bad, Expected, UnexpectedIndent, MissingCommand, RspPair, UnknownKey, MissingDepth, DyndepVersion, DyndepShape, text_of}
+use Rattle.nj_text.specs.Faults.{spot_text, out_of_memory_text}
+use Rattle.nj_manifest.specs.Faults.{syntax_text}
+use Rattle.nj_faults.specs.Limits.{most_open, most_opened}
 use Rattle.nj_faults.specs.Versions.{reader_version_text}
 use Rattle.nj_faults.specs.declared.fault.Place.{Place}
 use Rattle.nj_faults.specs.declared.fault.GraphFault.{GraphFault}
@@ -17,19 +16,9 @@ use Rattle.nj_faults.specs.declared.fault.Cause.TheVariants as cause
 abbrev pub opening_text : (shown : List ℕ → List ℕ) → Place → List ℕ
 opening_text shown place = shown place.file ++ codes ":" ++ decimal place.spot.line ++ codes ":" ++ decimal place.spot.column ++ codes ": "
 
--- a fault of the syntax has the text that the parser gives it, wherever it is
+-- names are written as `shown` has them
 abbrev pub cause_text : (shown : List ℕ → List ℕ) → Cause → List ℕ
-cause_text shown cause.BadByte = text_of (Bad (unit.BadByte first_spot))
-cause_text shown cause.Tab = text_of (Bad (unit.Tab first_spot))
-cause_text shown cause.BadEscape = text_of (Bad (unit.BadEscape first_spot))
-cause_text shown (cause.Expected wanted) = text_of (Expected first_spot wanted)
-cause_text shown cause.UnexpectedIndent = text_of (UnexpectedIndent first_spot)
-cause_text shown cause.MissingCommand = text_of (MissingCommand first_spot)
-cause_text shown cause.RspPair = text_of (RspPair first_spot)
-cause_text shown (cause.UnknownKey key) = text_of (UnknownKey first_spot (shown key))
-cause_text shown cause.MissingDepth = text_of (MissingDepth first_spot)
-cause_text shown cause.DyndepVersion = text_of (DyndepVersion first_spot)
-cause_text shown cause.DyndepShape = text_of (DyndepShape first_spot)
+cause_text shown (cause.Syntax what) = syntax_text shown what
 cause_text shown cause.EmptyPath = codes "empty path"
 cause_text shown cause.BadDepth = codes "invalid pool depth"
 cause_text shown (cause.DuplicateRule name) = codes "duplicate rule '" ++ shown name ++ codes "'"
@@ -37,8 +26,8 @@ cause_text shown (cause.DuplicatePool name) = codes "duplicate pool '" ++ shown 
 cause_text shown (cause.VersionTooNew version) = codes "ninja_required_version " ++ shown version ++ codes " is newer than " ++ reader_version_text
 cause_text shown (cause.Missing path) = codes "cannot find '" ++ shown path ++ codes "'"
 cause_text shown cause.PathNotText = codes "path is not UTF-8"
-cause_text shown cause.TooDeep = codes "more than 32 files open"
-cause_text shown cause.TooManyOpenings = codes "more than 65536 files opened"
+cause_text shown cause.TooDeep = codes "more than " ++ decimal most_open ++ codes " files open"
+cause_text shown cause.TooManyOpenings = codes "more than " ++ decimal most_opened ++ codes " files opened"
 cause_text shown (cause.Io path) = codes "cannot read '" ++ shown path ++ codes "'"
 cause_text shown (cause.UnknownRule name) = codes "unknown build rule '" ++ shown name ++ codes "'"
 cause_text shown (cause.TwoMakers path) = codes "multiple rules generate " ++ shown path
@@ -52,7 +41,7 @@ cause_text shown (cause.DyndepExtra path) = codes "'" ++ shown path ++ codes "' 
 cause_text shown (cause.Cycle path) = codes "dependency cycle through '" ++ shown path ++ codes "'"
 cause_text shown (cause.NoOutEdge path) = codes "'" ++ shown path ++ codes "' has no out edge"
 cause_text shown cause.TextNotUtf8 = codes "text is not UTF-8"
-cause_text shown cause.OutOfMemory = codes "out of memory"
+cause_text shown cause.OutOfMemory = out_of_memory_text
 
 -- the place of a fault, else what is given for one without a place; and its text
 abbrev pub line_after : (shown : List ℕ → List ℕ) → (otherwise : List ℕ) → GraphFault → List ℕ

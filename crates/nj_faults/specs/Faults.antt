@@ -1,8 +1,8 @@
 -- Why files do not make a graph, or why what is asked of their graph cannot be answered: the place of a fault, and what is wrong there.
 use Rattle.std.specs.Prelude.{◌≡◌, ◌⊎◌, ℕ, Option, Some, None, List}
+use Rattle.std.specs.Option.{option_map_or}
 use Rattle.nj_text.specs.declared.spot.Spot.{Spot}
-use Rattle.nj_text.specs.declared.fault.UnitFault.TheVariants as unit
-use Rattle.nj_manifest.specs.Faults.{Fault, Bad, Expected, UnexpectedIndent, MissingCommand, RspPair, UnknownKey, MissingDepth, DyndepVersion, DyndepShape, OutOfMemory, place_of}
+use Rattle.nj_manifest.specs.Faults.{Fault, place_of, syntax_cause}
 use Rattle.nj_faults.specs.declared.fault.GraphFault.{GraphFault}
 use Rattle.nj_faults.specs.declared.fault.Cause.{Cause}
 use Rattle.nj_faults.specs.declared.fault.Cause.TheVariants as cause
@@ -25,18 +25,7 @@ IsFault expected fault = (fault ≡ no_memory) ⊎ (expected ≡ Some fault)
 -- ---- the faults of a text
 
 abbrev pub cause_of : Fault → Cause
-cause_of (Bad (unit.BadByte spot)) = cause.BadByte
-cause_of (Bad (unit.Tab spot)) = cause.Tab
-cause_of (Bad (unit.BadEscape spot)) = cause.BadEscape
-cause_of (Expected spot wanted) = cause.Expected wanted
-cause_of (UnexpectedIndent spot) = cause.UnexpectedIndent
-cause_of (MissingCommand spot) = cause.MissingCommand
-cause_of (RspPair spot) = cause.RspPair
-cause_of (UnknownKey spot key) = cause.UnknownKey key
-cause_of (MissingDepth spot) = cause.MissingDepth
-cause_of (DyndepVersion spot) = cause.DyndepVersion
-cause_of (DyndepShape spot) = cause.DyndepShape
-cause_of OutOfMemory = cause.OutOfMemory
+cause_of fault = option_map_or cause.Syntax (syntax_cause fault) cause.OutOfMemory
 
 abbrev pub fault_by : (file : List ℕ) → Option Spot → Cause → GraphFault
 fault_by file (Some spot) cause = fault_at file spot cause

@@ -1,4 +1,5 @@
 -- what must be believed
 pub mod FaultLines
 pub mod Faults
+pub mod Limits
 pub mod Versions

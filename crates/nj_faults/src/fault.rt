@@ -3,11 +3,13 @@
 ghost use Rattle.std.specs.Prelude.{◌≡◌, Some, IfOk, nat_eq};
 ghost use Rattle.std.specs.Cmp.{partial_equiv_from_equiv};
 ghost use Rattle.std.specs.Cmp.Lexicographic.{nat_list_eq_equiv, pointwise};
+ghost use Rattle.nj_manifest.specs.Faults.{named_by};
 ghost use Rattle.nj_manifest.specs.Faults as parsed;
 ghost use Rattle.nj_faults.specs.Faults.{IsFault, cause_of, fault_at, fault_in, no_memory, unplaced};
 
-use nj_manifest::{LexFault, ParseFault, Spot, Wanted};
+use nj_manifest::{ParseFault, Spot, SyntaxCause};
 use std::alloc::{AllocError, AllocFailed, Global};
+use std::convert::AsSlice;
 use std::marker::Model;
 
 /// A name, a path or a text, as its bytes, which need not be UTF-8.
@@ -38,6 +40,14 @@ impl Name {
         ensures { result.now ≡ self.now }
     {
         self.bytes.as_slice()
+    }
+}
+
+impl AsSlice<u8> for Name {
+    ghost items = { λ name. name };
+
+    fn as_slice(&self) -> &[u8] {
+        self.as_bytes()
     }
 }
 
@@ -110,29 +120,8 @@ impl PlaceRef<'_> {
 /// What is wrong at the place of a fault.
 #[derive(Debug, PartialEq, Eq, Drop)]
 pub enum Cause {
-    /// A NUL, or a carriage return that no line feed follows, outside comments ("Lexical syntax").
-    BadByte,
-    /// A tab as the first byte after a line's leading spaces.
-    Tab,
-    /// A `$` that begins neither a join, nor an escape, nor a reference.
-    BadEscape,
-    /// Something else is where this is wanted.
-    Expected(Wanted),
-    /// An indented line that belongs to no block, at its column 1.
-    UnexpectedIndent,
-    /// A rule without `command`, at its statement.
-    MissingCommand,
-    /// A rule with only one of `rspfile` and `rspfile_content`, at its statement.
-    RspPair,
-    /// A key that its block may not have.
-    UnknownKey(Name),
-    /// A pool without `depth`, at its statement.
-    MissingDepth,
-    /// A dyndep file that does not begin with its version, at its first statement or its end.
-    DyndepVersion,
-    /// A statement of a dyndep file that is not a dyndep statement, at the first unit that departs
-    /// from its form.
-    DyndepShape,
+    /// The text of a file is no list of statements, or not those of a dyndep file.
+    Syntax(SyntaxCause<Name>),
     /// A path that is empty once its variables are expanded.
     EmptyPath,
     /// A depth that is not a number, or greater than 2147483647.
@@ -147,9 +136,9 @@ pub enum Cause {
     Missing(Name),
     /// The path of an `include` or `subninja` is not UTF-8.
     PathNotText,
-    /// More than 32 files would be open at once.
+    /// More than [`MOST_OPEN`](crate::MOST_OPEN) files would be open at once.
     TooDeep,
-    /// More than 65,536 files would be opened in one run.
+    /// More than [`MOST_OPENED`](crate::MOST_OPENED) files would be opened in one run.
     TooManyOpenings,
     /// The file at the path is there, or may be, and reading it failed.
     Io(Name),
@@ -195,21 +184,18 @@ impl Cause {
     fn of_text(alloc: Global, fault: ParseFault<'_>) -> Result<Cause, AllocError>
         ensures { IfOk result (λ cause. cause ≡ cause_of (parsed.fault_text fault.entry)) }
     {
-        Ok(match fault {
-            ParseFault::Lex(LexFault::BadByte(_)) => Cause::BadByte,
-            ParseFault::Lex(LexFault::Tab(_)) => Cause::Tab,
-            ParseFault::Lex(LexFault::BadEscape(_)) => Cause::BadEscape,
-            ParseFault::Lex(LexFault::OutOfMemory) => Cause::OutOfMemory,
-            ParseFault::Expected(_, wanted) => Cause::Expected(wanted),
-            ParseFault::UnexpectedIndent(_) => Cause::UnexpectedIndent,
-            ParseFault::MissingCommand(_) => Cause::MissingCommand,
-            ParseFault::RspPair(_) => Cause::RspPair,
-            ParseFault::UnknownKey(_, key) => Cause::UnknownKey(Name::new(alloc, key)?),
-            ParseFault::MissingDepth(_) => Cause::MissingDepth,
-            ParseFault::DyndepVersion(_) => Cause::DyndepVersion,
-            ParseFault::DyndepShape(_) => Cause::DyndepShape,
-        })
+        match fault.cause() {
+            Some(cause) => Ok(Cause::Syntax(owned(alloc, cause)?)),
+            None => Ok(Cause::OutOfMemory),
+        }
     }
+}
+
+// The cause, with a copy of its name.
+fn owned(alloc: Global, cause: SyntaxCause<&[u8]>) -> Result<SyntaxCause<Name>, AllocError>
+    ensures { IfOk result (λ made. made ≡ named_by (λ key. key.now) cause.entry) }
+{
+    cause.try_map(|key| Name::new(alloc, key))
 }
 
 /// The first fault of a run: of its files in reading order, else of what is asked of their graph.

@@ -6,15 +6,13 @@ ghost use Rattle.std.specs.Str.Lossy.{utf8_lossy};
 ghost use Rattle.nj_faults.specs.FaultLines.{bare_line, cause_text, fault_line, fault_line_for, line_after, opening_text, shown_line, shown_place};
 
 use crate::fault::{Cause, GraphFault, Name, Place};
+use crate::limits::{TOO_DEEP_TEXT, TOO_MANY_OPENINGS_TEXT};
 use crate::version::IS_NEWER;
-use nj_manifest::{FaultText, LexFault, ParseFault, Spot};
-use nj_text::Lossy;
+use nj_manifest::FaultText;
+use nj_text::{Lossy, OUT_OF_MEMORY_TEXT};
 use std::alloc::{AllocError, Global};
 use std::error::Error;
 use std::fmt;
-
-// A place for a fault of the parser of which only the text is wanted, which does not depend on it.
-const ANYWHERE: Spot = Spot { line: 1, column: 1 };
 
 impl GraphFault {
     /// The line that `ninja-explain` reports the fault by, without a line end:
@@ -93,17 +91,7 @@ impl Cause {
         ensures shown { result.shown ≡ cause_text utf8_lossy self.now }
     {
         match self {
-            Cause::BadByte => ParseFault::Lex(LexFault::BadByte(ANYWHERE)).text(),
-            Cause::Tab => ParseFault::Lex(LexFault::Tab(ANYWHERE)).text(),
-            Cause::BadEscape => ParseFault::Lex(LexFault::BadEscape(ANYWHERE)).text(),
-            Cause::Expected(wanted) => ParseFault::Expected(ANYWHERE, *wanted).text(),
-            Cause::UnexpectedIndent => ParseFault::UnexpectedIndent(ANYWHERE).text(),
-            Cause::MissingCommand => ParseFault::MissingCommand(ANYWHERE).text(),
-            Cause::RspPair => ParseFault::RspPair(ANYWHERE).text(),
-            Cause::UnknownKey(key) => ParseFault::UnknownKey(ANYWHERE, key.as_bytes()).text(),
-            Cause::MissingDepth => ParseFault::MissingDepth(ANYWHERE).text(),
-            Cause::DyndepVersion => ParseFault::DyndepVersion(ANYWHERE).text(),
-            Cause::DyndepShape => ParseFault::DyndepShape(ANYWHERE).text(),
+            Cause::Syntax(cause) => cause.text(),
             Cause::EmptyPath => FaultText::fixed("empty path"),
             Cause::BadDepth => FaultText::fixed("invalid pool depth"),
             Cause::DuplicateRule(name) => quoted("duplicate rule '", name),
@@ -113,8 +101,8 @@ impl Cause {
             }
             Cause::Missing(path) => quoted("cannot find '", path),
             Cause::PathNotText => FaultText::fixed("path is not UTF-8"),
-            Cause::TooDeep => FaultText::fixed("more than 32 files open"),
-            Cause::TooManyOpenings => FaultText::fixed("more than 65536 files opened"),
+            Cause::TooDeep => FaultText::fixed(TOO_DEEP_TEXT),
+            Cause::TooManyOpenings => FaultText::fixed(TOO_MANY_OPENINGS_TEXT),
             Cause::Io(path) => quoted("cannot read '", path),
             Cause::UnknownRule(name) => quoted("unknown build rule '", name),
             Cause::TwoMakers(path) => naming("multiple rules generate ", path, ""),
@@ -133,7 +121,7 @@ impl Cause {
             Cause::Cycle(path) => quoted("dependency cycle through '", path),
             Cause::NoOutEdge(path) => naming("'", path, "' has no out edge"),
             Cause::TextNotUtf8 => FaultText::fixed("text is not UTF-8"),
-            Cause::OutOfMemory => FaultText::fixed("out of memory"),
+            Cause::OutOfMemory => FaultText::fixed(OUT_OF_MEMORY_TEXT),
         }
     }
 }

@@ -4,7 +4,9 @@
 
 mod fault;
 mod fault_line;
+mod limits;
 mod version;
 
 pub use fault::{Cause, GraphFault, Name, Place, PlaceRef};
+pub use limits::{MOST_OPEN, MOST_OPENED};
 pub use version::is_newer;

@@ -14,7 +14,8 @@ use Rattle.nj_scope.specs.Readings.{Reading}
 use Rattle.nj_scope.specs.ReadingList.{bounds}
 use Rattle.nj_edge_env.specs.VariableCycles.{variable_cycle_of}
 use Rattle.nj_edges.specs.Edges.{EdgePaths}
-use Rattle.nj_faults.specs.declared.fault.Cause.TheVariants.{DyndepVersion, Missing, PathNotText, DyndepExtra, DyndepTwice, DyndepNoStatement}
+use Rattle.nj_manifest.specs.declared.cause.SyntaxCause.TheVariants.{DyndepVersion}
+use Rattle.nj_faults.specs.declared.fault.Cause.TheVariants.{Syntax, Missing, PathNotText, DyndepExtra, DyndepTwice, DyndepNoStatement}
 use Rattle.nj_faults.specs.Faults.{fault_at}
 use Rattle.nj_statements.specs.EdgeList.{edges_read, paths_of_edges, pending_read}
 use Rattle.nj_statements.specs.Joining.{discover}
@@ -127,7 +128,7 @@ entry_first : (joined_by one_edge (codes "build x: dyndep\nbuild\n")).read.end �
 unfolding on_dyndeps
 entry_first = refl
 
-no_version : (joined_of one_edge (file (codes "dd") (codes "build o: dyndep\n") ∷ [])).read.end ≡ Refused (fault_at (codes "dd") (at 1 1) DyndepVersion)
+no_version : (joined_of one_edge (file (codes "dd") (codes "build o: dyndep\n") ∷ [])).read.end ≡ Refused (fault_at (codes "dd") (at 1 1) (Syntax DyndepVersion))
 unfolding on_dyndeps
 no_version = refl
 

@@ -14,7 +14,8 @@ use Rattle.nj_faults.specs.declared.fault.GraphFault.{GraphFault}
 use Rattle.nj_graph.specs.declared.reader.Reader.{Reader}
 use Rattle.nj_faults.specs.declared.fault.Cause.TheVariants.{Missing}
 use Rattle.nj_faults.specs.Faults.{no_memory}
-use Rattle.nj_graph.specs.Reading.{Refused, Lacking, ReadingText, opened_in, text_read, outcome_read, most_within, main_site, main_place, main_read}
+use Rattle.nj_faults.specs.Limits.{most_within}
+use Rattle.nj_graph.specs.Reading.{Refused, Lacking, ReadingText, opened_in, text_read, outcome_read, main_site, main_place, main_read}
 use Rattle.nj_graph.specs.Inside.ReaderContracts.{IsNew, Has, ReadsAll, ReadsText, ReadsOrStops, StopsAt}
 use Rattle.nj_cycles.specs.Cycles.{IsAcyclic}
 use Rattle.nj_edges.specs.Needs.{makers_of_inputs}

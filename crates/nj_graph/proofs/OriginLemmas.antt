@@ -10,8 +10,7 @@ use Rattle.nj_manifest.specs.Statements.{LineText, StatementText, BindingText, R
 use Rattle.nj_scope.specs.Readings.{IsPrefix}
 use Rattle.nj_scope.specs.Scopes.{expanded}
 use Rattle.nj_scope.specs.ReadingList.{Discovered, ReadStatement, scope_of, value_after, scopes_opened, files_opened, gathered}
-use Rattle.nj_edges.specs.declared.files.FileNo.{FileNo}
-use Rattle.nj_edges.specs.Files.{path_at}
+use Rattle.nj_names.specs.NameTables.{name_at}
 use Rattle.nj_faults.specs.declared.fault.Place.{Place}
 use Rattle.nj_statements.specs.EdgeList.{edges_read, edge_given}
 use Rattle.nj_statements.specs.Joining.{discover}
@@ -21,18 +20,21 @@ use Rattle.nj_graph.specs.declared.origins.HeldPool.{HeldPool}
 use Rattle.nj_graph.specs.declared.origins.HeldOpening.{HeldOpening}
 use Rattle.nj_graph.specs.Origins.{place_of, PoolDetail, OpeningText, OriginsText, rule_place_given, rule_places, pool_detail_given, pool_details, opening_given, main_opening, openings_read, origins_read, path_opened, main_of}
 use Rattle.nj_graph.specs.Inside.OriginsHeld.{place_held, pool_held, opening_held, origins_held, AreNamed, origins_with}
-use Rattle.nj_graph.proofs.JoiningTables.{get-prefix, path-is}
+use Rattle.nj_graph.proofs.JoiningTables.{get-prefix}
 
 -- ---- names of files are added
 
-module _ (names later : List (List ℕ)) (grows : IsPrefix names later) where
-  path-grown : (file : FileNo) → file.0 < length names → path_at later file ≡ path_at names file
-  path-grown file below =
-      let at = slice_get-get_or names file.0 [] below in
-      path-is later file _ (get-prefix names later file.0 _ grows at) ∙ sym (path-is names file _ at)
+pub name-is : (names : List (List ℕ)) (number : ℕ) (name : List ℕ) → slice_get names number ≡ Some name → name_at names number ≡ name
+name-is names number name h = ap (λ o. unwrap_or o []) h
 
-  pub place-grown : (p : HeldPlace) → p.file.0 < length names → place_held later p ≡ place_held names p
-  place-grown p below = ap (λ (f : List ℕ). record { file = f; spot = p.spot }) (path-grown p.file below)
+module _ (names later : List (List ℕ)) (grows : IsPrefix names later) where
+  name-grown : (number : ℕ) → number < length names → name_at later number ≡ name_at names number
+  name-grown number below =
+      let at = slice_get-get_or names number [] below in
+      name-is later number _ (get-prefix names later number _ grows at) ∙ sym (name-is names number _ at)
+
+  pub place-grown : (p : HeldPlace) → p.file < length names → place_held later p ≡ place_held names p
+  place-grown p below = ap (λ (f : List ℕ). record { file = f; spot = p.spot }) (name-grown p.file below)
 
   pub below-grown : (n : ℕ) → n < length names → n < length later
   below-grown n below = let count = ap length grows.1 ∙ length-append names grows.0 in omega (arith, below, count)
@@ -50,34 +52,34 @@ all-more P [] y all last = (last, tt)
 all-more P (x ∷ xs) y all last = (all.0, all-more P xs y all.1 last)
 
 abbrev Below : (count : ℕ) → HeldPlace → Type 0
-Below count p = p.file.0 < count
+Below count p = p.file < count
 
 abbrev PoolBelow : (count : ℕ) → HeldPool → Type 0
-PoolBelow count p = p.place.file.0 < count
+PoolBelow count p = p.place.file < count
 
 abbrev OpeningBelow : (count : ℕ) → HeldOpening → Type 0
-OpeningBelow count o = (o.file.0 < count) × IfSome o.named_at (λ (p : HeldPlace). p.file.0 < count)
+OpeningBelow count o = (o.file < count) × IfSome o.named_at (λ (p : HeldPlace). p.file < count)
 
 module _ (names later : List (List ℕ)) (grows : IsPrefix names later) (rules : List HeldPlace) (pools : List HeldPool) (openings : List HeldOpening) (named : AreNamed names rules pools openings) where
-  some-named : (o : Option HeldPlace) → IfSome o (λ (p : HeldPlace). p.file.0 < length names) → IfSome o (λ (p : HeldPlace). p.file.0 < length later)
+  some-named : (o : Option HeldPlace) → IfSome o (λ (p : HeldPlace). p.file < length names) → IfSome o (λ (p : HeldPlace). p.file < length later)
   some-named None is = tt
-  some-named (Some p) is = below-grown names later grows p.file.0 is
+  some-named (Some p) is = below-grown names later grows p.file is
 
-  some-same : (o : Option HeldPlace) → IfSome o (λ (p : HeldPlace). p.file.0 < length names) → option_map (place_held later) o ≡ option_map (place_held names) o
+  some-same : (o : Option HeldPlace) → IfSome o (λ (p : HeldPlace). p.file < length names) → option_map (place_held later) o ≡ option_map (place_held names) o
   some-same None is = refl
   some-same (Some p) is = ap Some (place-grown names later grows p is)
 
   pub named-grown : AreNamed later rules pools openings
   named-grown = record {
-    rules_named = all-then (Below (length names)) (Below (length later)) (λ p is. below-grown names later grows p.file.0 is) rules named.rules_named;
-    pools_named = all-then (PoolBelow (length names)) (PoolBelow (length later)) (λ p is. below-grown names later grows p.place.file.0 is) pools named.pools_named;
-    openings_named = all-then (OpeningBelow (length names)) (OpeningBelow (length later)) (λ o is. (below-grown names later grows o.file.0 is.0, some-named o.named_at is.1)) openings named.openings_named;
+    rules_named = all-then (Below (length names)) (Below (length later)) (λ p is. below-grown names later grows p.file is) rules named.rules_named;
+    pools_named = all-then (PoolBelow (length names)) (PoolBelow (length later)) (λ p is. below-grown names later grows p.place.file is) pools named.pools_named;
+    openings_named = all-then (OpeningBelow (length names)) (OpeningBelow (length later)) (λ o is. (below-grown names later grows o.file is.0, some-named o.named_at is.1)) openings named.openings_named;
   }
 
   opening-same : (o : HeldOpening) → OpeningBelow (length names) o → opening_held later o ≡ opening_held names o
   opening-same o is =
-      ap (λ (path : List ℕ). record { path = path; named_at = option_map (place_held later) o.named_at; scope = o.scope }) (path-grown names later grows o.file is.0)
-      ∙ ap (λ (at : Option Place). record { path = path_at names o.file; named_at = at; scope = o.scope }) (some-same o.named_at is.1)
+      ap (λ (path : List ℕ). record { path = path; named_at = option_map (place_held later) o.named_at; scope = o.scope }) (name-grown names later grows o.file is.0)
+      ∙ ap (λ (at : Option Place). record { path = name_at names o.file; named_at = at; scope = o.scope }) (some-same o.named_at is.1)
 
   pub origins-grown : origins_held later rules pools openings ≡ origins_held names rules pools openings
   origins-grown =
@@ -90,7 +92,7 @@ module _ (names later : List (List ℕ)) (grows : IsPrefix names later) (rules :
 
   -- ---- one more
 
-  module _ (p : HeldPlace) (place : Place) (is : place_held later p ≡ place) (below : p.file.0 < length later) where
+  module _ (p : HeldPlace) (place : Place) (is : place_held later p ≡ place) (below : p.file < length later) where
     abbrev held : OriginsText
     held = origins_held names rules pools openings
 
@@ -120,15 +122,15 @@ module _ (names later : List (List ℕ)) (grows : IsPrefix names later) (rules :
       openings_named = named-grown.openings_named;
     }
 
-    module _ (file : FileNo) (path : List ℕ) (gives : path_at later file ≡ path) (there : file.0 < length later) (scope : ℕ) where
+    module _ (file : ℕ) (path : List ℕ) (gives : name_at later file ≡ path) (there : file < length later) (scope : ℕ) where
       abbrev opened : HeldOpening
       opened = record { file = file; named_at = Some p; scope = scope }
 
       pub opening-added : origins_held later rules pools (openings ++ opened ∷ []) ≡ record held { openings = held.openings ++ record { path = path; named_at = Some place; scope = scope } ∷ [] }
       opening-added =
           ap (λ (os : List OpeningText). record { rules = None ∷ map (λ q. Some (place_held later q)) rules; pools = map (pool_held later) pools; openings = os }) (map-append (opening_held later) openings (opened ∷ []))
-          ∙ ap (λ (o : OriginsText). record o { openings = o.openings ++ record { path = path_at later file; named_at = Some (place_held later p); scope = scope } ∷ [] }) origins-grown
-          ∙ ap (λ (at : Place). record held { openings = held.openings ++ record { path = path_at later file; named_at = Some at; scope = scope } ∷ [] }) is
+          ∙ ap (λ (o : OriginsText). record o { openings = o.openings ++ record { path = name_at later file; named_at = Some (place_held later p); scope = scope } ∷ [] }) origins-grown
+          ∙ ap (λ (at : Place). record held { openings = held.openings ++ record { path = name_at later file; named_at = Some at; scope = scope } ∷ [] }) is
           ∙ ap (λ (text : List ℕ). record held { openings = held.openings ++ record { path = text; named_at = Some place; scope = scope } ∷ [] }) gives
 
       pub opening-named : AreNamed later rules pools (openings ++ opened ∷ [])

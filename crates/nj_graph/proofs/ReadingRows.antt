@@ -4,7 +4,8 @@ use Rattle.std.specs.Prelude.{⊤, codes}
 use Rattle.std.specs.Char.{encode_utf8}
 use Rattle.std.specs.Str.{chars, is_utf8}
 use Rattle.nj_text.specs.declared.spot.Spot.{Spot}
-use Rattle.nj_manifest.specs.declared.fault.Wanted.TheVariants as wanted
+use Rattle.nj_manifest.specs.declared.cause.SyntaxCause.TheVariants.{BadEscape, Expected, MissingCommand}
+use Rattle.nj_manifest.specs.declared.cause.Wanted.TheVariants as wanted
 use Rattle.nj_manifest.proofs.StatementRows.{on_strings, at}
 use Rattle.nj_scope.specs.Readings.{Reading}
 use Rattle.nj_scope.specs.ReadingList.{bounds}
@@ -13,7 +14,7 @@ use Rattle.nj_edge_env.specs.VariableCycles.{variable_cycle_of}
 use Rattle.nj_statements.specs.EdgeList.{edges_read}
 use Rattle.nj_graph.specs.Parsed.{parsed_in}
 use Rattle.nj_faults.specs.declared.fault.Cause.{Cause}
-use Rattle.nj_faults.specs.declared.fault.Cause.TheVariants.{BadEscape, Expected, MissingCommand, EmptyPath, BadDepth, DuplicateRule, DuplicatePool, VersionTooNew, Missing, PathNotText, TooDeep, UnknownRule, TwoMakers, UnknownTarget}
+use Rattle.nj_faults.specs.declared.fault.Cause.TheVariants.{Syntax, EmptyPath, BadDepth, DuplicateRule, DuplicatePool, VersionTooNew, Missing, PathNotText, TooDeep, UnknownRule, TwoMakers, UnknownTarget}
 use Rattle.nj_faults.specs.Faults.{fault_at}
 use Rattle.nj_graph.specs.Reading.{Whole, Refused, Lacking, ReadingText, statements_read, opened_in, main_read, paths_come_to}
 
@@ -133,7 +134,7 @@ unfolding on_files
 phony_rule = refl
 
 -- syntax comes first
-rule_without_command : refuses_alone (codes "rule phony\n") (at 1 1) MissingCommand
+rule_without_command : refuses_alone (codes "rule phony\n") (at 1 1) (Syntax MissingCommand)
 unfolding on_files
 rule_without_command = refl
 
@@ -301,11 +302,11 @@ unfolding on_files
 default_not_known = refl
 
 -- its syntax comes first
-build_without_colon : refuses_alone (codes "build a\n") (at 1 8) (Expected wanted.Colon)
+build_without_colon : refuses_alone (codes "build a\n") (at 1 8) (Syntax (Expected wanted.Colon))
 unfolding on_files
 build_without_colon = refl
 
 -- under the name of the file that contains it
-fault_in_included : refuses (codes "include s\n") (file (codes "s") (codes "x = 1\ny = $!\n") ∷ []) (codes "s") (at 2 5) BadEscape
+fault_in_included : refuses (codes "include s\n") (file (codes "s") (codes "x = 1\ny = $!\n") ∷ []) (codes "s") (at 2 5) (Syntax BadEscape)
 unfolding on_files
 fault_in_included = refl

@@ -2,6 +2,7 @@
 use Rattle.std.specs.Prelude.{◌≡◌, ◌⊎◌, ℕ, List, codes}
 use Rattle.nj_text.specs.declared.paths.TextFault.{TextFault}
 use Rattle.nj_text.specs.declared.paths.TextFault.TheVariants as text
+use Rattle.nj_text.specs.Faults.{out_of_memory_text}
 use Rattle.nj_faults.specs.declared.fault.GraphFault.{GraphFault}
 use Rattle.nj_faults.specs.declared.fault.Cause.TheVariants as cause
 use Rattle.nj_faults.specs.FaultLines.{shown_line}
@@ -21,4 +22,4 @@ error_of_text text.OutOfMemory = OutOfMemory
 abbrev pub error_text : Error → List ℕ
 error_text (Graph fault) = shown_line fault
 error_text EmptyPath = codes "empty path"
-error_text OutOfMemory = codes "out of memory"
+error_text OutOfMemory = out_of_memory_text

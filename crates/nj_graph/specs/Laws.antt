@@ -21,7 +21,8 @@ use Rattle.nj_statements.specs.EdgeList.{EdgeText, edges_read, names_of_edge}
 use Rattle.nj_graph.specs.Graph.{main_rules_of}
 use Rattle.nj_graph.specs.Joining.{entries_of}
 use Rattle.nj_graph.specs.Parsed.{parsed}
-use Rattle.nj_graph.specs.Reading.{expanded_in, own_fault, most_opened, most_within, main_read}
+use Rattle.nj_faults.specs.Limits.{most_within, most_opened}
+use Rattle.nj_graph.specs.Reading.{expanded_in, own_fault, main_read}
 use Rattle.nj_graph.specs.ResponseFiles.{first_position, sign_position}
 use Rattle.nj_graph.specs.Runs.{IsLacking}
 use Rattle.nj_graph.specs.Targets.{picked}

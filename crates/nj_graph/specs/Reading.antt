@@ -22,6 +22,7 @@ use Rattle.nj_faults.specs.declared.fault.Cause.{Cause}
 use Rattle.nj_faults.specs.declared.fault.GraphFault.{GraphFault}
 use Rattle.nj_faults.specs.declared.fault.Cause.TheVariants.{EmptyPath, BadDepth, DuplicateRule, DuplicatePool, VersionTooNew, Missing}
 use Rattle.nj_faults.specs.declared.fault.Cause.TheVariants.{PathNotText, TooDeep, TooManyOpenings}
+use Rattle.nj_faults.specs.Limits.{most_within, most_opened}
 use Rattle.nj_faults.specs.Faults.{fault_at, fault_in}
 use Rattle.nj_faults.specs.Versions.{is_newer}
 use Rattle.nj_edges.specs.Edges.{is_among}
@@ -150,14 +151,6 @@ statements_read opens site (s ∷ others) fault before =
 
 abbrev pub text_read : Opens → Site → (text : List ℕ) → (before : List ReadStatement) → ReadingText
 text_read opens site text before = statements_read opens site (parsed text).items (parsed text).fault before
-
--- how many files may be opened in a run, the main file and repeated ones among them
-abbrev pub most_opened : ℕ
-most_opened = 65536
-
--- how many files may be open within the main file
-abbrev pub most_within : ℕ
-most_within = 31
 
 abbrev pub stopped : List ReadStatement → Place → Cause → ReadingText
 stopped before place cause = record { entries = before; end = Refused (record { place = Some place; cause = cause }) }

@@ -5,7 +5,7 @@ ghost use Rattle.nj_graph.specs.Errors.{TakesFault, error_of_text, error_text};
 ghost use Rattle.nj_graph.specs.declared.error.Error.TheVariants.{OutOfMemory};
 
 use nj_faults::{Cause, GraphFault};
-use nj_text::TextFault;
+use nj_text::{OUT_OF_MEMORY_TEXT, TextFault};
 use std::alloc::{AllocError, AllocFailed};
 use std::{error, fmt};
 
@@ -30,7 +30,7 @@ impl fmt::Display for Error {
         match self {
             Error::Graph(fault) => write!(f, "{fault}"),
             Error::EmptyPath => f.write_str("empty path"),
-            Error::OutOfMemory => f.write_str("out of memory"),
+            Error::OutOfMemory => f.write_str(OUT_OF_MEMORY_TEXT),
         }
     }
 }

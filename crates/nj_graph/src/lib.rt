@@ -33,7 +33,7 @@ pub use laws::{
 pub use loading::{Loaded, load};
 pub use nj_edges::{EdgeGraph, EdgeNo, EdgeNumbers, FileNo, FileNumbers, Kind};
 pub use nj_faults::{Cause, GraphFault, Name, Place, PlaceRef};
-pub use nj_manifest::{Spot, Wanted};
+pub use nj_manifest::{Spot, SyntaxCause, Wanted};
 pub use nj_scope::{
     FileSource, FileTable, HashKeys, LateValue, MAIN_SCOPE, MemoryFiles, Rule, SourceFault,
 };

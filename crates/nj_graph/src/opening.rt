@@ -10,14 +10,11 @@ ghost use Rattle.nj_graph.specs.Inside.ReaderContracts.{site_scope};
 ghost use Rattle.nj_graph.specs.Inside.ReaderContracts.{Has, InFile, IsOpenIn, ScopesGrow, site_of, place_in, named_item, named_site, EntersScope, ReturnsText, OpensOrStops, GivesPath, OpensPath};
 
 use crate::reader::{OpenFile, Opened, Reader};
-use nj_faults::{Cause, GraphFault, Name, PlaceRef};
+use nj_faults::{Cause, GraphFault, MOST_OPENED, Name, PlaceRef};
 use nj_manifest::{Spot, Word};
 use nj_scope::{FileSource, FileTable, SourceFault};
 use std::alloc::{AllocError, Global};
 use std::rc::RcSlice;
-
-// How many files may be opened in one run, the main file and repeated ones among them.
-const MOST_OPENED: usize = 65536;
 
 /// How a statement names a file: the statements of one that is included are in the scope of the
 /// `include`, those of another in a new scope within the scope of the `subninja`.

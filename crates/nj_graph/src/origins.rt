@@ -5,9 +5,9 @@ ghost use Rattle.nj_scope.specs.Readings.{IsPrefix};
 ghost use Rattle.nj_graph.specs.Origins.{place_text, rule_place_at, opening_text, origins_read};
 ghost use Rattle.nj_graph.specs.Inside.OriginsHeld.{place_held};
 
-use nj_edges::{FileNo, Files};
 use nj_faults::PlaceRef;
-use nj_scope::{HashKeys, MAIN_SCOPE};
+use nj_names::{HashKeys, Names};
+use nj_scope::MAIN_SCOPE;
 use nj_text::Spot;
 use std::alloc::{AllocError, Global};
 use std::marker::Model;
@@ -27,7 +27,7 @@ pub struct Opening<'a> {
 // A place in a file whose name has a number.
 #[derive(Clone, Copy)]
 pub(crate) struct HeldPlace {
-    pub(crate) file: FileNo,
+    pub(crate) file: usize,
     pub(crate) spot: Spot,
 }
 
@@ -41,7 +41,7 @@ pub(crate) struct HeldPool {
 // A file that was opened, whose name has a number.
 #[derive(Clone, Copy)]
 pub(crate) struct HeldOpening {
-    pub(crate) file: FileNo,
+    pub(crate) file: usize,
     pub(crate) named_at: Option<HeldPlace>,
     pub(crate) scope: usize,
 }
@@ -51,7 +51,7 @@ pub(crate) struct HeldOpening {
 #[derive(Drop)]
 pub(crate) struct Origins {
     // The names under which files were opened, each once.
-    names: Files,
+    names: Names,
     // The rules but `phony`.
     rules: Vec<HeldPlace>,
     pools: Vec<HeldPool>,
@@ -74,8 +74,8 @@ impl Origins {
     pub(crate) fn new(alloc: Global, keys: HashKeys, main: &str) -> Result<Origins, AllocError>
         ensures { IfOk result (λ o. o ≡ origins_read main.now []) }
     {
-        let mut names = Files::new(alloc, keys);
-        let file = names.name(main.as_bytes())?;
+        let mut names = Names::new(alloc, keys);
+        let file = names.add(main.as_bytes())?;
         let mut openings = Vec::new(alloc);
         openings.push(HeldOpening {
             file,
@@ -128,7 +128,7 @@ impl Origins {
         }) }
     {
         let place = keep_place(&mut self.names, place)?;
-        let file = self.names.name(path.as_bytes())?;
+        let file = self.names.add(path.as_bytes())?;
         self.openings.push(HeldOpening {
             file,
             named_at: Some(place),
@@ -175,7 +175,7 @@ impl Origins {
     {
         let opening = self.openings.get(index)?;
         Some(Opening {
-            path: self.names.path(opening.file),
+            path: self.names.name(opening.file),
             named_at: match opening.named_at {
                 Some(place) => Some(lend_place(&self.names, place)),
                 None => None,
@@ -186,24 +186,24 @@ impl Origins {
 }
 
 // The place, whose file gets a number.
-fn keep_place(names: &mut Files, place: PlaceRef<'_>) -> Result<HeldPlace, AllocError>
+fn keep_place(names: &mut Names, place: PlaceRef<'_>) -> Result<HeldPlace, AllocError>
     ensures held { IfOk result (λ held. place_held names.new held ≡ place_text place.entry) }
-    ensures known { IfOk result (λ held. held.file.0 < length names.new) }
+    ensures known { IfOk result (λ held. held.file < length names.new) }
     ensures grows { IsPrefix names.old names.new }
 {
     Ok(HeldPlace {
-        file: names.name(place.file)?,
+        file: names.add(place.file)?,
         spot: place.spot,
     })
 }
 
 // The place, with the name of its file.
-fn lend_place(names: &Files, place: HeldPlace) -> PlaceRef<'_>
-    requires { place.file.0 < length names.now }
+fn lend_place(names: &Names, place: HeldPlace) -> PlaceRef<'_>
+    requires { place.file < length names.now }
     ensures { place_text result ≡ place_held names.now place }
 {
     PlaceRef {
-        file: names.path(place.file),
+        file: names.name(place.file),
         spot: place.spot,
     }
 }

@@ -9,16 +9,13 @@ ghost use Rattle.nj_graph.specs.Inside.ReaderContracts.{IsNew, InFile, ScopesGro
 
 use crate::opening::{Naming, text_at};
 use crate::origins::Origins;
-use nj_faults::{Cause, GraphFault, PlaceRef};
+use nj_faults::{Cause, GraphFault, MOST_OPEN, PlaceRef};
 use nj_manifest::{Parser, Placed, Spot, Statement};
 use nj_scope::{Declarations, FileSource, FileTable, HashKeys};
 use nj_statements::Building;
 use std::alloc::{AllocError, Global};
 use std::rc::RcSlice;
 use std::str;
-
-// How many files may be open at once, the main file among them.
-const MOST_OPEN: usize = 32;
 
 /// An open file: its name, the number of the scope of its statements, and how many
 /// files may be open within it.

@@ -6,8 +6,8 @@ use Rattle.nj_text.specs.declared.spot.Spot.{Spot}
 use Rattle.nj_text.specs.Lines.{Line}
 use Rattle.nj_text.specs.Words.{WordText}
 use Rattle.nj_text.specs.Calls.{State, Between, Inside, Failed, spot_of}
-use Rattle.nj_manifest.specs.declared.fault.Wanted.{Wanted}
-use Rattle.nj_manifest.specs.declared.fault.Wanted.TheVariants as wanted
+use Rattle.nj_manifest.specs.declared.cause.Wanted.{Wanted}
+use Rattle.nj_manifest.specs.declared.cause.Wanted.TheVariants as wanted
 use Rattle.nj_manifest.specs.Faults.{Fault, Expected, UnknownKey}
 use Rattle.nj_manifest.specs.LineSteps.{Step, ◌>>=◌, NameText, words_within, words_next}
 use Rattle.nj_manifest.specs.Openings.{Parse}

@@ -10,8 +10,8 @@ use Rattle.nj_text.specs.Lines.{Line, lines_after}
 use Rattle.nj_text.specs.Words.{WordText, is_blank}
 use Rattle.nj_text.specs.Calls.{State, Between, Inside, start_line_of, skip_blanks_of, sign_of, path_word_of, spot_of, fault_spot, Reply}
 use Rattle.nj_manifest.specs.declared.block.Keys.TheVariants as keys
-use Rattle.nj_manifest.specs.declared.fault.Wanted.{Wanted}
-use Rattle.nj_manifest.specs.declared.fault.Wanted.TheVariants as wanted
+use Rattle.nj_manifest.specs.declared.cause.Wanted.{Wanted}
+use Rattle.nj_manifest.specs.declared.cause.Wanted.TheVariants as wanted
 use Rattle.nj_manifest.specs.Faults.{Fault, Bad, Expected, DyndepShape}
 use Rattle.nj_manifest.specs.LineSteps.{Step, ◌>>=◌, called, name_next, expect_sign, section_next}
 use Rattle.nj_manifest.specs.Statements.{equals_value, block}

@@ -8,8 +8,8 @@ use Rattle.nj_text.specs.Lines.{Line, with_units, lines_after}
 use Rattle.nj_text.specs.Words.{WordText, is_blank, next_fault}
 use Rattle.nj_text.specs.Calls.{State, Between, Inside, Failed, is_sign, begins_word, skip_blanks_of, sign_of, path_word_of, word_at, spot_of}
 use Rattle.nj_text.specs.Inside.States.{unless_bad}
-use Rattle.nj_manifest.specs.declared.fault.Wanted.{Wanted}
-use Rattle.nj_manifest.specs.declared.fault.Wanted.TheVariants as wanted
+use Rattle.nj_manifest.specs.declared.cause.Wanted.{Wanted}
+use Rattle.nj_manifest.specs.declared.cause.Wanted.TheVariants as wanted
 use Rattle.nj_manifest.specs.Faults.{Expected}
 use Rattle.nj_manifest.specs.LineSteps.{Step, called, name_next, expect_sign, words_next, section_next}
 use Rattle.nj_manifest.specs.Grammar.{AreBlanks, KeywordForm, WordForm, WordsForm, SectionForm}

@@ -13,7 +13,7 @@ use Rattle.nj_text.specs.Words.{is_blank}
 use Rattle.nj_text.specs.Inside.States.{reply}
 use Rattle.nj_text.specs.Calls.{State, Between, Reply, start_line_of, begun, begun_by, is_comment, is_empty, without_comments}
 use Rattle.nj_text.proofs.Lists.{AllIn}
-use Rattle.nj_manifest.specs.declared.fault.Wanted.TheVariants as wanted
+use Rattle.nj_manifest.specs.declared.cause.Wanted.TheVariants as wanted
 use Rattle.nj_manifest.specs.Faults.{Fault, Bad, Expected, UnexpectedIndent, MissingCommand, RspPair, UnknownKey, MissingDepth, DyndepVersion, DyndepShape, OutOfMemory}
 use Rattle.nj_manifest.specs.LineSteps.{Step, ◌>>=◌, called, NameText, name_next, expect_sign}
 use Rattle.nj_manifest.specs.Statements.{equals_value}

@@ -8,8 +8,8 @@ use Rattle.nj_text.specs.declared.sign.Sign.TheVariants as sign
 use Rattle.nj_text.specs.declared.spot.Spot.{Spot}
 use Rattle.nj_text.specs.Words.{WordText}
 use Rattle.nj_text.specs.Calls.{State, Reply, skip_blanks_of, ident_of, sign_of, path_word_of, value_of, spot_of, fault_spot}
-use Rattle.nj_manifest.specs.declared.fault.Wanted.{Wanted}
-use Rattle.nj_manifest.specs.declared.fault.Wanted.TheVariants as wanted
+use Rattle.nj_manifest.specs.declared.cause.Wanted.{Wanted}
+use Rattle.nj_manifest.specs.declared.cause.Wanted.TheVariants as wanted
 use Rattle.nj_manifest.specs.Faults.{Fault, Bad, Expected, UnknownKey, DyndepShape}
 use Rattle.nj_manifest.specs.LineSteps.{Step, ◌>>=◌, called, NameText, name_next, expect_sign, words_within, words_next, section_next}
 use Rattle.nj_manifest.specs.Statements.{equals_value}

@@ -11,7 +11,7 @@ use Rattle.nj_text.specs.Words.{is_blank, opens_word, in_word, next_fault, WordT
 use Rattle.nj_text.specs.Calls.{State, unless_fault, is_empty, is_sign, state_after_sign}
 use Rattle.nj_text.specs.Inside.States.{reply}
 use Rattle.nj_text.proofs.Lists.{AllIn, AllIn-take_while, take_while-cons_yes}
-use Rattle.nj_manifest.specs.declared.fault.Wanted.TheVariants as wanted
+use Rattle.nj_manifest.specs.declared.cause.Wanted.TheVariants as wanted
 use Rattle.nj_manifest.specs.Faults.{Fault, Bad, Expected}
 use Rattle.nj_manifest.specs.LineSteps.{Step, ◌>>=◌, called}
 use Rattle.nj_manifest.specs.Leftmost.{are_plain, offers}

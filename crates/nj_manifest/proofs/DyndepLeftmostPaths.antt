@@ -13,7 +13,7 @@ use Rattle.nj_text.specs.Words.{is_blank, opens_word, in_word, next_fault, parts
 use Rattle.nj_text.specs.Calls.{State, Between, Inside, Failed, Reply, unless_fault, begins_word, fault_spot, is_empty, is_sign, state_after_sign}
 use Rattle.nj_text.specs.Inside.States.{reply}
 use Rattle.nj_text.proofs.Lists.{AllIn}
-use Rattle.nj_manifest.specs.declared.fault.Wanted.{Wanted}
+use Rattle.nj_manifest.specs.declared.cause.Wanted.{Wanted}
 use Rattle.nj_manifest.specs.Faults.{Fault, Bad}
 use Rattle.nj_manifest.specs.LineSteps.{Step, ◌>>=◌, called, name_next}
 use Rattle.nj_manifest.specs.Leftmost.{written, are_plain, offers_next, offers}

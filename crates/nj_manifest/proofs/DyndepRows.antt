@@ -5,7 +5,7 @@ use Rattle.nj_text.specs.declared.fault.UnitFault.TheVariants as unit_fault
 use Rattle.nj_text.specs.Units.{cut}
 use Rattle.nj_text.specs.Lines.{text_lines}
 use Rattle.nj_text.specs.Words.{WordText, Text, Name}
-use Rattle.nj_manifest.specs.declared.fault.Wanted.TheVariants as wanted
+use Rattle.nj_manifest.specs.declared.cause.Wanted.TheVariants as wanted
 use Rattle.nj_manifest.specs.Faults.{Fault, Bad, Expected, UnexpectedIndent, DyndepVersion, DyndepShape}
 use Rattle.nj_manifest.specs.LineSteps.{name_next, expect_sign, words_within, words_next, section_next}
 use Rattle.nj_manifest.specs.Statements.{equals_value}

@@ -2,7 +2,7 @@
 use Rattle.std.proofs.Common.{◌≡◌, ℕ, Err, List, refl}
 use Rattle.std.specs.Prelude.{codes}
 use Rattle.nj_text.specs.declared.fault.UnitFault.TheVariants as lex
-use Rattle.nj_manifest.specs.declared.fault.Wanted.TheVariants as wanted
+use Rattle.nj_manifest.specs.declared.cause.Wanted.TheVariants as wanted
 use Rattle.nj_manifest.specs.Faults.{Fault, Bad, Expected, UnexpectedIndent, MissingCommand, RspPair, UnknownKey, MissingDepth}
 use Rattle.nj_manifest.proofs.StatementRows.{on_strings, first_of, at}
 

@@ -5,8 +5,8 @@ use Rattle.nj_text.specs.Units.{Meaning, Ordinary, Escape, Reference, Join, Open
 use Rattle.nj_text.specs.Lines.{Line, with_units, lines_after, Kind, CommentLine, TabLine, BlankLine, IndentedLine, PlainLine, kind_of, is_space_unit}
 use Rattle.nj_text.specs.Inside.Meanings.{is_blank_meaning}
 use Rattle.nj_text.specs.Calls.{State, Between, without_comments}
-use Rattle.nj_manifest.specs.declared.fault.Wanted.{Wanted}
-use Rattle.nj_manifest.specs.declared.fault.Wanted.TheVariants as wanted
+use Rattle.nj_manifest.specs.declared.cause.Wanted.{Wanted}
+use Rattle.nj_manifest.specs.declared.cause.Wanted.TheVariants as wanted
 use Rattle.nj_manifest.specs.declared.block.Keys.{Keys}
 use Rattle.nj_manifest.specs.Faults.{Fault}
 use Rattle.nj_manifest.specs.LineSteps.{Step, ◌>>=◌, NameText, name_next}

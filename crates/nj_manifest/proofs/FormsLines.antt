@@ -11,8 +11,8 @@ use Rattle.nj_text.specs.Units.{TextUnit}
 use Rattle.nj_text.specs.Lines.{Line, lines_after}
 use Rattle.nj_text.specs.Words.{WordText, next_fault}
 use Rattle.nj_text.specs.Calls.{State, Between, Inside, is_empty, begins_word, is_sign, path_word_of, spot_of}
-use Rattle.nj_manifest.specs.declared.fault.Wanted.{Wanted}
-use Rattle.nj_manifest.specs.declared.fault.Wanted.TheVariants as wanted
+use Rattle.nj_manifest.specs.declared.cause.Wanted.{Wanted}
+use Rattle.nj_manifest.specs.declared.cause.Wanted.TheVariants as wanted
 use Rattle.nj_manifest.specs.Faults.{Fault, Expected}
 use Rattle.nj_manifest.specs.LineSteps.{Step, ◌>>=◌, called, NameText, name_next, expect_sign, words_next, section_next}
 use Rattle.nj_manifest.specs.Statements.{OutputsText, InputsText, BindingText, DefaultText, IncludeText, SubninjaText, equals_value, outputs_next, inputs_next, targets_next, file_next}

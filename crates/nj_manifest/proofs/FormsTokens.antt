@@ -14,7 +14,7 @@ use Rattle.nj_text.specs.Inside.Meanings.{is_blank_meaning, opens_word_meaning}
 use Rattle.nj_text.specs.Calls as calls
 use Rattle.nj_text.specs.Inside.States.{reply, unless_bad}
 use Rattle.nj_text.specs.Calls.{State, Between, Inside, Reply, bytes_of, some_bytes, is_empty, begins_word, is_sign, state_after_sign, sign_of}
-use Rattle.nj_manifest.specs.declared.fault.Wanted.{Wanted}
+use Rattle.nj_manifest.specs.declared.cause.Wanted.{Wanted}
 use Rattle.nj_manifest.specs.LineSteps.{Step, ◌>>=◌, called, NameText, name_next, expect_sign}
 use Rattle.nj_manifest.specs.Grammar.{begins, AreBlanks, IdentifierForm, SignForm}
 use Rattle.nj_manifest.proofs.Choices.{named, if_there}

@@ -14,8 +14,8 @@ use Rattle.nj_text.specs.Words.{WordText, in_identifier, is_blank, after_opening
 use Rattle.nj_text.specs.Calls as calls
 use Rattle.nj_text.specs.Inside.States.{reply}
 use Rattle.nj_text.specs.Calls.{State, Between, Inside, Failed, Reply, skip_blanks_of, ident_of, sign_of, path_word_of, value_of, spot_of, after_blanks, state_after_sign, is_sign, is_empty, begins_word, word_here, some_bytes, bytes_of}
-use Rattle.nj_manifest.specs.declared.fault.Wanted.{Wanted}
-use Rattle.nj_manifest.specs.declared.fault.Wanted.TheVariants as wanted
+use Rattle.nj_manifest.specs.declared.cause.Wanted.{Wanted}
+use Rattle.nj_manifest.specs.declared.cause.Wanted.TheVariants as wanted
 use Rattle.nj_manifest.specs.declared.block.Keys.{Keys}
 use Rattle.nj_manifest.specs.Faults.{Fault, Expected}
 use Rattle.nj_manifest.specs.LineSteps.{Step, ◌>>=◌, called, NameText, name_next, expect_sign, words_within, words_next, section_next}

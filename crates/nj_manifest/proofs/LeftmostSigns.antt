@@ -9,8 +9,8 @@ use Rattle.nj_text.specs.Words.{is_blank, begins_with_byte, next_fault}
 use Rattle.nj_text.specs.Calls.{State, Between, unless_fault, is_empty, is_sign, state_after_sign}
 use Rattle.nj_text.specs.Inside.States.{reply}
 use Rattle.nj_text.proofs.Lists.{AllIn}
-use Rattle.nj_manifest.specs.declared.fault.Wanted.{Wanted}
-use Rattle.nj_manifest.specs.declared.fault.Wanted.TheVariants as wanted
+use Rattle.nj_manifest.specs.declared.cause.Wanted.{Wanted}
+use Rattle.nj_manifest.specs.declared.cause.Wanted.TheVariants as wanted
 use Rattle.nj_manifest.specs.Faults.{Fault, Bad, Expected}
 use Rattle.nj_manifest.specs.LineSteps.{Step, ◌>>=◌, called, expect_sign}
 use Rattle.nj_manifest.specs.Leftmost.{element, written, offers}

@@ -11,7 +11,7 @@ use Rattle.nj_text.specs.Words.{is_blank, begins_with_byte, fault_of, next_fault
 use Rattle.nj_text.specs.Inside.Meanings.{is_blank_meaning}
 use Rattle.nj_text.specs.Calls.{State, Between, Inside, fault_spot}
 use Rattle.nj_text.proofs.Lists.{AllIn}
-use Rattle.nj_manifest.specs.declared.fault.Wanted.{Wanted}
+use Rattle.nj_manifest.specs.declared.cause.Wanted.{Wanted}
 use Rattle.nj_manifest.specs.Faults.{Fault}
 use Rattle.nj_manifest.specs.LineSteps.{Step, ◌>>=◌}
 use Rattle.nj_manifest.specs.Leftmost.{element, written_unit, written, are_plain, NamesThePlaceOf, met_before, offers_next, offers}

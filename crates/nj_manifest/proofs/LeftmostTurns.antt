@@ -5,7 +5,7 @@ use Rattle.nj_text.specs.Units.{TextUnit}
 use Rattle.nj_text.specs.Lines.{Line}
 use Rattle.nj_text.specs.Words.{WordText}
 use Rattle.nj_text.specs.Calls.{State, Between, is_sign}
-use Rattle.nj_manifest.specs.declared.fault.Wanted.{Wanted}
+use Rattle.nj_manifest.specs.declared.cause.Wanted.{Wanted}
 use Rattle.nj_manifest.specs.LineSteps.{Step, ◌>>=◌, NameText, name_next, words_next, section_next}
 use Rattle.nj_manifest.specs.Leftmost.{written, are_plain, offers_next}
 use Rattle.nj_manifest.proofs.LeftmostRuns.{gap_of, gap_passes}

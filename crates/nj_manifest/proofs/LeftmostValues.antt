@@ -10,7 +10,7 @@ use Rattle.nj_text.specs.Words.{is_blank, after_opening, fault_of, next_fault, f
 use Rattle.nj_text.specs.Inside.Meanings.{is_blank_meaning, opens_line_meaning}
 use Rattle.nj_text.specs.Calls.{State, Between, unless_fault, value_of}
 use Rattle.nj_text.specs.Inside.States.{reply}
-use Rattle.nj_manifest.specs.declared.fault.Wanted.TheVariants as wanted
+use Rattle.nj_manifest.specs.declared.cause.Wanted.TheVariants as wanted
 use Rattle.nj_manifest.specs.Faults.{Fault, Bad}
 use Rattle.nj_manifest.specs.LineSteps.{Step, ◌>>=◌, called, expect_sign}
 use Rattle.nj_manifest.specs.Statements.{equals_value}

@@ -55,6 +55,7 @@ pub mod NextTurns
 pub mod Starts
 pub mod StatementRows
 pub mod WordLimits
-pub mod LexStrings
 pub mod Shown
 pub mod PlainLines
+pub mod NamedCauses
+pub mod Placeless

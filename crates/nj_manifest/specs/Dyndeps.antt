@@ -12,8 +12,8 @@ use Rattle.nj_text.specs.Lines.{Line}
 use Rattle.nj_text.specs.Words.{WordText}
 use Rattle.nj_text.specs.Calls.{State, Reply, Inside, start_line_of, skip_blanks_of, sign_of, path_word_of, spot_of}
 use Rattle.nj_text.specs.Calls.{fault_spot, first_line_spot}
-use Rattle.nj_manifest.specs.declared.fault.Wanted.{Wanted}
-use Rattle.nj_manifest.specs.declared.fault.Wanted.TheVariants as wanted
+use Rattle.nj_manifest.specs.declared.cause.Wanted.{Wanted}
+use Rattle.nj_manifest.specs.declared.cause.Wanted.TheVariants as wanted
 use Rattle.nj_manifest.specs.Faults.{Fault, Bad, Expected, DyndepVersion, DyndepShape}
 use Rattle.nj_manifest.specs.LineSteps.{Step, ◌>>=◌, called, name_next, expect_sign, whole_line, section_next}
 use Rattle.nj_manifest.specs.Expansion.{expanded, no_values}

@@ -1,14 +1,17 @@
 -- Why a text is not a list of statements.
 use Rattle.std.specs.Prelude.{ℕ, Bool, true, false, Option, Some, None, List, ◌++◌, codes}
+use Rattle.std.specs.Option.{option_map_or}
 use Rattle.std.specs.Str.Lossy.{utf8_lossy}
 use Rattle.nj_text.specs.declared.fault.UnitFault.{UnitFault}
 use Rattle.nj_text.specs.declared.fault.UnitFault.TheVariants as unit_fault
 use Rattle.nj_text.specs.declared.fault.LexFault.TheVariants as lex
 use Rattle.nj_text.specs.declared.spot.Spot.{Spot}
 use Rattle.nj_text.specs.Calls.{fault_spot}
-use Rattle.nj_text.specs.Faults.{placed_text}
-use Rattle.nj_manifest.specs.declared.fault.Wanted.{Wanted}
-use Rattle.nj_manifest.specs.declared.fault.Wanted.TheVariants as wanted
+use Rattle.nj_text.specs.Faults.{placed_text, out_of_memory_text}
+use Rattle.nj_manifest.specs.declared.cause.SyntaxCause.{SyntaxCause}
+use Rattle.nj_manifest.specs.declared.cause.SyntaxCause.TheVariants as cause
+use Rattle.nj_manifest.specs.declared.cause.Wanted.{Wanted}
+use Rattle.nj_manifest.specs.declared.cause.Wanted.TheVariants as wanted
 use Rattle.nj_manifest.specs.declared.fault.ParseFault.{ParseFault}
 use Rattle.nj_manifest.specs.declared.fault.ParseFault.TheVariants as fault
 
@@ -80,20 +83,34 @@ place_of (DyndepVersion spot) = Some spot
 place_of (DyndepShape spot) = Some spot
 place_of OutOfMemory = None
 
--- the text of a fault, without its place
-abbrev pub text_of : Fault → List ℕ
-text_of (Bad (unit_fault.BadByte spot)) = codes "unexpected byte"
-text_of (Bad (unit_fault.Tab spot)) = codes "tabs are not allowed, use spaces"
-text_of (Bad (unit_fault.BadEscape spot)) = codes "bad $-escape (literal $ must be written as $$)"
-text_of (Expected spot wanted) = codes "expected " ++ wanted_text wanted
-text_of (UnexpectedIndent spot) = codes "unexpected indent"
-text_of (MissingCommand spot) = codes "expected 'command =' line"
-text_of (RspPair spot) = codes "rspfile and rspfile_content need to be both specified"
-text_of (UnknownKey spot key) = codes "unexpected variable '" ++ key ++ codes "'"
-text_of (MissingDepth spot) = codes "expected 'depth =' line"
-text_of (DyndepVersion spot) = codes "expected 'ninja_dyndep_version = 1'"
-text_of (DyndepShape spot) = codes "not a dyndep statement"
-text_of OutOfMemory = codes "out of memory"
+-- what is wrong there
+abbrev pub syntax_cause : Fault → Option (SyntaxCause (List ℕ))
+syntax_cause (Bad (unit_fault.BadByte spot)) = Some cause.BadByte
+syntax_cause (Bad (unit_fault.Tab spot)) = Some cause.Tab
+syntax_cause (Bad (unit_fault.BadEscape spot)) = Some cause.BadEscape
+syntax_cause (Expected spot wanted) = Some (cause.Expected wanted)
+syntax_cause (UnexpectedIndent spot) = Some cause.UnexpectedIndent
+syntax_cause (MissingCommand spot) = Some cause.MissingCommand
+syntax_cause (RspPair spot) = Some cause.RspPair
+syntax_cause (UnknownKey spot key) = Some (cause.UnknownKey key)
+syntax_cause (MissingDepth spot) = Some cause.MissingDepth
+syntax_cause (DyndepVersion spot) = Some cause.DyndepVersion
+syntax_cause (DyndepShape spot) = Some cause.DyndepShape
+syntax_cause OutOfMemory = None
+
+-- its text, with the name as `shown` has it
+abbrev pub syntax_text : {N : Type 0} → (shown : N → List ℕ) → SyntaxCause N → List ℕ
+syntax_text shown cause.BadByte = codes "unexpected byte"
+syntax_text shown cause.Tab = codes "tabs are not allowed, use spaces"
+syntax_text shown cause.BadEscape = codes "bad $-escape (literal $ must be written as $$)"
+syntax_text shown (cause.Expected wanted) = codes "expected " ++ wanted_text wanted
+syntax_text shown cause.UnexpectedIndent = codes "unexpected indent"
+syntax_text shown cause.MissingCommand = codes "expected 'command =' line"
+syntax_text shown cause.RspPair = codes "rspfile and rspfile_content need to be both specified"
+syntax_text shown (cause.UnknownKey key) = codes "unexpected variable '" ++ shown key ++ codes "'"
+syntax_text shown cause.MissingDepth = codes "expected 'depth =' line"
+syntax_text shown cause.DyndepVersion = codes "expected 'ninja_dyndep_version = 1'"
+syntax_text shown cause.DyndepShape = codes "not a dyndep statement"
 
 -- ---- for people to read
 
@@ -102,11 +119,21 @@ pub record Message : Type 0 where
   pub exact : List ℕ
   pub shown : List ℕ
 
--- the fault with such a name
-abbrev pub with_shown_name : Fault → Fault
-with_shown_name (UnknownKey spot key) = UnknownKey spot (utf8_lossy key)
-with_shown_name fault = fault
-
 -- `LINE:COLUMN: TEXT`, or `TEXT` where no place is to blame
 abbrev pub shown_fault : Fault → List ℕ
-shown_fault fault = placed_text (place_of fault) (text_of (with_shown_name fault))
+shown_fault fault = placed_text (place_of fault) (option_map_or (syntax_text utf8_lossy) (syntax_cause fault) out_of_memory_text)
+
+-- ---- the same cause, with a name made of its name
+
+abbrev pub named_by : {N M : Type 0} → (N → M) → SyntaxCause N → SyntaxCause M
+named_by named cause.BadByte = cause.BadByte
+named_by named cause.Tab = cause.Tab
+named_by named cause.BadEscape = cause.BadEscape
+named_by named (cause.Expected wanted) = cause.Expected wanted
+named_by named cause.UnexpectedIndent = cause.UnexpectedIndent
+named_by named cause.MissingCommand = cause.MissingCommand
+named_by named cause.RspPair = cause.RspPair
+named_by named (cause.UnknownKey key) = cause.UnknownKey (named key)
+named_by named cause.MissingDepth = cause.MissingDepth
+named_by named cause.DyndepVersion = cause.DyndepVersion
+named_by named cause.DyndepShape = cause.DyndepShape

@@ -8,8 +8,8 @@ use Rattle.nj_text.specs.Units.{Ordinary, TextUnit, first_spot}
 use Rattle.nj_text.specs.Lines.{Line, line_spot, with_units}
 use Rattle.nj_text.specs.Words.{in_identifier}
 use Rattle.nj_text.specs.Calls.{is_empty, is_sign, fault_spot}
-use Rattle.nj_manifest.specs.declared.fault.Wanted.{Wanted}
-use Rattle.nj_manifest.specs.declared.fault.Wanted.TheVariants as wanted
+use Rattle.nj_manifest.specs.declared.cause.Wanted.{Wanted}
+use Rattle.nj_manifest.specs.declared.cause.Wanted.TheVariants as wanted
 use Rattle.nj_manifest.specs.Faults.{Fault, Bad, Expected, UnexpectedIndent, UnknownKey, is_syntax}
 use Rattle.nj_manifest.specs.Statements.{PlacedText, next_statement}
 

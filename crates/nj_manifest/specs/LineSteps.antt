@@ -7,8 +7,8 @@ use Rattle.nj_text.specs.declared.sign.Sign.TheVariants as sign
 use Rattle.nj_text.specs.declared.spot.Spot.{Spot}
 use Rattle.nj_text.specs.Words.{WordText}
 use Rattle.nj_text.specs.Calls.{State, Inside, Reply, skip_blanks_of, ident_of, sign_of, path_word_of, spot_of}
-use Rattle.nj_manifest.specs.declared.fault.Wanted.{Wanted}
-use Rattle.nj_manifest.specs.declared.fault.Wanted.TheVariants as wanted
+use Rattle.nj_manifest.specs.declared.cause.Wanted.{Wanted}
+use Rattle.nj_manifest.specs.declared.cause.Wanted.TheVariants as wanted
 use Rattle.nj_manifest.specs.Faults.{Fault, Bad, Expected}
 
 -- what is read, and the lexer after it; or the fault at which no statement continues

@@ -9,7 +9,8 @@ ghost use Rattle.nj_manifest.specs.Contents.{line_text, lines_text};
 ghost use Rattle.nj_manifest.specs.Inside.ParserContracts.{ParsesFrom, Wholes};
 
 use crate::buffers::empty_list;
-use crate::fault::{ParseFault, Wanted};
+use crate::cause::Wanted;
+use crate::fault::ParseFault;
 use crate::statement::Line;
 use crate::steps::{expect_sign, name_next};
 use nj_text::{Lexer, LineStart, Sign, Spot, Word};

@@ -9,7 +9,8 @@ ghost use Rattle.nj_manifest.specs.Dyndeps.{version_line, word_of_form, no_path,
 ghost use Rattle.nj_manifest.specs.DyndepParsers.{entry_text};
 
 use crate::block::equals_value;
-use crate::fault::{ParseFault, Wanted};
+use crate::cause::Wanted;
+use crate::fault::ParseFault;
 use crate::steps::{expect_sign, name_next, section_next};
 use nj_text::{Lexer, LineStart, Part, Sign, Word, version_of};
 use std::alloc::{AllocError, Global};

@@ -1,60 +1,15 @@
 //! Why a text is not a list of statements.
 
-ghost use Rattle.std.specs.Prelude.{◌≡◌, Some};
-ghost use Rattle.nj_manifest.specs.Faults.{wanted_text, fault_text, place_of, text_of, with_shown_name, shown_fault};
+ghost use Rattle.std.specs.Prelude.{◌≡◌, Some, option_map};
+ghost use Rattle.nj_manifest.specs.Faults.{fault_text, named_by, place_of, shown_fault, syntax_cause};
 ghost use Rattle.nj_text.specs.declared.fault.LexFault.TheVariants.{OutOfMemory};
 ghost use Rattle.nj_manifest.specs.declared.fault.ParseFault.TheVariants.{Lex};
 
-use crate::fault_text::FaultText;
-use nj_text::{LexFault, Spot};
+use crate::cause::{SyntaxCause, Wanted};
+use nj_text::{LexFault, OUT_OF_MEMORY_TEXT, Spot};
 use std::alloc::{AllocError, AllocFailed};
 use std::error::Error;
 use std::fmt;
-
-/// What would have to be at a place, in the words of the fault's text.
-#[derive(Clone, Copy, Debug, PartialEq, Eq)]
-pub enum Wanted {
-    /// A statement's first identifier, at a line's start.
-    Statement,
-    /// The name after `rule`.
-    RuleName,
-    /// The name after `pool`.
-    PoolName,
-    /// An output after `build`, or the file after `include` or `subninja`.
-    Path,
-    /// The `:` after the outputs.
-    Colon,
-    /// The rule's name after the `:`.
-    CommandName,
-    /// A target after `default`.
-    TargetName,
-    /// The identifier of a block line.
-    VariableName,
-    /// The `=` after the identifier of a binding or a block line.
-    Equals,
-    /// The end of the line.
-    Newline,
-}
-
-impl Wanted {
-    /// The fixed text of what is wanted.
-    pub fn text(self) -> &'static str
-        ensures { result.now ≡ wanted_text self }
-    {
-        match self {
-            Wanted::Statement => "statement",
-            Wanted::RuleName => "rule name",
-            Wanted::PoolName => "pool name",
-            Wanted::Path => "path",
-            Wanted::Colon => "':'",
-            Wanted::CommandName => "build command name",
-            Wanted::TargetName => "target name",
-            Wanted::VariableName => "variable name",
-            Wanted::Equals => "'='",
-            Wanted::Newline => "newline",
-        }
-    }
-}
 
 /// Why the statements of a text could not be read further. Places are of the unit at which no
 /// statement continues, unless another is named.
@@ -100,25 +55,24 @@ impl<'a> ParseFault<'a> {
         }
     }
 
-    /// The text of the fault, without its place.
-    #[tactic(auto, using(crate::proofs::LexStrings::lex_text_is, crate::proofs::LexStrings::lex_text_shown))]
-    pub fn text(self) -> FaultText<'a>
-        ensures exact { result.exact ≡ text_of (fault_text self.entry) }
-        ensures shown { result.shown ≡ text_of (with_shown_name (fault_text self.entry)) }
+    /// What is wrong; `None` if an allocation failed.
+    pub fn cause(self) -> Option<SyntaxCause<&'a [u8]>>
+        ensures { option_map (named_by (λ key. key.now)) result ≡ syntax_cause (fault_text self.entry) }
     {
-        match self {
-            ParseFault::Lex(fault) => FaultText::fixed(fault.text()),
-            ParseFault::Expected(_, wanted) => FaultText::pair("expected ", wanted.text()),
-            ParseFault::UnexpectedIndent(_) => FaultText::fixed("unexpected indent"),
-            ParseFault::MissingCommand(_) => FaultText::fixed("expected 'command =' line"),
-            ParseFault::RspPair(_) => {
-                FaultText::fixed("rspfile and rspfile_content need to be both specified")
-            }
-            ParseFault::UnknownKey(_, key) => FaultText::naming("unexpected variable '", key, "'"),
-            ParseFault::MissingDepth(_) => FaultText::fixed("expected 'depth =' line"),
-            ParseFault::DyndepVersion(_) => FaultText::fixed("expected 'ninja_dyndep_version = 1'"),
-            ParseFault::DyndepShape(_) => FaultText::fixed("not a dyndep statement"),
-        }
+        Some(match self {
+            ParseFault::Lex(LexFault::BadByte(_)) => SyntaxCause::BadByte,
+            ParseFault::Lex(LexFault::Tab(_)) => SyntaxCause::Tab,
+            ParseFault::Lex(LexFault::BadEscape(_)) => SyntaxCause::BadEscape,
+            ParseFault::Lex(LexFault::OutOfMemory) => return None,
+            ParseFault::Expected(_, wanted) => SyntaxCause::Expected(wanted),
+            ParseFault::UnexpectedIndent(_) => SyntaxCause::UnexpectedIndent,
+            ParseFault::MissingCommand(_) => SyntaxCause::MissingCommand,
+            ParseFault::RspPair(_) => SyntaxCause::RspPair,
+            ParseFault::UnknownKey(_, key) => SyntaxCause::UnknownKey(key),
+            ParseFault::MissingDepth(_) => SyntaxCause::MissingDepth,
+            ParseFault::DyndepVersion(_) => SyntaxCause::DyndepVersion,
+            ParseFault::DyndepShape(_) => SyntaxCause::DyndepShape,
+        })
     }
 }
 
@@ -127,12 +81,15 @@ impl<'a> ParseFault<'a> {
 impl fmt::Display for ParseFault<'_> {
     ghost output = { λ fault. Some (shown_fault (fault_text fault)) };
 
+    #[tactic(auto, using(crate::proofs::NamedCauses::named_text, crate::proofs::Placeless::placeless))]
     fn fmt<W: fmt::Write>(&self, f: &mut fmt::Formatter<W>) -> fmt::Result {
         let fault = *self;
-        let text = fault.text();
-        match fault.spot() {
-            Some(spot) => write!(f, "{spot}: {text}"),
-            None => write!(f, "{text}"),
+        match fault.cause() {
+            Some(cause) => match fault.spot() {
+                Some(spot) => write!(f, "{spot}: {cause}"),
+                None => write!(f, "{cause}"),
+            },
+            None => f.write_str(OUT_OF_MEMORY_TEXT),
         }
     }
 }

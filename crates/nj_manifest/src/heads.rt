@@ -10,7 +10,8 @@ ghost use Rattle.nj_manifest.specs.Inside.ParserContracts.{TakesStep, name_text,
 
 use crate::block::equals_value;
 use crate::buffers::Buffers;
-use crate::fault::{ParseFault, Wanted};
+use crate::cause::Wanted;
+use crate::fault::ParseFault;
 use crate::statement::{Build, Pool, Rule, Statement};
 use crate::steps::{PlacedName, expect_sign, name_next, section_next, words_next};
 use nj_text::{Lexer, Sign, Word};

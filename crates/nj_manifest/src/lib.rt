@@ -6,6 +6,7 @@
 
 mod block;
 mod buffers;
+mod cause;
 mod dyndep;
 mod entries;
 mod fault;
@@ -18,9 +19,10 @@ mod parser;
 mod statement;
 mod steps;
 
+pub use cause::{SyntaxCause, Wanted};
 pub use dyndep::DyndepParser;
 pub use entries::Entry;
-pub use fault::{ParseFault, Wanted};
+pub use fault::ParseFault;
 pub use fault_text::FaultText;
 pub use laws::{
     dyndep_entries_are_the_forms, dyndep_faults_are_leftmost, dyndep_versions_are_the_forms,

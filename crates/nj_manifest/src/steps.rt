@@ -6,7 +6,8 @@ ghost use Rattle.nj_manifest.specs.Inside.ParserContracts.{TakesStep, LeadsTo, n
 ghost use Rattle.nj_manifest.specs.LineSteps.{name_next, expect_sign, words_next, section_next};
 
 use crate::buffers::empty_list;
-use crate::fault::{ParseFault, Wanted};
+use crate::cause::Wanted;
+use crate::fault::ParseFault;
 use nj_text::{Lexer, PlainWord, Sign, Spot, Word};
 use std::alloc::Global;
 

@@ -2,10 +2,14 @@ pub mod Addresses
 pub mod Below
 pub mod Bridges
 pub mod Fronts
+pub mod GivenMarks
 pub mod GrowingLaws
 pub mod GrowingRows
 pub mod GrowingSteps
 pub mod GrowingWalk
+pub mod MarkNumerals
+pub mod MarkRows
+pub mod MarkTextLemmas
 pub mod Members
 pub mod NeedsLemmas
 pub mod OrderLaws

@@ -1,5 +1,6 @@
 -- How the code meets the definitions beside this folder. No contract of a public call needs these.
 pub mod Heading
+pub mod MarkScanning
 pub mod Paths
 pub mod Saved
 pub mod Standing

@@ -3,6 +3,9 @@ pub mod Counts
 pub mod Graphs
 pub mod Growing
 pub mod Laws
+pub mod MarkFaults
+pub mod MarkLaws
+pub mod MarkTexts
 pub mod Marks
 pub mod Needs
 pub mod Order

@@ -5,8 +5,8 @@ use Rattle.nj_edges.specs.EdgeGraphs.{EdgeGraph}
 use Rattle.nj_needs.specs.Graphs.{row_of, makers_of}
 use Rattle.nj_needs.specs.Marks.{is_valid}
 use Rattle.nj_needs.specs.Walks.{WalkState, BeginsAt}
-use Rattle.nj_marks.specs.declared.fault.MarkFault.{MarkFault}
-use Rattle.nj_marks.specs.declared.fault.MarkFault.TheVariants.{BadMark, MarkOutOfRange, OutOfMemory}
+use Rattle.nj_needs.specs.declared.mark_fault.MarkFault.{MarkFault}
+use Rattle.nj_needs.specs.declared.mark_fault.MarkFault.TheVariants.{BadMark, MarkOutOfRange, OutOfMemory}
 
 -- the walk begins at the mark; or the mark is out of range, which is decided first; or memory ran out
 abbrev pub ResumeIs : EdgeGraph → (targets : List FileNo) → (mark : List ℕ) → Result WalkState MarkFault → Type 0

@@ -1,5 +1,5 @@
 -- A walk over the commands that targets need, as its caller sees it.
-use Rattle.std.specs.Prelude.{◌≡◌, ◌≤◌, ℕ, ◌+◌, Option, Some, None, List, [], ◌∷◌, length, option_map}
+use Rattle.std.specs.Prelude.{◌≡◌, ◌<◌, ◌≤◌, ℕ, ◌+◌, Option, Some, None, IfSome, List, [], ◌∷◌, length, option_map}
 use Rattle.nj_edges.specs.declared.files.FileNo.{FileNo}
 use Rattle.nj_edges.specs.declared.edges.EdgeNo.{EdgeNo}
 use Rattle.nj_edges.specs.EdgeGraphs.{EdgeGraph}
@@ -76,3 +76,9 @@ NextIs old (Some e) new = HasReturned old new e
 -- the numbers of edges
 abbrev pub number_of : Option EdgeNo → Option ℕ
 number_of edge = option_map (λ e. e.0) edge
+
+-- what a call of `next` does: it returns an edge of the graph, or that none is left
+pub record ReturnsNext (old : WalkState) (edge : Option EdgeNo) (new : WalkState) : Type 0 where
+  pub next : NextIs old (number_of edge) new
+  pub same : IsSameWalk old new
+  pub known : IfSome edge (λ e. e.0 < length old.graph.edges)

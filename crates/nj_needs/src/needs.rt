@@ -1,18 +1,20 @@
 //! The walk over the commands that targets need.
 
+ghost use Rattle.std.specs.Iterator.{item_count};
 ghost use Rattle.std.specs.Prelude.{◌≡◌, ◌<◌, length, IfOk, IfSome};
-ghost use Rattle.nj_marks.specs.Marks.{ReadsBack};
+ghost use Rattle.nj_needs.specs.MarkTexts.{ReadsBack};
 ghost use Rattle.nj_needs.specs.Counts.{saturated};
-ghost use Rattle.nj_needs.specs.Walks.{IsSound, IsSameWalk, NextIs, number_of};
+ghost use Rattle.nj_needs.specs.Walks.{IsSound, IsSameWalk, NextIs, ReturnsNext, number_of};
 
 pub(crate) mod beginning;
 
+use crate::marks::Mark;
 use crate::returned::next_edge;
 use crate::saved::Saved;
 use crate::walk::Walk;
 use nj_edges::EdgeNo;
-use nj_marks::Mark;
 use std::alloc::{AllocError, Global};
+use std::iter::FusedIterator;
 use std::marker::Model;
 
 /// The edges with commands that targets need, each after all that it needs, in the order in which
@@ -67,3 +69,19 @@ impl<'g> Needs<'g> {
         self.walk.turns.taken()
     }
 }
+
+/// The walk in a `for` loop, or through the adapters of `std`: each item is what `Needs::next`
+/// returns. A loop over `&mut needs` leaves the walk after its last item.
+impl<'g> Iterator for Needs<'g> {
+    type Item = EdgeNo;
+
+    ghost next_gives = { ReturnsNext };
+
+    ghost remaining = { item_count (λ walk. walk.left) };
+
+    fn next(&mut self) -> Option<EdgeNo> {
+        Needs::next(self)
+    }
+}
+
+impl<'g> FusedIterator for Needs<'g> {}

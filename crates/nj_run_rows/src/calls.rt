@@ -1,22 +1,22 @@
 //! What single calls of the libraries return, as text.
 
-mod faults;
 mod lexing;
 mod marks;
 mod printer;
 mod scopes;
+mod shown_faults;
 mod small_graphs;
+mod small_walks;
 mod statements;
 mod texts;
-mod walks;
 
 use crate::given::Given;
 use crate::rows::{Block, bytes_of, words_of};
-use faults::{put_reported, put_shown_fault};
 use lexing::put_lexed;
 use marks::{put_mark, put_mark_of};
 use scopes::put_sources;
 pub use scopes::put_written;
+use shown_faults::{put_reported, put_shown_fault};
 use small_graphs::{put_chain, put_collected, put_of_edges};
 use statements::{Grammar, put_parsed};
 use std::alloc::{AllocError, Global};

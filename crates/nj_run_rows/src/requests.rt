@@ -111,24 +111,24 @@ fn put_action(alloc: Global, text: &mut String, action: &Action) -> Result<(), A
     }
 }
 
-/// What a request asks for, as a line.
+/// What a request asks for.
 fn request_text(alloc: Global, request: &Request) -> Result<String, AllocError> {
     let input = if request.from_stdin { "stdin as " } else { "" };
     let joined = if request.dyndep { "joined " } else { "" };
     let mut text = format!(in alloc; "{joined}{input}{}: ", request.file.as_str())?;
     put_action(alloc, &mut text, &request.action)?;
-    text.push('\n')?;
     Ok(text)
 }
 
-/// What words ask for, or the line of their fault.
+/// What words ask for, or the line of their fault, with a line end.
 pub(crate) fn asked(alloc: Global, words: &str) -> Result<Vec<u8>, AllocError> {
     let words = words_of(alloc, words)?;
-    let line = match read_words(alloc, &words) {
-        Ok(request) => request_text(alloc, &request)?,
+    let mut line = match read_words(alloc, &words) {
+        Ok(request) => request_text(alloc, &request)?.into_bytes(),
         Err(fault) => fault.line(alloc)?,
     };
-    Vec::from_slice(alloc, line.as_bytes())
+    line.push(b'\n')?;
+    Ok(line)
 }
 
 /// What the fault of words quotes, and its text.

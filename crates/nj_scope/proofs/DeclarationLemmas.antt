@@ -9,7 +9,7 @@ use Rattle.nj_manifest.specs.Statements.{LineText, OutputsText, InputsText, Stat
 use Rattle.nj_scope.specs.Rules.{line_kept, phony_rule}
 use Rattle.nj_scope.specs.Scopes.{first_given, Bounds, value_in, expanded, bound_at, rule_at}
 use Rattle.nj_scope.specs.Declarations.{DeclarationsText, DeclaredBy, TakesIn}
-use Rattle.nj_scope.specs.ReadingList.{ReadStatement, scope_of, binds, declares, bounds, rules, rule_given, rules_read, pool_given, pools, scope_given, gathered, scopes_opened, value_after, value_if_bound}
+use Rattle.nj_scope.specs.ReadingList.{ReadStatement, scope_of, binds, declares, bounds, rules, rule_given, rules_read, pool_given, pools, scope_given, gathered, value_after, value_if_bound}
 
 pub at_ok : {X Y P Q : Type 0} (r : Result X Y) → OnOk r P → (P → Q) → OnOk r Q
 at_ok (Ok x) h then_so = then_so h

@@ -17,7 +17,7 @@ pub use late::LateValue;
 pub use laws::{lists_by_reading_order, rules_in_force, values_by_reading_order};
 pub use limits::is_depth;
 pub use memory::MemoryFiles;
-pub use nj_hash::HashKeys;
+pub use nj_names::HashKeys;
 pub use rule::Rule;
 pub use source::{FileSource, SourceFault};
 pub use table::FileTable;

@@ -4,7 +4,7 @@ ghost use Rattle.std.specs.Prelude.{◌≡◌, ℕ, List, [], ◌∷◌, ◌++�
 ghost use Rattle.nj_scope.specs.Pools.{is_pool};
 
 use indexmap::IndexSet;
-use nj_hash::HashKeys;
+use nj_names::HashKeys;
 use std::alloc::{AllocError, Global};
 use std::marker::Model;
 

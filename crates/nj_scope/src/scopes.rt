@@ -8,7 +8,7 @@ ghost use Rattle.nj_text.specs.Words.{word_text};
 
 use crate::late::written_len;
 use indexmap::IndexMap;
-use nj_hash::HashKeys;
+use nj_names::HashKeys;
 use nj_text::{Part, Word};
 use std::alloc::{AllocError, Global};
 use std::marker::Model;

@@ -3,7 +3,8 @@
 ghost use Rattle.std.specs.Prelude.{◌≡◌};
 ghost use Rattle.nj_scope.specs.declared.source.SourceFault.TheVariants.{OutOfMemory};
 
-use nj_hash::HashKeys;
+use nj_names::HashKeys;
+use nj_text::OUT_OF_MEMORY_TEXT;
 use std::alloc::{AllocError, AllocFailed, Global};
 use std::error::Error;
 use std::fmt;
@@ -25,8 +26,8 @@ impl fmt::Display for SourceFault {
 
     fn fmt<W: fmt::Write>(&self, f: &mut fmt::Formatter<W>) -> fmt::Result {
         match self {
-            SourceFault::Io => write!(f, "the file could not be read"),
-            SourceFault::OutOfMemory => write!(f, "out of memory"),
+            SourceFault::Io => f.write_str("the file could not be read"),
+            SourceFault::OutOfMemory => f.write_str(OUT_OF_MEMORY_TEXT),
         }
     }
 }

@@ -7,7 +7,7 @@ ghost use Rattle.nj_scope.specs.Sources.{outcome_bytes};
 
 use crate::source::{FileSource, SourceFault};
 use indexmap::IndexMap;
-use nj_hash::HashKeys;
+use nj_names::HashKeys;
 use std::alloc::{AllocError, Global};
 use std::marker::Model;
 use std::rc::RcSlice;

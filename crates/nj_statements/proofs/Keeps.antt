@@ -9,12 +9,12 @@ use Rattle.nj_text.specs.Words.{Text, WordText}
 use Rattle.nj_text.proofs.CleanPaths.{clean-twice}
 use Rattle.nj_scope.specs.Readings.{IsPrefix}
 use Rattle.nj_scope.specs.Scopes.{expanded}
+use Rattle.nj_names.proofs.NameLemmas.{found-at}
 use Rattle.nj_edges.specs.declared.files.FileNo.{FileNo}
 use Rattle.nj_edges.specs.Edges.{is_among}
 use Rattle.nj_edges.specs.EdgeTables.{EdgeTable, naming, with_output, with_input, with_validation}
 use Rattle.nj_edges.specs.Files.{with_path}
 use Rattle.nj_edges.proofs.EdgeLemmas.{all-append, all-get}
-use Rattle.nj_edges.proofs.FileLemmas.{found-at}
 use Rattle.nj_statements.specs.Answers.{KeepsRead}
 use Rattle.nj_statements.specs.EdgeList.{Values, path_given}
 use Rattle.nj_statements.specs.Inside.EdgeSteps.{AreClean, KeepsClean, with_input_unless}

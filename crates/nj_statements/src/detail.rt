@@ -3,8 +3,8 @@
 ghost use Rattle.std.specs.Prelude.{◌≡◌, IfOk};
 ghost use Rattle.nj_statements.specs.Inside.Details.{IsDetailOf, spot_of};
 
-use crate::text_table::short_number;
 use nj_edges::FileNo;
+use nj_names::short_number;
 use nj_text::Spot;
 use std::alloc::AllocError;
 

@@ -7,7 +7,7 @@ ghost use Rattle.nj_statements.specs.Answers.{numbered};
 ghost use Rattle.nj_statements.specs.Inside.Details.{numbered_at, IsNumbered};
 
 use nj_edges::{FileNo, Files};
-use nj_scope::HashKeys;
+use nj_names::{HashKeys, Names, short_number};
 use std::alloc::{AllocError, Global};
 use std::marker::Model;
 
@@ -15,9 +15,9 @@ use std::marker::Model;
 /// the paths of dyndep files.
 #[derive(Drop)]
 pub(crate) struct Texts {
-    strings: Files,
-    // the number of the file of the last edge
-    file: Option<FileNo>,
+    strings: Names,
+    // the number of the name of the file of the last edge
+    file: Option<usize>,
 }
 
 impl Model for Texts {
@@ -27,7 +27,7 @@ impl Model for Texts {
 
     ghost view = { λ t. t.strings };
 
-    ghost invariant = { λ t. IfSome t.file (λ file. file.0 < length t.strings) };
+    ghost invariant = { λ t. IfSome t.file (λ file. file < length t.strings) };
 }
 
 impl Texts {
@@ -36,7 +36,7 @@ impl Texts {
         ensures { result ≡ [] }
     {
         Texts {
-            strings: Files::new(alloc, keys),
+            strings: Names::new(alloc, keys),
             file: None,
         }
     }
@@ -48,13 +48,13 @@ impl Texts {
         ensures grows { IsPrefix self.old self.new }
     {
         if let Some(file) = self.file {
-            if self.strings.path(file) == name {
-                return short_number(file.0);
+            if self.strings.name(file) == name {
+                return short_number(file);
             }
         }
-        let file = self.strings.name(name)?;
+        let file = self.strings.add(name)?;
         self.file = Some(file);
-        short_number(file.0)
+        short_number(file)
     }
 
     /// The number of a text, counted from 1.
@@ -63,8 +63,8 @@ impl Texts {
             slice_get (numbered self.new) number ≡ Some (Some text.now)) }
         ensures grows { IsPrefix self.old self.new }
     {
-        let file = self.strings.name(text)?;
-        let number = next_number(file.0)?;
+        let index = self.strings.add(text)?;
+        let number = next_number(index)?;
         Ok(number)
     }
 
@@ -84,7 +84,7 @@ impl Texts {
         requires { number < length self.now }
         ensures { slice_get self.now number ≡ Some result.now }
     {
-        self.strings.path(FileNo(number as usize))
+        self.strings.name(number as usize)
     }
 }
 
@@ -112,14 +112,4 @@ fn next_number(number: usize) -> Result<u32, AllocError>
 {
     let next = number.checked_add(1).ok_or(AllocError)?;
     short_number(next)
-}
-
-/// A number in 32 bits. One that does not fit is refused as if there were no memory for it.
-pub(crate) fn short_number(number: usize) -> Result<u32, AllocError>
-    ensures { IfOk result (λ short. short ≡ number) }
-{
-    match u32::try_from(number) {
-        Ok(short) => Ok(short),
-        Err(_) => Err(AllocError),
-    }
 }

@@ -18,11 +18,15 @@ abbrev pub placed_text : Option Spot → (text : List ℕ) → List ℕ
 placed_text (Some spot) text = spot_text spot ++ codes ": " ++ text
 placed_text None text = text
 
+-- the text of every fault that says that an allocation failed
+abbrev pub out_of_memory_text : List ℕ
+out_of_memory_text = codes "out of memory"
+
 abbrev pub lex_text : LexFault → List ℕ
 lex_text (lex.BadByte spot) = codes "unexpected byte"
 lex_text (lex.Tab spot) = codes "tabs are not allowed, use spaces"
 lex_text (lex.BadEscape spot) = codes "bad $-escape (literal $ must be written as $$)"
-lex_text lex.OutOfMemory = codes "out of memory"
+lex_text lex.OutOfMemory = out_of_memory_text
 
 -- its text with its place
 abbrev pub lex_line : LexFault → List ℕ
@@ -30,4 +34,4 @@ lex_line fault = placed_text (option_map fault_spot (unit_of fault)) (lex_text f
 
 abbrev pub path_fault_text : TextFault → List ℕ
 path_fault_text path.EmptyPath = codes "empty path"
-path_fault_text path.OutOfMemory = codes "out of memory"
+path_fault_text path.OutOfMemory = out_of_memory_text

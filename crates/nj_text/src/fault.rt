@@ -11,6 +11,18 @@ use std::alloc::{AllocError, AllocFailed};
 use std::error::Error;
 use std::fmt;
 
+/// The text of a NUL, or a carriage return that no line feed follows, outside comments.
+pub const BAD_BYTE_TEXT: &str = "unexpected byte";
+
+/// The text of a tab as the first byte after a line's leading spaces.
+pub const TAB_TEXT: &str = "tabs are not allowed, use spaces";
+
+/// The text of a `$` that begins neither a join, nor an escape, nor a reference.
+pub const BAD_ESCAPE_TEXT: &str = "bad $-escape (literal $ must be written as $$)";
+
+/// The text of every fault that says that an allocation failed.
+pub const OUT_OF_MEMORY_TEXT: &str = "out of memory";
+
 /// Why a text could not be read further. Places are of the first byte of the bad unit.
 #[derive(Clone, Copy, Debug, PartialEq, Eq)]
 pub enum LexFault {
@@ -42,10 +54,10 @@ impl LexFault {
         ensures { result.now ≡ lex_text self }
     {
         match self {
-            LexFault::BadByte(_) => "unexpected byte",
-            LexFault::Tab(_) => "tabs are not allowed, use spaces",
-            LexFault::BadEscape(_) => "bad $-escape (literal $ must be written as $$)",
-            LexFault::OutOfMemory => "out of memory",
+            LexFault::BadByte(_) => BAD_BYTE_TEXT,
+            LexFault::Tab(_) => TAB_TEXT,
+            LexFault::BadEscape(_) => BAD_ESCAPE_TEXT,
+            LexFault::OutOfMemory => OUT_OF_MEMORY_TEXT,
         }
     }
 }

@@ -33,7 +33,7 @@ mod unit;
 mod word;
 mod words;
 
-pub use fault::LexFault;
+pub use fault::{BAD_BYTE_TEXT, BAD_ESCAPE_TEXT, LexFault, OUT_OF_MEMORY_TEXT, TAB_TEXT};
 pub use laws::{lines_are_the_units, parts_come_in_order, units_are_the_text, units_come_in_place};
 pub use lexer::Lexer;
 pub use line_start::LineStart;

@@ -8,6 +8,7 @@ ghost use Rattle.nj_text.specs.Inside.Cleaning.{stays_clean};
 
 use crate::cleaning::{is_absolute, push_clean};
 use crate::components::{after_ups, all_stay, is_here};
+use crate::fault::OUT_OF_MEMORY_TEXT;
 use std::alloc::{AllocError, AllocFailed, Global};
 use std::error::Error;
 use std::fmt;
@@ -27,7 +28,7 @@ impl fmt::Display for TextFault {
     fn fmt<W: fmt::Write>(&self, f: &mut fmt::Formatter<W>) -> fmt::Result {
         match self {
             TextFault::EmptyPath => f.write_str("empty path"),
-            TextFault::OutOfMemory => f.write_str("out of memory"),
+            TextFault::OutOfMemory => f.write_str(OUT_OF_MEMORY_TEXT),
         }
     }
 }

@@ -4,7 +4,7 @@ use Rattle.std.specs.Prelude.{codes}
 use Rattle.nj_text.specs.Quotes.{quoted}
 use Rattle.nj_edges.specs.Edges.{EdgePaths}
 use Rattle.nj_graph.specs.Graph.{sorted_by, insert_by}
-use Rattle.nj_tools.specs.declared.style.InputsStyle.{InputsStyle}
+use Rattle.nj_requests.specs.declared.style.InputsStyle.{InputsStyle}
 use Rattle.nj_tools.specs.Listings.{plain_style, printed, terminated, printed_strings, needed_inputs, inputs_text}
 
 abbrev build : (output : List ℕ) → (explicit implicit order_only : List (List ℕ)) → EdgePaths

@@ -15,7 +15,7 @@ use Rattle.nj_graph.proofs.NameLemmas.{strict-sorted, permuted-sorted, contains-
 use Rattle.nj_text.specs.Quotes.{quoted}
 use Rattle.nj_text.specs.QuoteLaws.{shell_word}
 use Rattle.nj_text.proofs.QuotedStrings.{takes_the_path}
-use Rattle.nj_tools.specs.declared.style.InputsStyle.{InputsStyle}
+use Rattle.nj_requests.specs.declared.style.InputsStyle.{InputsStyle}
 use Rattle.nj_tools.specs.Listings.{sorted, printed, printed_strings, inputs_text, LinesRise, ListedHaveLines}
 use Rattle.nj_edges.specs.Repeats.{each_once}
 use Rattle.nj_tools.specs.Listings.{PlainInputsAreSortedQuotes}

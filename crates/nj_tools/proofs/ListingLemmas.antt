@@ -16,7 +16,7 @@ use Rattle.nj_statements.proofs.LateLemmas.{paths-are}
 use Rattle.nj_graph.specs.Graph.{GraphText, edges_of, files_of, IsGraphOf, rule_name_of, rule_name_at}
 use Rattle.nj_graph.proofs.EdgeStrings.{there}
 use Rattle.nj_tools.specs.Inside.Collections.{with_files, AreOf}
-use Rattle.nj_tools.specs.declared.style.InputsStyle.{InputsStyle}
+use Rattle.nj_requests.specs.declared.style.InputsStyle.{InputsStyle}
 use Rattle.nj_tools.specs.Listings.{sorted, needed_inputs, printed, terminated, inputs_text, outputs_text, made_line}
 use Rattle.nj_edges.specs.Repeats.{each_once}
 use Rattle.nj_tools.proofs.CollectedLemmas.{AreOf-files}

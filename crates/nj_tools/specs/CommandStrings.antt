@@ -7,7 +7,7 @@ use Rattle.nj_edges.specs.declared.files.FileNo.{FileNo}
 use Rattle.nj_edges.specs.EdgeGraphs.{EdgeGraph}
 use Rattle.nj_edges.specs.Edges.{EdgePaths}
 use Rattle.nj_edges.specs.Files.{path_at}
-use Rattle.nj_marks.specs.Marks.{ReadsBack}
+use Rattle.nj_needs.specs.MarkTexts.{ReadsBack}
 use Rattle.nj_needs.specs.Graphs.{row_of_paths, is_phony_in, row_of, makers_of, count_of}
 use Rattle.nj_needs.specs.Order.{made_by}
 use Rattle.nj_edges.specs.Repeats.{each_once}

@@ -1,9 +1,10 @@
 -- What a client of this crate gets in place of what it asked for.
 use Rattle.std.specs.Prelude.{◌≡◌, ℕ, List, codes}
+use Rattle.nj_text.specs.Faults.{out_of_memory_text}
 use Rattle.nj_faults.specs.declared.fault.GraphFault.{GraphFault}
 use Rattle.nj_faults.specs.FaultLines.{shown_line}
-use Rattle.nj_marks.specs.declared.fault.MarkFault.{MarkFault}
-use Rattle.nj_marks.specs.declared.fault.MarkFault.TheVariants as mark
+use Rattle.nj_needs.specs.declared.mark_fault.MarkFault.{MarkFault}
+use Rattle.nj_needs.specs.declared.mark_fault.MarkFault.TheVariants as mark
 use Rattle.nj_graph.specs.Errors.{TakesFault}
 use Rattle.nj_graph.specs.declared.error.Error as graph
 use Rattle.nj_graph.specs.declared.error.Error.TheVariants as graph_error
@@ -16,7 +17,7 @@ use Rattle.nj_tools.specs.declared.error.Error.TheVariants.{Graph, EmptyPath, Ba
 abbrev pub fault_text : ToolFault → List ℕ
 fault_text (tool.TextNotUtf8 edge) = codes "text is not UTF-8"
 fault_text tool.Write = codes "the output could not be written"
-fault_text tool.OutOfMemory = codes "out of memory"
+fault_text tool.OutOfMemory = out_of_memory_text
 
 -- an error of `nj_graph` stays what it is
 abbrev pub error_of_graph : graph.Error → Error
@@ -47,4 +48,4 @@ error_text BadMark = codes "bad mark"
 error_text MarkOutOfRange = codes "mark out of range"
 error_text (TextNotUtf8 edge) = codes "text is not UTF-8"
 error_text Write = codes "the output could not be written"
-error_text OutOfMemory = codes "out of memory"
+error_text OutOfMemory = out_of_memory_text

@@ -16,9 +16,9 @@ use Rattle.nj_statements.specs.EdgeList.{edges_read, paths_of_edges}
 pub use Rattle.nj_edges.specs.Repeats.{each_once}
 use Rattle.nj_graph.specs.Graph.{sorted_by, is_before, rule_name_of, rule_name_at}
 use Rattle.nj_tools.specs.Lines.{line, lines}
-use Rattle.nj_tools.specs.declared.style.InputsStyle.{InputsStyle}
-use Rattle.nj_tools.specs.declared.view.TargetsView.{TargetsView}
-use Rattle.nj_tools.specs.declared.view.TargetsView.TheVariants.{OfRule, Sources, Depth, All}
+use Rattle.nj_requests.specs.declared.style.InputsStyle.{InputsStyle}
+use Rattle.nj_requests.specs.declared.view.TargetsView.{TargetsView}
+use Rattle.nj_requests.specs.declared.view.TargetsView.TheVariants.{OfRule, Sources, Depth, All}
 
 -- ---- lists of paths
 

@@ -8,7 +8,8 @@ ghost use Rattle.nj_tools.specs.declared.error.Error.TheVariants.{OutOfMemory, W
 use crate::fault::ToolFault;
 use crate::sinks::SinkFault;
 use nj_graph::{EdgeNo, GraphFault, TextFault};
-use nj_marks::MarkFault;
+use nj_needs::MarkFault;
+use nj_text::OUT_OF_MEMORY_TEXT;
 use std::alloc::{AllocError, AllocFailed};
 use std::{error, fmt};
 
@@ -45,7 +46,7 @@ impl fmt::Display for Error {
             Error::MarkOutOfRange => f.write_str("mark out of range"),
             Error::TextNotUtf8(_) => f.write_str("text is not UTF-8"),
             Error::Write => f.write_str("the output could not be written"),
-            Error::OutOfMemory => f.write_str("out of memory"),
+            Error::OutOfMemory => f.write_str(OUT_OF_MEMORY_TEXT),
         }
     }
 }

@@ -6,6 +6,7 @@ ghost use Rattle.nj_tools.specs.declared.fault.ToolFault.TheVariants.{Write, Out
 
 use crate::sinks::SinkFault;
 use nj_graph::EdgeNo;
+use nj_text::OUT_OF_MEMORY_TEXT;
 use std::alloc::{AllocError, AllocFailed};
 use std::error::Error;
 use std::fmt;
@@ -28,7 +29,7 @@ impl fmt::Display for ToolFault {
         match self {
             ToolFault::TextNotUtf8(_) => f.write_str("text is not UTF-8"),
             ToolFault::Write => f.write_str("the output could not be written"),
-            ToolFault::OutOfMemory => f.write_str("out of memory"),
+            ToolFault::OutOfMemory => f.write_str(OUT_OF_MEMORY_TEXT),
         }
     }
 }

@@ -24,10 +24,10 @@ use crate::collected::Collected;
 use crate::fault::ToolFault;
 use crate::paths::sorted_paths;
 use crate::sinks::Sink;
-use crate::style::InputsStyle;
 use crate::whole::write_whole;
 use nj_graph::{FileNo, Graph};
 use nj_needs::Needs;
+use nj_requests::InputsStyle;
 use nj_text::quote_into;
 use std::alloc::{AllocError, Global};
 

@@ -25,9 +25,9 @@ use crate::lines::write_line;
 use crate::paths::sorted_paths;
 use crate::sinks::Sink;
 use crate::trees::write_trees;
-use crate::view::TargetsView;
 use crate::whole::write_whole;
 use nj_graph::{EdgeNo, FileNo, Graph};
+use nj_requests::TargetsView;
 use std::alloc::{AllocError, Global};
 
 /// Writes a list of targets, a line each ("Extra tools" in the Ninja manual, `targets`).

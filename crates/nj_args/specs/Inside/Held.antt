@@ -11,7 +11,8 @@ use Rattle.clap.specs.declared.error.kind.ErrorKind.TheVariants as kind
 use Rattle.nj_manifest.specs.LineSteps.{◌>>=◌}
 use Rattle.nj_args.specs.FaultLines.{option_text}
 use Rattle.nj_args.specs.Fields.{is_on, words_in}
-use Rattle.nj_args.specs.Requests.{ActionText, inputs, targets, compdb, style_of, view_of}
+use Rattle.nj_requests.specs.Actions.{ActionText, inputs, targets, compdb}
+use Rattle.nj_args.specs.Requests.{style_of, view_of}
 use Rattle.nj_args.specs.Tools.{options_of}
 use Rattle.nj_args.specs.declared.faults.ToolOption.{ToolOption}
 use Rattle.nj_args.specs.declared.tools.Tool.{Tool}

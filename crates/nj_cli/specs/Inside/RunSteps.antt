@@ -13,7 +13,7 @@ use Rattle.nj_graph.specs.Runs.{IsRead}
 use Rattle.nj_tools.specs.Lines.{line}
 use Rattle.nj_tools.specs.Sinks.{SinkState, Takes}
 use Rattle.nj_tools.specs.Texts.{FailsWithin, TakesFront}
-use Rattle.nj_args.specs.Requests.{ActionText, RequestText}
+use Rattle.nj_requests.specs.Actions.{ActionText, RequestText}
 use Rattle.nj_args.specs.FaultLines as lines
 use Rattle.nj_args.specs.declared.faults.UsageFault.{UsageFault}
 use Rattle.nj_args.specs.declared.faults.UsageFault.TheVariants as usage
@@ -22,8 +22,8 @@ use Rattle.nj_cli.specs.Reported.{Reported}
 use Rattle.nj_cli.specs.Runs.{Around, out_of_memory, IsReported, OutputFails, MemoryFails, AreStatements, HaveFault}
 use Rattle.nj_cli.specs.declared.fault.RunFault.{RunFault}
 use Rattle.nj_cli.specs.declared.fault.RunFault.TheVariants as fault
-use Rattle.nj_marks.specs.declared.fault.MarkFault.{MarkFault}
-use Rattle.nj_marks.specs.declared.fault.MarkFault.TheVariants as mark
+use Rattle.nj_needs.specs.declared.mark_fault.MarkFault.{MarkFault}
+use Rattle.nj_needs.specs.declared.mark_fault.MarkFault.TheVariants as mark
 use Rattle.nj_tools.specs.declared.fault.ToolFault.{ToolFault}
 use Rattle.nj_tools.specs.declared.fault.ToolFault.TheVariants as tool
 use Rattle.nj_cli.specs.declared.status.Status.{Status}
@@ -98,4 +98,4 @@ Concludes validations old new (Err fault.OutOfMemory) status = Reported old new 
 abbrev pub ReportsMisuse : (old new : SinkState) → UsageFault → Status → Type 0
 ReportsMisuse old new usage.OutOfMemory status = Reported old new (line out_of_memory) × (status ≡ Fault)
 ReportsMisuse old new fault status =
-    (Reported old new (lines.fault_line fault) × (status ≡ Usage)) ⊎ (Reported old new (line out_of_memory) × (status ≡ Fault))
+    (Reported old new (line (lines.fault_line fault)) × (status ≡ Usage)) ⊎ (Reported old new (line out_of_memory) × (status ≡ Fault))

@@ -3,7 +3,7 @@ use Rattle.std.specs.Prelude.{◌≡◌, ◌⊎◌, ℕ, zero, suc, ◌+◌, ◌
 use Rattle.std.specs.Global.{Vec}
 use Rattle.std.specs.List.{AllByRecursion}
 use Rattle.nj_edge_env.specs.declared.bounds.Bound.{Bound}
-use Rattle.nj_edges.specs.Edges.{is_among}
+use Rattle.nj_names.specs.NameTables.{is_among}
 use Rattle.nj_edge_env.specs.Blocks.{BlocksText, bound_in}
 
 -- ---- lists of numbers

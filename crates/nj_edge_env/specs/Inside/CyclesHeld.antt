@@ -10,7 +10,7 @@ use Rattle.nj_text.specs.Words.{PartText}
 use Rattle.nj_scope.specs.Rules.{RuleLineText}
 use Rattle.nj_scope.specs.RulesHeld.{key_count, key_at}
 use Rattle.nj_edge_env.specs.declared.references.ReferringKey.{ReferringKey}
-use Rattle.nj_edge_env.specs.LateStrings.{refers, refers_in}
+use Rattle.nj_edge_env.specs.LateStrings.{refers_in}
 
 abbrev pub key_held : ReferringKey → ReferringKeyText
 key_held k = record { name = k.name.items; refers = k.refers.items }

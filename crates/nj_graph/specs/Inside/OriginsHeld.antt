@@ -2,7 +2,7 @@
 use Rattle.std.specs.Prelude.{ℕ, ◌<◌, Some, None, option_map, List, ◌∷◌, map, length, IfSome}
 use Rattle.std.specs.List.{AllByRecursion}
 use Rattle.nj_scope.specs.ReadingList.{ReadStatement}
-use Rattle.nj_edges.specs.Files.{path_at}
+use Rattle.nj_names.specs.NameTables.{name_at}
 use Rattle.nj_faults.specs.declared.fault.Place.{Place}
 use Rattle.nj_graph.specs.declared.origins.HeldPlace.{HeldPlace}
 use Rattle.nj_graph.specs.declared.origins.HeldPool.{HeldPool}
@@ -14,13 +14,13 @@ use Rattle.std.specs.Option.{option_map_or}
 -- by these names of files
 
 abbrev pub place_held : (names : List (List ℕ)) → HeldPlace → Place
-place_held names p = record { file = path_at names p.file; spot = p.spot }
+place_held names p = record { file = name_at names p.file; spot = p.spot }
 
 abbrev pub pool_held : (names : List (List ℕ)) → HeldPool → PoolDetail
 pool_held names p = record { place = place_held names p.place; depth = p.depth }
 
 abbrev pub opening_held : (names : List (List ℕ)) → HeldOpening → OpeningText
-opening_held names o = record { path = path_at names o.file; named_at = option_map (place_held names) o.named_at; scope = o.scope }
+opening_held names o = record { path = name_at names o.file; named_at = option_map (place_held names) o.named_at; scope = o.scope }
 
 abbrev pub origins_held : (names : List (List ℕ)) → List HeldPlace → List HeldPool → List HeldOpening → OriginsText
 origins_held names rules pools openings = record {
@@ -30,14 +30,14 @@ origins_held names rules pools openings = record {
 }
 
 abbrev pub IsNamed : (names : List (List ℕ)) → HeldPlace → Type 0
-IsNamed names p = p.file.0 < length names
+IsNamed names p = p.file < length names
 
 -- all names are there
 pub record AreNamed (names : List (List ℕ)) (rules : List HeldPlace) (pools : List HeldPool) (openings : List HeldOpening)
     : Type 0 where
   pub rules_named : AllByRecursion (IsNamed names) rules
   pub pools_named : AllByRecursion (λ (p : HeldPool). IsNamed names p.place) pools
-  pub openings_named : AllByRecursion (λ (o : HeldOpening). (o.file.0 < length names) × IfSome o.named_at (IsNamed names)) openings
+  pub openings_named : AllByRecursion (λ (o : HeldOpening). (o.file < length names) × IfSome o.named_at (IsNamed names)) openings
 
 -- what is held after one statement more
 abbrev pub origins_with : ReadStatement → (before : List ReadStatement) → OriginsText → OriginsText

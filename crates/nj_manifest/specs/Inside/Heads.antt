@@ -7,7 +7,7 @@ use Rattle.nj_text.specs.declared.sign.Sign.TheVariants as sign
 use Rattle.nj_text.specs.declared.spot.Spot.{Spot}
 use Rattle.nj_text.specs.Lines.{Line, line_spot}
 use Rattle.nj_text.specs.Calls.{State, Inside}
-use Rattle.nj_manifest.specs.declared.fault.Wanted.TheVariants as wanted
+use Rattle.nj_manifest.specs.declared.cause.Wanted.TheVariants as wanted
 use Rattle.nj_manifest.specs.declared.block.Keys.TheVariants as keys
 use Rattle.nj_manifest.specs.Faults.{Fault, MissingCommand, RspPair, MissingDepth}
 use Rattle.nj_manifest.specs.LineSteps.{Step, ◌>>=◌, NameText, name_next, expect_sign, whole_line}

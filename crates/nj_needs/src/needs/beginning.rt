@@ -7,12 +7,13 @@ ghost use Rattle.nj_needs.specs.Walks.{BeginsAt, commands_of};
 
 pub(crate) mod turns;
 
+use crate::mark_fault::MarkFault;
+use crate::marks::Mark;
 use crate::needs::Needs;
 use crate::resuming::{leads, rebuild};
 use crate::saved::Saved;
 use crate::walk::Walk;
 use nj_edges::{EdgeGraph, FileNo};
-use nj_marks::{Mark, MarkFault};
 use std::alloc::{AllocError, Global};
 use turns::Turns;
 

@@ -7,7 +7,7 @@ ghost use Rattle.std.specs.Prelude.{◌≡◌, ◌<◌, length, All, IfOk, OnOk}
 ghost use Rattle.nj_edges.specs.EdgeTables.{no_files};
 
 use crate::calls::printer::{put_answer, put_shown, steps_of};
-use crate::calls::walks::put_of_walk;
+use crate::calls::small_walks::put_of_walk;
 use nj_edges::{EdgeGraph, Edges, FileNo, Finished, HashKeys, KindEnds};
 use std::alloc::{AllocError, Global};
 use std::fmt::Write;

@@ -2,7 +2,7 @@
 
 use crate::calls::printer::put_shown;
 use crate::rows::bytes_of;
-use nj_hash::HashKeys;
+use nj_names::HashKeys;
 use nj_text::{Lossy, clean_into, clean_path, is_clean, leading_number, quote_into, version_of};
 use std::alloc::{AllocError, Global};
 

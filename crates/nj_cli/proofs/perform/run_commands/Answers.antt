@@ -2,7 +2,7 @@ use Rattle.std.proofs.Common.{Ok, Err, map, string_bytes, subst, sym}
 use Rattle.nj_edges.specs.Files.{AreFiles}
 use Rattle.nj_graph.specs.Graph.{files_of}
 use Rattle.nj_needs.specs.Resuming.{ResumeIs}
-use Rattle.nj_args.specs.Requests.{commands}
+use Rattle.nj_requests.specs.Actions.{commands}
 use Rattle.nj_cli.specs.Inside.RunSteps.{fault_of_mark, fault_of_tool}
 use Rattle.nj_cli.proofs.ReturnLemmas.{ReturnsFor-err, commands-not_resumed, commands-failed, commands-answered}
 use Rattle.nj_cli.proofs.perform.run_commands.Goals as goal

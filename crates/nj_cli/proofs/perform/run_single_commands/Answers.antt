@@ -1,7 +1,7 @@
 use Rattle.std.proofs.Common.{map, string_bytes, subst, sym}
 use Rattle.nj_edges.specs.Files.{AreFiles}
 use Rattle.nj_graph.specs.Graph.{files_of}
-use Rattle.nj_args.specs.Requests.{single_commands}
+use Rattle.nj_requests.specs.Actions.{single_commands}
 use Rattle.nj_cli.specs.Inside.RunSteps.{fault_of_tool}
 use Rattle.nj_cli.proofs.ReturnLemmas.{ReturnsFor-err, singles-failed, singles-answered}
 use Rattle.nj_cli.proofs.perform.run_single_commands.Goals as goal

@@ -1,6 +1,6 @@
 use Rattle.std.proofs.Common.{Ok, subst}
 use Rattle.nj_graph.specs.Loads.{Loads}
-use Rattle.nj_args.specs.Requests.{request_text}
+use Rattle.nj_requests.specs.Actions.{request_text}
 use Rattle.nj_cli.proofs.JoinedRuns.{ReadsGraph-joined}
 use Rattle.nj_cli.proofs.run.read_graph.Goals as goal
 

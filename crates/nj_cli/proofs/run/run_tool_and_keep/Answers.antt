@@ -1,6 +1,6 @@
 use Rattle.std.proofs.Common.{Bool, sym, subst}
 use Rattle.nj_graph.specs.Graph.{IsGraphOf}
-use Rattle.nj_args.specs.Requests.{request_text}
+use Rattle.nj_requests.specs.Actions.{request_text}
 use Rattle.nj_cli.specs.Inside.RunSteps.{Concludes}
 use Rattle.nj_cli.specs.Runs.{around}
 use Rattle.nj_cli.proofs.RunLemmas.{Answers-from, Keeps-answered}

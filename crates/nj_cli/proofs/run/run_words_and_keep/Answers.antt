@@ -2,7 +2,7 @@ use Rattle.std.proofs.Common.{map, string_bytes, refl}
 use Rattle.nj_cli.specs.Runs.{around}
 use Rattle.nj_cli.proofs.Reports.{RunsAndKeeps-misused}
 use Rattle.nj_cli.proofs.RunLemmas.{RunsAndKeeps-from}
-use Rattle.nj_args.specs.Requests.{request_text}
+use Rattle.nj_requests.specs.Actions.{request_text}
 use Rattle.nj_cli.proofs.run.run_words_and_keep.Goals as goal
 
 pub returns-in-Err : goal.returns-in-Err

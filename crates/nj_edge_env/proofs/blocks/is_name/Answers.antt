@@ -5,5 +5,5 @@ use Rattle.nj_edge_env.proofs.blocks.is_name.Goals as goal
 
 pub returns : goal.returns
 returns c = λ is.
-    first-distinct c.args.name.now c.args.names.now c.args.number c.count.ensures.each_path_once
-    (c.path.ensures ∙ ap Some ((bytes_eq-Decides c.path.result.now c.args.name.now).0 (sym c.eq.ensures ∙ is)))
+    first-distinct c.args.name.now c.args.names.now c.args.number c.count.ensures.each_name_once
+    (c.name.ensures ∙ ap Some ((bytes_eq-Decides c.name.result.now c.args.name.now).0 (sym c.eq.ensures ∙ is)))

@@ -9,17 +9,17 @@ use Rattle.nj_edge_env.proofs.blocks.sought_number.Goals as goal
 
 pub returns-in-Some-clause-number : goal.returns-in-Some-clause-number
 returns-in-Some-clause-number c = record {
-  at = first-position c.args.name.now c.args.names.now c.in-Some.file.0 (sym c.in-Some.ensures.index);
+  at = first-position c.args.name.now c.args.names.now c.in-Some.number (sym c.in-Some.ensures.index);
   grows = inl (refl, refl);
 }
 
 pub returns-clause-number : goal.returns-clause-number
 returns-clause-number c =
     let absent : list_any (bytes_eq c.args.name.now) c.args.names.now ≡ false = sym c.in_default.ensures.known in
-    let names : c.name.new.self ≡ c.args.names.now ++ c.args.name.now ∷ [] = c.in_ok-name.ensures.named ∙ ap (λ b. cond b c.args.names.now (c.args.names.now ++ c.args.name.now ∷ [])) absent in
+    let names : c.add.new.self ≡ c.args.names.now ++ c.args.name.now ∷ [] = c.in_ok-add.ensures.added ∙ ap (λ b. cond b c.args.names.now (c.args.names.now ++ c.args.name.now ∷ [])) absent in
     let count : length c.as_slice-number.result.now ≡ length c.args.names.now = ap length c.as_slice-number.ensures.value ∙ c.requires in
     record {
-      at = subst (IsFirstAt c.args.name.now c.name.new.self) (sym count) (subst (λ (ns : List (List ℕ)). IsFirstAt c.args.name.now ns (length c.args.names.now)) (sym names) (first-new c.args.name.now c.args.names.now absent));
+      at = subst (IsFirstAt c.args.name.now c.add.new.self) (sym count) (subst (λ (ns : List (List ℕ)). IsFirstAt c.args.name.now ns (length c.args.names.now)) (sym names) (first-new c.args.name.now c.args.names.now absent));
       grows = inr (
         names,
         ap bounds_of (c.push_reserved.ensures.items ∙ ap (λ (vs : List (Vec Bound)). vs ++ c.new.result ∷ []) c.in_ok-reserve.ensures.items)

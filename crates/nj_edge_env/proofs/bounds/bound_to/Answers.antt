@@ -1,4 +1,4 @@
-use Rattle.std.proofs.Common.{◌<◌, ◌-◌, length, refl, sym, ap, ◌∙◌, arith, subst, slice_range}
+use Rattle.std.proofs.Common.{◌<◌, ◌-◌, length, sym, ap, ◌∙◌, arith, subst, slice_range}
 use Rattle.std.proofs.lemmas.Bool.Decides.{Decides-eqb}
 use Rattle.std.proofs.lemmas.List.Elements.{All-from_recursion}
 use Rattle.std.proofs.lemmas.Slice.Eq.{slice_eq-Decides}
@@ -11,7 +11,7 @@ returns-then-eq-clause-bound c =
     let at = All-from_recursion (IsPart (length c.args.text.now.items) c.args.edge) c.args.bounds.now c.requires (length c.args.bounds.now - 1) c.in-Some.last.now (omega arith) in
     let part = subst (IsPart (length c.args.text.now.items) c.args.edge) (sym c.in-Some.ensures.item.1) at in
     record {
-      edge = c.in_ok-edge.ensures;
+      edge = c.in_ok-edge.ensures.short;
       rises = part.rises;
       ends = part.ends;
       is = ap (λ t. slice_range t c.in-Some.last.now.start c.in-Some.last.now.end) (sym c.as_slice.ensures.value) ∙ sym c.value_at.ensures ∙ (slice_eq-Decides Decides-eqb _ _ _ c.eq.ensures).0 c.if-eq.true;

@@ -1,7 +1,7 @@
 use Rattle.std.proofs.Common.{if◌then◌else◌, ◌≡◌, Ok, Err, sym, ap}
 use Rattle.nj_faults.specs.declared.fault.Cause.TheVariants.{UnknownTarget}
 use Rattle.nj_faults.specs.Faults.{unplaced}
-use Rattle.nj_edges.proofs.FileLemmas.{found-at}
+use Rattle.nj_names.proofs.NameLemmas.{found-at}
 use Rattle.nj_graph.specs.Graph.{edges_of, files_of}
 use Rattle.nj_graph.specs.Targets.{target}
 use Rattle.nj_graph.proofs.targets.named_target.Goals as goal

@@ -4,7 +4,7 @@ use Rattle.std.proofs.lemmas.List.{take_all}
 use Rattle.nj_edges.specs.declared.files.FileNo.{FileNo}
 use Rattle.nj_edges.specs.Files.{path_at}
 use Rattle.nj_graph.specs.Graph.{files_of}
-use Rattle.nj_tools.specs.declared.style.InputsStyle.{InputsStyle}
+use Rattle.nj_requests.specs.declared.style.InputsStyle.{InputsStyle}
 use Rattle.nj_tools.specs.Inside.Blocks.{IsUnderway}
 use Rattle.nj_tools.specs.Inside.Collections.{IsFlagged, with_files, new_files}
 use Rattle.nj_tools.specs.Listings.{printed, terminated}

@@ -1,5 +1,5 @@
 use Rattle.std.proofs.Common.{ℕ, List, Vec, Global, ap, ◌∙◌, arith}
-use Rattle.nj_tools.specs.declared.style.InputsStyle.{InputsStyle}
+use Rattle.nj_requests.specs.declared.style.InputsStyle.{InputsStyle}
 use Rattle.nj_tools.specs.Listings.{terminated}
 use Rattle.nj_tools.proofs.ItemLemmas.{flat_map-map, item-puts, item-stops, items-put}
 use Rattle.nj_tools.proofs.inputs.write_quotes.Goals as goal

@@ -7,8 +7,8 @@ use Rattle.nj_edge_env.proofs.blocks.Blocks.name.Goals as goal
 pub returns-in-Some : goal.returns-in-Some
 returns-in-Some c =
     let found = c.in-Some.ensures.lookup in
-    name-some c.self.inside.names (list_at c.self.inside.lists c.args.edge) c.args.index c.in-Some.number.now c.path.result.now
-    (subst (λ (xs : List ℕ). c.args.index < length xs) c.list.ensures found.3.0) (found.1 ∙ ap (λ xs. get_or xs c.args.index c.in-Some.number.now) c.list.ensures) c.path.ensures
+    name-some c.self.inside.names (list_at c.self.inside.lists c.args.edge) c.args.index c.in-Some.number.now c.name.result.now
+    (subst (λ (xs : List ℕ). c.args.index < length xs) c.list.ensures found.3.0) (found.1 ∙ ap (λ xs. get_or xs c.args.index c.in-Some.number.now) c.list.ensures) c.name.ensures
     ∙ ap (λ xs. slice_get xs c.args.index) (sym (names-at c.self.inside.names c.self.inside.lists c.args.edge))
     ∙ ap (λ b. slice_get (names_in b c.args.edge) c.args.index) c.self.view_is
 

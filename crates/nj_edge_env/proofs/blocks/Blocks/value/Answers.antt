@@ -18,43 +18,43 @@ returns-in-None c =
 
 pub bound_of-requires : goal.bound_of-requires
 bound_of-requires c =
-    let first : IsFirstAt c.args.name.now c.self.inside.names c.in-Some.file.0 = first-position c.args.name.now c.self.inside.names c.in-Some.file.0 (sym c.in-Some.ensures.index) in
-    let within : c.in-Some.file.0 < length (bounds_of c.self.inside.values.items) = omega (arith, first-within c.args.name.now c.self.inside.names c.in-Some.file.0 first, c.self.invariant.0.as_many) in
-    let here = c.as_slice-bounds.ensures.value ∙ sym (bounds-at c.self.inside.values.items c.in-Some.file.0 c.index.result.now within c.index.ensures) in
-    subst AreRising (sym here) (all-at (BoundsAreHeld (length c.self.inside.text.items) c.self.inside.last) (bounds_of c.self.inside.values.items) c.in-Some.file.0 within c.self.invariant.0.values).rising
+    let first : IsFirstAt c.args.name.now c.self.inside.names c.in-Some.number = first-position c.args.name.now c.self.inside.names c.in-Some.number (sym c.in-Some.ensures.index) in
+    let within : c.in-Some.number < length (bounds_of c.self.inside.values.items) = omega (arith, first-within c.args.name.now c.self.inside.names c.in-Some.number first, c.self.invariant.0.as_many) in
+    let here = c.as_slice-bounds.ensures.value ∙ sym (bounds-at c.self.inside.values.items c.in-Some.number c.index.result.now within c.index.ensures) in
+    subst AreRising (sym here) (all-at (BoundsAreHeld (length c.self.inside.text.items) c.self.inside.last) (bounds_of c.self.inside.values.items) c.in-Some.number within c.self.invariant.0.values).rising
 
 pub value_at-requires-clause-rises : goal.value_at-requires-clause-rises
 value_at-requires-clause-rises c =
-    let first : IsFirstAt c.args.name.now c.self.inside.names c.in-Some.file.0 = first-position c.args.name.now c.self.inside.names c.in-Some.file.0 (sym c.in-Some.ensures.index) in
-    let within : c.in-Some.file.0 < length (bounds_of c.self.inside.values.items) = omega (arith, first-within c.args.name.now c.self.inside.names c.in-Some.file.0 first, c.self.invariant.0.as_many) in
-    let here = c.as_slice-bounds.ensures.value ∙ sym (bounds-at c.self.inside.values.items c.in-Some.file.0 c.index.result.now within c.index.ensures) in
-    let held = all-at (BoundsAreHeld (length c.self.inside.text.items) c.self.inside.last) (bounds_of c.self.inside.values.items) c.in-Some.file.0 within c.self.invariant.0.values in
-    (part_of (length c.self.inside.text.items) c.self.inside.last (get_or (bounds_of c.self.inside.values.items) c.in-Some.file.0 []) c.args.edge c.in-Some-bound_of.bound held.parts (ap (λ bs. bound_of bs c.args.edge) (sym here) ∙ sym c.in-Some-bound_of.ensures)).rises
+    let first : IsFirstAt c.args.name.now c.self.inside.names c.in-Some.number = first-position c.args.name.now c.self.inside.names c.in-Some.number (sym c.in-Some.ensures.index) in
+    let within : c.in-Some.number < length (bounds_of c.self.inside.values.items) = omega (arith, first-within c.args.name.now c.self.inside.names c.in-Some.number first, c.self.invariant.0.as_many) in
+    let here = c.as_slice-bounds.ensures.value ∙ sym (bounds-at c.self.inside.values.items c.in-Some.number c.index.result.now within c.index.ensures) in
+    let held = all-at (BoundsAreHeld (length c.self.inside.text.items) c.self.inside.last) (bounds_of c.self.inside.values.items) c.in-Some.number within c.self.invariant.0.values in
+    (part_of (length c.self.inside.text.items) c.self.inside.last (get_or (bounds_of c.self.inside.values.items) c.in-Some.number []) c.args.edge c.in-Some-bound_of.bound held.parts (ap (λ bs. bound_of bs c.args.edge) (sym here) ∙ sym c.in-Some-bound_of.ensures)).rises
 
 pub value_at-requires-clause-ends : goal.value_at-requires-clause-ends
 value_at-requires-clause-ends c =
-    let first : IsFirstAt c.args.name.now c.self.inside.names c.in-Some.file.0 = first-position c.args.name.now c.self.inside.names c.in-Some.file.0 (sym c.in-Some.ensures.index) in
-    let within : c.in-Some.file.0 < length (bounds_of c.self.inside.values.items) = omega (arith, first-within c.args.name.now c.self.inside.names c.in-Some.file.0 first, c.self.invariant.0.as_many) in
-    let here = c.as_slice-bounds.ensures.value ∙ sym (bounds-at c.self.inside.values.items c.in-Some.file.0 c.index.result.now within c.index.ensures) in
-    let held = all-at (BoundsAreHeld (length c.self.inside.text.items) c.self.inside.last) (bounds_of c.self.inside.values.items) c.in-Some.file.0 within c.self.invariant.0.values in
-    let ends = (part_of (length c.self.inside.text.items) c.self.inside.last (get_or (bounds_of c.self.inside.values.items) c.in-Some.file.0 []) c.args.edge c.in-Some-bound_of.bound held.parts (ap (λ bs. bound_of bs c.args.edge) (sym here) ∙ sym c.in-Some-bound_of.ensures)).ends in
+    let first : IsFirstAt c.args.name.now c.self.inside.names c.in-Some.number = first-position c.args.name.now c.self.inside.names c.in-Some.number (sym c.in-Some.ensures.index) in
+    let within : c.in-Some.number < length (bounds_of c.self.inside.values.items) = omega (arith, first-within c.args.name.now c.self.inside.names c.in-Some.number first, c.self.invariant.0.as_many) in
+    let here = c.as_slice-bounds.ensures.value ∙ sym (bounds-at c.self.inside.values.items c.in-Some.number c.index.result.now within c.index.ensures) in
+    let held = all-at (BoundsAreHeld (length c.self.inside.text.items) c.self.inside.last) (bounds_of c.self.inside.values.items) c.in-Some.number within c.self.invariant.0.values in
+    let ends = (part_of (length c.self.inside.text.items) c.self.inside.last (get_or (bounds_of c.self.inside.values.items) c.in-Some.number []) c.args.edge c.in-Some-bound_of.bound held.parts (ap (λ bs. bound_of bs c.args.edge) (sym here) ∙ sym c.in-Some-bound_of.ensures)).ends in
     omega (arith, ends, ap length c.as_slice.ensures.value)
 
 pub returns-in-Some-bound_of : goal.returns-in-Some-bound_of
 returns-in-Some-bound_of c =
-    let first : IsFirstAt c.args.name.now c.self.inside.names c.in-Some.file.0 = first-position c.args.name.now c.self.inside.names c.in-Some.file.0 (sym c.in-Some.ensures.index) in
-    let within : c.in-Some.file.0 < length (bounds_of c.self.inside.values.items) = omega (arith, first-within c.args.name.now c.self.inside.names c.in-Some.file.0 first, c.self.invariant.0.as_many) in
-    let here = c.as_slice-bounds.ensures.value ∙ sym (bounds-at c.self.inside.values.items c.in-Some.file.0 c.index.result.now within c.index.ensures) in
+    let first : IsFirstAt c.args.name.now c.self.inside.names c.in-Some.number = first-position c.args.name.now c.self.inside.names c.in-Some.number (sym c.in-Some.ensures.index) in
+    let within : c.in-Some.number < length (bounds_of c.self.inside.values.items) = omega (arith, first-within c.args.name.now c.self.inside.names c.in-Some.number first, c.self.invariant.0.as_many) in
+    let here = c.as_slice-bounds.ensures.value ∙ sym (bounds-at c.self.inside.values.items c.in-Some.number c.index.result.now within c.index.ensures) in
     ap Some (c.value_at.ensures ∙ ap (λ t. slice_range t c.in-Some-bound_of.bound.start c.in-Some-bound_of.bound.end) c.as_slice.ensures.value)
     ∙ ap (option_map (λ b. slice_range c.self.inside.text.items b.start b.end)) (c.in-Some-bound_of.ensures ∙ ap (λ bs. bound_of bs c.args.edge) here)
-    ∙ sym (value-first c.self.inside.text.items c.self.inside.names (bounds_of c.self.inside.values.items) c.args.name.now c.in-Some.file.0 c.args.edge c.self.invariant.0.as_many first)
+    ∙ sym (value-first c.self.inside.text.items c.self.inside.names (bounds_of c.self.inside.values.items) c.args.name.now c.in-Some.number c.args.edge c.self.invariant.0.as_many first)
     ∙ ap (λ b. bound_in b c.args.edge c.args.name.now) c.self.view_is
 
 pub returns-in-None-bound_of : goal.returns-in-None-bound_of
 returns-in-None-bound_of c =
-    let first : IsFirstAt c.args.name.now c.self.inside.names c.in-Some.file.0 = first-position c.args.name.now c.self.inside.names c.in-Some.file.0 (sym c.in-Some.ensures.index) in
-    let within : c.in-Some.file.0 < length (bounds_of c.self.inside.values.items) = omega (arith, first-within c.args.name.now c.self.inside.names c.in-Some.file.0 first, c.self.invariant.0.as_many) in
-    let here = c.as_slice-bounds.ensures.value ∙ sym (bounds-at c.self.inside.values.items c.in-Some.file.0 c.index.result.now within c.index.ensures) in
+    let first : IsFirstAt c.args.name.now c.self.inside.names c.in-Some.number = first-position c.args.name.now c.self.inside.names c.in-Some.number (sym c.in-Some.ensures.index) in
+    let within : c.in-Some.number < length (bounds_of c.self.inside.values.items) = omega (arith, first-within c.args.name.now c.self.inside.names c.in-Some.number first, c.self.invariant.0.as_many) in
+    let here = c.as_slice-bounds.ensures.value ∙ sym (bounds-at c.self.inside.values.items c.in-Some.number c.index.result.now within c.index.ensures) in
     ap (option_map (λ b. slice_range c.self.inside.text.items b.start b.end)) (c.in-None-bound_of.ensures ∙ ap (λ bs. bound_of bs c.args.edge) here)
-    ∙ sym (value-first c.self.inside.text.items c.self.inside.names (bounds_of c.self.inside.values.items) c.args.name.now c.in-Some.file.0 c.args.edge c.self.invariant.0.as_many first)
+    ∙ sym (value-first c.self.inside.text.items c.self.inside.names (bounds_of c.self.inside.values.items) c.args.name.now c.in-Some.number c.args.edge c.self.invariant.0.as_many first)
     ∙ ap (λ b. bound_in b c.args.edge c.args.name.now) c.self.view_is

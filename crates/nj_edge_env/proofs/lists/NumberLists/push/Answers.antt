@@ -11,18 +11,18 @@ invariant_of-self-2 c =
     let numbers = c.self.inside.numbers.items in
     let starts = c.self.inside.starts.items in
     let fits : length starts ≤ c.args.edge + 1 = omega (arith, length-lists numbers starts, ap length c.self.view_is, c.requires) in
-    push-held numbers starts c.args.number c.args.edge c.in_ok-start.start c.push_reserved.new.self.items c.pad.new.starts.items c.self.invariant fits (c.in_ok-start.ensures ∙ ap length c.as_slice.ensures.value)
+    push-held numbers starts c.args.number c.args.edge c.in_ok-start.start c.push_reserved.new.self.items c.pad.new.starts.items c.self.invariant fits (c.in_ok-start.ensures.short ∙ ap length c.as_slice.ensures.value)
     c.in_ok-pad.ensures.padded
-    (c.push_reserved.ensures.items ∙ ap (λ xs. xs ++ c.in_ok-number.number ∷ []) c.in_ok-reserve.ensures.items ∙ ap (λ n. numbers ++ n ∷ []) c.in_ok-number.ensures)
+    (c.push_reserved.ensures.items ∙ ap (λ xs. xs ++ c.in_ok-number.number ∷ []) c.in_ok-reserve.ensures.items ∙ ap (λ n. numbers ++ n ∷ []) c.in_ok-number.ensures.short)
 
 pub returns-clause-pushed : goal.returns-clause-pushed
 returns-clause-pushed c = λ e.
     let numbers = c.self.inside.numbers.items in
     let starts = c.self.inside.starts.items in
     let fits : length starts ≤ c.args.edge + 1 = omega (arith, length-lists numbers starts, ap length c.self.view_is, c.requires) in
-    push-lists numbers starts c.args.number c.args.edge c.in_ok-start.start c.push_reserved.new.self.items c.pad.new.starts.items c.self.invariant fits (c.in_ok-start.ensures ∙ ap length c.as_slice.ensures.value)
+    push-lists numbers starts c.args.number c.args.edge c.in_ok-start.start c.push_reserved.new.self.items c.pad.new.starts.items c.self.invariant fits (c.in_ok-start.ensures.short ∙ ap length c.as_slice.ensures.value)
     c.in_ok-pad.ensures.padded
-    (c.push_reserved.ensures.items ∙ ap (λ xs. xs ++ c.in_ok-number.number ∷ []) c.in_ok-reserve.ensures.items ∙ ap (λ n. numbers ++ n ∷ []) c.in_ok-number.ensures) e
+    (c.push_reserved.ensures.items ∙ ap (λ xs. xs ++ c.in_ok-number.number ∷ []) c.in_ok-reserve.ensures.items ∙ ap (λ n. numbers ++ n ∷ []) c.in_ok-number.ensures.short) e
     ∙ ap (λ (lists : List (List ℕ)). cond (nat_eq e c.args.edge) (list_at lists e ++ c.args.number ∷ []) (list_at lists e)) c.self.view_is
 
 pub returns-clause-count : goal.returns-clause-count
@@ -30,6 +30,6 @@ returns-clause-count c =
     let numbers = c.self.inside.numbers.items in
     let starts = c.self.inside.starts.items in
     let fits : length starts ≤ c.args.edge + 1 = omega (arith, length-lists numbers starts, ap length c.self.view_is, c.requires) in
-    push-count numbers starts c.args.number c.args.edge c.in_ok-start.start c.push_reserved.new.self.items c.pad.new.starts.items c.self.invariant fits (c.in_ok-start.ensures ∙ ap length c.as_slice.ensures.value)
+    push-count numbers starts c.args.number c.args.edge c.in_ok-start.start c.push_reserved.new.self.items c.pad.new.starts.items c.self.invariant fits (c.in_ok-start.ensures.short ∙ ap length c.as_slice.ensures.value)
     c.in_ok-pad.ensures.padded
-    (c.push_reserved.ensures.items ∙ ap (λ xs. xs ++ c.in_ok-number.number ∷ []) c.in_ok-reserve.ensures.items ∙ ap (λ n. numbers ++ n ∷ []) c.in_ok-number.ensures)
+    (c.push_reserved.ensures.items ∙ ap (λ xs. xs ++ c.in_ok-number.number ∷ []) c.in_ok-reserve.ensures.items ∙ ap (λ n. numbers ++ n ∷ []) c.in_ok-number.ensures.short)

@@ -1,7 +1,7 @@
 use Rattle.std.proofs.Common.{◌∙◌, drop, slice_get, ap, sym}
+use Rattle.nj_names.proofs.NameLemmas.{found-at}
 use Rattle.nj_edges.specs.Edges.{is_among}
 use Rattle.nj_edges.specs.Inside.EdgesHeld.{has_number}
-use Rattle.nj_edges.proofs.FileLemmas.{found-at}
 use Rattle.nj_edges.proofs.NamedLemmas.{open-none, open-has}
 use Rattle.nj_edges.proofs.edges.Edges.open_input.Goals as goal
 

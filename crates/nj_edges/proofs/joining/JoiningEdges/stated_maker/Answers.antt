@@ -1,7 +1,7 @@
 use Rattle.std.proofs.Common.{◌∙◌, ap, sym}
+use Rattle.nj_names.proofs.NameLemmas.{found-at}
 use Rattle.nj_edges.specs.EdgeGraphs.{EdgeGraph}
 use Rattle.nj_edges.specs.Joining.{JoinTable}
-use Rattle.nj_edges.proofs.FileLemmas.{found-at}
 use Rattle.nj_edges.proofs.GraphLemmas.{maker-edge}
 use Rattle.nj_edges.proofs.StatedLemmas.{made-path, unmade-path}
 use Rattle.nj_edges.proofs.joining.JoiningEdges.stated_maker.Goals as goal

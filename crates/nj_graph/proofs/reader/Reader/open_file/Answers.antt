@@ -1,7 +1,7 @@
 -- A file that a word names is opened.
 use Rattle.std.proofs.Common.{◌≡◌, ℕ, zero, suc, ◌-◌, ◌<◌, ◌≤◌, length, refl, ap, subst, ◌∙◌, arith}
 use Rattle.nj_statements.proofs.Faults.{by-fault}
-use Rattle.nj_graph.specs.Reading.{most_opened}
+use Rattle.nj_faults.specs.Limits.{most_opened}
 use Rattle.nj_graph.specs.declared.reader.Reader.{Reader}
 use Rattle.nj_graph.specs.Inside.ReaderContracts.{ReturnsText, place_in}
 use Rattle.nj_graph.proofs.Holding.{placed-text}

@@ -3,7 +3,8 @@ use Rattle.std.specs.Rc.{rc_slice_items}
 use Rattle.nj_text.specs.declared.spot.Spot.{Spot}
 use Rattle.nj_scope.specs.Readings.{EachPathOnce}
 use Rattle.nj_graph.specs.declared.reader.Reader.{Reader}
-use Rattle.nj_graph.specs.Reading.{opened_in, text_read, most_within, main_site, main_place}
+use Rattle.nj_faults.specs.Limits.{most_within}
+use Rattle.nj_graph.specs.Reading.{opened_in, text_read, main_site, main_place}
 use Rattle.nj_graph.specs.Inside.ReaderContracts.{ReadsOrStops}
 use Rattle.nj_graph.proofs.Found.{outcomes-named, found-text, unfound}
 use Rattle.nj_manifest.proofs.Handed.{handed}

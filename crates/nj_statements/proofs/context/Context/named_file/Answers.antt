@@ -4,8 +4,8 @@ use Rattle.nj_text.specs.Words.{word_text}
 use Rattle.nj_faults.specs.declared.fault.GraphFault.{GraphFault}
 use Rattle.nj_faults.specs.declared.fault.Cause.TheVariants.{UnknownTarget}
 use Rattle.nj_faults.specs.Faults.{IsFault, fault_at}
+use Rattle.nj_names.proofs.NameLemmas.{found-at}
 use Rattle.nj_edges.specs.Edges.{is_named}
-use Rattle.nj_edges.proofs.FileLemmas.{found-at}
 use Rattle.nj_statements.specs.EdgeList.{path_given}
 use Rattle.nj_statements.specs.BuildFaults.{empty_path, unknown_target, target_fault}
 use Rattle.nj_statements.proofs.Faults.{fault-first, fault-second, both-none, err-checks}

@@ -1,7 +1,0 @@
-use Rattle.nj_edges.proofs.ChangeLemmas.{finds-users}
-use Rattle.nj_edges.proofs.affected.Affected.add_users.Goals as goal
-
-pub files-preserved : goal.files-preserved
-files-preserved c =
-    finds-users c.args.graph.now.edges c.args.graph.now.files c.args.self.now c.files.self c.add_all.new.self c.args.files.now c.files.file-index (record { 0 = 0 }) c.users.result.now
-    c.files-test.true c.users.ensures.users c.files.invariant c.in_ok-add_all.ensures

@@ -1,0 +1,7 @@
+use Rattle.std.proofs.Common.{map, take}
+use Rattle.nj_edges.specs.Files.{path_at}
+use Rattle.nj_edges.specs.Inside.ChangesHeld.{FindsMore, HasInputOf}
+use Rattle.nj_edges.proofs.affected.add_users.Given as goal
+
+abbrev pub invariant-files : goal.invariant-files
+invariant-files l = FindsMore (HasInputOf l.graph.edges (map (path_at l.graph.files) (take l.file-index l.files))) l.fn.found l.found

@@ -1,9 +1,0 @@
-use Rattle.std.proofs.Common.{◌<◌, arith}
-use Rattle.nj_edges.proofs.FileLemmas.{start-before}
-use Rattle.nj_edges.proofs.files.start_of.Goals as goal
-
-pub returns-else-number-eq0 : goal.returns-else-number-eq0
-returns-else-number-eq0 c =
-    let other = c.if-number-eq0.false in
-    let after : 0 < c.args.number = omega arith in
-    rw c.number_at.ensures (start-before 0 c.args.ends.now c.args.number 0 after c.requires)

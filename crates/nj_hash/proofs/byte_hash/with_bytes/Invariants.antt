@@ -1,6 +1,0 @@
-use Rattle.std.proofs.Common.{◌≡◌, take, fold}
-use Rattle.nj_hash.specs.NameHash.{with_byte}
-use Rattle.nj_hash.proofs.byte_hash.with_bytes.Given as goal
-
-abbrev pub invariant-bytes : goal.invariant-bytes
-invariant-bytes l = l.number ≡ fold with_byte l.fn.number (take l.byte-index l.bytes)

@@ -1,4 +1,0 @@
-pub mod Rows
-pub mod Numerals
-pub mod Texts
-pub mod GivenMarks

@@ -1,5 +1,0 @@
-use Rattle.nj_marks.proofs.GivenMarks.{given_written}
-use Rattle.nj_marks.proofs.laws.given_marks_are_written.Goals as goal
-
-pub returns : goal.returns
-returns c = given_written

@@ -1,2 +1,0 @@
--- How the code meets the definitions beside this folder. No contract of a public call needs these.
-pub mod Scanning

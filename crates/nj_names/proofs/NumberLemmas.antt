@@ -1,0 +1,93 @@
+-- Lemmas on sets of numbers.
+use Rattle.std.proofs.Common.{◌≡◌, ◌≢◌, ◌<◌, ◌≤◌, ◌+◌, ◌==◌, ◌||◌, ◌⊎◌, inl, inr, ℕ, Bool, true, false, List, [], ◌∷◌, ◌++◌, length, get_or, set, nat_eq, refl, sym, ap, subst, ◌∙◌, arith}
+use Rattle.std.specs.Prelude.{Contains, sum_by}
+use Rattle.std.specs.List.{All, AllByRecursion, IsDistinct}
+use Rattle.std.proofs.lemmas.Bool.{cases_lt}
+use Rattle.std.proofs.lemmas.Bool.Decides.{Decides-eqb, eqb_tells}
+use Rattle.std.proofs.lemmas.Cmp.{nat_eq_equiv}
+use Rattle.std.proofs.lemmas.List.{get_or_past, get_or-set_other, get_or-set_same, length_push, length-set}
+use Rattle.std.proofs.lemmas.List.Elements.{All-get_or, All-nil, All-push, recursion_from_All}
+use Rattle.std.proofs.lemmas.List.Folds.{list_any-append}
+use Rattle.std.proofs.lemmas.List.Sums.{sum_by-cons, sum_by-set}
+use Rattle.std.proofs.lemmas.Map.Keys.{IsDistinct-push}
+use Rattle.std.proofs.lemmas.Map.Views.{Contains-from_any, list_any-from_Contains}
+use Rattle.nj_names.specs.NumberSets.{has}
+use Rattle.nj_names.specs.Inside.NumbersHeld.{AreFlagged, unflagged}
+
+or-true : (b : Bool) → (b || true) ≡ true
+or-true true = refl
+or-true false = refl
+
+or-false : (b : Bool) → (b || false) ≡ b
+or-false true = refl
+or-false false = refl
+
+-- ---- what is in a list
+
+pub has-contains : (numbers : List ℕ) (n : ℕ) → has numbers n ≡ true → Contains numbers n
+has-contains numbers n is = Contains-from_any (λ x y same. (Decides-eqb x y).0 same) n numbers is
+
+pub contains-has : (numbers : List ℕ) (n : ℕ) → Contains numbers n → has numbers n ≡ true
+contains-has numbers n is = list_any-from_Contains nat_eq_equiv n numbers is
+
+-- ---- one number more
+
+pub has-push : (numbers : List ℕ) (number n : ℕ) → has (numbers ++ number ∷ []) n ≡ (has numbers n || nat_eq n number)
+has-push numbers number n = list_any-append (nat_eq n) numbers (number ∷ []) ∙ ap (λ b. has numbers n || b) (or-false (nat_eq n number))
+
+module _ (flags : List Bool) (numbers : List ℕ) (number : ℕ) (below : number < length flags) (held : AreFlagged flags numbers) (unset : get_or flags number false ≡ false) where
+  pub new-number : has numbers number ≡ false
+  new-number = sym (held.tell number) ∙ unset
+
+  tells : (n : ℕ) → get_or (set flags number true) n false ≡ has (numbers ++ number ∷ []) n
+  tells n = by (eqb_tells n number)
+    where
+      by : ((n == number) ≡ true × (n ≡ number)) ⊎ ((n == number) ≡ false × (n ≢ number)) → get_or (set flags number true) n false ≡ has (numbers ++ number ∷ []) n
+      by (inl same) =
+          ap (λ k. get_or (set flags number true) k false) same.1 ∙ get_or-set_same flags number true false below
+          ∙ sym (has-push numbers number n ∙ ap (λ b. has numbers n || b) same.0 ∙ or-true (has numbers n))
+      by (inr apart) =
+          get_or-set_other flags number n true false apart.1 ∙ held.tell n
+          ∙ sym (has-push numbers number n ∙ ap (λ b. has numbers n || b) apart.0 ∙ or-false (has numbers n))
+
+  pub flagged-push : AreFlagged (set flags number true) (numbers ++ number ∷ [])
+  flagged-push = record {
+    tell = tells;
+    below = subst (λ (count : ℕ). All (λ n. n < count) (numbers ++ number ∷ [])) (sym (length-set flags number true)) (All-push (λ n. n < length flags) numbers number held.below below);
+    distinct = IsDistinct-push nat_eq_equiv numbers number held.distinct new-number;
+    as_many = omega (
+      arith,
+      held.as_many,
+      length_push numbers number,
+      length-set flags number true,
+      sum_by-set unflagged flags number true false below,
+      ap unflagged unset,
+    );
+  }
+
+-- ---- none
+
+all-unflagged : (flags : List Bool) → AllByRecursion (λ flag. flag ≡ false) flags → sum_by unflagged flags ≡ length flags
+all-unflagged [] none = refl
+all-unflagged (flag ∷ flags) none =
+    let rest : 1 + sum_by unflagged flags ≡ length (flag ∷ flags) = omega (arith, all-unflagged flags none.1) in
+    sum_by-cons unflagged flag flags ∙ ap (λ n. n + sum_by unflagged flags) (ap unflagged none.0) ∙ rest
+
+no-flag : (flags : List Bool) → All (λ flag. flag ≡ false) flags → (n : ℕ) → get_or flags n false ≡ false
+no-flag flags none n = elim (cases_lt n (length flags)) [
+  | inl below ↦ All-get_or (λ flag. flag ≡ false) flags n false below none
+  | inr past ↦ get_or_past flags n false past
+]
+
+pub flagged-none : (flags : List Bool) → All (λ flag. flag ≡ false) flags → AreFlagged flags []
+unfolding IsDistinct
+flagged-none flags none = record {
+  tell = no-flag flags none;
+  below = All-nil (λ (n : ℕ). n < length flags);
+  distinct = tt;
+  as_many = omega (arith, all-unflagged flags (recursion_from_All (λ flag. flag ≡ false) flags none));
+}
+
+-- there are no more of them than flags
+pub flagged-fit : (flags : List Bool) (numbers : List ℕ) → AreFlagged flags numbers → length numbers ≤ length flags
+flagged-fit flags numbers held = omega (arith, held.as_many)

@@ -1,0 +1,8 @@
+-- what must be believed
+pub mod ByteHash
+pub mod NameHash
+pub mod NameTables
+pub mod NumberSets
+pub mod PlainHash
+-- how the code does that
+pub mod Inside

@@ -1,0 +1,16 @@
+-- Sets of numbers.
+use Rattle.std.specs.Prelude.{ℕ, Bool, List, [], ◌∷◌, ◌++◌, nat_eq, if◌then◌else◌}
+use Rattle.std.specs.List.{list_any}
+
+-- numbers below a limit, each once, in the order in which they were added
+pub record NumberSetModel : Type 0 where
+  pub limit : ℕ
+  pub numbers : List ℕ
+
+-- whether a number is one of these
+abbrev pub has : List ℕ → (number : ℕ) → Bool
+has numbers number = list_any (nat_eq number) numbers
+
+-- the numbers with one that is added: at the end, unless it is there
+abbrev pub with_number : List ℕ → (number : ℕ) → List ℕ
+with_number numbers number = if has numbers number then numbers else numbers ++ number ∷ []

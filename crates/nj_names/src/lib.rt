@@ -1,0 +1,17 @@
+//! Names, each once, by their numbers; sets of numbers; and how the names of a run are hashed.
+#![tactic(auto)]
+
+mod byte_hash;
+mod hash_keys;
+mod name_hasher;
+mod number_set;
+mod plain_hasher;
+mod short;
+mod table;
+
+pub use hash_keys::HashKeys;
+pub use name_hasher::NameHasher;
+pub use number_set::NumberSet;
+pub use plain_hasher::PlainHasher;
+pub use short::short_number;
+pub use table::Names;
