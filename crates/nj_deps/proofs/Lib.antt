@@ -1,0 +1,7 @@
+pub mod LawLemmas
+mod LogRows
+pub mod NameLemmas
+pub mod OutputLemmas
+pub mod RecordLemmas
+pub mod TableLemmas
+pub mod WordLemmas

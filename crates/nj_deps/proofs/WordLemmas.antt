@@ -1,0 +1,122 @@
+-- Lemmas on lists that are joined, and on numbers as bytes.
+use Rattle.std.proofs.Common.{◌≡◌, ◌≢◌, ◌<◌, ◌≤◌, ◌+◌, ◌*◌, ◌^◌, ◌%◌, ℕ, true, false, Option, Some, None, MatchOption, Bor, List, [], ◌∷◌, ◌++◌, length, refl, sym, ap, ◌∙◌, arith, append_assoc, length-append}
+use Rattle.std.specs.Int.{w32, from_le_bytes}
+use Rattle.std.specs.List.{AllByRecursion}
+use Rattle.std.proofs.lemmas.List.{append-nil, nil_from_length}
+use Rattle.std.proofs.lemmas.List.Concat.{flat_map-append}
+use Rattle.std.proofs.lemmas.Nat.{from_le_bytes-to_le_bytes_4}
+use Rattle.nj_deps.specs.LogRecords.{word, words}
+use Rattle.nj_deps.specs.Logs.{first_line, opening}
+use Rattle.nj_deps.specs.Inside.RecordsRead.{AppendsNumbers}
+
+-- two lists that are joined are known by how long the first one is
+pub apart : {A : Type 0} (a b x y : List A) → length a ≡ length b → a ++ x ≡ b ++ y → (a ≡ b) × (x ≡ y)
+apart [] [] x y l e = (refl, e)
+apart [] (q ∷ b) x y l e = absurd (omega arith)
+apart (p ∷ a) [] x y l e = absurd (omega arith)
+apart (p ∷ a) (q ∷ b) x y l e =
+    let tails : a ++ x ≡ b ++ y = cc in
+    let rest = apart a b x y (omega arith) tails in
+    let heads : p ≡ q = cc in
+    let fronts : a ≡ b = rest.0 in
+    (cc, rest.1)
+
+-- or the second one
+pub apart_last : {A : Type 0} (a b x y : List A) → length x ≡ length y → a ++ x ≡ b ++ y → (a ≡ b) × (x ≡ y)
+apart_last a b x y l e =
+    let all = ap length e in
+    apart a b x y (omega (arith, length-append a x, length-append b y)) e
+
+pub length-word : (n : ℕ) → length (word n) ≡ 4
+unfolding word
+length-word n = refl
+
+pub word_is : (n m : ℕ) → n < 2 ^ 32 → m < 2 ^ 32 → word n ≡ word m → n ≡ m
+unfolding word
+word_is n m small_n small_m e = sym (from_le_bytes-to_le_bytes_4 n small_n) ∙ ap (from_le_bytes w32) e ∙ from_le_bytes-to_le_bytes_4 m small_m
+
+pub length-words : (ns : List ℕ) → length (words ns) ≡ 4 * length ns
+length-words [] = refl
+length-words (n ∷ ns) = omega (arith, length-append (word n) (words ns), length-word n, length-words ns)
+
+-- words are of one list of numbers
+pub words_are : (ns ms : List ℕ) → AllByRecursion (λ n. n < 2 ^ 32) ns → AllByRecursion (λ n. n < 2 ^ 32) ms → words ns ≡ words ms → ns ≡ ms
+words_are [] [] small_ns small_ms e = refl
+words_are [] (m ∷ ms) small_ns small_ms e = let l = ap length e in absurd (omega (arith, length-words (m ∷ ms)))
+words_are (n ∷ ns) [] small_ns small_ms e = let l = ap length e in absurd (omega (arith, length-words (n ∷ ns)))
+words_are (n ∷ ns) (m ∷ ms) small_ns small_ms e =
+    let both = apart (word n) (word m) (words ns) (words ms) (length-word n ∙ sym (length-word m)) e in
+    let head : n ≡ m = word_is n m small_ns.0 small_ms.0 both.0 in
+    let rest : ns ≡ ms = words_are ns ms small_ns.1 small_ms.1 both.1 in
+    cc
+
+pub after-word : (bytes : List ℕ) (n : ℕ) (rest : List ℕ) → bytes ≡ word n ++ rest → length bytes ≡ length rest + 4
+after-word bytes n rest e = let l = ap length e in omega (arith, length-append (word n) rest, length-word n)
+
+-- a number at the front
+pub shorter-by : (bytes : List ℕ) (n : ℕ) (rest : List ℕ) → bytes ≡ word n ++ rest → length rest < length bytes
+shorter-by bytes n rest e = let l = ap length e in omega (arith, length-append (word n) rest, length-word n)
+
+-- ---- numbers that are read
+
+-- the front of the bytes are numbers below the count, which were appended
+pub record NumbersRead (count : ℕ) (bytes rest old new : List ℕ) : Type 0 where
+  pub numbers : List ℕ
+  pub appended : new ≡ old ++ numbers
+  pub known : AllByRecursion (λ n. n < count) numbers
+  pub cut : bytes ≡ words numbers ++ rest
+
+known-last : (count : ℕ) (ns : List ℕ) (n : ℕ) → AllByRecursion (λ k. k < count) ns → n < count → AllByRecursion (λ k. k < count) (ns ++ n ∷ [])
+known-last count [] n all one = (one, tt)
+known-last count (m ∷ ns) n all one = (all.0, known-last count ns n all.1 one)
+
+pub none_read : (count : ℕ) (bytes old : List ℕ) → NumbersRead count bytes bytes old old
+none_read count bytes old = record { numbers = []; appended = sym (append-nil old); known = tt; cut = refl }
+
+pub number_read : (count : ℕ) (bytes rest old new : List ℕ) (n : ℕ) (others : List ℕ) → NumbersRead count bytes rest old new → n < count → rest ≡ word n ++ others
+    → NumbersRead count bytes others old (new ++ n ∷ [])
+number_read count bytes rest old new n others so_far below e = record {
+  numbers = so_far.numbers ++ n ∷ [];
+  appended = ap (λ x. x ++ n ∷ []) so_far.appended ∙ append_assoc old so_far.numbers (n ∷ []);
+  known = known-last count so_far.numbers n so_far.known below;
+  cut = so_far.cut ∙ ap (λ r. words so_far.numbers ++ r) e
+      ∙ sym (append_assoc (words so_far.numbers) (word n) others)
+      ∙ ap (λ w. (words so_far.numbers ++ w) ++ others) (sym (append-nil (word n)))
+      ∙ ap (λ w. w ++ others) (sym (flat_map-append word so_far.numbers (n ∷ [])));
+}
+
+pub all_read : (count : ℕ) (bytes rest old new : List ℕ) → NumbersRead count bytes rest old new → length bytes % 4 ≡ 0 → length rest < 4 → AppendsNumbers count bytes old new true
+all_read count bytes rest old new so_far whole short =
+    let l = ap length so_far.cut in
+    let sizes : length bytes ≡ 4 * length so_far.numbers + length rest = omega (arith, length-append (words so_far.numbers) rest, length-words so_far.numbers) in
+    let none : length rest ≡ 0 = omega arith in
+    (so_far.numbers, so_far.appended, so_far.cut ∙ ap (λ r. words so_far.numbers ++ r) (nil_from_length rest none) ∙ append-nil (words so_far.numbers), so_far.known)
+
+-- numbers below the count that have a number among their words
+below-among : (count : ℕ) (ns : List ℕ) (n : ℕ) (others is : List ℕ) → count ≤ 2 ^ 32 → n < 2 ^ 32 → words is ≡ words ns ++ (word n ++ others) → AllByRecursion (λ k. k < count) is → n < count
+below-among count [] n others [] few small e all = let l = ap length e in absurd (omega (arith, length-append (word n) others, length-word n))
+below-among count [] n others (i ∷ is) few small e all =
+    let both = apart (word i) (word n) (words is) others (length-word i ∙ sym (length-word n)) e in
+    let below : i < count = all.0 in
+    let same : i ≡ n = word_is i n (omega arith) small both.0 in
+    omega arith
+below-among count (m ∷ ns) n others [] few small e all = let l = ap length e in absurd (omega (arith, length-append (words (m ∷ ns)) (word n ++ others), length-append (word m) (words ns), length-word m))
+below-among count (m ∷ ns) n others (i ∷ is) few small e all =
+    let both = apart (word i) (word m) (words is) (words ns ++ (word n ++ others)) (length-word i ∙ sym (length-word m)) (e ∙ append_assoc (word m) (words ns) (word n ++ others)) in
+    below-among count ns n others is few small both.1 all.1
+
+pub one_past : (count : ℕ) (bytes rest old new : List ℕ) (n : ℕ) (others : List ℕ) → NumbersRead count bytes rest old new → count ≤ 2 ^ 32 → n < 2 ^ 32 → rest ≡ word n ++ others → count ≤ n
+    → AppendsNumbers count bytes old new false
+one_past count bytes rest old new n others so_far few small e past is cut all =
+    let below = below-among count so_far.numbers n others is few small (sym cut ∙ so_far.cut ∙ ap (λ r. words so_far.numbers ++ r) e) all in
+    omega arith
+
+-- ---- the opening
+
+pub opening_read : (bytes rest : List ℕ) (r : Option (ℕ × Bor (List ℕ))) → bytes ≡ first_line ++ rest → MatchOption r (length rest < 4) (λ p. (p.0 < 2 ^ 32) × (rest ≡ word p.0 ++ p.1.now))
+    → MatchOption r ((version : ℕ) (more : List ℕ) → bytes ≢ opening version ++ more) (λ p. bytes ≡ opening p.0 ++ p.1.now)
+opening_read bytes rest None line short = λ version more e. (
+    let l = ap length (sym line ∙ e) in
+    omega (arith, length-append (word version) more, length-word version)
+    )
+opening_read bytes rest (Some p) line m = line ∙ ap (λ r. first_line ++ r) m.1

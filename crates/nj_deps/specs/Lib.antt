@@ -1,0 +1,7 @@
+-- what must be believed
+pub mod LogRecords
+pub mod Logs
+pub mod Faults
+pub mod Laws
+-- how the code does that
+pub mod Inside

@@ -1,0 +1,92 @@
+-- What a deps log says.
+use Rattle.std.specs.Prelude.{◌≡◌, ◌≢◌, ℕ, ◌+◌, ◌*◌, ◌<◌, ◌^◌, Bool, if◌then◌else◌, nat_eq, Option, List, [], ◌∷◌, ◌++◌, length, fold, codes}
+use Rattle.std.specs.List.{flat_map, find, AllByRecursion}
+use Rattle.nj_deps.specs.LogRecords.{LogRecord, word, bytes_of, path_in, Counts}
+use Rattle.nj_deps.specs.LogRecords.LogRecord.{path, dependencies}
+use Rattle.nj_deps.specs.declared.fault.DepsLogFault.{DepsLogFault}
+use Rattle.nj_deps.specs.declared.fault.DepsLogFault.TheVariants.{NoDepsLog, OtherVersion, OutOfMemory}
+use Rattle.nj_deps.specs.declared.outputs.LoggedOutput.{LoggedOutput}
+
+-- ---- of records
+
+-- an output and what it depends on, by the numbers of their paths, and the time of the record
+pub record OutputText : Type 0 where
+  pub output : ℕ
+  pub time : ℕ
+  pub inputs : List ℕ
+
+-- all its numbers are of paths, of which there are so many
+pub record IsOfPaths (count : ℕ) (o : OutputText) : Type 0 where
+  pub output : o.output < count
+  pub inputs : AllByRecursion (λ number. number < count) o.inputs
+
+abbrev pub output_text : LoggedOutput → OutputText
+output_text logged = record { output = logged.output; time = logged.time; inputs = logged.inputs.now }
+
+-- the paths with the one that a record names
+abbrev pub with_path : List (List ℕ) → LogRecord → List (List ℕ)
+with_path paths (path padded complement) = paths ++ path_in padded ∷ []
+with_path paths (dependencies output low high inputs) = paths
+
+-- in place of what was known of the output, or at the end
+abbrev pub with_output : List OutputText → OutputText → List OutputText
+with_output [] logged = logged ∷ []
+with_output (other ∷ outputs) logged = if nat_eq other.output logged.output then logged ∷ outputs else other ∷ with_output outputs logged
+
+-- the outputs with the one of a record
+abbrev pub with_dependencies : List OutputText → LogRecord → List OutputText
+with_dependencies outputs (path padded complement) = outputs
+with_dependencies outputs (dependencies output low high inputs) = with_output outputs (record { output = output; time = low + 2 ^ 32 * high; inputs = inputs })
+
+abbrev pub paths_of : List LogRecord → List (List ℕ)
+paths_of records = fold with_path [] records
+
+abbrev pub outputs_of : List LogRecord → List OutputText
+outputs_of records = fold with_dependencies [] records
+
+-- ---- of bytes
+
+-- the records count, each after those before it
+abbrev pub CountInTurn : (paths : List (List ℕ)) → List LogRecord → Type 0
+CountInTurn paths [] = Unit {0}
+CountInTurn paths (r ∷ records) = Counts paths r × CountInTurn (with_path paths r) records
+
+-- no record that counts is at the front of these bytes
+abbrev pub EndsBefore : (paths : List (List ℕ)) → (rest : List ℕ) → Type 0
+EndsBefore paths rest = (r : LogRecord) (more : List ℕ) → Counts paths r → rest ≢ bytes_of r ++ more
+
+abbrev pub first_line : List ℕ
+first_line = codes "# ninjadeps" ++ 10 ∷ []
+
+-- the first line, and the version
+abbrev pub opening : (version : ℕ) → List ℕ
+opening version = first_line ++ word version
+
+-- what a deps log says: its paths and outputs, how many of its bytes were read, and whether they were all
+pub record LogText : Type 0 where
+  pub paths : List (List ℕ)
+  pub outputs : List OutputText
+  pub size : ℕ
+  pub is_whole : Bool
+
+-- Bytes are an opening, records that count, and a rest that begins with none. What counts is these records alone.
+pub record IsLogOf (bytes : List ℕ) (log : LogText) : Type 0 where
+  pub records : List LogRecord
+  pub rest : List ℕ
+  pub cut : bytes ≡ opening 4 ++ (flat_map bytes_of records ++ rest)
+  pub in_turn : CountInTurn [] records
+  pub ends : EndsBefore (paths_of records) rest
+  pub paths : log.paths ≡ paths_of records
+  pub outputs : log.outputs ≡ outputs_of records
+  pub size : log.size + length rest ≡ length bytes
+  pub is_whole : log.is_whole ≡ nat_eq (length rest) 0
+
+-- Bytes are no deps log; or one of another version than 4; or memory ran out, whatever they are.
+abbrev pub IsLogFault : (bytes : List ℕ) → DepsLogFault → Type 0
+IsLogFault bytes NoDepsLog = (version : ℕ) (rest : List ℕ) → bytes ≢ opening version ++ rest
+IsLogFault bytes (OtherVersion version) = (version ≢ 4) × (rest : List ℕ) × (bytes ≡ opening version ++ rest)
+IsLogFault bytes OutOfMemory = Unit {0}
+
+-- what is known of the output of this number
+abbrev pub output_of : List OutputText → (number : ℕ) → Option OutputText
+output_of outputs number = find (λ logged. nat_eq logged.output number) outputs

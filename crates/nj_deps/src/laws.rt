@@ -1,0 +1,18 @@
+//! Laws of deps logs.
+
+ghost use Rattle.nj_deps.specs.Laws.{BytesSayOneThing, EachOutputOnce, LastRecordCounts};
+
+/// Bytes say one thing: they are cut into records that count and a rest in one way.
+pub fn bytes_say_one_thing()
+    ensures { BytesSayOneThing }
+{}
+
+/// No output is there twice.
+pub fn each_output_once()
+    ensures { EachOutputOnce }
+{}
+
+/// Of the records of an output the last one counts.
+pub fn last_record_counts()
+    ensures { LastRecordCounts }
+{}

@@ -1,0 +1,164 @@
+//! The deps log.
+
+ghost use Rattle.std.specs.Prelude.{◌≡◌, ◌<◌, ◌++◌, Some, length, position, slice_get, bytes_eq, option_map, IfSome, IfOk, IfErr};
+ghost use Rattle.std.specs.List.{IsDistinct};
+ghost use Rattle.nj_deps.specs.Logs.{IsLogOf, IsLogFault, opening, output_of, output_text, IsOfPaths};
+
+use crate::fault::DepsLogFault;
+use crate::outputs::LoggedOutput;
+use crate::records::split_opening;
+use crate::table::LogTable;
+use nj_names::HashKeys;
+use std::alloc::Global;
+use std::marker::Model;
+
+/// The only version that is read.
+const VERSION: u32 = 4;
+
+/// What a deps log says. Paths are numbered from 0 in the order in which the log names them.
+#[derive(Drop)]
+pub struct DepsLog {
+    table: LogTable,
+    size: usize,
+    is_whole: bool,
+}
+
+impl Model for DepsLog {
+    ghost use Rattle.nj_deps.specs.Logs.{LogText};
+
+    ghost Value = { LogText };
+
+    ghost view = { λ l. record {
+      paths = l.table.paths;
+      outputs = l.table.outputs;
+      size = l.size;
+      is_whole = l.is_whole;
+    } };
+}
+
+impl DepsLog {
+    /// Reads a deps log of version 4, as every Ninja since 1.9 writes it ("Deps" in the Ninja manual).
+    ///
+    /// Reading ends before the first record that is cut off, empty, too large or wrong, and what came
+    /// before it counts, as in Ninja. [`DepsLog::size`] is how far it went. Times are compared with
+    /// nothing: what the log says of an output counts even if the output is newer.
+    ///
+    /// Names are hashed by keys that everyone knows. For a log that a stranger may have written
+    /// take [`DepsLog::read_with_keys`].
+    ///
+    /// # Errors
+    ///
+    /// [`DepsLogFault::NoDepsLog`] if the bytes do not begin as a deps log,
+    /// [`DepsLogFault::OtherVersion`] if they begin as one of another version, and
+    /// [`DepsLogFault::OutOfMemory`].
+    pub fn read(alloc: Global, bytes: &[u8]) -> Result<DepsLog, DepsLogFault>
+        ensures log { IfOk result (λ log. IsLogOf bytes.now log) }
+        ensures fault { IfErr result (λ fault. IsLogFault bytes.now fault) }
+    {
+        DepsLog::read_with_keys(alloc, HashKeys::default(), bytes)
+    }
+
+    /// The same, with names that are hashed by these keys: with keys that were drawn nobody can choose
+    /// many paths that collide.
+    ///
+    /// # Errors
+    ///
+    /// Those of [`DepsLog::read`].
+    pub fn read_with_keys(
+        alloc: Global,
+        keys: HashKeys,
+        bytes: &[u8],
+    ) -> Result<DepsLog, DepsLogFault>
+        ensures log { IfOk result (λ log. IsLogOf bytes.now log) }
+        ensures fault { IfErr result (λ fault. IsLogFault bytes.now fault) }
+    {
+        let mut rest = records_in(bytes)?;
+        let mut table = LogTable::new(alloc, keys);
+        'records: while let Some(after) = table.read_record(rest)? {
+            rest = after;
+        }
+        Ok(DepsLog {
+            table,
+            size: bytes.len() - rest.len(),
+            is_whole: rest.is_empty(),
+        })
+    }
+
+    /// How many paths there are.
+    pub fn path_count(&self) -> usize
+        ensures count { result ≡ length self.now.paths }
+        ensures each_path_once { IsDistinct bytes_eq self.now.paths }
+    {
+        self.table.paths.count()
+    }
+
+    /// The path of this number, as the log has it.
+    pub fn path(&self, number: usize) -> &[u8]
+        requires { number < length self.now.paths }
+        ensures { slice_get self.now.paths number ≡ Some result.now }
+    {
+        self.table.paths.name(number)
+    }
+
+    /// The number of this path, which must be as the log has it; `None` if the log does not name it.
+    pub fn number(&self, path: &[u8]) -> Option<usize>
+        ensures { result ≡ position (bytes_eq path.now) self.now.paths }
+    {
+        self.table.paths.number(path)
+    }
+
+    /// How many outputs with dependencies there are.
+    pub fn output_count(&self) -> usize
+        ensures { result ≡ length self.now.outputs }
+    {
+        self.table.outputs.count()
+    }
+
+    /// The output at this index, in the order of the first records of outputs.
+    #[tactic(auto, using(crate::proofs::OutputLemmas::paths_at))]
+    pub fn output(&self, index: usize) -> LoggedOutput<'_>
+        requires { index < length self.now.outputs }
+        ensures output { slice_get self.now.outputs index ≡ Some (output_text result) }
+        ensures known { IsOfPaths (length self.now.paths) (output_text result) }
+    {
+        self.table.output(index)
+    }
+
+    /// The output with the path of this number; `None` if the path is not of an output.
+    #[tactic(auto, using(crate::proofs::OutputLemmas::paths_at))]
+    pub fn output_of(&self, number: usize) -> Option<LoggedOutput<'_>>
+        ensures output { option_map output_text result ≡ output_of self.now.outputs number }
+        ensures known { IfSome result (λ o. IsOfPaths (length self.now.paths) (output_text o)) }
+    {
+        match self.table.index_of(number) {
+            Some(index) => Some(self.table.output(index)),
+            None => None,
+        }
+    }
+
+    /// How many bytes of the log were read: those before the first record that does not count.
+    pub fn size(&self) -> usize
+        ensures { result ≡ self.now.size }
+    {
+        self.size
+    }
+
+    /// Whether that is the whole log.
+    pub fn is_whole(&self) -> bool
+        ensures { result ≡ self.now.is_whole }
+    {
+        self.is_whole
+    }
+}
+
+// What comes after the opening of a deps log of version 4.
+fn records_in(bytes: &[u8]) -> Result<&[u8], DepsLogFault>
+    ensures records { IfOk result (λ records. bytes.now ≡ opening 4 ++ records.now) }
+    ensures fault { IfErr result (λ fault. IsLogFault bytes.now fault) }
+{
+    match split_opening(bytes) {
+        Some((VERSION, records)) => Ok(records),
+        Some((version, _)) => Err(DepsLogFault::OtherVersion(version)),
+        None => Err(DepsLogFault::NoDepsLog),
+    }
+}
