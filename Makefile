@@ -28,12 +28,12 @@ INSTALLED_PAGE := $(SHARE)/man/man1/ninja-explain.1
 INSTALLED_BASH := $(SHARE)/bash-completion/completions/ninja-explain
 INSTALLED_ZSH := $(SHARE)/zsh/site-functions/_ninja-explain
 INSTALLED_FISH := $(SHARE)/fish/vendor_completions.d/ninja-explain.fish
-INSTALLED_HEADER := $(DESTDIR)$(PREFIX)/include/ninja_explain.h
+INSTALLED_HEADERS := $(DESTDIR)$(PREFIX)/include
 INSTALLED_LIBRARY := $(DESTDIR)$(PREFIX)/$(LIBRARY)
 INSTALLED_PC := $(DESTDIR)$(PREFIX)/lib/pkgconfig/ninja_explain.pc
 
 .PHONY: all c run test check gate lint smoke c-test sweep install install-c uninstall dist dist-check
-.PHONY: save-proofs load-proofs clean
+.PHONY: wheel save-proofs load-proofs clean
 
 # Proves and builds the program as bin/ninja-explain. `rt all` proves the program and the crates below
 # it, several at once; `rt run` then builds the program from what was proved.
@@ -142,7 +142,7 @@ install:
 # Installs the library for C with its header.
 install-c:
 	@python3 scripts/is_proved.py $(LIBRARY).a $(LIBRARY).so.1
-	install -D -m 644 include/ninja_explain.h "$(INSTALLED_HEADER)"
+	install -D -m 644 -t "$(INSTALLED_HEADERS)" include/*.h
 	install -D -m 644 $(LIBRARY).a "$(INSTALLED_LIBRARY).a"
 	install -D -m 755 $(LIBRARY).so.1 "$(INSTALLED_LIBRARY).so.1"
 	ln -sf $(notdir $(LIBRARY)).so.1 "$(INSTALLED_LIBRARY).so"
@@ -152,7 +152,8 @@ install-c:
 # Removes what `make install` with the same PREFIX and DESTDIR installed, except folders.
 uninstall:
 	rm -f "$(INSTALLED_PROGRAM)" "$(INSTALLED_PAGE)" "$(INSTALLED_BASH)" "$(INSTALLED_ZSH)" \
-	"$(INSTALLED_FISH)" "$(INSTALLED_HEADER)" "$(INSTALLED_LIBRARY).a" "$(INSTALLED_LIBRARY).so.1" \
+	"$(INSTALLED_FISH)" "$(INSTALLED_HEADERS)/ninja_explain.h" \
+	"$(INSTALLED_HEADERS)/ninja_explain_files.h" "$(INSTALLED_LIBRARY).a" "$(INSTALLED_LIBRARY).so.1" \
 	"$(INSTALLED_LIBRARY).so" "$(INSTALLED_PC)"
 
 # Packs the program and the library for C, which are proved first if they were not, in dist/: an
@@ -160,6 +161,10 @@ uninstall:
 # from a log of the gate; else they are those that `make` and `make c` kept.
 dist: $(BUILT) $(LIBRARY).so
 	@python3 scripts/dist $(if $(LOG),--log "$(LOG)")
+
+# Packs the Python package with the library for C in dist/.
+wheel: $(LIBRARY).so
+	@python3 scripts/wheel.py
 
 # Packs twice, plants what must be refused, and runs in empty folders what was unpacked there; with
 # debootstrap and as root, also in a Debian that it makes.

@@ -4,7 +4,7 @@
 On a manifest of manifest.py it compares a process that loads by the library with the program's
 `-t rules`, which loads as well, and one that runs `-t commands` by the library with the program's:
 the median of the processor times of five rounds, in turn, and the greatest memory. Then it prints
-what calls take, from C (c_bench.c) and from Python (examples/python): the least of five rounds,
+what calls take, from C (c_bench.c) and from Python (python): the least of five rounds,
 divided by the calls. The tables are as in docs/BENCHMARKS.md.
 """
 
@@ -22,7 +22,7 @@ from runs import MB, measure, middle
 
 ROOT = Path(__file__).resolve().parent.parent
 os.environ["NINJA_EXPLAIN_LIBRARY"] = str(ROOT / "lib/libninja_explain.so.1")
-sys.path.insert(0, str(ROOT / "examples/python"))
+sys.path.insert(0, str(ROOT / "python"))
 sys.dont_write_bytecode = True
 from ninja_explain import Graph  # noqa: E402
 

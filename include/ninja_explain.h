@@ -7,19 +7,19 @@
  *
  *     int main(void)
  *     {
- *         static const uint8_t text[] = "rule cc\n command = cc -c $in -o $out\nbuild a.o: cc a.c\n";
+ *         static const char text[] = "rule cc\n command = cc -c $in -o $out\nbuild a.o: cc a.c\n";
  *         nx_session session = NX_SESSION_CLOSED;
- *         uint8_t command[256];
+ *         char command[256];
  *         size_t length = 0;
  *         int32_t status = nx_open(&session, 0x9e3779b97f4a7c15u);
  *         if (status == NX_DONE)
- *             status = nx_add_file(&session, (const uint8_t *)"build.ninja", 11, text, sizeof text - 1);
+ *             status = nx_add_file(&session, "build.ninja", 11, text, sizeof text - 1);
  *         if (status == NX_DONE)
- *             status = nx_load(&session, (const uint8_t *)"build.ninja", 11, 0);
+ *             status = nx_load(&session, "build.ninja", 11, 0);
  *         if (status == NX_DONE)
  *             status = nx_command(&session, 0, command, sizeof command, &length);
  *         if (status == NX_DONE)
- *             printf("%.*s\n", (int)length, (const char *)command);
+ *             printf("%.*s\n", (int)length, command);
  *         nx_close(&session);
  *         return status == NX_DONE ? 0 : 1;
  *     }
@@ -54,6 +54,10 @@
 #ifdef __cplusplus
 extern "C" {
 #endif
+
+/* The version of the interface that this header declares; nx_version tells that of the library. */
+#define NX_VERSION_MAJOR 1
+#define NX_VERSION_MINOR 1
 
 /* What a call returns. The numbers are fixed for good; later versions may add some. */
 enum nx_status {
@@ -195,11 +199,11 @@ int32_t nx_close(nx_session *session);
  * what was handed in for this path before. A graph that is loaded stays as it is.
  * NX_DONE or NX_OUT_OF_MEMORY.
  */
-int32_t nx_add_file(nx_session *session, const uint8_t *path, size_t path_length,
-                    const uint8_t *bytes, size_t length);
+int32_t nx_add_file(nx_session *session, const void *path, size_t path_length,
+                    const void *bytes, size_t length);
 
 /* Records that there is no file at a path. NX_DONE or NX_OUT_OF_MEMORY. */
-int32_t nx_add_absent(nx_session *session, const uint8_t *path, size_t path_length);
+int32_t nx_add_absent(nx_session *session, const void *path, size_t path_length);
 
 /*
  * Loads the main file at a path and all files that it includes, from those that were handed in; a
@@ -211,7 +215,7 @@ int32_t nx_add_absent(nx_session *session, const uint8_t *path, size_t path_leng
  * is a graph only after NX_DONE and a fault only after NX_FAULT, and files are wanted only after
  * NX_WANTED.
  */
-int32_t nx_load(nx_session *session, const uint8_t *main, size_t main_length,
+int32_t nx_load(nx_session *session, const void *main, size_t main_length,
                 uint32_t joins_dyndeps);
 
 /*
@@ -220,7 +224,7 @@ int32_t nx_load(nx_session *session, const uint8_t *main, size_t main_length,
  * it is until the next load or run, so files can be handed in while it is gone through.
  * NX_DONE, NX_NOTHING past the end, NX_SHORT.
  */
-int32_t nx_wanted(nx_session *session, size_t index, uint8_t *buffer, size_t size, size_t *needed);
+int32_t nx_wanted(nx_session *session, size_t index, void *buffer, size_t size, size_t *needed);
 
 /* ---- the last fault: of a load, or of nx_pick_target ---- */
 
@@ -237,13 +241,13 @@ int32_t nx_fault_place(nx_session *session, size_t *line, size_t *column);
  * The file of the fault, by the name under which it was opened.
  * NX_DONE, NX_NOTHING if there is no fault or no place is to blame, NX_SHORT.
  */
-int32_t nx_fault_file(nx_session *session, uint8_t *buffer, size_t size, size_t *needed);
+int32_t nx_fault_file(nx_session *session, void *buffer, size_t size, size_t *needed);
 
 /*
  * The line that reports the fault: FILE:LINE:COLUMN: TEXT, or TEXT if no place is to blame.
  * NX_DONE, NX_NOTHING if there is no fault, NX_SHORT, NX_OUT_OF_MEMORY.
  */
-int32_t nx_fault_line(nx_session *session, uint8_t *buffer, size_t size, size_t *needed);
+int32_t nx_fault_line(nx_session *session, void *buffer, size_t size, size_t *needed);
 
 /* ---- counts ---- */
 
@@ -259,17 +263,17 @@ int32_t nx_rule_count(nx_session *session, size_t *count);
 /* ---- files ---- */
 
 /* The path of a file. NX_DONE, NX_BAD_NUMBER, NX_SHORT. */
-int32_t nx_path(nx_session *session, size_t file, uint8_t *buffer, size_t size, size_t *needed);
+int32_t nx_path(nx_session *session, size_t file, void *buffer, size_t size, size_t *needed);
 
 /* The file at this path, which is taken as it is: not cleaned. NX_DONE or NX_NOTHING. */
-int32_t nx_file_named(nx_session *session, const uint8_t *path, size_t path_length, size_t *file);
+int32_t nx_file_named(nx_session *session, const void *path, size_t path_length, size_t *file);
 
 /*
  * The file that a word of the command line means: the path is cleaned first, and `FILE^` means the
  * first output of the first edge that has FILE as an input.
  * NX_DONE; NX_FAULT if there is none, which is then the last fault; NX_OUT_OF_MEMORY.
  */
-int32_t nx_pick_target(nx_session *session, const uint8_t *word, size_t word_length, size_t *file);
+int32_t nx_pick_target(nx_session *session, const void *word, size_t word_length, size_t *file);
 
 /* The edge that makes a file. NX_DONE, NX_NOTHING for a source, NX_BAD_NUMBER. */
 int32_t nx_maker(nx_session *session, size_t file, size_t *edge);
@@ -307,7 +311,7 @@ int32_t nx_explicit_inputs(nx_session *session, size_t edge, size_t *count);
 int32_t nx_is_phony(nx_session *session, size_t edge, int32_t *phony);
 
 /* The name of the rule of an edge. NX_DONE, NX_BAD_NUMBER, NX_SHORT. */
-int32_t nx_rule_name(nx_session *session, size_t edge, uint8_t *buffer, size_t size,
+int32_t nx_rule_name(nx_session *session, size_t edge, void *buffer, size_t size,
                      size_t *needed);
 
 /* The line and the column of the build statement of an edge, from 1. NX_DONE or NX_BAD_NUMBER. */
@@ -317,21 +321,21 @@ int32_t nx_edge_place(nx_session *session, size_t edge, size_t *line, size_t *co
  * The file of the build statement of an edge, by the name under which it was opened.
  * NX_DONE, NX_BAD_NUMBER, NX_SHORT.
  */
-int32_t nx_edge_file(nx_session *session, size_t edge, uint8_t *buffer, size_t size,
+int32_t nx_edge_file(nx_session *session, size_t edge, void *buffer, size_t size,
                      size_t *needed);
 
 /*
  * The command of an edge, as it is passed to a shell; empty for a phony one.
  * NX_DONE, NX_BAD_NUMBER, NX_SHORT, NX_OUT_OF_MEMORY.
  */
-int32_t nx_command(nx_session *session, size_t edge, uint8_t *buffer, size_t size, size_t *needed);
+int32_t nx_command(nx_session *session, size_t edge, void *buffer, size_t size, size_t *needed);
 
 /*
  * The value of a variable for an edge: `description`, `depfile`, `rspfile` or any other name; empty
  * if it is bound nowhere. NX_DONE, NX_BAD_NUMBER, NX_SHORT, NX_OUT_OF_MEMORY.
  */
-int32_t nx_variable(nx_session *session, size_t edge, const uint8_t *name, size_t name_length,
-                    uint8_t *buffer, size_t size, size_t *needed);
+int32_t nx_variable(nx_session *session, size_t edge, const void *name, size_t name_length,
+                    void *buffer, size_t size, size_t *needed);
 
 /* ---- lists ---- */
 
@@ -359,13 +363,13 @@ int32_t nx_affected(nx_session *session, const size_t *files, size_t file_count)
  * NX_DONE, NX_BAD_NUMBER, NX_BAD_MARK, NX_OUT_OF_MEMORY.
  */
 int32_t nx_page(nx_session *session, const size_t *targets, size_t target_count,
-                const uint8_t *mark, size_t mark_length, size_t take);
+                const void *mark, size_t mark_length, size_t take);
 
 /* The edge at an index among those that were listed last. NX_DONE, or NX_NOTHING past the end. */
 int32_t nx_found(nx_session *session, size_t index, size_t *edge);
 
 /* The mark at which the last page ends. NX_DONE, NX_NOTHING if no edge is left after it, NX_SHORT. */
-int32_t nx_page_mark(nx_session *session, uint8_t *buffer, size_t size, size_t *needed);
+int32_t nx_page_mark(nx_session *session, void *buffer, size_t size, size_t *needed);
 
 /* ---- whole runs ---- */
 
@@ -381,13 +385,13 @@ int32_t nx_page_mark(nx_session *session, uint8_t *buffer, size_t size, size_t *
  * empty, and files are wanted only after NX_WANTED. An allocation that fails while the program runs
  * may also end as a fault of the run.
  */
-int32_t nx_run(nx_session *session, const uint8_t *words, size_t words_length, int32_t *exit);
+int32_t nx_run(nx_session *session, const void *words, size_t words_length, int32_t *exit);
 
 /* What the last run wrote to its output. NX_DONE or NX_SHORT. */
-int32_t nx_run_output(nx_session *session, uint8_t *buffer, size_t size, size_t *needed);
+int32_t nx_run_output(nx_session *session, void *buffer, size_t size, size_t *needed);
 
 /* What the last run wrote to its error output. NX_DONE or NX_SHORT. */
-int32_t nx_run_errors(nx_session *session, uint8_t *buffer, size_t size, size_t *needed);
+int32_t nx_run_errors(nx_session *session, void *buffer, size_t size, size_t *needed);
 
 #ifdef __cplusplus
 }

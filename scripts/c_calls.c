@@ -121,46 +121,46 @@ static unsigned if_loaded(unsigned statuses)
 
 /* ---- strings that are given ---- */
 
-typedef int32_t giving(nx_session *, size_t number, uint8_t *buffer, size_t size, size_t *needed);
+typedef int32_t giving(nx_session *, size_t number, void *buffer, size_t size, size_t *needed);
 
 static struct text variable;
 
-static int32_t give_fault_file(nx_session *of, size_t number, uint8_t *buffer, size_t size,
+static int32_t give_fault_file(nx_session *of, size_t number, void *buffer, size_t size,
                                size_t *needed)
 {
     (void)number;
     return nx_fault_file(of, buffer, size, needed);
 }
 
-static int32_t give_fault_line(nx_session *of, size_t number, uint8_t *buffer, size_t size,
+static int32_t give_fault_line(nx_session *of, size_t number, void *buffer, size_t size,
                                size_t *needed)
 {
     (void)number;
     return nx_fault_line(of, buffer, size, needed);
 }
 
-static int32_t give_mark(nx_session *of, size_t number, uint8_t *buffer, size_t size,
+static int32_t give_mark(nx_session *of, size_t number, void *buffer, size_t size,
                          size_t *needed)
 {
     (void)number;
     return nx_page_mark(of, buffer, size, needed);
 }
 
-static int32_t give_output(nx_session *of, size_t number, uint8_t *buffer, size_t size,
+static int32_t give_output(nx_session *of, size_t number, void *buffer, size_t size,
                            size_t *needed)
 {
     (void)number;
     return nx_run_output(of, buffer, size, needed);
 }
 
-static int32_t give_errors(nx_session *of, size_t number, uint8_t *buffer, size_t size,
+static int32_t give_errors(nx_session *of, size_t number, void *buffer, size_t size,
                            size_t *needed)
 {
     (void)number;
     return nx_run_errors(of, buffer, size, needed);
 }
 
-static int32_t give_variable(nx_session *of, size_t number, uint8_t *buffer, size_t size,
+static int32_t give_variable(nx_session *of, size_t number, void *buffer, size_t size,
                              size_t *needed)
 {
     return nx_variable(of, number, variable.bytes, variable.length, buffer, size, needed);

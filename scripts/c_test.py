@@ -1,8 +1,7 @@
 #!/usr/bin/env python3
 """Tests the library for C in lib/: c_test.py [--cases N] PROGRAM AFFECTED_TESTS
 
-Both examples on the library, examples/c and examples/python, have to give what the program gives:
-on examples/project, on what CMake writes for examples/cmake, and on a manifest of 2,000 included
+The example examples/c and the Python package python/ have to give what the program gives: on examples/project, on what CMake writes for examples/cmake, and on a manifest of 2,000 included
 files; whole, in pages, and where there is a fault. So have runs of the program's words by the
 library, tool by tool. Names that collide under a known key may take at most four times as long as
 others. c_calls.c makes every call on N manifests with changes (lib/strangers.py makes them), and while
@@ -33,8 +32,8 @@ from smoke import flood
 
 LIBRARY = ROOT / "lib/libninja_explain.so.1"
 ARCHIVE = ROOT / "lib/libninja_explain.a"
-PYTHON = ROOT / "examples/python"
-os.environ["NINJA_EXPLAIN_LIBRARY"] = str(LIBRARY)
+PYTHON = ROOT / "python"
+os.environ.update(NINJA_EXPLAIN_LIBRARY=str(LIBRARY), PYTHONPATH=str(PYTHON))
 sys.path.insert(0, str(PYTHON))
 sys.dont_write_bytecode = True
 import ninja_explain  # noqa: E402
@@ -199,7 +198,7 @@ def query(graph, word):
     yield f"{file.path}:"
     if maker := file.maker:
         yield f"  input: {maker.rule}"
-        yield from (f"    {signs[kind]}{input.path}" for input, kind in maker.inputs)
+        yield from (f"    {signs[it.kind]}{it.path}" for it in maker.inputs)
         checks = [f"    {validation.path}" for validation in maker.validations]
         yield from ["  validations:", *checks] if checks else []
     yield "  outputs:"
@@ -225,9 +224,6 @@ def try_facts(tests, name, folder):
         roots = [f"{file.path}: {file.maker.rule}\n" for file in graph.roots()]
         ran = tests.program.run(["-t", "targets", "depth", "1"], folder)
         tests.expect("comparisons", f"{name}, roots", encoded("".join(roots)), ran.output)
-        ran = tests.program.run(["-t", "compdb", "--directory", "/w"], folder)
-        database = list(ninja_explain.compdb(graph, "/w"))
-        tests.expect("comparisons", f"{name}, compdb", database, json.loads(ran.output))
         same = [graph.file(word).number for word in words]
         tests.expect("comparisons", f"{name}, paths", same, list(range(len(words))))
         for size in 1, 3, 1000:
@@ -260,13 +256,79 @@ def try_runs(tests, name, folder, word):
         tests.expect("runs", f"{name}, edges after runs", len(list(graph.edges)), count)
 
 
-def try_affected(tests, folder, words, paths):
-    """Compares affected.py with crates/affected_tests."""
-    given = "".join(f"{path}\n" for path in paths).encode()
+# ---- the recipes of docs/PYTHON.md
+
+
+def recipes(tests):
+    """The programs of docs/PYTHON.md in its order, each in a file named by its heading."""
+    text = (ROOT / "docs/PYTHON.md").read_text()
+    for section in text.split("\n### ")[1:]:
+        title, code = section.split("\n", 1)[0], section.split("```python\n")[1].split("```")[0]
+        path = tests.folder / f"{title.split()[-1]}.py"
+        path.write_text(code)
+        yield path
+
+
+def try_recipes(tests, name, folder, paths):
+    """Compares what the recipes write with what programs do."""
+    database, affected, pages, sources, users = recipes(tests)
     python = Program(sys.executable)
-    found = python.run([str(PYTHON / "affected.py"), *words], folder, given)
-    wanted = tests.affected.run(words, folder, given)
-    tests.expect("comparisons", f"affected {words} {paths[:5]}", found, wanted)
+    wanted = tests.program.run(["-t", "compdb", "--directory", os.path.realpath(folder)], folder)
+    found = python.run([str(database)], folder)
+    same = json.loads(found.output) == json.loads(wanted.output)
+    tests.expect("recipes", f"{name}, compdb", (found.status, same), (DONE, True))
+    given = "".join(f"{path}\n" for path in paths).encode()
+    found = python.run([str(affected)], folder, given)
+    wanted = tests.affected.run([], folder, given)
+    tests.expect("recipes", f"{name}, affected {paths[:5]}", found, wanted)
+    found, wanted = python.run([str(pages)], folder), tests.program.run(COMMANDS, folder)
+    tests.expect("recipes", f"{name}, pages", found, wanted)
+    made = tests.program.run(["-t", "targets", "all"], folder).output
+    made = {line.rpartition(b": ")[0] for line in made.splitlines()}
+    inputs = tests.program.run(["-t", "inputs", "--no-shell-escape"], folder).output
+    wanted = [path for path in inputs.splitlines() if path not in made]
+    found = python.run([str(sources)], folder).output.splitlines()
+    tests.expect("recipes", f"{name}, sources", found, wanted)
+    lines = python.run([str(users)], folder).output.splitlines()
+    for line in lines:
+        count, path = line.split(None, 1)
+        listed = tests.program.run(["-t", "query", os.fsdecode(path)], folder).output
+        tests.expect("recipes", f"{name}, users of {path}", user_count(listed), int(count))
+
+
+def user_count(listed):
+    """How many edges `query` lists as users of a file. It names all outputs of each, of which the
+    second one of an edge of these projects ends in `.d`."""
+    outputs = listed.partition(b"\n  outputs:\n")[2].partition(b"\n  validation for:\n")[0]
+    return sum(not line.endswith(b".d") for line in outputs.splitlines())
+
+
+# ---- the package
+
+
+def try_package(tests):
+    """Installs the wheel in a virtual environment and runs its tests there, and with mypy where it is."""
+    folder = tests.folder / "package"
+    run = partial(subprocess.run, capture_output=True, text=True)
+    packed = run([sys.executable, str(ROOT / "scripts/wheel.py"), str(folder)])
+    tests.expect("packages", f"wheel: {packed.stderr}", packed.returncode, 0)
+    run([sys.executable, "-m", "venv", str(folder / "env")], check=True)
+    python = folder / "env/bin/python"
+    install = [python, "-m", "pip", "install", "--no-index", "--quiet", packed.stdout.strip()]
+    installed = run(install)
+    tests.expect("packages", f"pip: {installed.stderr}", installed.returncode, 0)
+    ours = "NINJA_EXPLAIN_LIBRARY", "PYTHONPATH"
+    alone = {key: value for key, value in os.environ.items() if key not in ours}
+    words = [python, "-m", "unittest", "discover", "-s", str(PYTHON / "tests")]
+    ran = run(words, cwd=folder, env=alone)
+    count = re.search(r"^Ran (\d+) tests", ran.stderr, re.M)
+    passed = ran.returncode == 0 and count and int(count[1]) > 0
+    tests.expect("packages", f"tests of the wheel: {ran.stderr}", bool(passed), True)
+    if shutil.which("mypy"):
+        ran = run(["mypy", "--strict", "--cache-dir", str(folder / "mypy"), str(PYTHON / "ninja_explain")])
+        tests.expect("packages", f"mypy: {ran.stdout}", ran.returncode, 0)
+    else:
+        print("c_test: mypy is not installed, so the annotations were not checked")
 
 
 # ---- projects
@@ -305,20 +367,17 @@ def try_project(tests, name, folder, words, sizes):
 def try_projects(tests):
     project = EXAMPLES / "project"
     try_project(tests, "project", project, ["test", "main.c^", "./out//count"], [1, 2, 3, 4, 5, 9])
-    changed = ["text/lines.c", "README.md", "./main.c", "text/words.c"]
-    for words in [], ["--rule", "check"], ["--prefix", "out/"], ["--source-dir", "text/.."]:
-        try_affected(tests, project, words, changed)
+    try_recipes(tests, "project", project, ["text/lines.c", "README.md", "main.c"])
     many = tests.folder / "many"
     write_files(many, many_files())
     lines = try_project(tests, "2,000 files", many, ["out/7.20", "out/3.9.check"], [97, 1900, 3899])
     tests.expect("comparisons", "2,000 files, commands", lines.count(b"\n") > 1900, True)
-    try_affected(tests, many, [], ["src/1.1", "common", "src/none", "out/1.1"])
+    try_recipes(tests, "2,000 files", many, ["src/1.1", "common", "src/none", "out/1.1"])
     if shutil.which("cmake") and shutil.which("ninja"):
         build = Path(os.path.realpath(tests.folder)) / "build"
         write_cmake(build)
         try_project(tests, "CMake", build, ["count", "text"], [1, 2, 3])
-        here = ["--source-dir", str(EXAMPLES / "cmake")]
-        try_affected(tests, build, here, ["src/words.c", "include/text/words.h"])
+        try_recipes(tests, "CMake", build, [str(EXAMPLES / "cmake/src/words.c"), "words.h"])
 
 
 # ---- faults
@@ -456,6 +515,7 @@ def main():
         try_projects(tests)
         try_faults(tests)
         try_flood(tests)
+        try_package(tests)
         if shutil.which("valgrind"):
             try_valgrind(tests)
         run = partial(run_driver, tests.driver)

@@ -9,23 +9,17 @@
  * end, and 4 if the output could not be written.
  */
 #define _DEFAULT_SOURCE
+#include <ninja_explain_files.h>
+
 #include <ctype.h>
-#include <errno.h>
 #include <getopt.h>
-#include <ninja_explain.h>
 #include <stdio.h>
-#include <stdlib.h>
-#include <string.h>
-#include <unistd.h>
 
 enum ending { DONE, FAULT, USAGE, STOPPED, OUTPUT_FAILED };
 
-/* What a function returns, besides the statuses of the library. */
-enum { UNREADABLE = -1 };
-
 /* Bytes with room for more. What a call gives is followed by a zero byte. */
 struct text {
-    uint8_t *bytes;
+    char *bytes;
     size_t length;
     size_t size;
 };
@@ -44,17 +38,12 @@ struct request {
     size_t word_count;
 };
 
-static const uint8_t *bytes_of(const char *string)
-{
-    return (const uint8_t *)string;
-}
-
 /* Makes room for this many bytes. Returns whether there is memory for them. */
 static int reserve(struct text *text, size_t needed)
 {
     if (needed <= text->size)
         return 1;
-    uint8_t *bytes = needed <= SIZE_MAX / 2 ? realloc(text->bytes, 2 * needed) : NULL;
+    char *bytes = needed <= SIZE_MAX / 2 ? realloc(text->bytes, 2 * needed) : NULL;
     if (!bytes)
         return 0;
     text->bytes = bytes;
@@ -64,16 +53,16 @@ static int reserve(struct text *text, size_t needed)
 
 /* ---- calls that give a text ---- */
 
-typedef int32_t giving(nx_session *, size_t number, uint8_t *buffer, size_t size, size_t *needed);
+typedef int32_t giving(nx_session *, size_t number, void *buffer, size_t size, size_t *needed);
 
-static int32_t give_mark(nx_session *session, size_t number, uint8_t *buffer, size_t size,
+static int32_t give_mark(nx_session *session, size_t number, void *buffer, size_t size,
                          size_t *needed)
 {
     (void)number;
     return nx_page_mark(session, buffer, size, needed);
 }
 
-static int32_t give_fault(nx_session *session, size_t number, uint8_t *buffer, size_t size,
+static int32_t give_fault(nx_session *session, size_t number, void *buffer, size_t size,
                           size_t *needed)
 {
     (void)number;
@@ -97,59 +86,15 @@ static int32_t get(giving *call, nx_session *session, size_t number, struct text
 
 /* ---- files ---- */
 
-static int32_t read_file(FILE *file, struct text *content)
-{
-    do {
-        if (!reserve(content, content->length + 4096))
-            return NX_OUT_OF_MEMORY;
-        content->length += fread(content->bytes + content->length, 1,
-                                 content->size - content->length, file);
-    } while (!feof(file) && !ferror(file));
-    return ferror(file) ? UNREADABLE : NX_DONE;
-}
-
-/* Hands in the file at a path, or that there is none. */
-static int32_t hand_in(nx_session *session, const char *path)
-{
-    struct text content = { 0 };
-    FILE *file = fopen(path, "rb");
-    int32_t status;
-    if (!file && errno == ENOENT)
-        return nx_add_absent(session, bytes_of(path), strlen(path));
-    status = file ? read_file(file, &content) : UNREADABLE;
-    if (status == NX_DONE)
-        status = nx_add_file(session, bytes_of(path), strlen(path), content.bytes, content.length);
-    if (status == UNREADABLE)
-        fprintf(stderr, "commands: cannot read '%s'\n", path);
-    if (file)
-        fclose(file);
-    free(content.bytes);
-    return status;
-}
-
-static int32_t hand_in_wanted(nx_session *session)
-{
-    struct text path = { 0 };
-    int32_t status = NX_DONE;
-    for (size_t index = 0; status == NX_DONE; index++) {
-        status = get(nx_wanted, session, index, &path);
-        if (status == NX_DONE)
-            status = hand_in(session, (const char *)path.bytes);
-    }
-    free(path.bytes);
-    return status == NX_NOTHING ? NX_DONE : status;
-}
-
-/* Loads the main file, and hands in what that wants until it wants nothing more. */
+/* Loads the main file and all that it includes, wherever that is, and tells of a file that fails. */
 static int32_t load(nx_session *session, const char *main)
 {
-    int32_t status;
-    do {
-        status = nx_load(session, bytes_of(main), strlen(main), 0);
-        if (status != NX_WANTED)
-            return status;
-        status = hand_in_wanted(session);
-    } while (status == NX_DONE);
+    struct nx_files files = NX_FILES_IN("");
+    files.allow_outside = 1;
+    int32_t status = nx_files_load(session, main, 0, &files);
+    if (files.failed)
+        fprintf(stderr, "commands: '%s' %s\n", files.failed, nx_files_text(status));
+    nx_files_clear(&files);
     return status;
 }
 
@@ -179,7 +124,7 @@ static int32_t pick_target(nx_session *session, const struct request *request, s
     if (index == request->word_count)
         return NX_NOTHING;
     const char *word = request->words[index];
-    return nx_pick_target(session, bytes_of(word), strlen(word), file);
+    return nx_pick_target(session, word, strlen(word), file);
 }
 
 static int32_t pick_targets(nx_session *session, const struct request *request,
@@ -217,7 +162,7 @@ static int32_t write_commands(nx_session *session, const struct request *request
     if (status == NX_DONE)
         status = pick_targets(session, request, &targets);
     if (status == NX_DONE)
-        status = nx_page(session, targets.numbers, targets.count, bytes_of(request->mark),
+        status = nx_page(session, targets.numbers, targets.count, request->mark,
                          strlen(request->mark), request->take);
     if (status == NX_DONE)
         status = write_listed(session);
@@ -237,14 +182,14 @@ static enum ending end(nx_session *session, int32_t status)
     } else if (status == NX_DONE && get(give_mark, session, 0, &text) == NX_NOTHING) {
         ending = DONE;
     } else if (status == NX_DONE) {
-        fprintf(stderr, "mark %s\n", (const char *)text.bytes);
+        fprintf(stderr, "mark %s\n", text.bytes);
         ending = STOPPED;
     } else if (status == NX_FAULT && get(give_fault, session, 0, &text) == NX_DONE) {
         fwrite(text.bytes, 1, text.length, stderr);
         putc('\n', stderr);
     } else if (status == NX_BAD_MARK) {
         fputs("commands: bad mark\n", stderr);
-    } else if (status != UNREADABLE) {
+    } else if (status >= 0) {
         fprintf(stderr, "commands: status %d of the library\n", (int)status);
     }
     free(text.bytes);

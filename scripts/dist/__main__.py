@@ -1,8 +1,8 @@
 """Packs what is proved: python3 scripts/dist [--crates FOLDER] [--library FOLDER] [--log FILE] [OUT]
 
 Writes to OUT, an empty folder or by default dist/, an archive and two Debian packages of the programs that were built
-below FOLDER, by default crates/, and of the library for C, by default in lib/; PROVENANCE, which
-says what they were made from; and SHA256SUMS. The same programs and commit give the same bytes.
+below FOLDER, by default crates/, and of the library for C, by default in lib/; a wheel of the Python
+package, which carries that library; PROVENANCE, which says what they were made from; and SHA256SUMS. The same programs and commit give the same bytes.
 
 The verdicts on the crates are those that `make` and `make c` kept, or that a log of `rt` has. A
 binary that names no logic in which it was proved, or another one than that of `rt version`, is
@@ -17,7 +17,7 @@ from pathlib import Path
 
 sys.path[0] = str(Path(__file__).resolve().parents[1])
 
-from dist import contents, debian, packing, provenance  # noqa: E402
+from dist import contents, debian, packing, provenance, wheel  # noqa: E402
 from dist.binaries import Refused, libc_needed, numbers  # noqa: E402
 from lib.programs import CRATES, ROOT  # noqa: E402
 from lib.proved import Unproved, logic  # noqa: E402
@@ -68,6 +68,13 @@ class Release:
         packing.deb(items, self.time, out / name)
         return name
 
+    def wheel(self, out):
+        """Writes the wheel, and returns its name."""
+        name = wheel.name(self.version, self.library_libc)
+        items = wheel.wheel_items(self.library, self.version, self.library_libc)
+        (out / name).write_bytes(wheel.archive(items, self.time))
+        return name
+
     def provenance(self, log):
         items = [contents.copy(file, name) for name, file in self.binaries().items()]
         sums = packing.checksums(items, "sha256")
@@ -84,6 +91,7 @@ def pack(release, log, out):
         name,
         release.debian(debian.PROGRAM_PACKAGE, programs, release.libc, out),
         release.debian(debian.LIBRARY_PACKAGE, library, release.library_libc, out),
+        release.wheel(out),
         "PROVENANCE",
     ]
     (out / "PROVENANCE").write_text(release.provenance(log))

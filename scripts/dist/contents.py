@@ -56,7 +56,7 @@ def of_library(folder, prefix, libraries="lib"):
     text = (ROOT / "include/ninja_explain.pc.in").read_text().replace("@PREFIX@", prefix)
     text = text.replace("${prefix}/lib", f"${{prefix}}/{libraries}")
     return [
-        copy(ROOT / "include/ninja_explain.h", "include/ninja_explain.h"),
+        *(copy(it, f"include/{it.name}") for it in sorted((ROOT / "include").glob("*.h"))),
         copy(folder / f"{LIBRARY}.a", f"{libraries}/{LIBRARY}.a"),
         copy(folder / f"{LIBRARY}.so.1", f"{libraries}/{LIBRARY}.so.1"),
         Item(f"{libraries}/{LIBRARY}.so", target=f"{LIBRARY}.so.1"),

@@ -2,19 +2,22 @@
 
 Each export has to be declared with the C types of its parameters, and each declaration has to be
 an export. The numbers of `enum nx_status`, `enum nx_fault` and `enum nx_kind` have to be those that the
-crate gives. Where there is a compiler, the header has to compile as C11 and as C++17 without a
-warning, and so has the program at its top.
+crate gives. Where there is a compiler, it and include/ninja_explain_files.h have to compile as C11
+and as C++17 without a warning, and so have the programs at their tops.
 """
 
 import re
 import subprocess
 import textwrap
 
-from lib.checks import check
+from lib.checks import check, expect
 from lib.programs import CRATES, ROOT
 
 HEADER = ROOT / "include/ninja_explain.h"
+FILES = ROOT / "include/ninja_explain_files.h"
+PACKAGE = ROOT / "include/ninja_explain.pc.in"
 SOURCES = CRATES / "nj_c/src"
+OPENING = SOURCES / "opening.rt"
 
 EXPORT = re.compile(r'^pub extern "C" fn (\w+)\((.*?)\)(?: -> (\w+))?$', re.M | re.S)
 DECLARATION = re.compile(r"^(\w+) (\w+)\(([^)]*)\);", re.M)
@@ -22,8 +25,8 @@ DECLARATION = re.compile(r"^(\w+) (\w+)\(([^)]*)\);", re.M)
 ARGUMENTS = {
     "Global": [],
     "&mut Session": ["nx_session *"],
-    "&[u8]": ["const uint8_t *", "size_t"],
-    "&mut [u8]": ["uint8_t *", "size_t"],
+    "&[u8]": ["const void *", "size_t"],
+    "&mut [u8]": ["void *", "size_t"],
     "&[usize]": ["const size_t *", "size_t"],
     "&mut usize": ["size_t *"],
     "&mut i32": ["int32_t *"],
@@ -39,7 +42,7 @@ ENUMERATIONS = {
     "nx_fault": ("NX_FAULT_", "fault_kinds.rt", "Cause"),
     "nx_kind": ("NX_", "items.rt", "Kind"),
 }
-WARNINGS = ["-Wall", "-Wextra", "-Wpedantic", "-Werror", "-fsyntax-only"]
+WARNINGS = ["-Wall", "-Wextra", "-Wpedantic", "-Wconversion", "-Werror", "-fsyntax-only"]
 LANGUAGES = {"cc": ["-xc", "-std=c11"], "c++": ["-xc++", "-std=c++17"]}
 
 
@@ -127,9 +130,9 @@ def numbers_are_the_same():
 
 
 def example(header):
-    """The program in the first comment of the header."""
+    """The program in the first comment of a header."""
     lines = header.split("*/")[0].replace("\n *", "\n").splitlines()
-    first = lines.index("     #include <ninja_explain.h>")
+    first = next(at for at, line in enumerate(lines) if line.startswith("     #include"))
     last = lines.index("     }", first)
     return textwrap.dedent("\n".join(lines[first : last + 1])) + "\n"
 
@@ -141,16 +144,31 @@ def refusal(compiler, text):
     return ran.stderr if ran.returncode or ran.stderr else None
 
 
+def refusals(compiler):
+    for header in HEADER, FILES:
+        text = f"#include <{header.name}>\nint main(void) {{ return 0; }}\n"
+        yield from filter(None, [refusal(compiler, text)])
+
+
 @check(needs=["cc"])
-def compiles_as_c():
-    yield from filter(None, [refusal("cc", "#include <ninja_explain.h>\n")])
+def compile_as_c():
+    yield from refusals("cc")
 
 
 @check(needs=["c++"])
-def compiles_as_cpp():
-    yield from filter(None, [refusal("c++", "#include <ninja_explain.h>\n")])
+def compile_as_cpp():
+    yield from refusals("c++")
 
 
 @check(needs=["cc"])
-def its_example_compiles():
-    yield from filter(None, [refusal("cc", example(HEADER.read_text()))])
+def their_examples_compile():
+    for header in HEADER, FILES:
+        yield from filter(None, [refusal("cc", example(header.read_text()))])
+
+
+@check
+def version_is_the_same():
+    given = re.findall(r"#define NX_VERSION_\w+ (\d+)", HEADER.read_text())
+    yield from expect("NX_VERSION", given, re.findall(r"^    \*(?:major|minor) = (\d+);", OPENING.read_text(), re.M))
+    package = re.search(r"^Version: (.*)$", PACKAGE.read_text(), re.M)[1]
+    yield from expect(PACKAGE.name, package, ".".join(given))

@@ -10,7 +10,8 @@ use Rattle.nj_scope.specs.Readings.{Reading, reading_of, paths_of, IsPrefix}
 use Rattle.nj_scope.specs.ReadingList.{ReadStatement}
 use Rattle.nj_faults.specs.declared.fault.GraphFault.{GraphFault}
 use Rattle.nj_graph.specs.Graph.{GraphText}
-use Rattle.nj_graph.specs.Reading.{End, Whole, Refused, Lacking, ReadingText, Opens, and_then, item_read, main_place, main_read, main_site, most_within, opened_in, opened_site, outcome_read, place_at, text_read}
+use Rattle.nj_faults.specs.Limits.{most_within}
+use Rattle.nj_graph.specs.Reading.{End, Whole, Refused, Lacking, ReadingText, Opens, and_then, item_read, main_place, main_read, main_site, opened_in, opened_site, outcome_read, place_at, text_read}
 use Rattle.nj_graph.specs.Runs.{ReachedText, IsEnd, IsLacking}
 use Rattle.nj_graph.specs.Loads.{LoadedText, LoadedOr, Loads, main_reached, reached_from}
 use Rattle.nj_graph.proofs.ReadingRows.{on_files}

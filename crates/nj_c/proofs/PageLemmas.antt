@@ -6,8 +6,8 @@ use Rattle.std.proofs.lemmas.List.Elements.{All-push}
 use Rattle.nj_edges.specs.declared.files.FileNo.{FileNo}
 use Rattle.nj_edges.specs.declared.edges.EdgeNo.{EdgeNo}
 use Rattle.nj_edges.specs.EdgeGraphs.{EdgeGraph}
-use Rattle.nj_marks.specs.declared.fault.MarkFault.{MarkFault}
-use Rattle.nj_marks.specs.declared.fault.MarkFault.TheVariants as fault
+use Rattle.nj_needs.specs.declared.mark_fault.MarkFault.{MarkFault}
+use Rattle.nj_needs.specs.declared.mark_fault.MarkFault.TheVariants as fault
 use Rattle.nj_needs.specs.Graphs.{count_of, makers_of, row_of}
 use Rattle.nj_needs.specs.Marks.{is_valid, IsFirstPlace}
 use Rattle.nj_needs.specs.Pages.{IsMarkAfter}

@@ -1,7 +1,8 @@
 -- What a run leaves.
 use Rattle.std.proofs.Common.{◌≡◌, ◌≢◌, ◌⊎◌, inl, inr, ℕ, ℤ, pos, Bool, true, false, Ok, Err, Result, List, [], refl, sym, ap, subst, ◌∙◌, arith, true≢false}
 use Rattle.nj_tools.specs.MemorySinks.{state_of}
-use Rattle.nj_args.specs.Requests.{ActionText, RequestText, request_of}
+use Rattle.nj_requests.specs.Actions.{ActionText, RequestText}
+use Rattle.nj_args.specs.Requests.{request_of}
 use Rattle.nj_args.specs.declared.faults.UsageFault.{UsageFault}
 use Rattle.nj_scope.specs.ReadingList.{ReadStatement}
 use Rattle.nj_tools.specs.Sinks.{SinkState, FailsAfter, one_more}

@@ -1,20 +1,25 @@
 -- The numbers of what can be wrong.
 use Rattle.std.specs.Prelude.{ℤ, pos}
+use Rattle.nj_manifest.specs.declared.cause.SyntaxCause.{SyntaxCause}
+use Rattle.nj_manifest.specs.declared.cause.SyntaxCause.TheVariants.{BadByte, Tab, BadEscape, Expected, UnexpectedIndent, MissingCommand, RspPair, UnknownKey, MissingDepth, DyndepVersion, DyndepShape}
 use Rattle.nj_faults.specs.declared.fault.Cause.{Cause}
-use Rattle.nj_faults.specs.declared.fault.Cause.TheVariants.{BadByte, Tab, BadEscape, Expected, UnexpectedIndent, MissingCommand, RspPair, UnknownKey, MissingDepth, DyndepVersion, DyndepShape, EmptyPath, BadDepth, DuplicateRule, DuplicatePool, VersionTooNew, Missing, PathNotText, TooDeep, TooManyOpenings, Io, UnknownRule, TwoMakers, UnknownTarget, RuleVariableCycle, UnknownPool, DyndepNotInput, DyndepNoStatement, DyndepTwice, DyndepExtra, Cycle, NoOutEdge, TextNotUtf8, OutOfMemory}
+use Rattle.nj_faults.specs.declared.fault.Cause.TheVariants.{Syntax, EmptyPath, BadDepth, DuplicateRule, DuplicatePool, VersionTooNew, Missing, PathNotText, TooDeep, TooManyOpenings, Io, UnknownRule, TwoMakers, UnknownTarget, RuleVariableCycle, UnknownPool, DyndepNotInput, DyndepNoStatement, DyndepTwice, DyndepExtra, Cycle, NoOutEdge, TextNotUtf8, OutOfMemory}
+
+abbrev pub kind_of_syntax : {N : Type 0} → SyntaxCause N → ℤ
+kind_of_syntax BadByte = pos 1
+kind_of_syntax Tab = pos 2
+kind_of_syntax BadEscape = pos 3
+kind_of_syntax (Expected x) = pos 4
+kind_of_syntax UnexpectedIndent = pos 5
+kind_of_syntax MissingCommand = pos 6
+kind_of_syntax RspPair = pos 7
+kind_of_syntax (UnknownKey x) = pos 8
+kind_of_syntax MissingDepth = pos 9
+kind_of_syntax DyndepVersion = pos 10
+kind_of_syntax DyndepShape = pos 11
 
 abbrev pub kind_of : Cause → ℤ
-kind_of BadByte = pos 1
-kind_of Tab = pos 2
-kind_of BadEscape = pos 3
-kind_of (Expected x) = pos 4
-kind_of UnexpectedIndent = pos 5
-kind_of MissingCommand = pos 6
-kind_of RspPair = pos 7
-kind_of (UnknownKey x) = pos 8
-kind_of MissingDepth = pos 9
-kind_of DyndepVersion = pos 10
-kind_of DyndepShape = pos 11
+kind_of (Syntax x) = kind_of_syntax x
 kind_of EmptyPath = pos 12
 kind_of BadDepth = pos 13
 kind_of (DuplicateRule x) = pos 14

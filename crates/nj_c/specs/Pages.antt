@@ -6,7 +6,7 @@ use Rattle.nj_edges.specs.declared.files.FileNo.{FileNo}
 use Rattle.nj_edges.specs.Changes.{IsAffected}
 use Rattle.nj_edges.specs.EdgeGraphs.{EdgeGraph}
 use Rattle.nj_edges.specs.Files.{path_at}
-use Rattle.nj_marks.specs.Marks.{given_mark, mark_text}
+use Rattle.nj_needs.specs.MarkTexts.{given_mark, mark_text}
 use Rattle.nj_needs.specs.Graphs.{makers_of, row_of}
 use Rattle.nj_needs.specs.Marks.{is_valid}
 use Rattle.nj_needs.specs.Walks.{WalkState, BeginsAt}

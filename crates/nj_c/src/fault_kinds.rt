@@ -1,26 +1,16 @@
 //! The numbers of faults.
 
 ghost use Rattle.std.specs.Prelude.{◌≡◌};
-ghost use Rattle.nj_c.specs.FaultKinds.{kind_of};
+ghost use Rattle.nj_c.specs.FaultKinds.{kind_of, kind_of_syntax};
 
-use nj_graph::Cause;
+use nj_graph::{Cause, Name, SyntaxCause};
 
 /// The number of what is wrong, which is fixed for good.
 pub(crate) fn fault_number(cause: &Cause) -> i32
     ensures { result ≡ kind_of cause.now }
 {
     match cause {
-        Cause::BadByte => 1,
-        Cause::Tab => 2,
-        Cause::BadEscape => 3,
-        Cause::Expected(_) => 4,
-        Cause::UnexpectedIndent => 5,
-        Cause::MissingCommand => 6,
-        Cause::RspPair => 7,
-        Cause::UnknownKey(_) => 8,
-        Cause::MissingDepth => 9,
-        Cause::DyndepVersion => 10,
-        Cause::DyndepShape => 11,
+        Cause::Syntax(syntax) => syntax_number(syntax),
         Cause::EmptyPath => 12,
         Cause::BadDepth => 13,
         Cause::DuplicateRule(_) => 14,
@@ -44,5 +34,24 @@ pub(crate) fn fault_number(cause: &Cause) -> i32
         Cause::NoOutEdge(_) => 32,
         Cause::TextNotUtf8 => 33,
         Cause::OutOfMemory => 34,
+    }
+}
+
+// The number of what is wrong with the syntax.
+fn syntax_number(syntax: &SyntaxCause<Name>) -> i32
+    ensures { result ≡ kind_of_syntax syntax.now }
+{
+    match syntax {
+        SyntaxCause::BadByte => 1,
+        SyntaxCause::Tab => 2,
+        SyntaxCause::BadEscape => 3,
+        SyntaxCause::Expected(_) => 4,
+        SyntaxCause::UnexpectedIndent => 5,
+        SyntaxCause::MissingCommand => 6,
+        SyntaxCause::RspPair => 7,
+        SyntaxCause::UnknownKey(_) => 8,
+        SyntaxCause::MissingDepth => 9,
+        SyntaxCause::DyndepVersion => 10,
+        SyntaxCause::DyndepShape => 11,
     }
 }

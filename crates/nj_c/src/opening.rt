@@ -18,10 +18,10 @@ use std::alloc::{AllocError, Global};
 /// number; with another major one it may not.
 #[unsafe(no_mangle)]
 pub extern "C" fn nx_version(major: &mut usize, minor: &mut usize) -> i32
-    ensures { (result ≡ code_of Done) × (major.new ≡ 1) × (minor.new ≡ 0) }
+    ensures { (result ≡ code_of Done) × (major.new ≡ 1) × (minor.new ≡ 1) }
 {
     *major = 1;
-    *minor = 0;
+    *minor = 1;
     Status::Done.code()
 }
 

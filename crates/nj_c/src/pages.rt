@@ -1,7 +1,7 @@
 //! Lists of edges: what a change reaches, and pages of the commands that targets need.
 
 ghost use Rattle.std.specs.Prelude.{◌≡◌, ◌<◌, Some, map, length, slice_get, All, IfErr, IfOk, IfSome, MatchOption};
-ghost use Rattle.nj_marks.specs.declared.fault.MarkFault.TheVariants.{OutOfMemory};
+ghost use Rattle.nj_needs.specs.declared.mark_fault.MarkFault.TheVariants.{OutOfMemory};
 ghost use Rattle.nj_graph.specs.Graph.{files_of};
 ghost use Rattle.nj_c.specs.Asking.{GivesItem, GivesMark, IfOpen, KeptUnlessDone};
 ghost use Rattle.nj_c.specs.Loading.{Changes};

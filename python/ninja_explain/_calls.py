@@ -1,0 +1,262 @@
+"""The calls of the library for C, by ctypes."""
+
+from __future__ import annotations
+
+import ctypes
+import os
+import threading
+from ctypes import POINTER, c_char_p, c_int32, c_size_t, c_uint32, c_uint64
+from pathlib import Path
+from types import TracebackType
+from typing import Any, Callable, Iterator, Sequence
+
+from ninja_explain._errors import STATUS_ERRORS, Fault, FaultKind
+
+SONAME = "libninja_explain.so.1"
+VARIABLE = "NINJA_EXPLAIN_LIBRARY"
+# The version of the interface that is called here: a greater minor number serves too.
+MAJOR, MINOR = 1, 1
+
+DONE, NOTHING, SHORT, FAULT, WANTED = range(5)
+# The greatest number that a call takes.
+GREATEST = c_size_t(-1).value
+
+
+class _Kept(ctypes.Structure):
+    _fields_ = [("kept", ctypes.c_void_p)]
+
+
+_NUMBER, _KIND = POINTER(c_size_t), POINTER(c_int32)
+_TEXT, _NUMBERS = [c_char_p, c_size_t], [POINTER(c_size_t), c_size_t]
+_BUFFER = [c_char_p, c_size_t, _NUMBER]
+_AT = [c_size_t, c_size_t, _NUMBER]
+# What each call takes after its session.
+_CALLS: dict[str, Sequence[Any]] = {
+    "nx_close": [],
+    "nx_open": [c_uint64],
+    "nx_add_file": [*_TEXT, *_TEXT],
+    "nx_add_absent": _TEXT,
+    "nx_load": [*_TEXT, c_uint32],
+    "nx_fault_kind": [_KIND],
+    "nx_fault_place": [_NUMBER, _NUMBER],
+    "nx_fault_file": _BUFFER,
+    "nx_fault_line": _BUFFER,
+    "nx_edge_count": [_NUMBER],
+    "nx_file_count": [_NUMBER],
+    "nx_wanted": [c_size_t, *_BUFFER],
+    "nx_path": [c_size_t, *_BUFFER],
+    "nx_rule_name": [c_size_t, *_BUFFER],
+    "nx_edge_file": [c_size_t, *_BUFFER],
+    "nx_command": [c_size_t, *_BUFFER],
+    "nx_variable": [c_size_t, *_TEXT, *_BUFFER],
+    "nx_file_named": [*_TEXT, _NUMBER],
+    "nx_pick_target": [*_TEXT, _NUMBER],
+    "nx_maker": [c_size_t, _NUMBER],
+    "nx_default": [c_size_t, _NUMBER],
+    "nx_root": [c_size_t, _NUMBER],
+    "nx_found": [c_size_t, _NUMBER],
+    "nx_user": _AT,
+    "nx_validation_user": _AT,
+    "nx_output": _AT,
+    "nx_validation": _AT,
+    "nx_input": [*_AT, _KIND],
+    "nx_explicit_outputs": [c_size_t, _NUMBER],
+    "nx_is_phony": [c_size_t, _KIND],
+    "nx_edge_place": [c_size_t, _NUMBER, _NUMBER],
+    "nx_affected": _NUMBERS,
+    "nx_page": [*_NUMBERS, *_TEXT, c_size_t],
+    "nx_page_mark": _BUFFER,
+    "nx_run": [*_TEXT, _KIND],
+    "nx_run_output": _BUFFER,
+    "nx_run_errors": _BUFFER,
+}
+
+
+def _open_library() -> ctypes.CDLL:
+    """The library: the one that the environment names, else the one that lies beside this module, as
+    in a wheel, else the one that the system's loader finds."""
+    packed = Path(__file__).with_name(SONAME)
+    name = os.environ.get(VARIABLE) or (str(packed) if packed.is_file() else SONAME)
+    advice = (
+        f"install a wheel of ninja_explain that carries {SONAME}, or the package libninja-explain-dev, "
+        f"or let {VARIABLE} name the file"
+    )
+    try:
+        library = ctypes.CDLL(name)
+        _declare(library)
+    except (OSError, AttributeError) as error:
+        raise ImportError(f"the library of ninja-explain cannot be used: {error}; {advice}") from error
+    major, minor = c_size_t(), c_size_t()
+    library.nx_version(ctypes.byref(major), ctypes.byref(minor))
+    if major.value != MAJOR or minor.value < MINOR:
+        found = f"{major.value}.{minor.value}"
+        raise ImportError(f"{name} has the interface {found}, and {MAJOR}.{MINOR} is needed; {advice}")
+    return library
+
+
+def _declare(library: ctypes.CDLL) -> None:
+    library.nx_version.argtypes = [_NUMBER, _NUMBER]
+    for name, arguments in _CALLS.items():
+        getattr(library, name).argtypes = [POINTER(_Kept), *arguments]
+
+
+_library = _open_library()
+
+
+def encoded(text: str | bytes | os.PathLike[str] | os.PathLike[bytes]) -> bytes:
+    """The bytes of a path or a text, in which lone surrogates stand for bytes that are not UTF-8."""
+    plain = os.fspath(text)
+    return plain if isinstance(plain, bytes) else plain.encode("utf-8", "surrogateescape")
+
+
+def decoded(content: bytes) -> str:
+    return content.decode("utf-8", "surrogateescape")
+
+
+class Session:
+    """A session of the library: a graph, and what was listed and run last.
+
+    A call that comes while another thread makes one is refused with RuntimeError. `with session`
+    holds the session for several calls, so that no other thread's come between them.
+    """
+
+    def __init__(self) -> None:
+        self._turn = threading.RLock()
+        self._kept = _Kept(None)
+        self._buffer = ctypes.create_string_buffer(256)
+        self.call("nx_open", int.from_bytes(os.urandom(8), "little"))
+
+    def __enter__(self) -> Session:
+        if not self._turn.acquire(blocking=False):
+            raise RuntimeError("the graph is in use in another thread")
+        return self
+
+    def __exit__(
+        self,
+        kind: type[BaseException] | None,
+        error: BaseException | None,
+        trace: TracebackType | None,
+    ) -> None:
+        self._turn.release()
+
+    def close(self) -> None:
+        with self:
+            _library.nx_close(ctypes.byref(self._kept))
+
+    def __del__(self) -> None:
+        if hasattr(self, "_kept"):
+            _library.nx_close(ctypes.byref(self._kept))
+
+    @property
+    def is_open(self) -> bool:
+        return self._kept.kept is not None
+
+    # ---- calls
+
+    def call(self, name: str, *arguments: Any) -> int:
+        """Makes a call. Returns its status if that is no error, or raises what it means."""
+        with self:
+            status: int = getattr(_library, name)(ctypes.byref(self._kept), *arguments)
+            if status <= WANTED and status != FAULT:
+                return status
+            raise self._error(status)
+
+    def is_there(self, name: str, *arguments: Any) -> bool:
+        """Makes a call. Returns whether there is what it asks for."""
+        return self.call(name, *arguments) == DONE
+
+    def number(self, name: str, *arguments: Any) -> int | None:
+        """The number that a call gives; None if there is none."""
+        number = c_size_t()
+        return number.value if self.is_there(name, *arguments, ctypes.byref(number)) else None
+
+    def count(self, name: str, *arguments: Any) -> int:
+        return self.number(name, *arguments) or 0
+
+    def flag(self, name: str, *arguments: Any) -> int:
+        """The small number that a call gives."""
+        flag = c_int32()
+        self.call(name, *arguments, ctypes.byref(flag))
+        return flag.value
+
+    def place(self, name: str, *arguments: Any) -> tuple[int, int] | None:
+        """The line and the column that a call gives; None if there is no place."""
+        line, column = c_size_t(), c_size_t()
+        if not self.is_there(name, *arguments, ctypes.byref(line), ctypes.byref(column)):
+            return None
+        return line.value, column.value
+
+    def numbers(self, name: str, *arguments: Any) -> list[int]:
+        """All numbers that a call gives by an index."""
+        with self:
+            return list(self._by_index(lambda index: self.number(name, *arguments, index)))
+
+    def inputs(self, edge: int) -> list[tuple[int, int]]:
+        """The inputs of an edge, each with its kind."""
+        with self:
+            return list(self._by_index(lambda index: self._input(edge, index)))
+
+    def _input(self, edge: int, index: int) -> tuple[int, int] | None:
+        file, kind = c_size_t(), c_int32()
+        found = self.is_there("nx_input", edge, index, ctypes.byref(file), ctypes.byref(kind))
+        return (file.value, kind.value) if found else None
+
+    def texts(self, name: str) -> list[str]:
+        """All texts that a call gives by an index."""
+        with self:
+            return list(self._by_index(lambda index: self.optional_text(name, index)))
+
+    @staticmethod
+    def _by_index(ask: Callable[[int], Any]) -> Iterator[Any]:
+        index = 0
+        while (found := ask(index)) is not None:
+            yield found
+            index += 1
+
+    def text(self, name: str, *arguments: Any) -> str:
+        return self.optional_text(name, *arguments) or ""
+
+    def optional_text(self, name: str, *arguments: Any) -> str | None:
+        """The text that a call gives; None if there is none."""
+        length = c_size_t()
+        with self:
+            while True:
+                size = len(self._buffer)
+                status = self.call(name, *arguments, self._buffer, size, ctypes.byref(length))
+                if status != SHORT:
+                    break
+                self._buffer = ctypes.create_string_buffer(2 * length.value)
+            if status != DONE:
+                return None
+            return decoded(ctypes.string_at(self._buffer, length.value))
+
+    # ---- errors
+
+    def _error(self, status: int) -> Exception:
+        if status == FAULT:
+            return self._fault()
+        error, text = STATUS_ERRORS.get(status, (RuntimeError, f"unknown status {status}"))
+        return error(text)
+
+    def _fault(self) -> Fault:
+        """The last fault of the session."""
+        line, column = self.place("nx_fault_place") or (None, None)
+        return Fault(
+            self.text("nx_fault_line"),
+            FaultKind.of(self.flag("nx_fault_kind")),
+            self.optional_text("nx_fault_file"),
+            line,
+            column,
+        )
+
+
+def text_arguments(text: str | bytes | os.PathLike[str]) -> tuple[bytes, int]:
+    """A text as two arguments."""
+    content = encoded(text)
+    return content, len(content)
+
+
+def number_arguments(numbers: Sequence[int]) -> tuple[Any, int]:
+    """Numbers as two arguments."""
+    return (c_size_t * len(numbers))(*numbers), len(numbers)
+

@@ -1,0 +1,437 @@
+"""The graph of a manifest."""
+
+from __future__ import annotations
+
+import os
+from collections.abc import Iterable, Iterator, Mapping, Sequence
+from ctypes import byref, c_int32
+from enum import IntEnum
+from typing import TYPE_CHECKING, Generic, NamedTuple, NoReturn, TypeVar, Union, overload
+
+from ninja_explain._calls import (
+    GREATEST,
+    Session,
+    encoded,
+    number_arguments,
+    text_arguments,
+)
+from ninja_explain._files import NOWHERE, Files, Folder, call_with_files, hand_in
+
+if TYPE_CHECKING:
+    from typing_extensions import Self
+
+AnyPath = Union[str, bytes, os.PathLike[str]]
+
+
+class Kind(IntEnum):
+    """How an edge has an input ("Build statements" in the Ninja manual)."""
+
+    EXPLICIT = 0
+    IMPLICIT = 1
+    ORDER_ONLY = 2
+
+
+class Place(NamedTuple):
+    """A location in a manifest; line and column count from 1, and columns count bytes."""
+
+    file: str
+    line: int
+    column: int
+
+    def __str__(self) -> str:
+        return f"{self.file}:{self.line}:{self.column}"
+
+
+class Run(NamedTuple):
+    """What the program does with some arguments: its exit status, and what it writes to standard
+    output and standard error."""
+
+    status: int
+    output: str
+    errors: str
+
+
+class _Numbered:
+    """Something of a graph that has a number. Equal are those of one type, graph and number."""
+
+    __slots__ = ("_graph", "_number")
+    _noun, _count = "", ""
+
+    def __init__(self, graph: Graph, number: int) -> None:
+        if not 0 <= number < graph._session.count(self._count):
+            raise ValueError(f"there is no {self._noun} {number}")
+        self._graph, self._number = graph, number
+
+    @classmethod
+    def _of(cls, graph: Graph, number: int) -> Self:
+        """The one of a number that the graph has given."""
+        known = cls.__new__(cls)
+        known._graph, known._number = graph, number
+        return known
+
+    @property
+    def graph(self) -> Graph:
+        return self._graph
+
+    @property
+    def number(self) -> int:
+        """Its number, from 0, in the order in which manifests are read."""
+        return self._number
+
+    @property
+    def _session(self) -> Session:
+        return self._graph._session
+
+    def __eq__(self, other: object) -> bool:
+        if not isinstance(other, _Numbered) or type(other) is not type(self):
+            return NotImplemented
+        return other._graph is self._graph and other._number == self._number
+
+    def __hash__(self) -> int:
+        return hash((self._noun, id(self._graph), self._number))
+
+    def __repr__(self) -> str:
+        name = self._name() if self._graph.is_open else "of a closed graph"
+        return f"<{type(self).__name__} {self._number} {name}>"
+
+    def _name(self) -> str:
+        raise NotImplementedError
+
+    def __reduce__(self) -> NoReturn:
+        raise TypeError(f"{self._noun} of a graph cannot be pickled")
+
+
+class File(_Numbered):
+    """A path that edges name."""
+
+    __slots__ = ()
+    _noun, _count = "file", "nx_file_count"
+
+    @property
+    def path(self) -> str:
+        return self._session.text("nx_path", self._number)
+
+    @property
+    def maker(self) -> Edge | None:
+        """The edge that makes it; None for a source."""
+        edge = self._session.number("nx_maker", self._number)
+        return None if edge is None else Edge._of(self._graph, edge)
+
+    @property
+    def users(self) -> list[Edge]:
+        """The edges that have it as an input of any kind, by number."""
+        return self._graph._edges_at("nx_user", self._number)
+
+    @property
+    def validation_users(self) -> list[Edge]:
+        """The edges that name it as a validation, by number."""
+        return self._graph._edges_at("nx_validation_user", self._number)
+
+    def _name(self) -> str:
+        return repr(self.path)
+
+    def __fspath__(self) -> str:
+        return self.path
+
+
+class Input:
+    """An input of an edge: a file, and its kind."""
+
+    __slots__ = ("_file", "_kind")
+
+    def __init__(self, file: File, kind: Kind) -> None:
+        self._file, self._kind = file, kind
+
+    @property
+    def file(self) -> File:
+        return self._file
+
+    @property
+    def kind(self) -> Kind:
+        return self._kind
+
+    @property
+    def path(self) -> str:
+        return self._file.path
+
+    def __eq__(self, other: object) -> bool:
+        if not isinstance(other, Input):
+            return NotImplemented
+        return other._file == self._file and other._kind == self._kind
+
+    def __hash__(self) -> int:
+        return hash((self._file, self._kind))
+
+    def __repr__(self) -> str:
+        return f"<Input {self._file!r} {self._kind.name}>"
+
+
+class Edge(_Numbered):
+    """A build statement."""
+
+    __slots__ = ()
+    _noun, _count = "edge", "nx_edge_count"
+
+    @property
+    def outputs(self) -> list[File]:
+        """Its outputs, the explicit ones first."""
+        return self._graph._files_at("nx_output", self._number)
+
+    @property
+    def explicit_outputs(self) -> list[File]:
+        count = self._session.count("nx_explicit_outputs", self._number)
+        return self.outputs[:count]
+
+    @property
+    def inputs(self) -> list[Input]:
+        """Its inputs: the explicit ones, then the implicit and then the order-only ones."""
+        found = self._session.inputs(self._number)
+        return [Input(File._of(self._graph, file), Kind(kind)) for file, kind in found]
+
+    @property
+    def validations(self) -> list[File]:
+        return self._graph._files_at("nx_validation", self._number)
+
+    @property
+    def rule(self) -> str:
+        return self._session.text("nx_rule_name", self._number)
+
+    @property
+    def is_phony(self) -> bool:
+        return bool(self._session.flag("nx_is_phony", self._number))
+
+    @property
+    def command(self) -> str:
+        """Its command, as it is passed to a shell; empty for a phony edge."""
+        return self._session.text("nx_command", self._number)
+
+    def variable(self, name: str) -> str:
+        """The value of a variable, as `description`, `depfile` or any other name; empty if it is
+        bound nowhere."""
+        return self._session.text("nx_variable", self._number, *text_arguments(name))
+
+    @property
+    def place(self) -> Place:
+        """Where its build statement is."""
+        with self._session:
+            line, column = self._session.place("nx_edge_place", self._number) or (0, 0)
+            return Place(self._session.text("nx_edge_file", self._number), line, column)
+
+    def _name(self) -> str:
+        return repr(self.outputs[0].path)
+
+
+class Page(NamedTuple):
+    """Some of the edges that targets need, and the mark at which the next ones begin, which is None
+    if no edge is left."""
+
+    edges: list[Edge]
+    mark: str | None
+
+
+Item = TypeVar("Item", File, Edge)
+
+
+class _All(Sequence[Item], Generic[Item]):
+    """All files or all edges of a graph, by number."""
+
+    def __init__(self, graph: Graph, kind: type[Item], count: int) -> None:
+        self._graph, self._range = graph, range(count)
+        self._kind: type[Item] = kind
+
+    def __len__(self) -> int:
+        return len(self._range)
+
+    @overload
+    def __getitem__(self, at: int) -> Item: ...
+    @overload
+    def __getitem__(self, at: slice) -> list[Item]: ...
+
+    def __getitem__(self, at: int | slice) -> Item | list[Item]:
+        if isinstance(at, slice):
+            return [self._kind._of(self._graph, number) for number in self._range[at]]
+        return self._kind._of(self._graph, self._range[at])
+
+    def __iter__(self) -> Iterator[Item]:
+        return (self._kind._of(self._graph, number) for number in self._range)
+
+
+class Graph:
+    """The graph of a manifest, by `Graph.load` or `Graph.from_files`.
+
+    It keeps memory until it is closed, by `close`, at the end of a `with` block or with its last
+    reference. Any thread may use it, but one at a time: a call that comes during another thread's is
+    refused with RuntimeError. It can be neither copied nor pickled.
+    """
+
+    def __init__(self) -> None:
+        self._session = Session()
+
+    @classmethod
+    def load(
+        cls,
+        path: AnyPath = "build.ninja",
+        folder: AnyPath = ".",
+        *,
+        joins_dyndeps: bool = False,
+        allow_outside: bool = False,
+    ) -> Graph:
+        """The graph of a manifest and of all files that it includes, which are read in a folder.
+
+        With `joins_dyndeps` its dyndep files are read and joined too. Only regular files of at most
+        1 GiB are read, and only below the folder, unless `allow_outside` is true; symbolic links
+        are followed.
+
+        Raises the first Fault of the manifest; PermissionError for a path outside of the folder;
+        another OSError for a file that is there and cannot be read; MemoryError.
+        """
+        graph = cls()
+        place = Folder(encoded(folder), allow_outside)
+        call_with_files(graph._session, place, "nx_load", *text_arguments(path), joins_dyndeps)
+        return graph
+
+    @classmethod
+    def from_files(
+        cls,
+        files: Mapping[str, bytes | str],
+        path: str = "build.ninja",
+        *,
+        joins_dyndeps: bool = False,
+    ) -> Graph:
+        """The graph of a manifest among these files, given by their paths; no other file is there."""
+        graph = cls()
+        for name, content in files.items():
+            hand_in(graph._session, name, encoded(content))
+        call_with_files(graph._session, NOWHERE, "nx_load", *text_arguments(path), joins_dyndeps)
+        return graph
+
+    def close(self) -> None:
+        """Frees its memory. A graph that is closed stays so."""
+        self._session.close()
+
+    @property
+    def is_open(self) -> bool:
+        return self._session.is_open
+
+    def __enter__(self) -> Graph:
+        return self
+
+    def __exit__(self, *_: object) -> None:
+        self.close()
+
+    def __reduce__(self) -> NoReturn:
+        raise TypeError("a graph cannot be copied or pickled")
+
+    def __copy__(self) -> NoReturn:
+        self.__reduce__()
+
+    def __deepcopy__(self, _: object) -> NoReturn:
+        self.__reduce__()
+
+    def __repr__(self) -> str:
+        if not self.is_open:
+            return "<Graph, closed>"
+        return f"<Graph of {len(self.edges)} edges and {len(self.files)} files>"
+
+    # ---- edges and files
+
+    @property
+    def edges(self) -> Sequence[Edge]:
+        """All edges, in the order in which build statements are read."""
+        return _All(self, Edge, self._session.count("nx_edge_count"))
+
+    @property
+    def files(self) -> Sequence[File]:
+        """All paths that edges name, without duplicates."""
+        return _All(self, File, self._session.count("nx_file_count"))
+
+    def defaults(self) -> list[File]:
+        """The files of the `default` lines; the roots where there is no such line."""
+        return self._files_at("nx_default")
+
+    def roots(self) -> list[File]:
+        """The outputs that no edge has as an input."""
+        return self._files_at("nx_root")
+
+    def file(self, path: AnyPath) -> File | None:
+        """The file at this path, which is compared verbatim; None if no edge names it."""
+        number = self._session.number("nx_file_named", *text_arguments(path))
+        return None if number is None else File._of(self, number)
+
+    def target(self, word: AnyPath) -> File:
+        """The file that a word of Ninja's command line means: its path is cleaned, and `FILE^` is
+        the first output of the first edge that has FILE as an input. Raises Fault if there is none."""
+        return File._of(self, self._session.count("nx_pick_target", *text_arguments(word)))
+
+    def affected(self, files: Iterable[File]) -> list[Edge]:
+        """The edges that a change of these files affects, by number: those that need one of them
+        through any chain of inputs."""
+        with self._session:
+            self._session.call("nx_affected", *number_arguments(self._numbers(files)))
+            return self._edges_at("nx_found")
+
+    def needed(self, targets: Iterable[File]) -> list[Edge]:
+        """The edges with commands that the targets need, each after all that it needs."""
+        return self.page(targets).edges
+
+    def page(
+        self, targets: Iterable[File], take: int | None = None, mark: str = ""
+    ) -> Page:
+        """At most `take` of the edges with commands that the targets need, from a mark on.
+
+        The mark of the first page is empty. It fits the same manifest and targets, also in another
+        process. Raises BadMark for one that does not fit, and ValueError for a negative `take`.
+        """
+        most = GREATEST if take is None else take
+        if not 0 <= most <= GREATEST:
+            raise ValueError(f"take is out of range: {take}")
+        with self._session:
+            targets_given = number_arguments(self._numbers(targets))
+            self._session.call("nx_page", *targets_given, *text_arguments(mark), most)
+            return Page(self._edges_at("nx_found"), self._session.optional_text("nx_page_mark"))
+
+    # ---- whole runs
+
+    def run(
+        self, words: Iterable[str], folder: AnyPath = ".", *, allow_outside: bool = False
+    ) -> Run:
+        """Runs the program with these arguments, without its own name, over the files in a folder,
+        which are read as `load` reads them. What was read before is not read again. The loaded graph
+        stays. Raises ValueError for an argument with a zero byte."""
+        return _run(self._session, words, Folder(encoded(folder), allow_outside))
+
+    # ---- lists
+
+    def _numbers(self, files: Iterable[File]) -> list[int]:
+        """The numbers of these files, which have to be of this graph."""
+        return [self._number_of(file) for file in files]
+
+    def _number_of(self, file: object) -> int:
+        if not isinstance(file, File):
+            raise TypeError(f"a File is needed, not {type(file).__name__}")
+        if file.graph is not self:
+            raise ValueError(f"a file of another graph: {file!r}")
+        return file.number
+
+    def _edges_at(self, name: str, *arguments: int) -> list[Edge]:
+        return [Edge._of(self, number) for number in self._session.numbers(name, *arguments)]
+
+    def _files_at(self, name: str, *arguments: int) -> list[File]:
+        return [File._of(self, number) for number in self._session.numbers(name, *arguments)]
+
+
+def run(words: Iterable[str], folder: AnyPath = ".", *, allow_outside: bool = False) -> Run:
+    """Runs the program with these arguments, without its own name, over the files in a folder, which
+    are read as `Graph.load` reads them. Raises ValueError for an argument with a zero byte."""
+    return _run(Session(), words, Folder(encoded(folder), allow_outside))
+
+
+def _run(session: Session, words: Iterable[str], files: Files) -> Run:
+    given = [encoded(word) for word in words]
+    if any(b"\0" in word for word in given):
+        raise ValueError("an argument has a zero byte")
+    text = b"".join(word + b"\0" for word in given)
+    status = c_int32()
+    with session:
+        call_with_files(session, files, "nx_run", *text_arguments(text), byref(status))
+        return Run(status.value, session.text("nx_run_output"), session.text("nx_run_errors"))

@@ -1,0 +1,224 @@
+"""Tests of the module, by unittest: python3 -m unittest discover -s python/tests"""
+
+import copy
+import os
+import pickle
+import tempfile
+import threading
+import unittest
+from pathlib import Path
+
+from ninja_explain import BadMark, Edge, Fault, FaultKind, File, Graph, Kind, Place, run
+
+MANIFEST = """\
+rule cc
+  command = cc -c $in -o $out
+  description = CC $out
+rule link
+  command = link $in -o $out
+build a.o | a.d: cc a.c | a.h || gen |@ check
+build b.o: cc b.c
+build app: link a.o b.o
+build check: cc check.c
+build gen: phony
+default app
+"""
+
+
+def graph_of(text: str = MANIFEST) -> Graph:
+    return Graph.from_files({"build.ninja": text})
+
+
+def paths(files: "list[File]") -> "list[str]":
+    return [file.path for file in files]
+
+
+class Reading(unittest.TestCase):
+    def setUp(self) -> None:
+        self.graph = graph_of()
+        self.addCleanup(self.graph.close)
+
+    def test_edge(self) -> None:
+        edge = self.graph.edges[0]
+        self.assertEqual(paths(edge.outputs), ["a.o", "a.d"])
+        self.assertEqual(paths(edge.explicit_outputs), ["a.o"])
+        inputs = [(each.path, each.kind) for each in edge.inputs]
+        wanted = [("a.c", Kind.EXPLICIT), ("a.h", Kind.IMPLICIT), ("gen", Kind.ORDER_ONLY)]
+        self.assertEqual(inputs, wanted)
+        self.assertEqual(paths(edge.validations), ["check"])
+        self.assertEqual(edge.rule, "cc")
+        self.assertEqual(edge.command, "cc -c a.c -o a.o")
+        self.assertEqual(edge.variable("description"), "CC a.o")
+        self.assertEqual(edge.variable("depfile"), "")
+        self.assertEqual(edge.place, Place("build.ninja", 6, 1))
+        self.assertFalse(edge.is_phony)
+        self.assertTrue(self.graph.edges[4].is_phony)
+        self.assertEqual(self.graph.edges[4].command, "")
+
+    def test_file(self) -> None:
+        file = self.graph.target("./a.o")
+        self.assertEqual(file.path, "a.o")
+        self.assertEqual(os.fspath(file), "a.o")
+        self.assertEqual(file.maker, self.graph.edges[0])
+        self.assertEqual(file.users, [self.graph.edges[2]])
+        self.assertEqual(self.graph.target("check").validation_users, [self.graph.edges[0]])
+        self.assertIsNone(self.graph.target("a.c").maker)
+        self.assertIsNone(self.graph.file("./a.o"))
+        self.assertEqual(self.graph.target("a.c^").path, "a.o")
+
+    def test_lists(self) -> None:
+        graph = self.graph
+        self.assertEqual(paths(graph.defaults()), ["app"])
+        self.assertEqual(paths(graph.roots()), ["a.d", "app", "check"])
+        self.assertEqual(graph.affected([graph.target("b.c")]), [graph.edges[1], graph.edges[2]])
+        self.assertEqual([edge.number for edge in graph.needed(graph.defaults())], [0, 1, 2])
+
+    def test_pages(self) -> None:
+        graph, seen, mark = self.graph, [], ""
+        while mark is not None:
+            page = graph.page(graph.defaults(), 2, mark)
+            seen.append([edge.number for edge in page.edges])
+            mark = page.mark
+        self.assertEqual(seen, [[0, 1], [2]])
+        with self.assertRaises(BadMark):
+            graph.page(graph.defaults(), 1, "no mark")
+
+    def test_sequences(self) -> None:
+        edges = self.graph.edges
+        self.assertEqual(len(edges), 5)
+        self.assertEqual(edges[-1], edges[4])
+        self.assertEqual(edges[1:3], [edges[1], edges[2]])
+        self.assertEqual([edge.number for edge in edges], [0, 1, 2, 3, 4])
+        with self.assertRaises(IndexError):
+            edges[5]
+
+    def test_surrogates(self) -> None:
+        with Graph.from_files({"build.ninja": b"build a\xff: phony b\n"}) as graph:
+            self.assertEqual(graph.edges[0].outputs[0].path, "a\udcff")
+            self.assertEqual(graph.target("a\udcff").path, "a\udcff")
+
+
+class Faults(unittest.TestCase):
+    def test_fault(self) -> None:
+        with self.assertRaises(Fault) as caught:
+            graph_of("build a: unknown b\n")
+        fault = caught.exception
+        self.assertEqual(str(fault), "build.ninja:1:10: unknown build rule 'unknown'")
+        self.assertEqual(fault.kind, FaultKind.UNKNOWN_RULE)
+        self.assertEqual((fault.file, fault.line, fault.column), ("build.ninja", 1, 10))
+        again = pickle.loads(pickle.dumps(fault))
+        self.assertEqual((str(again), again.kind), (str(fault), fault.kind))
+
+    def test_fault_without_location(self) -> None:
+        with graph_of() as graph, self.assertRaises(Fault) as caught:
+            graph.target("nothing")
+        fault = caught.exception
+        self.assertEqual(fault.kind, FaultKind.UNKNOWN_TARGET)
+        self.assertEqual((fault.file, fault.line, fault.column), (None, None, None))
+
+    def test_missing_file(self) -> None:
+        with self.assertRaises(Fault) as caught:
+            Graph.from_files({"build.ninja": "include rules.ninja\n"})
+        self.assertEqual(caught.exception.kind, FaultKind.MISSING)
+
+
+class Misuse(unittest.TestCase):
+    def test_other_graph(self) -> None:
+        with graph_of() as one, graph_of() as other:
+            self.assertNotEqual(one.edges[0], other.edges[0])
+            self.assertNotEqual(one.files[0], one.edges[0])
+            with self.assertRaises(ValueError):
+                one.affected([other.files[0]])
+            with self.assertRaises(TypeError):
+                one.needed(["app"])  # type: ignore[list-item]
+            with self.assertRaises(TypeError):
+                one.needed([one.edges[0]])  # type: ignore[list-item]
+
+    def test_numbers(self) -> None:
+        with graph_of() as graph:
+            for number in -1, 5:
+                with self.assertRaises(ValueError):
+                    Edge(graph, number)
+            self.assertEqual(Edge(graph, 4), graph.edges[4])
+            for take in -1, 1 << 64:
+                with self.assertRaises(ValueError):
+                    graph.page(graph.defaults(), take)
+
+    def test_sets(self) -> None:
+        with graph_of() as graph:
+            self.assertEqual(len({graph.edges[0], Edge(graph, 0), graph.edges[1]}), 2)
+            self.assertEqual(repr(graph.edges[2]), "<Edge 2 'app'>")
+            self.assertEqual(repr(graph.edges[2].inputs[0].file), "<File 0 'a.o'>")
+
+    def test_copies(self) -> None:
+        with graph_of() as graph:
+            for kept in graph, graph.edges[0], graph.files[0]:
+                for copying in copy.copy, copy.deepcopy, pickle.dumps:
+                    with self.assertRaises(TypeError):
+                        copying(kept)
+
+    def test_closed(self) -> None:
+        graph = graph_of()
+        edge = graph.edges[0]
+        graph.close()
+        graph.close()
+        self.assertEqual(repr(edge), "<Edge 0 of a closed graph>")
+        with self.assertRaises(ValueError):
+            edge.rule
+
+    def test_threads(self) -> None:
+        with graph_of() as graph, graph._session:
+            refused = []
+
+            def ask() -> None:
+                try:
+                    graph.defaults()
+                except RuntimeError as error:
+                    refused.append(str(error))
+
+            thread = threading.Thread(target=ask)
+            thread.start()
+            thread.join()
+        self.assertEqual(refused, ["the graph is in use in another thread"])
+
+
+class Disk(unittest.TestCase):
+    def setUp(self) -> None:
+        folder = tempfile.TemporaryDirectory()
+        self.addCleanup(folder.cleanup)
+        self.folder = Path(folder.name) / "out"
+        self.folder.mkdir()
+
+    def test_folder(self) -> None:
+        (self.folder / "build.ninja").write_text("include rules.ninja\nbuild a: cp b\n")
+        (self.folder / "rules.ninja").write_text("rule cp\n command = cp $in $out\n")
+        with Graph.load(folder=self.folder) as graph:
+            self.assertEqual(graph.edges[0].command, "cp b a")
+        self.assertEqual(run(["-t", "rules"], self.folder), (0, "cp\nphony\n", ""))
+
+    def test_outside(self) -> None:
+        (self.folder / "build.ninja").write_text("include ../rules.ninja\n")
+        (self.folder.parent / "rules.ninja").write_text("build a: phony\n")
+        with self.assertRaises(PermissionError):
+            Graph.load(folder=self.folder)
+        with Graph.load(folder=self.folder, allow_outside=True) as graph:
+            self.assertEqual(len(graph.edges), 1)
+
+    def test_not_regular(self) -> None:
+        (self.folder / "build.ninja").mkdir()
+        with self.assertRaises(IsADirectoryError):
+            Graph.load(folder=self.folder)
+        os.mkfifo(self.folder / "pipe")
+        with self.assertRaises(OSError):
+            Graph.load("pipe", self.folder)
+
+    def test_words(self) -> None:
+        with self.assertRaises(ValueError):
+            run(["-t", "rules\0"], self.folder)
+        status, output, errors = run(iter(["-t", "rules"]), self.folder)
+        self.assertEqual((status, output), (1, ""))
+        self.assertIn("build.ninja", errors)
+
+
+if __name__ == "__main__":
+    unittest.main()
