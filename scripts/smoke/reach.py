@@ -109,6 +109,7 @@ def project_drawn(draw):
 def drawings_are_for_graphviz(draw):
     ran = run(Program("dot"), PROJECT, ["-Tsvg"], run(draw, PROJECT, []).output)
     yield from expect("dot", (ran.status, ran.error), (0, ""))
+    yield from expect("drawn", ">out/count<" in ran.output, True)
 
 
 def faults(name, program, prefix):
