@@ -32,6 +32,11 @@
  * session. Edges (one for each build statement) and files have numbers from 0,
  * in reading order. Lists are asked for by an index, until the status is NX_NOTHING.
  *
+ * nx_outputs, nx_inputs and nx_users give many items of a list in one call: those from an index on,
+ * as many as the caller's array has room for, the rest of which stays as it is. `count` is how many
+ * the whole list has, wherever the call begins, and the status is NX_DONE past its end too. Room for
+ * none, with a null pointer, asks for the count alone.
+ *
  * What the library does is proved for all that C may hand in, as long as C keeps its side, which no
  * proof can check:
  *  - every pointer points to memory that may be read, and written where the call writes, for the
@@ -158,7 +163,7 @@ enum nx_fault {
     NX_FAULT_OUT_OF_MEMORY = 34
 };
 
-/* The kinds of inputs, for nx_input. */
+/* The kinds of inputs, for nx_input and nx_inputs. */
 enum nx_kind {
     NX_EXPLICIT = 0,
     NX_IMPLICIT = 1,
@@ -260,6 +265,13 @@ int32_t nx_file_count(nx_session *session, size_t *count);
 /* How many rules the scope of the main file has, `phony` among them. */
 int32_t nx_rule_count(nx_session *session, size_t *count);
 
+/*
+ * The name of the rule at an index among these, in byte order.
+ * NX_DONE, NX_NOTHING past the end, NX_SHORT.
+ */
+int32_t nx_rule_name_at(nx_session *session, size_t index, void *buffer, size_t size,
+                        size_t *needed);
+
 /* ---- files ---- */
 
 /* The path of a file. NX_DONE, NX_BAD_NUMBER, NX_SHORT. */
@@ -287,16 +299,34 @@ int32_t nx_user(nx_session *session, size_t file, size_t index, size_t *edge);
 /* The same for the edges that name a file as a validation. */
 int32_t nx_validation_user(nx_session *session, size_t file, size_t index, size_t *edge);
 
+/*
+ * The edges that nx_user gives of a file, from an index on: as many as there is room for.
+ * NX_DONE or NX_BAD_NUMBER.
+ */
+int32_t nx_users(nx_session *session, size_t file, size_t from, size_t *edges, size_t room,
+                 size_t *count);
+
 /* ---- edges ---- */
 
 /* The output of an edge at an index. NX_DONE, NX_NOTHING past the end, NX_BAD_NUMBER. */
 int32_t nx_output(nx_session *session, size_t edge, size_t index, size_t *file);
+
+/* The outputs of an edge, from an index on: as many as there is room for. NX_DONE or NX_BAD_NUMBER. */
+int32_t nx_outputs(nx_session *session, size_t edge, size_t from, size_t *files, size_t room,
+                   size_t *count);
 
 /*
  * The input of an edge at an index, and its kind, one of `enum nx_kind`: first the explicit inputs,
  * then the implicit and then the order-only ones. NX_DONE, NX_NOTHING past the end, NX_BAD_NUMBER.
  */
 int32_t nx_input(nx_session *session, size_t edge, size_t index, size_t *file, int32_t *kind);
+
+/*
+ * The inputs of an edge and their kinds, as nx_input gives them, from an index on: as many of each
+ * as there is room for. NX_DONE or NX_BAD_NUMBER.
+ */
+int32_t nx_inputs(nx_session *session, size_t edge, size_t from, size_t *files, size_t room,
+                  int32_t *kinds, size_t kind_room, size_t *count);
 
 /* The validation of an edge at an index. NX_DONE, NX_NOTHING past the end, NX_BAD_NUMBER. */
 int32_t nx_validation(nx_session *session, size_t edge, size_t index, size_t *file);

@@ -5,6 +5,7 @@
    For each project it makes every call of ninja_explain.h on a session that is closed, open,
    loaded, loaded again, opened again and closed twice: with numbers that no edge or file has,
    buffers that are too small, null pointers of length 0, and words and marks that mean nothing.
+   A call that gives many items has to give what was given one at a time.
    Each status has to be one that the header names for the call and the state of the session, a
    buffer may only be written where a text goes, and after the last close no block of memory may be
    left. With `refused` it does so again and again, and refuses one allocation after the other,
@@ -21,6 +22,7 @@
 enum {
     MOST_ITEMS = 24,
     MOST_FILES = 4096,
+    MOST_MANY = 4096,
     MOST_LISTED = 1 << 20,
     MOST_ROUNDS = 100,
     MOST_WRONG = 40
@@ -252,6 +254,70 @@ static unsigned if_known(size_t number, size_t count, unsigned statuses)
     return number < count ? statuses : OF(BAD_NUMBER);
 }
 
+/* ---- lists that are given many items at a time ---- */
+
+typedef int32_t listing(nx_session *, size_t number, size_t from, size_t *items, size_t room,
+                        size_t *count);
+
+/* What was given one at a time, and what is written at once. */
+static size_t single[MOST_MANY], many[MOST_MANY + 1 + GUARD];
+static int32_t single_kinds[MOST_MANY], many_kinds[MOST_MANY + 1 + GUARD];
+enum { NO_KIND = -1 };
+#define NO_ITEM (SIZE_MAX - 1)
+
+/* How many items are to be written of a list of a length. */
+static size_t fitting(size_t length, size_t from, size_t room)
+{
+    size_t left = from < length ? length - from : 0;
+    return left < room ? left : room;
+}
+
+/* Gives the inputs of an edge as files. There is other room for their kinds, which are checked. */
+static int32_t give_inputs(nx_session *of, size_t edge, size_t from, size_t *files, size_t room,
+                           size_t *count)
+{
+    size_t kind_room = room / 2 + 1;
+    for (size_t at = 0; at < kind_room + GUARD; at++)
+        many_kinds[at] = NO_KIND;
+    int32_t status = nx_inputs(of, edge, from, files, room, many_kinds, kind_room, count);
+    size_t written = status == NX_DONE ? fitting(*count, from, kind_room) : 0;
+    for (size_t at = 0; at < kind_room + GUARD; at++)
+        expect(many_kinds[at] == (at < written ? single_kinds[from + at] : NO_KIND), "nx_inputs",
+               "kind at", (long long)at);
+    return status;
+}
+
+static void ask_many(const char *name, listing *call, size_t number, size_t from, size_t room,
+                     size_t length, unsigned statuses)
+{
+    size_t count = SIZE_MAX;
+    for (size_t at = 0; at < room + GUARD; at++)
+        many[at] = NO_ITEM;
+    size_t *items = room > 0 ? many : NULL;
+    int32_t status = among(name, call(&session, number, from, items, room, &count), statuses);
+    size_t written = status == NX_DONE ? fitting(length, from, room) : 0;
+    expect(status != NX_DONE || count == length, name, "count", (long long)count);
+    for (size_t at = 0; at < room + GUARD; at++)
+        expect(many[at] == (at < written ? single[from + at] : NO_ITEM), name, "item at",
+               (long long)at);
+}
+
+/* Asks for parts of a list, which has to be the one in `single`. */
+static void try_many(const char *name, listing *call, size_t number, size_t length,
+                     unsigned statuses)
+{
+    const size_t froms[] = { 0, length / 2, length, SIZE_MAX }, rooms[] = { 0, 1, length + 1 };
+    if (length > MOST_MANY)
+        return;
+    for (size_t from = 0; from < sizeof froms / sizeof *froms; from++) {
+        for (size_t room = 0; room < sizeof rooms / sizeof *rooms; room++)
+            ask_many(name, call, number, froms[from], rooms[room], length, statuses);
+    }
+}
+
+#define MANY(call, number, length, statuses) \
+    try_many(#call, call, number, length, if_loaded(statuses))
+
 /* ---- edges and files ---- */
 
 static size_t edge_count, file_count;
@@ -274,8 +340,10 @@ static void try_outputs(size_t edge)
     for (; IF_LOADED(each, nx_output(&session, edge, index, &file)) == NX_DONE; index++) {
         nx_maker(&session, file, &maker);
         expect(maker == edge, "nx_maker", "edge", (long long)maker);
+        single[index % MOST_MANY] = file;
     }
     each = if_known(edge, edge_count, OF(DONE));
+    MANY(nx_outputs, edge, index, each);
     if (IF_LOADED(each, nx_explicit_outputs(&session, edge, &count)) == NX_DONE)
         expect(count <= index, "nx_explicit_outputs", "count", (long long)count);
     each = if_known(edge, edge_count, OF(NOTHING));
@@ -285,19 +353,23 @@ static void try_outputs(size_t edge)
 static void try_inputs(size_t edge)
 {
     unsigned each = if_known(edge, edge_count, OF(DONE) | OF(NOTHING));
-    size_t file = 0, plain = 0, count = 0;
+    size_t file = 0, plain = 0, count = 0, length = 0;
     int32_t kind = 0, before = NX_EXPLICIT;
-    for (size_t index = 0;
-         IF_LOADED(each, nx_input(&session, edge, index, &file, &kind)) == NX_DONE; index++) {
+    for (; IF_LOADED(each, nx_input(&session, edge, length, &file, &kind)) == NX_DONE; length++) {
         expect(before <= kind && kind <= NX_ORDER_ONLY, "nx_input", "kind", kind);
-        expect(index >= MOST_ITEMS || is_user(file, edge), "nx_user", "no edge", (long long)edge);
+        expect(length >= MOST_ITEMS || is_user(file, edge), "nx_user", "no edge", (long long)edge);
         before = kind;
         plain += kind == NX_EXPLICIT;
+        single[length % MOST_MANY] = file;
+        single_kinds[length % MOST_MANY] = kind;
     }
     for (size_t index = 0; IF_LOADED(each, nx_validation(&session, edge, index, &file)) == NX_DONE;
          index++)
         expect(file < file_count, "nx_validation", "file", (long long)file);
     each = if_known(edge, edge_count, OF(DONE));
+    MANY(give_inputs, edge, length, each);
+    if (IF_LOADED(each, nx_inputs(&session, edge, 0, NULL, 0, NULL, 0, &count)) == NX_DONE)
+        expect(count == length, "nx_inputs", "count", (long long)count);
     if (IF_LOADED(each, nx_explicit_inputs(&session, edge, &count)) == NX_DONE)
         expect(count == plain, "nx_explicit_inputs", "count", (long long)count);
     each = if_known(edge, edge_count, OF(NOTHING));
@@ -337,12 +409,13 @@ static void try_edge(size_t edge)
 static void try_users(size_t file)
 {
     unsigned each = if_known(file, file_count, OF(DONE) | OF(NOTHING));
-    size_t edge = 0, next = 0;
-    for (size_t index = 0; IF_LOADED(each, nx_user(&session, file, index, &edge)) == NX_DONE;
-         index++) {
+    size_t edge = 0, next = 0, length = 0;
+    for (; IF_LOADED(each, nx_user(&session, file, length, &edge)) == NX_DONE; length++) {
         expect(next <= edge && edge < edge_count, "nx_user", "edge", (long long)edge);
         next = edge + 1;
+        single[length % MOST_MANY] = edge;
     }
+    MANY(nx_users, file, length, if_known(file, file_count, OF(DONE)));
     next = 0;
     for (size_t index = 0;
          IF_LOADED(each, nx_validation_user(&session, file, index, &edge)) == NX_DONE; index++) {
@@ -489,14 +562,25 @@ static void try_words(void)
     IF_LOADED(OF(DONE) | OF(NOTHING), nx_file_named(&session, NULL, 0, &file));
 }
 
+/* Asks for the names of all rules. */
+static void try_rules(void)
+{
+    size_t count = 0, index = 0;
+    IF_LOADED(OF(DONE), nx_rule_count(&session, &count));
+    while (TEXT(if_loaded, nx_rule_name_at, index, OF(DONE) | OF(NOTHING)) == NX_DONE)
+        index++;
+    expect(index == count, "nx_rule_name_at", "names", (long long)index);
+    TEXT(if_loaded, nx_rule_name_at, SIZE_MAX, OF(NOTHING));
+}
+
 /* Makes every call that asks. */
 static void ask_all(void)
 {
-    size_t count = 0, edge = 0;
+    size_t edge = 0;
     edge_count = file_count = 0;
     IF_LOADED(OF(DONE), nx_edge_count(&session, &edge_count));
     IF_LOADED(OF(DONE), nx_file_count(&session, &file_count));
-    IF_LOADED(OF(DONE), nx_rule_count(&session, &count));
+    try_rules();
     for (size_t at = 0; at < numbers_of(edge_count); at++)
         try_edge(number_at(at, edge_count));
     for (size_t at = 0; at < numbers_of(file_count); at++)

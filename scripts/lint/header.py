@@ -28,6 +28,8 @@ ARGUMENTS = {
     "&[u8]": ["const void *", "size_t"],
     "&mut [u8]": ["void *", "size_t"],
     "&[usize]": ["const size_t *", "size_t"],
+    "&mut [usize]": ["size_t *", "size_t"],
+    "&mut [i32]": ["int32_t *", "size_t"],
     "&mut usize": ["size_t *"],
     "&mut i32": ["int32_t *"],
     "&mut u64": ["uint64_t *"],

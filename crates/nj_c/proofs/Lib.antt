@@ -1,5 +1,6 @@
 mod AsBox
 mod AskLemmas
+mod BufferLemmas
 mod HandedLemmas
 mod ItemLemmas
 mod LoadLemmas

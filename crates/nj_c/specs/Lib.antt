@@ -2,6 +2,7 @@
 pub mod Statuses
 pub mod HandedIn
 pub mod Asking
+pub mod Buffers
 pub mod Loading
 pub mod FaultKinds
 pub mod Pages

@@ -5,6 +5,7 @@
 #![tactic(auto)]
 
 mod buffers;
+mod bulk;
 mod counts;
 mod edges;
 mod fault_kinds;
@@ -27,6 +28,7 @@ mod targets;
 mod values;
 mod words;
 
+pub use bulk::{nx_inputs, nx_outputs, nx_users};
 pub use counts::{nx_edge_count, nx_file_count, nx_rule_count};
 pub use edges::{
     nx_edge_file, nx_edge_place, nx_explicit_inputs, nx_explicit_outputs, nx_input, nx_is_phony,
@@ -35,7 +37,7 @@ pub use edges::{
 pub use faults::{nx_fault_file, nx_fault_kind, nx_fault_line, nx_fault_place};
 pub use files::{nx_file_named, nx_maker, nx_path, nx_user, nx_validation_user};
 pub use laws::{all_words_can_be_given, outputs_never_fail};
-pub use lists::{nx_default, nx_root};
+pub use lists::{nx_default, nx_root, nx_rule_name_at};
 pub use loading::{nx_load, nx_wanted};
 pub use opening::{nx_add_absent, nx_add_file, nx_close, nx_open, nx_version};
 pub use pages::{nx_affected, nx_found, nx_page, nx_page_mark};

@@ -1,16 +1,18 @@
-//! The defaults and the roots.
+//! The defaults, the roots, and the names of rules.
 
-ghost use Rattle.std.specs.Prelude.{◌≡◌, slice_get};
+ghost use Rattle.std.specs.Prelude.{◌≡◌, map, slice_get};
 ghost use Rattle.nj_edges.specs.Edges.{roots_of};
 ghost use Rattle.nj_statements.specs.Built.{defaults_in_force};
-ghost use Rattle.nj_graph.specs.Graph.{edges_of, files_of};
-ghost use Rattle.nj_c.specs.Asking.{GivesFile, IfLoaded, OfGraph};
+ghost use Rattle.nj_graph.specs.Graph.{edges_of, files_of, main_rules};
+ghost use Rattle.nj_c.specs.Asking.{GivesFile, GivesTextAt, IfLoaded, KeptUnlessDone, OfGraph};
 ghost use Rattle.nj_c.specs.Statuses.{code_of};
 
+use crate::buffers::copy_text;
 use crate::items::give_file;
 use crate::seal::Seal;
 use crate::session::Session;
 use crate::status::Status;
+use nj_graph::Graph;
 use std::alloc::Global;
 
 /// The file at an index among the defaults in force: those of the `default` lines in their order,
@@ -77,4 +79,52 @@ fn root(seal: &Seal, index: usize, file: &mut usize) -> Status
         return Status::NotLoaded;
     };
     give_file(graph.roots(), index, file)
+}
+
+/// The name of the rule at an index among those of the main file's scope, which are in byte order
+/// and `phony` among them, as `nx_rule_count` counts them.
+#[unsafe(no_mangle)]
+pub extern "C" fn nx_rule_name_at(
+    alloc: Global,
+    session: &mut Session,
+    index: usize,
+    buffer: &mut [u8],
+    needed: &mut usize,
+) -> i32
+    ensures kept { session.new.kept ≡ session.old.kept }
+    ensures name { OfGraph session.old.kept result (λ g.
+        GivesTextAt (map (λ r. r.name) (main_rules g)) index
+        buffer.old buffer.new needed.new result) }
+    ensures buffer { KeptUnlessDone buffer.old buffer.new result }
+{
+    let Some(seal) = session.take(alloc) else {
+        return Status::NotOpen.code();
+    };
+    let status = rule_name_at(&seal, index, buffer, needed);
+    session.put(seal);
+    status.code()
+}
+
+fn rule_name_at(seal: &Seal, index: usize, buffer: &mut [u8], needed: &mut usize) -> Status
+    ensures gives { IfLoaded seal.now.kept.graph (code_of result) (λ g.
+        GivesTextAt (map (λ r. r.name) (main_rules g)) index
+        buffer.old buffer.new needed.new (code_of result)) }
+    ensures buffer { KeptUnlessDone buffer.old buffer.new (code_of result) }
+{
+    let Some(graph) = &seal.get().graph else {
+        return Status::NotLoaded;
+    };
+    give_rule_name(graph, index, buffer, needed)
+}
+
+// Gives the name of the rule at an index.
+fn give_rule_name(graph: &Graph, index: usize, buffer: &mut [u8], needed: &mut usize) -> Status
+    ensures gives { GivesTextAt (map (λ r. r.name) (main_rules graph.now)) index
+        buffer.old buffer.new needed.new (code_of result) }
+    ensures buffer { KeptUnlessDone buffer.old buffer.new (code_of result) }
+{
+    if index >= graph.main_rule_count() {
+        return Status::Nothing;
+    }
+    copy_text(graph.main_rule(index), buffer, needed)
 }
