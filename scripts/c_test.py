@@ -221,6 +221,9 @@ def try_facts(tests, name, folder):
         rules = [f"{file.path}: {edge.rule}\n" for edge in graph.edges for file in edge.outputs]
         ran = tests.program.run(["-t", "targets", "all"], folder)
         tests.expect("comparisons", f"{name}, targets", encoded("".join(rules)), ran.output)
+        ran = tests.program.run(["-t", "rules"], folder)
+        lines = "".join(f"{rule}\n" for rule in graph.rules())
+        tests.expect("comparisons", f"{name}, rules", encoded(lines), ran.output)
         roots = [f"{file.path}: {file.maker.rule}\n" for file in graph.roots()]
         ran = tests.program.run(["-t", "targets", "depth", "1"], folder)
         tests.expect("comparisons", f"{name}, roots", encoded("".join(roots)), ran.output)

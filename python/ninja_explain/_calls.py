@@ -20,6 +20,8 @@ MAJOR, MINOR = 1, 1
 DONE, NOTHING, SHORT, FAULT, WANTED = range(5)
 # The greatest number that a call takes.
 GREATEST = c_size_t(-1).value
+# How many items of a list one call gives at most.
+ROOM = 4096
 
 
 class _Kept(ctypes.Structure):
@@ -30,6 +32,7 @@ _NUMBER, _KIND = POINTER(c_size_t), POINTER(c_int32)
 _TEXT, _NUMBERS = [c_char_p, c_size_t], [POINTER(c_size_t), c_size_t]
 _BUFFER = [c_char_p, c_size_t, _NUMBER]
 _AT = [c_size_t, c_size_t, _NUMBER]
+_FROM = [c_size_t, c_size_t, *_NUMBERS]
 # What each call takes after its session.
 _CALLS: dict[str, Sequence[Any]] = {
     "nx_close": [],
@@ -46,6 +49,7 @@ _CALLS: dict[str, Sequence[Any]] = {
     "nx_wanted": [c_size_t, *_BUFFER],
     "nx_path": [c_size_t, *_BUFFER],
     "nx_rule_name": [c_size_t, *_BUFFER],
+    "nx_rule_name_at": [c_size_t, *_BUFFER],
     "nx_edge_file": [c_size_t, *_BUFFER],
     "nx_command": [c_size_t, *_BUFFER],
     "nx_variable": [c_size_t, *_TEXT, *_BUFFER],
@@ -55,11 +59,11 @@ _CALLS: dict[str, Sequence[Any]] = {
     "nx_default": [c_size_t, _NUMBER],
     "nx_root": [c_size_t, _NUMBER],
     "nx_found": [c_size_t, _NUMBER],
-    "nx_user": _AT,
+    "nx_users": [*_FROM, _NUMBER],
     "nx_validation_user": _AT,
-    "nx_output": _AT,
+    "nx_outputs": [*_FROM, _NUMBER],
     "nx_validation": _AT,
-    "nx_input": [*_AT, _KIND],
+    "nx_inputs": [*_FROM, _KIND, c_size_t, _NUMBER],
     "nx_explicit_outputs": [c_size_t, _NUMBER],
     "nx_is_phony": [c_size_t, _KIND],
     "nx_edge_place": [c_size_t, _NUMBER, _NUMBER],
@@ -124,6 +128,7 @@ class Session:
         self._turn = threading.RLock()
         self._kept = _Kept(None)
         self._buffer = ctypes.create_string_buffer(256)
+        self._items, self._kinds = (c_size_t * ROOM)(), (c_int32 * ROOM)()
         self.call("nx_open", int.from_bytes(os.urandom(8), "little"))
 
     def __enter__(self) -> Session:
@@ -191,15 +196,31 @@ class Session:
         with self:
             return list(self._by_index(lambda index: self.number(name, *arguments, index)))
 
-    def inputs(self, edge: int) -> list[tuple[int, int]]:
-        """The inputs of an edge, each with its kind."""
+    def items(self, name: str, of: int) -> list[int]:
+        """All numbers of the list that a call gives of an edge or a file, many at a time."""
+        items: list[int] = []
+        count = c_size_t()
         with self:
-            return list(self._by_index(lambda index: self._input(edge, index)))
+            while True:
+                self.call(name, of, len(items), self._items, ROOM, ctypes.byref(count))
+                items += self._items[: count.value - len(items)]
+                if len(items) == count.value:
+                    return items
 
-    def _input(self, edge: int, index: int) -> tuple[int, int] | None:
-        file, kind = c_size_t(), c_int32()
-        found = self.is_there("nx_input", edge, index, ctypes.byref(file), ctypes.byref(kind))
-        return (file.value, kind.value) if found else None
+    def inputs(self, edge: int) -> tuple[list[int], list[int]]:
+        """The files of all inputs of an edge, and their kinds."""
+        files: list[int] = []
+        kinds: list[int] = []
+        count = c_size_t()
+        rooms = self._items, ROOM, self._kinds, ROOM
+        with self:
+            while True:
+                self.call("nx_inputs", edge, len(files), *rooms, ctypes.byref(count))
+                left = count.value - len(files)
+                files += self._items[:left]
+                kinds += self._kinds[:left]
+                if len(files) == count.value:
+                    return files, kinds
 
     def texts(self, name: str) -> list[str]:
         """All texts that a call gives by an index."""

@@ -31,6 +31,9 @@ class Kind(IntEnum):
     ORDER_ONLY = 2
 
 
+_KINDS = tuple(Kind)
+
+
 class Place(NamedTuple):
     """A location in a manifest; line and column count from 1, and columns count bytes."""
 
@@ -120,7 +123,7 @@ class File(_Numbered):
     @property
     def users(self) -> list[Edge]:
         """The edges that have it as an input of any kind, by number."""
-        return self._graph._edges_at("nx_user", self._number)
+        return self._graph._edges(self._session.items("nx_users", self._number))
 
     @property
     def validation_users(self) -> list[Edge]:
@@ -175,7 +178,7 @@ class Edge(_Numbered):
     @property
     def outputs(self) -> list[File]:
         """Its outputs, the explicit ones first."""
-        return self._graph._files_at("nx_output", self._number)
+        return self._graph._files(self._session.items("nx_outputs", self._number))
 
     @property
     def explicit_outputs(self) -> list[File]:
@@ -185,8 +188,8 @@ class Edge(_Numbered):
     @property
     def inputs(self) -> list[Input]:
         """Its inputs: the explicit ones, then the implicit and then the order-only ones."""
-        found = self._session.inputs(self._number)
-        return [Input(File._of(self._graph, file), Kind(kind)) for file, kind in found]
+        files, kinds = self._session.inputs(self._number)
+        return [Input(file, _KINDS[kind]) for file, kind in zip(self._graph._files(files), kinds)]
 
     @property
     def validations(self) -> list[File]:
@@ -345,6 +348,10 @@ class Graph:
         """All paths that edges name, without duplicates."""
         return _All(self, File, self._session.count("nx_file_count"))
 
+    def rules(self) -> list[str]:
+        """The names of the rules of the manifest's own scope, `phony` among them, in byte order."""
+        return self._session.texts("nx_rule_name_at")
+
     def defaults(self) -> list[File]:
         """The files of the `default` lines; the roots where there is no such line."""
         return self._files_at("nx_default")
@@ -413,11 +420,17 @@ class Graph:
             raise ValueError(f"a file of another graph: {file!r}")
         return file.number
 
+    def _edges(self, numbers: Iterable[int]) -> list[Edge]:
+        return [Edge._of(self, number) for number in numbers]
+
+    def _files(self, numbers: Iterable[int]) -> list[File]:
+        return [File._of(self, number) for number in numbers]
+
     def _edges_at(self, name: str, *arguments: int) -> list[Edge]:
-        return [Edge._of(self, number) for number in self._session.numbers(name, *arguments)]
+        return self._edges(self._session.numbers(name, *arguments))
 
     def _files_at(self, name: str, *arguments: int) -> list[File]:
-        return [File._of(self, number) for number in self._session.numbers(name, *arguments)]
+        return self._files(self._session.numbers(name, *arguments))
 
 
 def run(words: Iterable[str], folder: AnyPath = ".", *, allow_outside: bool = False) -> Run:

@@ -73,6 +73,25 @@ class Reading(unittest.TestCase):
         self.assertEqual(graph.affected([graph.target("b.c")]), [graph.edges[1], graph.edges[2]])
         self.assertEqual([edge.number for edge in graph.needed(graph.defaults())], [0, 1, 2])
 
+    def test_rules(self) -> None:
+        self.assertEqual(self.graph.rules(), ["cc", "link", "phony"])
+
+    def test_long_lists(self) -> None:
+        """Lists that are longer than one call gives."""
+        names = [f"{number}" for number in range(10_000)]
+        texts = [f"build {name}: phony all\n" for name in names]
+        texts += [f"build {' '.join(f'o{name}' for name in names)}: phony\n"]
+        texts += [f"build end: phony {' '.join(names[:4096])} | {' '.join(names[4096:9000])}"]
+        texts += [f" || {' '.join(names[9000:])}\n"]
+        with graph_of("".join(texts)) as graph:
+            end, many = graph.edges[-1], graph.edges[-2]
+            self.assertEqual([each.path for each in end.inputs], names)
+            kinds = [Kind.EXPLICIT] * 4096 + [Kind.IMPLICIT] * 4904 + [Kind.ORDER_ONLY] * 1000
+            self.assertEqual([each.kind for each in end.inputs], kinds)
+            self.assertEqual(paths(many.outputs), [f"o{name}" for name in names])
+            users = graph.target("all").users
+            self.assertEqual([edge.number for edge in users], list(range(10_000)))
+
     def test_pages(self) -> None:
         graph, seen, mark = self.graph, [], ""
         while mark is not None:
