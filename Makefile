@@ -33,7 +33,7 @@ INSTALLED_LIBRARY := $(DESTDIR)$(PREFIX)/$(LIBRARY)
 INSTALLED_PC := $(DESTDIR)$(PREFIX)/lib/pkgconfig/ninja_explain.pc
 
 .PHONY: all c run test check gate lint smoke c-test sweep install install-c uninstall dist dist-check
-.PHONY: wheel save-proofs load-proofs clean
+.PHONY: fuzz-c wheel save-proofs load-proofs clean
 
 # Proves and builds the program as bin/ninja-explain. `rt all` proves the program and the crates below
 # it, several at once; `rt run` then builds the program from what was proved.
@@ -108,6 +108,15 @@ smoke: $(BUILT) $(AFFECTED) $(DRAW) $(KEYS) $(AUDIT)
 # Runs the library for C and the examples on it beside the program, and on what it must refuse.
 c-test: $(BUILT) $(AFFECTED) $(LIBRARY).so
 	python3 scripts/c_test.py --jobs $(JOBS) $(BUILT) $(AFFECTED)
+
+# Feeds the library for C with what libFuzzer makes of our seeds, for SECONDS, on as many processors as
+# JOBS gives. It needs clang with libFuzzer's runtime, says so before anything is built where there is
+# none, and is no part of the gate. docs/RELIABILITY.md describes it.
+SECONDS ?= 60
+fuzz-c:
+	@python3 scripts/fuzz_c.py --tools
+	@$(MAKE) --silent $(LIBRARY).a
+	@python3 scripts/fuzz_c.py --jobs $(JOBS) --seconds $(SECONDS)
 
 # Makes everything that can fail do so once, changes each byte of small projects, runs every tool on
 # 100,000 edges, and runs the program on 100,000 hostile manifests.
