@@ -14,6 +14,7 @@ pub mod CompdbRows
 pub mod OwnLemmas
 pub mod QueryLemmas
 pub mod QueryRows
+pub mod QuoteLemmas
 pub mod SequenceLemmas
 pub mod SinkLemmas
 pub mod SortedLemmas

@@ -124,6 +124,10 @@ printed-as_they_are style unquoted [] = refl
 printed-as_they_are style unquoted (path ∷ paths) =
     ap (λ b. (if b then quoted path else path) ∷ map (printed style) paths) unquoted ∙ ap (λ ps. path ∷ ps) (printed-as_they_are style unquoted paths)
 
+-- and others in quotes
+pub printed-quoted : (style : InputsStyle) → style.shell_escape ≡ true → (paths : List (List ℕ)) → map (printed style) paths ≡ map quoted paths
+printed-quoted style escaped paths = ap (λ b. map (λ path. if b then quoted path else path) paths) escaped
+
 pub inputs-as_needed : (style : InputsStyle) (edges : List EdgePaths) (targets : List (List ℕ)) → style.dependency_order ≡ true
     → flat_map (λ path. terminated style (printed style path)) (each_once bytes_eq (needed_inputs edges targets)) ≡ inputs_text style edges targets
 unfolding inputs_text

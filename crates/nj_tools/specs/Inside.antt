@@ -5,5 +5,6 @@ pub mod Commands
 pub mod CompdbHeld
 pub mod MemorySinksHeld
 pub mod QueriesHeld
+pub mod QuotesHeld
 pub mod Seen
 pub mod Trees

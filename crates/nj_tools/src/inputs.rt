@@ -22,7 +22,7 @@ ghost use Rattle.nj_tools.specs.Texts.{WritesText};
 use crate::block::write_block;
 use crate::collected::Collected;
 use crate::fault::ToolFault;
-use crate::paths::sorted_paths;
+use crate::paths::{sorted_paths, sorted_quotes};
 use crate::sinks::Sink;
 use crate::whole::write_whole;
 use nj_graph::{FileNo, Graph};
@@ -217,36 +217,13 @@ fn write_sorted<S: Sink>(
         (sorted (map (printed style) (map (path_at (files_of graph.now)) files.now)))) result }
 {
     if style.shell_escape {
-        let quotes = quoted_paths(alloc, graph, files)?;
-        write_quotes(&quotes, style, text, out)
+        let quotes = sorted_quotes(alloc, graph, files)?;
+        write_quotes(&quotes.quoted, style, text, out)?;
+        write_paths(&quotes.plain, style, text, out)
     } else {
         let paths = sorted_paths(alloc, graph, files)?;
         write_paths(&paths, style, text, out)
     }
-}
-
-// The paths of files, quoted for a shell, in byte order of the quotes.
-fn quoted_paths(alloc: Global, graph: &Graph, files: &[FileNo]) -> Result<Vec<Vec<u8>>, AllocError>
-    requires { All (λ file. file.0 < length (files_of graph.now)) files.now }
-    ensures { IfOk result (λ strings. map (λ text. text.items) strings.items
-        ≡ sorted (map quoted (map (path_at (files_of graph.now)) files.now))) }
-{
-    let mut strings = Vec::with_capacity(alloc, files.len())?;
-    'files: for file in files {
-        strings.push(quoted_path(alloc, graph, *file)?)?;
-    }
-    strings.sort_by(|one, other| one.as_slice().cmp(other.as_slice()))?;
-    Ok(strings)
-}
-
-// The path of a file, quoted for a shell.
-fn quoted_path(alloc: Global, graph: &Graph, file: FileNo) -> Result<Vec<u8>, AllocError>
-    requires { file.0 < length (files_of graph.now) }
-    ensures { IfOk result (λ text. text.items ≡ quoted (path_at (files_of graph.now) file)) }
-{
-    let mut text = Vec::new(alloc);
-    quote_into(&mut text, graph.path(file))?;
-    Ok(text)
 }
 
 // Writes quotes, each with what ends it.

@@ -1,11 +1,14 @@
-//! Paths of files.
+//! Paths of files in byte order, as they are and quoted for a shell.
 
-ghost use Rattle.std.specs.Prelude.{◌≡◌, ◌<◌, All, length, map, IfOk};
+ghost use Rattle.std.specs.Prelude.{◌≡◌, ◌<◌, not, All, length, map, filter, IfOk, OnOk};
+ghost use Rattle.nj_text.specs.Quotes.{quoted};
 ghost use Rattle.nj_edges.specs.Files.{path_at};
 ghost use Rattle.nj_graph.specs.Graph.{files_of};
+ghost use Rattle.nj_tools.specs.Inside.QuotesHeld.{quote_strings, precedes_plain};
 ghost use Rattle.nj_tools.specs.Listings.{sorted};
 
 use nj_graph::{FileNo, Graph};
+use nj_text::quote_into;
 use std::alloc::{AllocError, Global};
 
 /// The paths of files, in byte order.
@@ -22,6 +25,89 @@ pub(crate) fn sorted_paths<'g>(
     'files: for file in files {
         paths.push(graph.path(*file))?;
     }
-    paths.sort_by(|one, other| (*one).cmp(*other))?;
+    sort_slices(&mut paths)?;
     Ok(paths)
+}
+
+/// The paths of files as a shell takes them. All in quotes come before all others, since a quote is
+/// less than every byte that needs none, so each kind is sorted apart, and only the first is copied.
+#[derive(Drop)]
+pub(crate) struct Quotes<'g> {
+    /// In quotes.
+    pub(crate) quoted: Vec<Vec<u8>>,
+    /// Those that need no quotes.
+    pub(crate) plain: Vec<&'g [u8]>,
+}
+
+/// The paths of files, quoted for a shell, in byte order of the quotes.
+pub(crate) fn sorted_quotes<'g>(
+    alloc: Global,
+    graph: &'g Graph,
+    files: &[FileNo],
+) -> Result<Quotes<'g>, AllocError>
+    requires { All (λ file. file.0 < length (files_of graph.now)) files.now }
+    ensures { IfOk result (λ quotes. quote_strings quotes
+        ≡ sorted (map quoted (map (path_at (files_of graph.now)) files.now))) }
+{
+    let mut quotes = quotes_of(alloc, graph, files)?;
+    sort_strings(&mut quotes.quoted)?;
+    sort_slices(&mut quotes.plain)?;
+    Ok(quotes)
+}
+
+// The paths of files, quoted for a shell, in the order of the files.
+fn quotes_of<'g>(
+    alloc: Global,
+    graph: &'g Graph,
+    files: &[FileNo],
+) -> Result<Quotes<'g>, AllocError>
+    requires { All (λ file. file.0 < length (files_of graph.now)) files.now }
+    ensures quoted { IfOk result (λ quotes. map (λ text. text.items) quotes.quoted.items
+        ≡ filter precedes_plain (map quoted (map (path_at (files_of graph.now)) files.now))) }
+    ensures plain { IfOk result (λ quotes. map (λ path. path.now) quotes.plain.items
+        ≡ filter (λ text. not (precedes_plain text))
+        (map quoted (map (path_at (files_of graph.now)) files.now))) }
+{
+    let mut quote = Vec::new(alloc);
+    let mut quoted = Vec::new(alloc);
+    let mut plain = Vec::with_capacity(alloc, files.len())?;
+    'files: for file in files {
+        let path = graph.path(*file);
+        quote.clear();
+        quote_into(&mut quote, path)?;
+        if precedes_plain(&quote) {
+            quoted.push(Vec::from_slice(alloc, &quote)?)?;
+        } else {
+            plain.push(path)?;
+        }
+    }
+    Ok(Quotes { quoted, plain })
+}
+
+// Whether the quote of a path comes before all that need no quotes, in byte order.
+fn precedes_plain(quote: &[u8]) -> bool
+    ensures { result ≡ precedes_plain quote.now }
+{
+    match quote.first() {
+        Some(byte) => *byte <= b'\'',
+        None => true,
+    }
+}
+
+// Sorts strings in byte order.
+fn sort_strings(strings: &mut Vec<Vec<u8>>) -> Result<(), AllocError>
+    ensures { OnOk result (map (λ text. text.items) strings.new.items
+        ≡ sorted (map (λ text. text.items) strings.old.items)) }
+{
+    strings.sort_by(|one, other| one.as_slice().cmp(other.as_slice()))?;
+    Ok(())
+}
+
+// Sorts slices in byte order.
+fn sort_slices(slices: &mut Vec<&[u8]>) -> Result<(), AllocError>
+    ensures { OnOk result (map (λ slice. slice.now) slices.new.items
+        ≡ sorted (map (λ slice. slice.now) slices.old.items)) }
+{
+    slices.sort_by(|one, other| (*one).cmp(*other))?;
+    Ok(())
 }
