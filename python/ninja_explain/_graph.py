@@ -72,6 +72,16 @@ class _Numbered:
         known._graph, known._number = graph, number
         return known
 
+    @classmethod
+    def _each_of(cls, graph: Graph, numbers: Iterable[int]) -> list[Self]:
+        """The same of many numbers, without a call of `_of` for each, since lists may be long."""
+        new, each = cls.__new__, []
+        for number in numbers:
+            known = new(cls)
+            known._graph, known._number = graph, number
+            each.append(known)
+        return each
+
     @property
     def graph(self) -> Graph:
         return self._graph
@@ -123,7 +133,7 @@ class File(_Numbered):
     @property
     def users(self) -> list[Edge]:
         """The edges that have it as an input of any kind, by number."""
-        return self._graph._edges(self._session.items("nx_users", self._number))
+        return Edge._each_of(self._graph, self._session.items("nx_users", self._number))
 
     @property
     def validation_users(self) -> list[Edge]:
@@ -178,7 +188,7 @@ class Edge(_Numbered):
     @property
     def outputs(self) -> list[File]:
         """Its outputs, the explicit ones first."""
-        return self._graph._files(self._session.items("nx_outputs", self._number))
+        return File._each_of(self._graph, self._session.items("nx_outputs", self._number))
 
     @property
     def explicit_outputs(self) -> list[File]:
@@ -188,8 +198,9 @@ class Edge(_Numbered):
     @property
     def inputs(self) -> list[Input]:
         """Its inputs: the explicit ones, then the implicit and then the order-only ones."""
-        files, kinds = self._session.inputs(self._number)
-        return [Input(file, _KINDS[kind]) for file, kind in zip(self._graph._files(files), kinds)]
+        numbers, kinds = self._session.inputs(self._number)
+        files = File._each_of(self._graph, numbers)
+        return [Input(file, _KINDS[kind]) for file, kind in zip(files, kinds)]
 
     @property
     def validations(self) -> list[File]:
@@ -420,17 +431,11 @@ class Graph:
             raise ValueError(f"a file of another graph: {file!r}")
         return file.number
 
-    def _edges(self, numbers: Iterable[int]) -> list[Edge]:
-        return [Edge._of(self, number) for number in numbers]
-
-    def _files(self, numbers: Iterable[int]) -> list[File]:
-        return [File._of(self, number) for number in numbers]
-
     def _edges_at(self, name: str, *arguments: int) -> list[Edge]:
-        return self._edges(self._session.numbers(name, *arguments))
+        return Edge._each_of(self, self._session.numbers(name, *arguments))
 
     def _files_at(self, name: str, *arguments: int) -> list[File]:
-        return self._files(self._session.numbers(name, *arguments))
+        return File._each_of(self, self._session.numbers(name, *arguments))
 
 
 def run(words: Iterable[str], folder: AnyPath = ".", *, allow_outside: bool = False) -> Run:
