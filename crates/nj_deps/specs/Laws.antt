@@ -7,19 +7,23 @@ use Rattle.nj_deps.specs.Logs.{LogText, OutputText, IsLogOf, outputs_of, output_
 
 -- bytes are cut into records that count and a rest in one way, so they say one thing
 abbrev pub BytesSayOneThing : Type 0
-BytesSayOneThing = (bytes : List ℕ) (one other : LogText) → IsLogOf bytes one → IsLogOf bytes other → one ≡ other
+BytesSayOneThing = (bytes : List ℕ) (one other : LogText)
+    → IsLogOf bytes one → IsLogOf bytes other → one ≡ other
 
 -- what a record says of an output
 abbrev pub said_of : (number : ℕ) → LogRecord → Option OutputText
 said_of number (path padded complement) = None
 said_of number (dependencies output low high inputs) =
-    if nat_eq output number then Some (record { output = output; time = low + 2 ^ 32 * high; inputs = inputs }) else None
+    if nat_eq output number
+    then Some (record { output = output; time = low + 2 ^ 32 * high; inputs = inputs }) else None
 
 -- of the records of an output the last one counts
 abbrev pub LastRecordCounts : Type 0
 LastRecordCounts = (records : List LogRecord) (number : ℕ)
-    → output_of (outputs_of records) number ≡ (let said = filter_map (said_of number) records in slice_get said (length said - 1))
+    → output_of (outputs_of records) number
+    ≡ (let said = filter_map (said_of number) records in slice_get said (length said - 1))
 
 -- no output is there twice
 abbrev pub EachOutputOnce : Type 0
-EachOutputOnce = (records : List LogRecord) → IsDistinct nat_eq (map (λ o. o.output) (outputs_of records))
+EachOutputOnce = (records : List LogRecord)
+    → IsDistinct nat_eq (map (λ o. o.output) (outputs_of records))

@@ -3,8 +3,9 @@ use Rattle.std.specs.Prelude.{◌≡◌, ◌≢◌, ℕ, ◌+◌, ◌-◌, ◌<�
 use Rattle.std.specs.Int.{w32, to_le_bytes}
 use Rattle.std.specs.List.{AllByRecursion, list_any, flat_map}
 
--- A record: a path, with zero bytes after it, and the complement of its number; or dependencies: the number of an output, the lower and
--- the upper half of a time, and the numbers of what the output depends on.
+-- A record: a path, with zero bytes after it, and the complement of its number; or dependencies:
+-- the number of an output, the lower and the upper half of a time, and the numbers of what the
+-- output depends on.
 pub data LogRecord : Type 0 where
   path : (padded : List ℕ) (complement : ℕ) → LogRecord
   dependencies : (output low high : ℕ) (inputs : List ℕ) → LogRecord
@@ -35,7 +36,9 @@ bytes_of r = word (kind_bit r + length (content_of r)) ++ content_of r
 
 -- without a zero byte at the end
 abbrev pub without_zero : List ℕ → List ℕ
-without_zero bytes = if nat_eq (slice_index_or bytes (length bytes - 1) 1) 0 then take (length bytes - 1) bytes else bytes
+without_zero bytes =
+    if nat_eq (slice_index_or bytes (length bytes - 1) 1) 0
+    then take (length bytes - 1) bytes else bytes
 
 -- the path that is padded with up to three zero bytes
 abbrev pub path_in : (padded : List ℕ) → List ℕ

@@ -21,7 +21,8 @@ pub record IsOfPaths (count : ℕ) (o : OutputText) : Type 0 where
   pub inputs : AllByRecursion (λ number. number < count) o.inputs
 
 abbrev pub output_text : LoggedOutput → OutputText
-output_text logged = record { output = logged.output; time = logged.time; inputs = logged.inputs.now }
+output_text logged =
+    record { output = logged.output; time = logged.time; inputs = logged.inputs.now }
 
 -- the paths with the one that a record names
 abbrev pub with_path : List (List ℕ) → LogRecord → List (List ℕ)
@@ -31,12 +32,15 @@ with_path paths (dependencies output low high inputs) = paths
 -- in place of what was known of the output, or at the end
 abbrev pub with_output : List OutputText → OutputText → List OutputText
 with_output [] logged = logged ∷ []
-with_output (other ∷ outputs) logged = if nat_eq other.output logged.output then logged ∷ outputs else other ∷ with_output outputs logged
+with_output (other ∷ outputs) logged =
+    if nat_eq other.output logged.output
+    then logged ∷ outputs else other ∷ with_output outputs logged
 
 -- the outputs with the one of a record
 abbrev pub with_dependencies : List OutputText → LogRecord → List OutputText
 with_dependencies outputs (path padded complement) = outputs
-with_dependencies outputs (dependencies output low high inputs) = with_output outputs (record { output = output; time = low + 2 ^ 32 * high; inputs = inputs })
+with_dependencies outputs (dependencies output low high inputs) =
+    with_output outputs (record { output = output; time = low + 2 ^ 32 * high; inputs = inputs })
 
 abbrev pub paths_of : List LogRecord → List (List ℕ)
 paths_of records = fold with_path [] records
@@ -62,14 +66,16 @@ first_line = codes "# ninjadeps" ++ 10 ∷ []
 abbrev pub opening : (version : ℕ) → List ℕ
 opening version = first_line ++ word version
 
--- what a deps log says: its paths and outputs, how many of its bytes were read, and whether they were all
+-- what a deps log says: its paths and outputs, how many of its bytes were read, and whether they
+-- were all
 pub record LogText : Type 0 where
   pub paths : List (List ℕ)
   pub outputs : List OutputText
   pub size : ℕ
   pub is_whole : Bool
 
--- Bytes are an opening, records that count, and a rest that begins with none. What counts is these records alone.
+-- Bytes are an opening, records that count, and a rest that begins with none. What counts is these
+-- records alone.
 pub record IsLogOf (bytes : List ℕ) (log : LogText) : Type 0 where
   pub records : List LogRecord
   pub rest : List ℕ
@@ -84,7 +90,8 @@ pub record IsLogOf (bytes : List ℕ) (log : LogText) : Type 0 where
 -- Bytes are no deps log; or one of another version than 4; or memory ran out, whatever they are.
 abbrev pub IsLogFault : (bytes : List ℕ) → DepsLogFault → Type 0
 IsLogFault bytes NoDepsLog = (version : ℕ) (rest : List ℕ) → bytes ≢ opening version ++ rest
-IsLogFault bytes (OtherVersion version) = (version ≢ 4) × (rest : List ℕ) × (bytes ≡ opening version ++ rest)
+IsLogFault bytes (OtherVersion version) =
+    (version ≢ 4) × (rest : List ℕ) × (bytes ≡ opening version ++ rest)
 IsLogFault bytes OutOfMemory = Unit {0}
 
 -- what is known of the output of this number

@@ -37,11 +37,12 @@ impl Model for DepsLog {
 }
 
 impl DepsLog {
-    /// Reads a deps log of version 4, as every Ninja since 1.9 writes it ("Deps" in the Ninja manual).
+    /// Reads a deps log of version 4, as every Ninja since 1.9 writes it ("Deps" in the Ninja
+    /// manual).
     ///
-    /// Reading ends before the first record that is cut off, empty, too large or wrong, and what came
-    /// before it counts, as in Ninja. [`DepsLog::size`] is how far it went. Times are compared with
-    /// nothing: what the log says of an output counts even if the output is newer.
+    /// Reading ends before the first record that is cut off, empty, too large or wrong, and what
+    /// came before it counts, as in Ninja. [`DepsLog::size`] is how far it went. Times are compared
+    /// with nothing: what the log says of an output counts even if the output is newer.
     ///
     /// Names are hashed by keys that everyone knows. For a log that a stranger may have written
     /// take [`DepsLog::read_with_keys`].
@@ -58,8 +59,8 @@ impl DepsLog {
         DepsLog::read_with_keys(alloc, HashKeys::default(), bytes)
     }
 
-    /// The same, with names that are hashed by these keys: with keys that were drawn nobody can choose
-    /// many paths that collide.
+    /// The same, with names that are hashed by these keys: with keys that were drawn nobody can
+    /// choose many paths that collide.
     ///
     /// # Errors
     ///
@@ -100,7 +101,8 @@ impl DepsLog {
         self.table.paths.name(number)
     }
 
-    /// The number of this path, which must be as the log has it; `None` if the log does not name it.
+    /// The number of this path, which must be as the log has it; `None` if the log does not name
+    /// it.
     pub fn number(&self, path: &[u8]) -> Option<usize>
         ensures { result ≡ position (bytes_eq path.now) self.now.paths }
     {

@@ -8,7 +8,11 @@ use Rattle.nj_deps.specs.Logs.{OutputText, IsOfPaths, with_output}
 -- ---- their inputs
 
 abbrev pub logged : (inputs : List ℕ) → HeldOutput → OutputText
-logged inputs held = record { output = held.output; time = held.time; inputs = slice_range inputs held.start held.end }
+logged inputs held = record {
+  output = held.output;
+  time = held.time;
+  inputs = slice_range inputs held.start held.end;
+}
 
 abbrev pub all_logged : (inputs : List ℕ) → List HeldOutput → List OutputText
 all_logged inputs outputs = map (logged inputs) outputs
@@ -28,16 +32,19 @@ later_place (suc place) = suc (suc place)
 -- the place of the output of this number, counted from 1; 0 if there is none
 abbrev pub place_of : List HeldOutput → (number : ℕ) → ℕ
 place_of [] number = 0
-place_of (held ∷ outputs) number = if nat_eq held.output number then 1 else later_place (place_of outputs number)
+place_of (held ∷ outputs) number =
+    if nat_eq held.output number then 1 else later_place (place_of outputs number)
 
 -- each place is kept
 abbrev pub ArePlaces : List HeldOutput → (places : List ℕ) → Type 0
-ArePlaces outputs places = (number : ℕ) → number < length places → slice_index_or places number 0 ≡ place_of outputs number
+ArePlaces outputs places = (number : ℕ) → number < length places
+    → slice_index_or places number 0 ≡ place_of outputs number
 
 -- in place of the one of the same number, or at the end
 abbrev pub with_held : List HeldOutput → HeldOutput → List HeldOutput
 with_held [] held = held ∷ []
-with_held (other ∷ outputs) held = if nat_eq other.output held.output then held ∷ outputs else other ∷ with_held outputs held
+with_held (other ∷ outputs) held =
+    if nat_eq other.output held.output then held ∷ outputs else other ∷ with_held outputs held
 
 -- ---- all together
 
@@ -46,14 +53,21 @@ pub record OutputsText : Type 0 where
   pub count : ℕ
   pub outputs : List OutputText
 
-pub record AreOutputsHeld (inputs : List ℕ) (outputs : List HeldOutput) (places : List ℕ) : Type 0 where
+pub record AreOutputsHeld (inputs : List ℕ) (outputs : List HeldOutput) (places : List ℕ)
+    : Type 0 where
   pub held : AllByRecursion (IsHeld (length inputs) (length places)) outputs
   pub are_places : ArePlaces outputs places
   pub of_paths : AllByRecursion (IsOfPaths (length places)) (all_logged inputs outputs)
 
--- What an output depends on is kept, if the numbers are of paths. The bytes are those of the inputs.
+-- What an output depends on is kept, if the numbers are of paths. The bytes are those of the
+-- inputs.
 abbrev pub Keeps : (output time : ℕ) → (bytes : List ℕ) → (old new : OutputsText) → Bool → Type 0
-Keeps output time bytes old new true = (inputs : List ℕ) × (bytes ≡ words inputs) × (output < old.count) × AllByRecursion (λ n. n < old.count) inputs
-    × (new ≡ record { count = old.count; outputs = with_output old.outputs (record { output = output; time = time; inputs = inputs }) })
-Keeps output time bytes old new false = ((inputs : List ℕ) → bytes ≡ words inputs → output < old.count → AllByRecursion (λ n. n < old.count) inputs → ⊥)
+Keeps output time bytes old new true = (inputs : List ℕ) × (bytes ≡ words inputs)
+    × (output < old.count) × AllByRecursion (λ n. n < old.count) inputs
+    × (new ≡ record {
+      count = old.count;
+      outputs = with_output old.outputs (record { output = output; time = time; inputs = inputs });
+    })
+Keeps output time bytes old new false = ((inputs : List ℕ) → bytes ≡ words inputs
+    → output < old.count → AllByRecursion (λ n. n < old.count) inputs → ⊥)
     × (new ≡ old)

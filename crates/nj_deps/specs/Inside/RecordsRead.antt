@@ -10,8 +10,10 @@ BeginsWith front whole = (rest : List ℕ) × (whole ≡ front ++ rest)
 
 -- by the numbers that bytes are, which are all below the count; or they are not
 abbrev pub AppendsNumbers : (count : ℕ) → (bytes old new : List ℕ) → Bool → Type 0
-AppendsNumbers count bytes old new true = (numbers : List ℕ) × (new ≡ old ++ numbers) × (bytes ≡ words numbers) × AllByRecursion (λ n. n < count) numbers
-AppendsNumbers count bytes old new false = (numbers : List ℕ) → bytes ≡ words numbers → AllByRecursion (λ n. n < count) numbers → ⊥
+AppendsNumbers count bytes old new true = (numbers : List ℕ) × (new ≡ old ++ numbers)
+    × (bytes ≡ words numbers) × AllByRecursion (λ n. n < count) numbers
+AppendsNumbers count bytes old new false = (numbers : List ℕ) → bytes ≡ words numbers
+    → AllByRecursion (λ n. n < count) numbers → ⊥
 
 -- ---- one record
 
@@ -23,7 +25,8 @@ pub record IsFramed (bytes : List ℕ) (head : ℕ) (content after : List ℕ) :
 
 -- they do not
 abbrev pub IsUnframed : (bytes : List ℕ) → Type 0
-IsUnframed bytes = (head : ℕ) (content after : List ℕ) → head < 2 ^ 32 → IsFramed bytes head content after → ⊥
+IsUnframed bytes = (head : ℕ) (content after : List ℕ) → head < 2 ^ 32
+    → IsFramed bytes head content after → ⊥
 
 -- content is the number of an output, a time of two words, and the bytes of inputs
 pub record IsTimed (content : List ℕ) (output time : ℕ) (bytes : List ℕ) : Type 0 where
@@ -41,7 +44,8 @@ pub record TableText : Type 0 where
   pub outputs : List OutputText
 
 abbrev pub with_record : TableText → LogRecord → TableText
-with_record table r = record { paths = with_path table.paths r; outputs = with_dependencies table.outputs r }
+with_record table r =
+    record { paths = with_path table.paths r; outputs = with_dependencies table.outputs r }
 
 -- a record of this kind, with this content
 pub record IsContent (bit : ℕ) (content : List ℕ) (r : LogRecord) : Type 0 where
@@ -51,12 +55,15 @@ pub record IsContent (bit : ℕ) (content : List ℕ) (r : LogRecord) : Type 0 w
 -- the bit that is set in the head of a record
 pub record IsKind (head bit : ℕ) : Type 0 where
   pub size : (n : ℕ) → n ≡ head % 2 ^ 31 → head ≡ bit + n
-  pub kind : (r : LogRecord) → length (content_of r) ≤ 524287 → head ≡ kind_bit r + length (content_of r) → kind_bit r ≡ bit
+  pub kind : (r : LogRecord) → length (content_of r) ≤ 524287
+      → head ≡ kind_bit r + length (content_of r) → kind_bit r ≡ bit
 
 -- The record counts, and its content is added; or there is none that counts.
 abbrev pub Adds : (bit : ℕ) → (content : List ℕ) → (old new : TableText) → Bool → Type 0
-Adds bit content old new true = (r : LogRecord) × IsContent bit content r × Counts old.paths r × (new ≡ with_record old r)
-Adds bit content old new false = ((r : LogRecord) → IsContent bit content r → Counts old.paths r → ⊥) × (new ≡ old)
+Adds bit content old new true = (r : LogRecord) × IsContent bit content r × Counts old.paths r
+    × (new ≡ with_record old r)
+Adds bit content old new false =
+    ((r : LogRecord) → IsContent bit content r → Counts old.paths r → ⊥) × (new ≡ old)
 
 -- by the bit in the head of a record
 abbrev pub AddsAs : (head : ℕ) → (content : List ℕ) → (old new : TableText) → Bool → Type 0
@@ -64,12 +71,14 @@ AddsAs head content old new counts = (bit : ℕ) × IsKind head bit × Adds bit 
 
 -- the path is added, if it is new
 abbrev pub AddsPath : (path : List ℕ) → (old new : TableText) → Bool → Type 0
-AddsPath path old new true = (list_any (bytes_eq path) old.paths ≡ false) × (new ≡ record { paths = old.paths ++ path ∷ []; outputs = old.outputs })
+AddsPath path old new true = (list_any (bytes_eq path) old.paths ≡ false)
+    × (new ≡ record { paths = old.paths ++ path ∷ []; outputs = old.outputs })
 AddsPath path old new false = (list_any (bytes_eq path) old.paths ≡ true) × (new ≡ old)
 
 -- the record at the front of the bytes counts, and is added
 abbrev pub TakesRecord : (bytes after : List ℕ) → (old new : TableText) → Type 0
-TakesRecord bytes after old new = (r : LogRecord) × Counts old.paths r × (bytes ≡ bytes_of r ++ after) × (new ≡ with_record old r)
+TakesRecord bytes after old new = (r : LogRecord) × Counts old.paths r
+    × (bytes ≡ bytes_of r ++ after) × (new ≡ with_record old r)
 
 -- no record there counts
 abbrev pub TakesNone : (bytes : List ℕ) → (old new : TableText) → Type 0
