@@ -1,6 +1,8 @@
 //! What single calls of the libraries return, as text.
 
+mod deps_logs;
 mod lexing;
+mod log_parts;
 mod marks;
 mod printer;
 mod scopes;
@@ -12,6 +14,7 @@ mod texts;
 
 use crate::given::Given;
 use crate::rows::{Block, bytes_of, words_of};
+use deps_logs::put_of_log;
 use lexing::put_lexed;
 use marks::{put_mark, put_mark_of};
 use scopes::put_sources;
@@ -80,6 +83,9 @@ fn put_of_words(
         }
         "hash" => put_hash(alloc, text, row.rest),
         "mark-of" => put_mark_of(alloc, text, row.rest),
+        "deps-log" | "deps-of" => {
+            put_of_log(alloc, text, given.bytes("log"), row.kind, row.rest)
+        }
         "shown" => put_shown_fault(alloc, text, row.rest),
         "reported" => put_reported(alloc, text, row.rest),
         "sources" => put_sources(alloc, text, &row.text),

@@ -2,6 +2,7 @@
 
 use crate::calls::printer::put_shown;
 use crate::rows::bytes_of;
+use nj_deps::DepsLogFault;
 use nj_faults::{Cause, GraphFault, Name, PlaceRef};
 use nj_manifest::{LexFault, ParseFault, Spot};
 use nj_needs::MarkFault;
@@ -17,6 +18,7 @@ pub fn put_shown_fault(alloc: Global, text: &mut Vec<u8>, asked: &str) -> Result
         "TextFault::OutOfMemory" => put_shown(alloc, text, &TextFault::OutOfMemory)?,
         "SourceFault::OutOfMemory" => put_shown(alloc, text, &SourceFault::OutOfMemory)?,
         "MarkFault::OutOfMemory" => put_shown(alloc, text, &MarkFault::OutOfMemory)?,
+        "DepsLogFault::OutOfMemory" => put_shown(alloc, text, &DepsLogFault::OutOfMemory)?,
         "ParseFault::OutOfMemory" => {
             put_shown(alloc, text, &ParseFault::Lex(LexFault::OutOfMemory))?
         }
