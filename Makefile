@@ -1,7 +1,7 @@
 # The toolchain is the command `rt`; `rt version` names it.
 PROGRAM := crates/ninja_explain
 BUILT := $(PROGRAM)/out/ninja_explain
-# It runs rows over sinks in memory, to which `make sweep` refuses memory.
+# It runs rows: `make sweep` refuses memory to its sinks, and `make smoke` has it read deps logs.
 ROWS := crates/nj_run_rows
 # Four programs as clients write them.
 AFFECTED := crates/affected_tests/out/affected_tests
@@ -102,7 +102,7 @@ lint:
 
 # Runs the built programs on real files, and the short sweeps. With CHECKS='NAME..' it runs the checks
 # of these names alone, as lint and sweep do.
-smoke: $(BUILT) $(AFFECTED) $(DRAW) $(KEYS) $(AUDIT)
+smoke: $(BUILT) $(AFFECTED) $(DRAW) $(KEYS) $(AUDIT) $(ROWS)/out/nj_run_rows
 	@python3 scripts/smoke --jobs $(JOBS) $(CHECKS)
 
 # Runs the library for C and the examples on it beside the program, and on what it must refuse.

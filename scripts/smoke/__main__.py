@@ -1,7 +1,8 @@
 """Runs the built programs: python3 scripts/smoke [--program PROGRAM] [--jobs N] [NAME..]
 
-PROGRAM is ninja-explain, by default as the gate leaves it; the four programs on the library are
-where the gate leaves them too. The sweeps of memory, calls, bytes and sizes are run as well.
+PROGRAM is ninja-explain, by default as the gate leaves it; the four programs on the library and the
+runner of rows are where the gate leaves them too. The sweeps of memory, calls, bytes and sizes are
+run as well.
 
 Prints what is wrong, and last how many checks passed. The exit status is 1 if one failed.
 """
@@ -25,6 +26,7 @@ if __name__ == "__main__":
         "draw": Program(built("draw_graph")),
         "keys": Program(built("cache_keys")),
         "audit": Program(built("audit_build")),
+        "runner": Program(built("nj_run_rows")),
         "jobs": words.jobs,
     }
     sys.exit(checks.run(words.names, given, words.jobs))
