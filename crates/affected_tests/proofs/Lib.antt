@@ -1,1 +1,4 @@
 mod LineLemmas
+mod FlagLemmas
+mod ManifestLemmas
+mod ReportLaws

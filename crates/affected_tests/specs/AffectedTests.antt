@@ -1,5 +1,5 @@
 -- Which changed paths name files, and which tests a change affects.
-use Rattle.std.specs.Prelude.{◌≡◌, ◌↔◌, ℕ, Bool, true, if◌then◌else◌, Option, Some, None, is_some, List, [], ◌∷◌, ◌++◌, Contains, nat_eq, bytes_eq, position}
+use Rattle.std.specs.Prelude.{◌≡◌, ◌↔◌, ℕ, Bool, true, if◌then◌else◌, Option, Some, None, List, [], ◌∷◌, ◌++◌, Contains, nat_eq, bytes_eq, position}
 use Rattle.std.specs.List.{flat_map, starts_with}
 use Rattle.std.specs.List.Sorted.{IsStrictlyIncreasing}
 use Rattle.nj_graph.specs.Paths.{clean_path_of}
@@ -27,10 +27,6 @@ number_at files (byte ∷ path) = position (bytes_eq (clean_path_of (byte ∷ pa
 -- the number of the file at a changed path
 abbrev pub changed_file : (files : List (List ℕ)) → (folder : Option (List ℕ)) → (path : List ℕ) → Option ℕ
 changed_file files folder path = number_at files (path_in folder path)
-
--- a changed path as a line, if no file is there
-abbrev pub unknown_line : (files : List (List ℕ)) → (folder : Option (List ℕ)) → (path : List ℕ) → List ℕ
-unknown_line files folder path = if is_some (changed_file files folder path) then [] else line path
 
 -- ---- tests
 

@@ -6,7 +6,7 @@ use Rattle.nj_graph.specs.Files.{path_at}
 use Rattle.nj_graph.specs.Graph.{edges_of, files_of}
 use Rattle.affected_tests.specs.AffectedTests.{line_of_test}
 use Rattle.affected_tests.proofs.LineLemmas.{files-paths, flat-all, flat-more}
-use Rattle.affected_tests.proofs.push_outputs.Goals as goal
+use Rattle.affected_tests.proofs.listing.push_outputs.Goals as goal
 
 pub paths-preserved : goal.paths-preserved
 paths-preserved c =

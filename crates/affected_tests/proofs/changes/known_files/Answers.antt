@@ -3,9 +3,9 @@ use Rattle.std.specs.Prelude.{IfSome, option_copied}
 use Rattle.std.proofs.lemmas.List.Elements.{All-push}
 use Rattle.nj_graph.specs.Graph.{files_of}
 use Rattle.affected_tests.specs.AffectedTests.{changed_file}
-use Rattle.affected_tests.proofs.LineLemmas.{files-more, files-same, unknown-more, unknown-same}
-use Rattle.affected_tests.proofs.known_files.Goals as goal
-use Rattle.affected_tests.proofs.known_files.Goals.{in-Some+in_ok-push-in-Some, in-None+in_ok-push_line-in-None}
+use Rattle.affected_tests.proofs.LineLemmas.{files-more, files-same}
+use Rattle.affected_tests.proofs.changes.known_files.Goals as goal
+use Rattle.affected_tests.proofs.changes.known_files.Goals.{in-Some+in_ok-push-in-Some, in-None}
 
 pub paths-preserved : goal.paths-preserved
 paths-preserved c =
@@ -22,19 +22,14 @@ paths-preserved c =
           record {
             files = ap (λ v. map (λ f. f.0) v.items) w.files-is
                 ∙ files-more files folder (λ v. v.items) paths i item c.paths-test.true c.paths.files.items w.push.new.self.items w.in-Some.file is w.in_ok-push-in-Some.ensures.items c.paths.invariant.files;
-            unknown = ap (λ v. v.items) w.unknown-is
-                ∙ unknown-same files folder (λ v. v.items) paths i item c.paths-test.true c.args.unknown.now.items c.paths.unknown.items w.in-Some.file.0 is c.paths.invariant.unknown;
             known = subst (λ fs. All (λ f. f.0 < length files) fs) (sym (ap (λ v. v.items) w.files-is ∙ w.in_ok-push-in-Some.ensures.items))
                 (All-push (λ f. f.0 < length files) c.paths.files.items w.in-Some.file c.paths.invariant.known (subst (λ o. IfSome o (λ f. f.0 < length files)) w.in-Some.is c.in_ok-found.ensures.known));
           }
-      | in-None+in_ok-push_line-in-None w ↦
+      | in-None w ↦
           let is = sym number ∙ ap (option_map (λ f. f.0)) w.in-None.is in
           record {
             files = ap (λ v. map (λ f. f.0) v.items) w.files-is
                 ∙ files-same files folder (λ v. v.items) paths i item c.paths-test.true c.paths.files.items is c.paths.invariant.files;
-            unknown = ap (λ v. v.items) w.unknown-is
-                ∙ unknown-more files folder (λ v. v.items) paths i item c.paths-test.true c.args.unknown.now.items c.paths.unknown.items w.push_line.new.lines.items w.deref-in-None.result.now is
-                (w.deref-in-None.ensures.value ∙ ap (λ v. v.items) c.path-item.is) w.in_ok-push_line-in-None.ensures c.paths.invariant.unknown;
             known = subst (λ v. All (λ f. f.0 < length files) v.items) (sym w.files-is) c.paths.invariant.known;
           }
     ]

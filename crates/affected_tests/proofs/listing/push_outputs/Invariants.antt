@@ -3,7 +3,7 @@ use Rattle.std.specs.List.{flat_map}
 use Rattle.nj_graph.specs.Files.{path_at}
 use Rattle.nj_graph.specs.Graph.{files_of}
 use Rattle.affected_tests.specs.AffectedTests.{line_of_test}
-use Rattle.affected_tests.proofs.push_outputs.Given as goal
+use Rattle.affected_tests.proofs.listing.push_outputs.Given as goal
 
 abbrev pub invariant-paths : goal.invariant-paths
 invariant-paths l =
