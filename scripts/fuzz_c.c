@@ -33,10 +33,13 @@
 enum { MOST_CALLS = 64, STATUSES = 16, VALUES = 256 };
 enum subject { FAULT_KIND, FAULT_TEXT, RUN_TEXT, SIZE, EDGE, SUBJECTS };
 
-/* libFuzzer takes each byte that is set here for something new. */
-__attribute__((section("__libfuzzer_extra_counters"))) static uint8_t
+/* libFuzzer takes each byte that is set here for something new. Nothing else reads them, so the
+   compiler would leave them out if they were not volatile. */
+__attribute__((section("__libfuzzer_extra_counters"))) static volatile uint8_t
     seen[MOST_CALLS * STATUSES + SUBJECTS * VALUES];
 static size_t made[MOST_CALLS];
+/* The kinds of faults that came. */
+static uint8_t has_come[VALUES];
 
 /* Counts a call by its number. */
 static int32_t counted(size_t call, int32_t status)
@@ -64,8 +67,8 @@ static int told(const char *format, ...);
 
 _Static_assert(sizeof call_names / sizeof *call_names <= MOST_CALLS, "there are more calls");
 
-/* Prints what c_calls.c prints, but for what is known: by the header nx_command is empty for a phony
-   edge, and by a row of graphs.rows it is what its block binds to `command`, which it is. */
+/* Prints what c_calls.c prints, but for what is known: nx_command is empty for a phony edge by the
+   header, and by a row of graphs.rows it is what its block binds to `command`, as it is indeed. */
 static int told(const char *format, ...)
 {
     char line[256];
@@ -80,12 +83,17 @@ static int told(const char *format, ...)
     return printf("%s", line);
 }
 
-/* Prints how many times each call was made. */
+/* Prints how many times each call was made, and which faults came. */
 __attribute__((destructor)) static void tell(void)
 {
     printf("calls:");
     for (size_t call = 0; call < sizeof call_names / sizeof *call_names; call++)
         printf(" %s=%zu", call_names[call], made[call]);
+    printf("\nfaults:");
+    for (int kind = 0; kind < VALUES; kind++) {
+        if (has_come[kind])
+            printf(" %d", kind);
+    }
     printf("\n");
 }
 
@@ -371,9 +379,15 @@ static void note_fault(void)
     if (nx_fault_kind(&session, &kind) != NX_DONE)
         return;
     note(FAULT_KIND, (size_t)kind);
+    has_come[(uint32_t)kind % VALUES] = 1;
     unsigned given_line = OF(DONE) | OF(NOTHING) | OF(OUT_OF_MEMORY);
     if (TEXT(if_open, give_fault_line, 0, given_line) == NX_DONE)
         note(FAULT_TEXT, shape_of(given, given_length));
+#ifdef PLANTED
+    size_t line = 0, column = 0;
+    if (nx_fault_place(&session, &line, &column) == NX_DONE)
+        expect(column < 50, "nx_fault_place", "planted, column", (long long)column);
+#endif
 }
 
 static void note_size(size_t what, size_t size)
@@ -402,9 +416,6 @@ static void try_numbers(size_t edge)
         has |= 32;
     }
     note(EDGE, has);
-#ifdef PLANTED
-    expect(at < 3, "nx_validation", "planted, validations", (long long)at);
-#endif
 }
 
 static void count_all(void)
@@ -640,8 +651,10 @@ static void pick(struct text argument)
     unsigned picked = OF(DONE) | OF(FAULT) | OF(OUT_OF_MEMORY);
     int32_t status =
         IF_LOADED(picked, nx_pick_target(&session, argument.bytes, argument.length, &file));
-    if (status == NX_FAULT)
+    if (status == NX_FAULT) {
         try_fault(1);
+        note_fault();
+    }
     if (status != NX_DONE)
         return;
     expect(file < file_count, "nx_pick_target", "file", (long long)file);

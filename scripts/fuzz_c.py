@@ -53,7 +53,7 @@ def compiler():
     """The path of clang, which has libFuzzer."""
     clang = shutil.which(os.environ.get("CLANG", "clang"))
     if not clang:
-        raise Missing("there is no clang; on Debian, `apt-get install clang` gives one")
+        raise Missing("there is no clang; on Debian, `apt-get install clang` gives it")
     with tempfile.TemporaryDirectory() as folder:
         words = [clang, "-fsanitize=fuzzer", "-xc", "-", "-o", f"{folder}/empty"]
         ran = subprocess.run(words, input=EMPTY, capture_output=True, text=True)
@@ -247,7 +247,8 @@ def write_dictionary():
 EXECUTED = re.compile(r"^stat::number_of_executed_units: +(\d+)", re.M)
 KEPT = re.compile(r"Test unit written to (.*)$", re.M)
 WRONG = re.compile(r"^project \d+, allocation \d+: (.*)$|ERROR: (libFuzzer: .*)$", re.M)
-MADE = re.compile(r"^calls:(.*)$", re.M)
+MADE, FAULTS = re.compile(r"^calls:(.*)$", re.M), re.compile(r"^faults:(.*)$", re.M)
+COUNTERS = " Extra Counters\n"
 LAST_LINES = 15
 
 
@@ -267,6 +268,11 @@ class Run:
         found = MADE.search(self.log)
         counts = (word.split("=") for word in found[1].split()) if found else ()
         return {name: int(count) for name, count in counts}
+
+    def faults(self):
+        """The kinds of faults that came."""
+        found = FAULTS.search(self.log)
+        return set(found[1].split()) if found else set()
 
     def kept(self):
         """The file that has the input on which it ended."""
@@ -300,8 +306,10 @@ def text_of(log):
 
 
 def problems(fuzzer, runs):
-    """What the processes found."""
+    """What the processes found, and whether what calls return counted as coverage."""
     for each in runs:
+        if COUNTERS not in each.log:
+            yield "libFuzzer has no counters of what calls return"
         if each.status == 0:
             continue
         yield from each.reasons()
@@ -328,13 +336,14 @@ def fuzz(clang, seconds, jobs):
     runs = run(fuzzer, seconds, jobs, CORPUS, FOLDER)
     taken, executed = time.monotonic() - start, sum(each.executed() for each in runs)
     crashes = sum(each.status != 0 for each in runs)
-    print(f"fuzz_c: {executed:,} inputs in {taken:.0f} s by {jobs} processes, from {seeds} seeds, ", end="")
-    print(f"and {crashes} crashes")
+    tried = f"{executed:,} inputs in {taken:.0f} s, processes: {jobs}, seeds: {seeds}"
+    print(f"fuzz_c: {tried}, crashes: {crashes}")
     wrong, calls = list(problems(fuzzer, runs)), total(runs)
     if calls:
         least = min(calls, key=calls.get)
+        kinds = len(set().union(*(each.faults() for each in runs)))
         made = f"{sum(calls.values()):,} calls, fewest of {least}, {calls[least]:,}"
-        print(f"fuzz_c: {made}")
+        print(f"fuzz_c: {made}; faults of {kinds} kinds")
         wrong += [f"{name} was never called" for name, count in calls.items() if not count]
     for each in wrong:
         print(f"fuzz_c: {each}")
