@@ -1,8 +1,9 @@
 """Runs audit-build on real projects.
 
-The projects are examples/project, two that have what is odd many times and, where CMake is
-installed, what it writes for examples/cmake. What is wanted follows from what `ninja-explain -t
-targets`, `query`, `commands` and `rules` write of them, and from the lines of their manifests.
+The projects are examples/project, two with findings of some kinds, one with many of each kind and,
+where CMake is installed, what it writes for examples/cmake. What is wanted follows from what
+`ninja-explain -t targets`, `query`, `commands` and `rules` write of them, and from the lines of
+their manifests.
 """
 
 import json
@@ -17,6 +18,22 @@ PROJECT = EXAMPLES / "project"
 # The statuses of audit-build.
 DONE, FAULT, USAGE, FOUND = range(4)
 EDGES = 20_000
+# The kinds in their order, and whether they are on by default.
+KINDS = {
+    "unused-output": False, "missing-source": True, "unused-rule": False, "unused-pool": False,
+    "unused-variable": False, "repeated-command": True, "depfile-without-deps": True,
+    "repeated-input": False,
+}
+# What is asked for: the words of `--only`, and those of `--except`.
+ASKED = [
+    ([], []),
+    *(([kind], []) for kind in KINDS),
+    *(([], [kind]) for kind in KINDS),
+    (["repeated-input", "unused-output", "missing-source", "repeated-input"], []),
+    (["unused-output", "missing-source"], ["missing-source", "unused-rule"]),
+    (list(KINDS), ["unused-output", "repeated-command"]),
+    (["missing-source"], ["missing-source"]),
+]
 LINE = re.compile(r"(.+):(\d+):(\d+): ([a-z ]+) '(.*)'")
 NAME = re.compile(r"\$\{?(\w+)")
 KNOWN = set("""command depfile deps description dyndep generator in in_newline msvc_deps_prefix out
@@ -81,7 +98,7 @@ def edges_of(program, folder):
 
 
 def wanted_of(program, folder, defaults):
-    """What is odd, as pairs of kinds and names. No pool of the projects is unused."""
+    """The findings, as pairs of kinds and names. No pool of the projects is unused."""
     edges, files = edges_of(program, folder)
     rules, blocks = statements(folder)
     wanted, commands = [], set()
@@ -107,9 +124,34 @@ def wanted_of(program, folder, defaults):
     return Counter((kind, name) for kind, name in wanted if (kind, name) != ("unused rule", "phony"))
 
 
+def as_object(line):
+    """What a line is in JSON, where kinds have their names."""
+    file, number, column, words, name = LINE.fullmatch(line).groups()
+    place = {"file": file, "line": int(number), "column": int(column)}
+    return {**place, "kind": words.replace(" ", "-"), "name": name}
+
+
+def options(only, without):
+    return [f"--only={kind}" for kind in only] + [f"--except={kind}" for kind in without]
+
+
+def asked_differs(audit, folder, whole, only, without):
+    """What is written for some kinds, plain and in JSON: their lines among those of all kinds."""
+    words, name = options(only, without), f"only {only}, except {without}"
+    taken = set(only or (kind for kind, is_default in KINDS.items() if is_default)) - set(without)
+    lines = [line for line in whole if as_object(line)["kind"] in taken]
+    status = FOUND if lines else DONE
+    text = "".join(f"{line}\n" for line in lines)
+    yield from expect(name, run(audit, folder, words), (status, text, ""))
+    ran = run(audit, folder, ["--json", *words])
+    yield from expect(f"{name}, JSON", (ran.status, ran.error), (status, ""))
+    found = [json.loads(line) for line in ran.output.splitlines()]
+    yield from expect(f"{name}, lines of JSON", found, [as_object(line) for line in lines])
+
+
 def audit_differs(audit, folder, wanted):
-    """The plain lines and those in JSON; each is at a statement, and their kinds are in order."""
-    status, output, error = run(audit, folder, [])
+    """The lines of all kinds, each at a statement, and those of some kinds."""
+    status, output, error = run(audit, folder, options(KINDS, []))
     yield from expect("plain", (status, error), (FOUND if wanted else DONE, ""))
     lines = [LINE.fullmatch(line).groups() for line in output.splitlines()]
     yield from expect("lines", Counter((kind, name) for _, _, _, kind, name in lines), wanted)
@@ -118,21 +160,18 @@ def audit_differs(audit, folder, wanted):
         starts = {"unused rule": f"rule {found}", "unused pool": f"pool {found}"}
         if not text.startswith(starts.get(kind, "build ")):
             yield f"there is no statement for '{kind}' at line {line}"
-    status, output, error = run(audit, folder, ["--json"])
-    yield from expect("JSON", (status, error), (FOUND if wanted else DONE, ""))
-    keys = ("file", "line", "column", "kind", "name")
-    found = [tuple(str(json.loads(line)[key]) for key in keys) for line in output.splitlines()]
-    yield from expect("lines of JSON", found, lines)
+    for only, without in ASKED:
+        yield from asked_differs(audit, folder, output.splitlines(), only, without)
 
 
-# What is odd in examples/project, by hand: the test is no input, and there are no sources.
+# The findings in examples/project, by hand: the test is no input, and there are no sources.
 SOURCES = ["main.c", "text/lines.c", "text/words.c", "text/words_test.c"]
-ODD_IN_PROJECT = [("unused output", "test"), *(("missing source", path) for path in SOURCES)]
+IN_PROJECT = [("unused output", "test"), *(("missing source", path) for path in SOURCES)]
 
 
 @check
 def project(audit, program):
-    wanted = Counter(ODD_IN_PROJECT)
+    wanted = Counter(IN_PROJECT)
     yield from audit_differs(audit, PROJECT, wanted)
     yield from expect("by query", wanted_of(program, PROJECT, {"out/count"}), wanted)
 
@@ -177,21 +216,62 @@ def many_of_each_kind(audit, folder):
         "depfile without deps": EDGES, "repeated input": 2 * EDGES - 2,
     }
     write_files(folder, {"build.ninja": "".join(lines).encode()})
-    status, output, error = run(audit, folder, [])
+    status, output, error = run(audit, folder, options(KINDS, []))
     yield from expect("many", (status, error), (FOUND, ""))
-    kinds = [LINE.fullmatch(line)[4] for line in output.splitlines()]
+    lines = output.splitlines()
+    kinds = [LINE.fullmatch(line)[4] for line in lines]
     yield from expect("many", list(Counter(kinds).items()), list(wanted.items()))
+    yield from asked_differs(audit, folder, lines, [], [])
+
+
+@check
+def listed(audit, folder):
+    """`--list` and `--help` read no file: the folder is empty."""
+    for words in ["--list"], ["--json", "--list", "-f", "none.ninja", "--only", "nothing"]:
+        status, output, error = run(audit, folder, words)
+        yield from expect(words, (status, error), (DONE, ""))
+        found = re.findall(r"^(.+), (on|off) by default: \w.*$", output, re.M)
+        wanted = [(kind, "on" if is_default else "off") for kind, is_default in KINDS.items()]
+        yield from expect(words, found, wanted)
+        yield from expect(f"{words}, lines", output.count("\n"), len(KINDS))
+    for word in "-h", "--help":
+        status, output, error = run(audit, folder, [word])
+        yield from expect(word, (status, error), (DONE, ""))
+        found = re.findall(r"^ +(-\w|--[\w-]+)", output.replace("-h, ", ""), re.M)
+        wanted = ["-f", "--only", "--except", "--json", "--list", "--help"]
+        yield from expect(f"options of {word}", found, wanted)
+
+
+def unknown(word):
+    text = f"audit-build: unknown kind '{word}'; audit-build --list lists the kinds\n"
+    return USAGE, "", text
 
 
 @check
 def refusals(audit):
-    usage = (USAGE, "", "usage: audit-build [-f FILE] [--json]\n")
-    yield from expect("words", run(audit, PROJECT, ["--nothing"]), usage)
+    for words in ["--nothing"], ["--only"], ["--except"], ["some"], ["-f", "a", "-f", "b"]:
+        status, output, error = run(audit, PROJECT, words)
+        yield from expect(words, (status, output), (USAGE, ""))
+        yield from expect(f"{words}, text", error.startswith("error: "), True)
+    for option in "--only", "--except":
+        for word in "unused output", "Unused-output", "":
+            words = ["--only", "unused-rule", option, word, "-f", "none.ninja"]
+            yield from expect(words, run(audit, PROJECT, words), unknown(word))
+    words = ["--except", "b", "--only", "unused-rule", "--only", "a"]
+    yield from expect("two unknown kinds", run(audit, PROJECT, words), unknown("a"))
     missing = "audit-build: none.ninja:1:1: cannot find 'none.ninja'\n"
     yield from expect("no file", run(audit, PROJECT, ["-f", "none.ninja"]), (FAULT, "", missing))
-    with open("/dev/full", "wb") as full:
-        ran = audit.run([], PROJECT, output=full)
-    yield from expect("full output", (ran.status, ran.error.count(b"\n")), (FAULT, 1))
+
+
+@check
+def outputs(audit):
+    """Outputs that are full or closed."""
+    for words in [], ["--json"], ["--list"], ["--help"]:
+        with open("/dev/full", "wb") as full:
+            ran = audit.run(words, PROJECT, output=full)
+        yield from expect(f"full, {words}", (ran.status, ran.error.count(b"\n")), (FAULT, 1))
+        ran = audit.run_by_shell(words, PROJECT, after=">&-")
+        yield from expect(f"closed, {words}", (ran.status, ran.error.count(b"\n")), (FAULT, 1))
 
 
 @check(needs=["cmake", "ninja", "cc"])

@@ -1,3 +1,5 @@
 pub mod ListLemmas
 pub mod NameLemmas
 pub mod MarkLemmas
+pub mod KindLemmas
+mod KindRows

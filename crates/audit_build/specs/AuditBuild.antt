@@ -1,16 +1,25 @@
--- What is odd in a manifest. Lists are in reading order.
-use Rattle.std.specs.Prelude.{◌≡◌, ℕ, ◌==◌, Bool, false, ◌&&◌, not, if◌then◌else◌, Option, Some, None, option_map, option_and_then, unwrap_or, is_some, List, [], ◌∷◌, ◌++◌, codes, map, take, length, slice_get, slice_index_or}
+-- The findings about a manifest, kind by kind. Lists are in reading order.
+use Rattle.std.specs.Prelude.{◌≡◌, ℕ, ◌==◌, Bool, false, ◌&&◌, not, if◌then◌else◌}
+use Rattle.std.specs.Prelude.{Option, Some, None, is_some, option_and_then, option_map, unwrap_or}
+use Rattle.std.specs.Prelude.{List, [], ◌∷◌, ◌++◌, codes, length, map, take}
+use Rattle.std.specs.Prelude.{slice_get, slice_index_or}
 use Rattle.std.specs.List.{filter, filter_map, flat_map, list_any, range_with_len}
 use Rattle.nj_text.specs.Words.{PartText, Text, Name}
 use Rattle.nj_scope.specs.ReadingList.{ReadStatement}
 use Rattle.nj_scope.specs.Rules.{RuleText, phony_rule}
-use Rattle.nj_graph.specs.Edges.{EdgePaths, edge_at, first_output, inputs_of, is_among, maker_of, outputs_of, users_of, validation_users_of}
+use Rattle.nj_graph.specs.Edges.{EdgePaths, edge_at, first_output, inputs_of, is_among, maker_of}
+use Rattle.nj_graph.specs.Edges.{outputs_of, users_of, validation_users_of}
 use Rattle.nj_graph.specs.Built.{defaults_in_force, detail_at}
 use Rattle.nj_statements.specs.EdgeList.{assigned_at, assigned_read, block_names_at, edges_read}
 use Rattle.nj_graph.specs.Graph.{GraphText, edges_of, files_of, late_text_of}
 use Rattle.nj_graph.specs.Origins.{rule_place_at}
 use Rattle.audit_build.specs.Findings.{FindingText, edge_finding}
-use Rattle.audit_build.specs.declared.findings.Oddity.TheVariants.{UnusedOutput, MissingSource, UnusedRule, UnusedPool, UnusedVariable, RepeatedCommand, LoneDepfile, RepeatedInput}
+use Rattle.audit_build.specs.Kinds.{contains}
+use Rattle.audit_build.specs.declared.kinds.Kind.TheVariants.{UnusedOutput, MissingSource}
+use Rattle.audit_build.specs.declared.kinds.Kind.TheVariants.{UnusedRule, UnusedPool}
+use Rattle.audit_build.specs.declared.kinds.Kind.TheVariants.{UnusedVariable, RepeatedCommand}
+use Rattle.audit_build.specs.declared.kinds.Kind.TheVariants.{DepfileWithoutDeps, RepeatedInput}
+use Rattle.audit_build.specs.declared.kinds.Kinds.{Kinds}
 
 -- the numbers below this one
 abbrev pub numbers : ℕ → List ℕ
@@ -34,10 +43,13 @@ defaults_of g = defaults_in_force g.built.defaults (edges_of g)
 -- no edge has it as an input or as a validation, and it is not among the defaults
 abbrev pub is_unused_output : GraphText → (path : List ℕ) → Bool
 is_unused_output g path =
-    length (users_of (edges_of g) path) == 0 && length (validation_users_of (edges_of g) path) == 0 && not (is_among (defaults_of g) path)
+    length (users_of (edges_of g) path) == 0 && length (validation_users_of (edges_of g) path) == 0
+    && not (is_among (defaults_of g) path)
 
 abbrev pub unused_outputs_at : GraphText → (edge : ℕ) → List FindingText
-unused_outputs_at g edge = map (edge_finding g edge UnusedOutput) (filter (is_unused_output g) (outputs_of (paths_at g edge)))
+unused_outputs_at g edge =
+    map (edge_finding g edge UnusedOutput)
+    (filter (is_unused_output g) (outputs_of (paths_at g edge)))
 
 abbrev pub unused_outputs : GraphText → List FindingText
 unused_outputs g = flat_map (unused_outputs_at g) (edge_numbers g)
@@ -55,7 +67,8 @@ user_of_missing g missing file =
 
 abbrev pub missing_source : GraphText → (missing : List Bool) → (file : ℕ) → Option FindingText
 missing_source g missing file =
-    option_map (λ edge. edge_finding g edge MissingSource (path_of g file)) (user_of_missing g missing file)
+    option_map (λ edge. edge_finding g edge MissingSource (path_of g file))
+    (user_of_missing g missing file)
 
 -- the files are in the order in which the statements name them first
 abbrev pub missing_sources : GraphText → (missing : List Bool) → List FindingText
@@ -76,7 +89,9 @@ rule_of_number g rule = slice_index_or g.declarations.rules rule phony_rule
 abbrev pub unused_rule : GraphText → (rule : ℕ) → Option FindingText
 unused_rule g rule =
     if is_used_rule g rule then None
-    else option_map (λ place. record { place = place; oddity = UnusedRule; name = (rule_of_number g rule).name }) (rule_place_at g.origins.rules rule)
+    else option_map (λ place.
+    record { place = place; kind = UnusedRule; name = (rule_of_number g rule).name })
+    (rule_place_at g.origins.rules rule)
 
 abbrev pub unused_rules : GraphText → List FindingText
 unused_rules g = filter_map (unused_rule g) (numbers (length g.declarations.rules))
@@ -84,12 +99,14 @@ unused_rules g = filter_map (unused_rule g) (numbers (length g.declarations.rule
 -- ---- pools that no edge uses
 
 abbrev pub pools_of_edges : GraphText → List ReadStatement → List (List ℕ)
-pools_of_edges g entries = filter_map (λ edge. (assigned_at (assigned_read entries) edge).pool) (edge_numbers g)
+pools_of_edges g entries =
+    filter_map (λ edge. (assigned_at (assigned_read entries) edge).pool) (edge_numbers g)
 
 abbrev pub unused_pool : GraphText → List ReadStatement → (pool : ℕ) → Option FindingText
 unused_pool g entries pool = option_and_then (λ name.
     if is_among (pools_of_edges g entries) name then None
-    else option_map (λ p. record { place = p.place; oddity = UnusedPool; name = name }) (slice_get g.origins.pools pool))
+    else option_map (λ p. record { place = p.place; kind = UnusedPool; name = name })
+    (slice_get g.origins.pools pool))
     (slice_get g.declarations.pools pool)
 
 abbrev pub unused_pools : GraphText → List ReadStatement → List FindingText
@@ -100,9 +117,9 @@ unused_pools g entries = filter_map (unused_pool g entries) (numbers (length g.d
 -- the names that mean something to Ninja itself
 abbrev pub known_names : List (List ℕ)
 known_names =
-    codes "command" ∷ codes "depfile" ∷ codes "deps" ∷ codes "description" ∷ codes "dyndep" ∷ codes "generator" ∷ codes "in"
-    ∷ codes "in_newline" ∷ codes "msvc_deps_prefix" ∷ codes "out" ∷ codes "pool" ∷ codes "restat" ∷ codes "rspfile"
-    ∷ codes "rspfile_content" ∷ []
+    codes "command" ∷ codes "depfile" ∷ codes "deps" ∷ codes "description" ∷ codes "dyndep"
+    ∷ codes "generator" ∷ codes "in" ∷ codes "in_newline" ∷ codes "msvc_deps_prefix" ∷ codes "out"
+    ∷ codes "pool" ∷ codes "restat" ∷ codes "rspfile" ∷ codes "rspfile_content" ∷ []
 
 abbrev pub is_known : (name : List ℕ) → Bool
 is_known name = is_among known_names name
@@ -124,11 +141,13 @@ rule_at g edge = rule_of_number g (rule_number g edge)
 
 -- neither does a line of the edge's rule refer to it, nor does it mean something to Ninja itself
 abbrev pub is_unused_variable : GraphText → (edge : ℕ) → (name : List ℕ) → Bool
-is_unused_variable g edge name = not (is_known name) && not (is_among (references_of (rule_at g edge)) name)
+is_unused_variable g edge name =
+    not (is_known name) && not (is_among (references_of (rule_at g edge)) name)
 
 -- the findings about names that the block of an edge binds
 abbrev pub unused_names : GraphText → (edge : ℕ) → (names : List (List ℕ)) → List FindingText
-unused_names g edge names = map (edge_finding g edge UnusedVariable) (filter (is_unused_variable g edge) names)
+unused_names g edge names =
+    map (edge_finding g edge UnusedVariable) (filter (is_unused_variable g edge) names)
 
 abbrev pub unused_variables_at : GraphText → List ReadStatement → (edge : ℕ) → List FindingText
 unused_variables_at g entries edge = unused_names g edge (block_names_at (edges_read entries) edge)
@@ -138,7 +157,8 @@ unused_variables g entries = flat_map (unused_variables_at g entries) (edge_numb
 
 -- names are those to which the lines of a rule refer, in any order
 abbrev pub HasReferences : (names : List (List ℕ)) → RuleText → Type 0
-HasReferences names rule = (name : List ℕ) → is_among names name ≡ is_among (references_of rule) name
+HasReferences names rule =
+    (name : List ℕ) → is_among names name ≡ is_among (references_of rule) name
 
 -- ---- edges with the command of an earlier edge
 
@@ -157,33 +177,40 @@ abbrev pub commands_before : GraphText → List ReadStatement → (edge : ℕ) �
 commands_before g entries edge = flat_map (commands_at g entries) (numbers edge)
 
 abbrev pub repeats_command : GraphText → List ReadStatement → (edge : ℕ) → Bool
-repeats_command g entries edge = has_command g edge && is_among (commands_before g entries edge) (command_of entries edge)
+repeats_command g entries edge =
+    has_command g edge && is_among (commands_before g entries edge) (command_of entries edge)
 
 abbrev pub repeated_commands : GraphText → List ReadStatement → List FindingText
 repeated_commands g entries =
-    map (λ edge. edge_finding g edge RepeatedCommand (first_output_at g edge)) (filter (repeats_command g entries) (edge_numbers g))
+    map (λ edge. edge_finding g edge RepeatedCommand (first_output_at g edge))
+    (filter (repeats_command g entries) (edge_numbers g))
 
 -- ---- edges with a depfile that stays on the disk
 
-abbrev pub has_lone_depfile : List ReadStatement → (edge : ℕ) → Bool
-has_lone_depfile entries edge =
-    not (length (late_text_of entries edge (codes "depfile")) == 0) && length (late_text_of entries edge (codes "deps")) == 0
+abbrev pub has_depfile_without_deps : List ReadStatement → (edge : ℕ) → Bool
+has_depfile_without_deps entries edge =
+    not (length (late_text_of entries edge (codes "depfile")) == 0)
+    && length (late_text_of entries edge (codes "deps")) == 0
 
-abbrev pub lone_depfiles : GraphText → List ReadStatement → List FindingText
-lone_depfiles g entries =
-    map (λ edge. edge_finding g edge LoneDepfile (first_output_at g edge)) (filter (has_lone_depfile entries) (edge_numbers g))
+abbrev pub depfiles_without_deps : GraphText → List ReadStatement → List FindingText
+depfiles_without_deps g entries =
+    map (λ edge. edge_finding g edge DepfileWithoutDeps (first_output_at g edge))
+    (filter (has_depfile_without_deps entries) (edge_numbers g))
 
 -- ---- inputs that an edge has more than once
 
 -- the path at an index, if it is among those before it
 abbrev pub repeated_path : (paths : List (List ℕ)) → (index : ℕ) → Option (List ℕ)
-repeated_path paths index = option_and_then (λ path. if is_among (take index paths) path then Some path else None) (slice_get paths index)
+repeated_path paths index =
+    option_and_then (λ path. if is_among (take index paths) path then Some path else None)
+    (slice_get paths index)
 
 abbrev pub repeated_paths : (paths : List (List ℕ)) → List (List ℕ)
 repeated_paths paths = filter_map (repeated_path paths) (numbers (length paths))
 
 abbrev pub repeated_inputs_at : GraphText → (edge : ℕ) → List FindingText
-repeated_inputs_at g edge = map (edge_finding g edge RepeatedInput) (repeated_paths (inputs_of (paths_at g edge)))
+repeated_inputs_at g edge =
+    map (edge_finding g edge RepeatedInput) (repeated_paths (inputs_of (paths_at g edge)))
 
 abbrev pub repeated_inputs : GraphText → List FindingText
 repeated_inputs g = flat_map (repeated_inputs_at g) (edge_numbers g)
@@ -192,5 +219,10 @@ repeated_inputs g = flat_map (repeated_inputs_at g) (edge_numbers g)
 
 abbrev pub all_findings : GraphText → List ReadStatement → (missing : List Bool) → List FindingText
 all_findings g entries missing =
-    unused_outputs g ++ missing_sources g missing ++ unused_rules g ++ unused_pools g entries ++ unused_variables g entries
-    ++ repeated_commands g entries ++ lone_depfiles g entries ++ repeated_inputs g
+    unused_outputs g ++ missing_sources g missing ++ unused_rules g ++ unused_pools g entries
+    ++ unused_variables g entries ++ repeated_commands g entries ++ depfiles_without_deps g entries
+    ++ repeated_inputs g
+
+-- those of the kinds that are asked for
+abbrev pub findings_asked_for : Kinds → List FindingText → List FindingText
+findings_asked_for kinds found = filter (λ f. contains kinds f.kind) found

@@ -4,9 +4,11 @@ ghost use Rattle.std.specs.Prelude.{◌≡◌, ◌&&◌, ◌++◌, ◌<◌, ℕ,
 ghost use Rattle.nj_scope.specs.ReadingList.{ReadStatement};
 ghost use Rattle.nj_graph.specs.Edges.{is_among};
 ghost use Rattle.nj_graph.specs.Graph.{IsGraphOf, edges_of};
-ghost use Rattle.audit_build.specs.AuditBuild.{command_of, commands_at, has_command, repeated_commands};
+ghost use Rattle.audit_build.specs.AuditBuild.{command_of, commands_at, has_command};
+ghost use Rattle.audit_build.specs.AuditBuild.{repeated_commands};
 
-use crate::findings::{Findings, Oddity};
+use crate::findings::Findings;
+use crate::kinds::Kind;
 use crate::names::Names;
 use crate::outputs::first_output;
 use nj_graph::{EdgeNo, Graph};
@@ -28,7 +30,7 @@ pub fn find_repeated_commands<'a>(
             found.push_at(
                 graph,
                 edge,
-                Oddity::RepeatedCommand,
+                Kind::RepeatedCommand,
                 first_output(graph, edge),
             )?;
         }

@@ -1,36 +1,24 @@
-//! What is odd, and where.
+//! What is found, and where.
 
 ghost use Rattle.std.specs.Prelude.{◌≡◌, [], ◌∷◌, ◌++◌, ◌<◌, OnOk, length, map};
 ghost use Rattle.nj_graph.specs.Graph.{edges_of};
 ghost use Rattle.nj_graph.specs.Origins.{place_text};
 ghost use Rattle.audit_build.specs.Findings.{edge_finding, finding_text};
 
+use crate::kinds::Kind;
 use nj_graph::{EdgeNo, Graph, PlaceRef};
 use std::alloc::{AllocError, Global};
 use std::marker::Model;
 
-/// A kind of what is odd.
-#[derive(Clone, Copy)]
-pub enum Oddity {
-    UnusedOutput,
-    MissingSource,
-    UnusedRule,
-    UnusedPool,
-    UnusedVariable,
-    RepeatedCommand,
-    LoneDepfile,
-    RepeatedInput,
-}
-
-/// What is odd at the statement of a place, and which name it is about.
+/// What is found at the statement of a place, and which name it is about.
 #[derive(Clone, Copy)]
 pub struct Finding<'a> {
     pub place: PlaceRef<'a>,
-    pub oddity: Oddity,
+    pub kind: Kind,
     pub name: &'a [u8],
 }
 
-/// What is odd in a manifest.
+/// Findings about a manifest.
 #[derive(Drop)]
 pub struct Findings<'a> {
     list: Vec<Finding<'a>>,
@@ -46,7 +34,7 @@ impl<'a> Model for Findings<'a> {
 }
 
 impl<'a> Findings<'a> {
-    /// Nothing.
+    /// No findings.
     pub fn new(alloc: Global) -> Findings<'a>
         ensures { result ≡ [] }
     {
@@ -55,46 +43,42 @@ impl<'a> Findings<'a> {
         }
     }
 
-    /// All of it, in order.
+    /// All of them, in order.
     pub fn as_slice(&self) -> &[Finding<'a>]
         ensures { map finding_text result.now ≡ self.now }
     {
         self.list.as_slice()
     }
 
-    /// Appends what is odd at the statement of a place.
+    /// Appends a finding at the statement of a place.
     pub fn push(
         &mut self,
         place: PlaceRef<'a>,
-        oddity: Oddity,
+        kind: Kind,
         name: &'a [u8],
     ) -> Result<(), AllocError>
         ensures { OnOk result (self.new ≡ self.old ++ record {
           place = place_text place.entry;
-          oddity = oddity;
+          kind = kind;
           name = name.entry.now;
         } ∷ []) }
     {
-        self.list.push(Finding {
-            place,
-            oddity,
-            name,
-        })?;
+        self.list.push(Finding { place, kind, name })?;
         Ok(())
     }
 
-    /// Appends what is odd at the statement of an edge.
+    /// Appends a finding at the statement of an edge.
     pub fn push_at(
         &mut self,
         graph: &'a Graph,
         edge: EdgeNo,
-        oddity: Oddity,
+        kind: Kind,
         name: &'a [u8],
     ) -> Result<(), AllocError>
         requires { edge.0 < length (edges_of graph.now) }
         ensures { OnOk result (self.new ≡ self.old
-            ++ edge_finding graph.entry.now edge.0 oddity name.entry.now ∷ []) }
+            ++ edge_finding graph.entry.now edge.0 kind name.entry.now ∷ []) }
     {
-        self.push(graph.edge_place(edge), oddity, name)
+        self.push(graph.edge_place(edge), kind, name)
     }
 }

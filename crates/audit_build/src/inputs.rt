@@ -4,7 +4,8 @@ ghost use Rattle.std.specs.Prelude.{◌≡◌, ◌++◌, ◌<◌, OnOk, length};
 ghost use Rattle.nj_graph.specs.Graph.{edges_of};
 ghost use Rattle.audit_build.specs.AuditBuild.{repeated_inputs, repeated_inputs_at};
 
-use crate::findings::{Findings, Oddity};
+use crate::findings::Findings;
+use crate::kinds::Kind;
 use crate::names::Names;
 use nj_graph::{EdgeNo, Graph};
 use std::alloc::{AllocError, Global};
@@ -37,7 +38,7 @@ fn push_repeated_inputs<'a>(
     'inputs: for input in graph.inputs(edge) {
         let path = graph.path(*input);
         if !seen.add(path)? {
-            found.push_at(graph, edge, Oddity::RepeatedInput, path)?;
+            found.push_at(graph, edge, Kind::RepeatedInput, path)?;
         }
     }
     Ok(())

@@ -4,9 +4,11 @@ ghost use Rattle.std.specs.Prelude.{◌≡◌, ◌++◌, ◌<◌, ℕ, List, IfO
 ghost use Rattle.nj_graph.specs.Edges.{is_among};
 ghost use Rattle.nj_graph.specs.Files.{path_at};
 ghost use Rattle.nj_graph.specs.Graph.{edges_of, files_of};
-ghost use Rattle.audit_build.specs.AuditBuild.{defaults_of, first_output_at, is_unused_output, unused_outputs, unused_outputs_at};
+ghost use Rattle.audit_build.specs.AuditBuild.{defaults_of, first_output_at, is_unused_output};
+ghost use Rattle.audit_build.specs.AuditBuild.{unused_outputs, unused_outputs_at};
 
-use crate::findings::{Findings, Oddity};
+use crate::findings::Findings;
+use crate::kinds::Kind;
 use crate::names::Names;
 use nj_graph::{EdgeNo, FileNo, Graph};
 use std::alloc::{AllocError, Global};
@@ -53,7 +55,7 @@ fn push_unused_outputs<'a>(
 {
     'outputs: for output in graph.outputs(edge) {
         if is_unused(graph, *output, defaults) {
-            found.push_at(graph, edge, Oddity::UnusedOutput, graph.path(*output))?;
+            found.push_at(graph, edge, Kind::UnusedOutput, graph.path(*output))?;
         }
     }
     Ok(())

@@ -7,7 +7,8 @@ ghost use Rattle.nj_graph.specs.Edges.{is_among};
 ghost use Rattle.nj_graph.specs.Graph.{IsGraphOf};
 ghost use Rattle.audit_build.specs.AuditBuild.{pools_of_edges, unused_pool, unused_pools};
 
-use crate::findings::{Findings, Oddity};
+use crate::findings::Findings;
+use crate::kinds::Kind;
 use crate::names::Names;
 use nj_graph::{EdgeNo, Graph};
 use std::alloc::{AllocError, Global};
@@ -48,7 +49,7 @@ fn push_if_unused<'a>(
         return Ok(());
     }
     match graph.pool_place(pool) {
-        Some(place) => found.push(place, Oddity::UnusedPool, name),
+        Some(place) => found.push(place, Kind::UnusedPool, name),
         None => Ok(()),
     }
 }

@@ -1,10 +1,12 @@
 //! Rules that no edge uses.
 
-ghost use Rattle.std.specs.Prelude.{◌≡◌, ◌++◌, ◌<◌, ℕ, [], IfOk, OnOk, slice_index_or, length, false};
+ghost use Rattle.std.specs.Prelude.{◌≡◌, ◌++◌, ◌<◌, ℕ, [], IfOk, OnOk, false, length};
+ghost use Rattle.std.specs.Prelude.{slice_index_or};
 ghost use Rattle.std.specs.List.{cons_option};
 ghost use Rattle.audit_build.specs.AuditBuild.{is_used_rule, unused_rule, unused_rules};
 
-use crate::findings::{Findings, Oddity};
+use crate::findings::Findings;
+use crate::kinds::Kind;
 use nj_graph::{EdgeNo, Graph};
 use std::alloc::{AllocError, Global};
 
@@ -33,7 +35,7 @@ fn push_rule<'a>(graph: &'a Graph, rule: usize, found: &mut Findings<'a>) -> Res
         ≡ found.old ++ cons_option (unused_rule graph.entry.now rule) []) }
 {
     match graph.rule_place(rule) {
-        Some(place) => found.push(place, Oddity::UnusedRule, graph.rules()[rule].name()),
+        Some(place) => found.push(place, Kind::UnusedRule, graph.rules()[rule].name()),
         None => Ok(()),
     }
 }

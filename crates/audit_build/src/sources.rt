@@ -1,10 +1,12 @@
 //! Sources that are missing on the disk.
 
-ghost use Rattle.std.specs.Prelude.{◌≡◌, ◌++◌, ◌<◌, IfSome, OnOk, false, length, option_map, slice_index_or};
+ghost use Rattle.std.specs.Prelude.{◌≡◌, ◌++◌, ◌<◌, IfSome, OnOk, false, length};
+ghost use Rattle.std.specs.Prelude.{option_map, slice_index_or};
 ghost use Rattle.nj_graph.specs.Graph.{edges_of, files_of};
 ghost use Rattle.audit_build.specs.AuditBuild.{missing_sources, user_of_missing};
 
-use crate::findings::{Findings, Oddity};
+use crate::findings::Findings;
+use crate::kinds::Kind;
 use nj_graph::{EdgeNo, FileNo, Graph};
 use std::alloc::AllocError;
 
@@ -19,7 +21,7 @@ pub fn find_missing_sources<'a>(
     'files: for number in 0..graph.file_count() {
         let file = FileNo(number);
         if let Some(edge) = user_of_missing(graph, missing, file) {
-            found.push_at(graph, edge, Oddity::MissingSource, graph.path(file))?;
+            found.push_at(graph, edge, Kind::MissingSource, graph.path(file))?;
         }
     }
     Ok(())

@@ -5,10 +5,12 @@ ghost use Rattle.std.specs.List.{AllZip};
 ghost use Rattle.nj_scope.specs.ReadingList.{ReadStatement};
 ghost use Rattle.nj_graph.specs.Edges.{is_among};
 ghost use Rattle.nj_graph.specs.Graph.{IsGraphOf, edges_of};
-ghost use Rattle.audit_build.specs.AuditBuild.{is_known, names_in, rule_at, unused_names, unused_variables, unused_variables_at};
-ghost use Rattle.audit_build.specs.AuditBuild.{HasReferences};
+ghost use Rattle.audit_build.specs.AuditBuild.{HasReferences, is_known, names_in, rule_at};
+ghost use Rattle.audit_build.specs.AuditBuild.{unused_names, unused_variables};
+ghost use Rattle.audit_build.specs.AuditBuild.{unused_variables_at};
 
-use crate::findings::{Findings, Oddity};
+use crate::findings::Findings;
+use crate::kinds::Kind;
 use crate::names::Names;
 use nj_graph::{EdgeNo, Graph, LateValue, Part, Rule};
 use std::alloc::{AllocError, Global};
@@ -67,7 +69,7 @@ fn push_if_unused<'a>(
     if is_known(name) || references.has(name) {
         return Ok(());
     }
-    found.push_at(graph, edge, Oddity::UnusedVariable, name)
+    found.push_at(graph, edge, Kind::UnusedVariable, name)
 }
 
 /// The names to which the lines of each rule refer.

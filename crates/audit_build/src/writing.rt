@@ -1,11 +1,12 @@
 //! How findings are written.
 
-use crate::findings::{Finding, Oddity};
+use crate::findings::Finding;
+use crate::kinds::Kind;
 use serde_json::Value;
 use std::alloc::AllocError;
 use std::io::{self, Write};
 
-/// Appends a line: the place of the statement, what is odd, and the name in quotes.
+/// Appends a line: the place of the statement, the kind in words, and the name in quotes.
 pub fn append_line(text: &mut Vec<u8>, finding: &Finding<'_>) -> io::Result<()> {
     let spot = finding.place.spot;
     text.extend_from_slice(finding.place.file)?;
@@ -14,14 +15,14 @@ pub fn append_line(text: &mut Vec<u8>, finding: &Finding<'_>) -> io::Result<()> 
         ":{}:{}: {} '",
         spot.line,
         spot.column,
-        kind(finding.oddity)
+        finding.kind.phrase()
     )?;
     text.extend_from_slice(finding.name)?;
     text.extend_from_slice(b"'\n")?;
     Ok(())
 }
 
-/// Appends a line: the same as an object in JSON.
+/// Appends a line: an object in JSON with the place, the name of the kind, and the name.
 pub fn append_json(text: &mut Vec<u8>, finding: &Finding<'_>) -> io::Result<()> {
     let spot = finding.place.spot;
     text.extend_from_slice(b"{\"file\":")?;
@@ -31,11 +32,22 @@ pub fn append_json(text: &mut Vec<u8>, finding: &Finding<'_>) -> io::Result<()> 
         ",\"line\":{},\"column\":{},\"kind\":\"{}\",\"name\":",
         spot.line,
         spot.column,
-        kind(finding.oddity),
+        finding.kind.name(),
     )?;
     append_string(text, finding.name)?;
     text.extend_from_slice(b"}\n")?;
     Ok(())
+}
+
+/// Appends a line: the name of a kind, whether it is on by default, and what it means.
+pub fn append_kind(text: &mut Vec<u8>, kind: Kind) -> io::Result<()> {
+    let default = if kind.is_on_by_default() { "on" } else { "off" };
+    writeln!(
+        text,
+        "{}, {default} by default: {}",
+        kind.name(),
+        kind.meaning()
+    )
 }
 
 /// Appends a text as a string in JSON, with U+FFFD for what is not UTF-8.
@@ -44,18 +56,4 @@ fn append_string(text: &mut Vec<u8>, name: &[u8]) -> Result<(), AllocError> {
     let name = String::from_utf8_lossy(alloc, name)?;
     let string = Value::try_from_str(alloc, &name)?.to_vec(alloc)?;
     text.extend_from_slice(&string)
-}
-
-/// What is odd, in words.
-fn kind(oddity: Oddity) -> &'static str {
-    match oddity {
-        Oddity::UnusedOutput => "unused output",
-        Oddity::MissingSource => "missing source",
-        Oddity::UnusedRule => "unused rule",
-        Oddity::UnusedPool => "unused pool",
-        Oddity::UnusedVariable => "unused variable",
-        Oddity::RepeatedCommand => "repeated command",
-        Oddity::LoneDepfile => "depfile without deps",
-        Oddity::RepeatedInput => "repeated input",
-    }
 }

@@ -4,7 +4,7 @@ use Rattle.std.proofs.lemmas.Grind.{flat_map-append}
 use Rattle.nj_scope.specs.ReadingList.{ReadStatement}
 use Rattle.nj_graph.specs.Graph.{GraphText, edges_of}
 use Rattle.audit_build.specs.Findings.{FindingText, edge_finding}
-use Rattle.audit_build.specs.declared.findings.Oddity.TheVariants.{RepeatedCommand}
+use Rattle.audit_build.specs.declared.kinds.Kind.TheVariants.{RepeatedCommand}
 use Rattle.audit_build.specs.AuditBuild.{command_of, commands_at, commands_before, first_output_at, has_command, repeats_command}
 use Rattle.audit_build.proofs.ListLemmas.{all-numbers, filter-map-append, more-numbers, none-picked, numbers-append, one-picked, same}
 use Rattle.audit_build.proofs.NameLemmas.{AreNames, all-more}

@@ -3,7 +3,7 @@ use Rattle.std.specs.List.{filter}
 use Rattle.nj_scope.specs.ReadingList.{ReadStatement}
 use Rattle.nj_graph.specs.Graph.{IsGraphOf}
 use Rattle.audit_build.specs.Findings.{edge_finding}
-use Rattle.audit_build.specs.declared.findings.Oddity.TheVariants.{RepeatedCommand}
+use Rattle.audit_build.specs.declared.kinds.Kind.TheVariants.{RepeatedCommand}
 use Rattle.audit_build.specs.AuditBuild.{commands_before, first_output_at, numbers, repeats_command}
 use Rattle.audit_build.proofs.NameLemmas.{AreNames}
 use Rattle.audit_build.proofs.commands.find_repeated_commands.Given as goal

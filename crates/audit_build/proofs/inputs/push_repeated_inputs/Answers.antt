@@ -7,7 +7,7 @@ use Rattle.std.proofs.lemmas.Option.{slice_get-get_or, slice_get-map}
 use Rattle.nj_graph.specs.Edges.{inputs_of, is_among}
 use Rattle.nj_graph.specs.Graph.{GraphText, files_of}
 use Rattle.audit_build.specs.Findings.{FindingText, edge_finding}
-use Rattle.audit_build.specs.declared.findings.Oddity.TheVariants.{RepeatedInput}
+use Rattle.audit_build.specs.declared.kinds.Kind.TheVariants.{RepeatedInput}
 use Rattle.audit_build.specs.AuditBuild.{paths_at, repeated_path}
 use Rattle.audit_build.proofs.ListLemmas.{all-numbers, files-paths, map-append, more-numbers, none-found, one-found, same, take-next}
 use Rattle.audit_build.proofs.NameLemmas.{AreNames, one-more}

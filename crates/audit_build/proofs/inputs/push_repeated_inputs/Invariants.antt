@@ -3,7 +3,7 @@ use Rattle.std.specs.List.{filter_map}
 use Rattle.nj_graph.specs.Edges.{edge_at, inputs_of}
 use Rattle.nj_graph.specs.Graph.{edges_of}
 use Rattle.audit_build.specs.Findings.{edge_finding}
-use Rattle.audit_build.specs.declared.findings.Oddity.TheVariants.{RepeatedInput}
+use Rattle.audit_build.specs.declared.kinds.Kind.TheVariants.{RepeatedInput}
 use Rattle.audit_build.specs.AuditBuild.{numbers, repeated_path}
 use Rattle.audit_build.proofs.NameLemmas.{AreNames}
 use Rattle.audit_build.proofs.inputs.push_repeated_inputs.Given as goal

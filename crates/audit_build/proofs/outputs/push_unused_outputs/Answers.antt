@@ -5,7 +5,7 @@ use Rattle.nj_graph.specs.Edges.{outputs_of}
 use Rattle.nj_graph.specs.Files.{path_at}
 use Rattle.nj_graph.specs.Graph.{GraphText, files_of}
 use Rattle.audit_build.specs.Findings.{FindingText, edge_finding}
-use Rattle.audit_build.specs.declared.findings.Oddity.TheVariants.{UnusedOutput}
+use Rattle.audit_build.specs.declared.kinds.Kind.TheVariants.{UnusedOutput}
 use Rattle.audit_build.specs.AuditBuild.{is_unused_output, paths_at}
 use Rattle.audit_build.proofs.ListLemmas.{all-items, files-paths, filter-map-append, mapped-append, more-items, none-picked, one-picked, same}
 use Rattle.audit_build.proofs.outputs.push_unused_outputs.Goals as goal

@@ -3,7 +3,7 @@ use Rattle.std.specs.List.{filter}
 use Rattle.nj_graph.specs.Files.{path_at}
 use Rattle.nj_graph.specs.Graph.{files_of}
 use Rattle.audit_build.specs.Findings.{edge_finding}
-use Rattle.audit_build.specs.declared.findings.Oddity.TheVariants.{UnusedOutput}
+use Rattle.audit_build.specs.declared.kinds.Kind.TheVariants.{UnusedOutput}
 use Rattle.audit_build.specs.AuditBuild.{is_unused_output}
 use Rattle.audit_build.proofs.outputs.push_unused_outputs.Given as goal
 

@@ -3,7 +3,7 @@ use Rattle.std.specs.List.{filter_map}
 use Rattle.std.proofs.lemmas.List.Elements.{filter_map-append}
 use Rattle.nj_graph.specs.Graph.{files_of}
 use Rattle.audit_build.specs.Findings.{edge_finding}
-use Rattle.audit_build.specs.declared.findings.Oddity.TheVariants.{MissingSource}
+use Rattle.audit_build.specs.declared.kinds.Kind.TheVariants.{MissingSource}
 use Rattle.audit_build.specs.AuditBuild.{missing_source, path_of}
 use Rattle.audit_build.proofs.ListLemmas.{all-numbers, more-numbers, none-found, none-is, one-found, same}
 use Rattle.audit_build.proofs.sources.find_missing_sources.Goals as goal

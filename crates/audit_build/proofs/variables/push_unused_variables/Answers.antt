@@ -2,7 +2,7 @@ use Rattle.std.proofs.Common.{sym, ap, ◌∙◌, arith}
 use Rattle.std.specs.Prelude.{option_copied}
 use Rattle.nj_statements.specs.EdgeList.{block_names_at, edges_read}
 use Rattle.audit_build.specs.Findings.{edge_finding}
-use Rattle.audit_build.specs.declared.findings.Oddity.TheVariants.{UnusedVariable}
+use Rattle.audit_build.specs.declared.kinds.Kind.TheVariants.{UnusedVariable}
 use Rattle.audit_build.specs.AuditBuild.{is_unused_variable, unused_names}
 use Rattle.audit_build.proofs.ListLemmas.{all-items, filter-map-append, more-at, none-at, none-is}
 use Rattle.audit_build.proofs.variables.push_unused_variables.Goals as goal

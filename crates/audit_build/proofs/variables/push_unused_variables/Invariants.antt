@@ -4,7 +4,7 @@ use Rattle.nj_scope.specs.ReadingList.{ReadStatement}
 use Rattle.nj_statements.specs.EdgeList.{block_names_at, edges_read}
 use Rattle.nj_graph.specs.Graph.{IsGraphOf}
 use Rattle.audit_build.specs.Findings.{edge_finding}
-use Rattle.audit_build.specs.declared.findings.Oddity.TheVariants.{UnusedVariable}
+use Rattle.audit_build.specs.declared.kinds.Kind.TheVariants.{UnusedVariable}
 use Rattle.audit_build.specs.AuditBuild.{is_unused_variable}
 use Rattle.audit_build.proofs.variables.push_unused_variables.Given as goal
 

@@ -1,0 +1,2 @@
+-- How the code meets the definitions beside this folder.
+pub mod ByKind
