@@ -355,7 +355,8 @@ int32_t nx_edge_file(nx_session *session, size_t edge, void *buffer, size_t size
                      size_t *needed);
 
 /*
- * The command of an edge, as it is passed to a shell; empty for a phony one.
+ * The command of an edge, as it is passed to a shell. No phony edge is run: its command is what its
+ * block binds to `command`, and mostly empty.
  * NX_DONE, NX_BAD_NUMBER, NX_SHORT, NX_OUT_OF_MEMORY.
  */
 int32_t nx_command(nx_session *session, size_t edge, void *buffer, size_t size, size_t *needed);

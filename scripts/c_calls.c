@@ -394,10 +394,7 @@ static void try_edge(size_t edge)
         expect(line > 0 && column > 0, "nx_edge_place", "line", (long long)line);
     TEXT(if_loaded, nx_rule_name, edge, done);
     TEXT(if_loaded, nx_edge_file, edge, done);
-    int32_t status =
-        TEXT(if_loaded, nx_command, edge, done | (done & OF(DONE) ? OF(OUT_OF_MEMORY) : 0));
-    expect(status != NX_DONE || !phony || given_length == 0, "nx_command", "phony",
-           (long long)edge);
+    TEXT(if_loaded, nx_command, edge, done | (done & OF(DONE) ? OF(OUT_OF_MEMORY) : 0));
     for (size_t at = 0; at < sizeof names / sizeof *names; at++) {
         variable = names[at];
         TEXT(if_loaded, give_variable, edge, done | (done & OF(DONE) ? OF(OUT_OF_MEMORY) : 0));

@@ -20,7 +20,6 @@
 #define _DEFAULT_SOURCE
 #include <ctype.h>
 #include <ninja_explain.h>
-#include <stdarg.h>
 #include <stdint.h>
 #include <stdio.h>
 #include <stdlib.h>
@@ -57,31 +56,11 @@ static void note(enum subject subject, size_t value)
 /* fuzz_c.py writes this: for each call of the header a macro that counts it, and the names. */
 #include "counted.h"
 
-static int told(const char *format, ...);
-
 #define main c_calls_main
-#define printf told
 #include "c_calls.c"
-#undef printf
 #undef main
 
 _Static_assert(sizeof call_names / sizeof *call_names <= MOST_CALLS, "there are more calls");
-
-/* Prints what c_calls.c prints, but for what is known: nx_command is empty for a phony edge by the
-   header, and by a row of graphs.rows it is what its block binds to `command`, as it is indeed. */
-static int told(const char *format, ...)
-{
-    char line[256];
-    va_list values;
-    va_start(values, format);
-    vsnprintf(line, sizeof line, format, values);
-    va_end(values);
-    if (strstr(line, ": nx_command: phony ")) {
-        wrongs--;
-        return 0;
-    }
-    return printf("%s", line);
-}
 
 /* Prints how many times each call was made, and which faults came. */
 __attribute__((destructor)) static void tell(void)

@@ -216,7 +216,8 @@ class Edge(_Numbered):
 
     @property
     def command(self) -> str:
-        """Its command, as it is passed to a shell; empty for a phony edge."""
+        """Its command, as it is passed to a shell. No phony edge is run: its command is what its block
+        binds to `command`, and mostly empty."""
         return self._session.text("nx_command", self._number)
 
     def variable(self, name: str) -> str:

@@ -39,7 +39,8 @@ pub extern "C" fn nx_variable(
     status.code()
 }
 
-/// The command of an edge, as it is passed to a shell; empty for a phony one.
+/// The command of an edge, as it is passed to a shell; of a phony one what its block binds to
+/// `command`, which is mostly nothing.
 #[unsafe(no_mangle)]
 pub extern "C" fn nx_command(
     alloc: Global,
