@@ -17,7 +17,7 @@ HEADER = ROOT / "include/ninja_explain.h"
 FILES = ROOT / "include/ninja_explain_files.h"
 PACKAGE = ROOT / "include/ninja_explain.pc.in"
 SOURCES = CRATES / "nj_c/src"
-OPENING = SOURCES / "opening.rt"
+OPENING = SOURCES / "sessions.rt"
 
 EXPORT = re.compile(r'^pub extern "C" fn (\w+)\((.*?)\)(?: -> (\w+))?$', re.M | re.S)
 DECLARATION = re.compile(r"^(\w+) (\w+)\(([^)]*)\);", re.M)

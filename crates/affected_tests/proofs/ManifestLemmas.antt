@@ -9,7 +9,7 @@ use Rattle.nj_graph.specs.ReadingList.{ReadStatement}
 use Rattle.nj_graph.specs.Changes.{IsAffected, has_input_of}
 use Rattle.nj_graph.specs.Changes.IsAffected.{by_file, by_edge}
 use Rattle.nj_graph.specs.Edges.{EdgePaths, edge_at, inputs_of, is_among}
-use Rattle.nj_graph.specs.Graph.{GraphText, edges_of, files_of}
+use Rattle.nj_graph.specs.Graph.{GraphModel, edges_of, files_of}
 use Rattle.affected_tests.specs.declared.manifest.Manifest.{Manifest}
 use Rattle.affected_tests.specs.Manifest.{has_generator, is_one_of, makers_of_opened, makes_manifest, opened_files, path_of, IsMadeFrom}
 use Rattle.affected_tests.specs.Manifest.IsMadeFrom.{by_itself, by_maker}
@@ -56,7 +56,7 @@ contains-mapped f ns n has =
 
 -- ---- one changed file
 
-module _ (g : GraphText) (entries : List ReadStatement) (m : Manifest) where
+module _ (g : GraphModel) (entries : List ReadStatement) (m : Manifest) where
   abbrev flag : ℕ → Bool
   flag edge = slice_index_or m.makers.items edge false
 

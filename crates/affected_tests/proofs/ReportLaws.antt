@@ -10,7 +10,7 @@ use Rattle.nj_graph.specs.declared.FileNo.{FileNo}
 use Rattle.nj_graph.specs.Files.{path_at}
 use Rattle.nj_graph.specs.Paths.{clean_path_of}
 use Rattle.nj_graph.specs.ReadingList.{ReadStatement}
-use Rattle.nj_graph.specs.Graph.{GraphText, files_of}
+use Rattle.nj_graph.specs.Graph.{GraphModel, files_of}
 use Rattle.affected_tests.specs.AffectedTests.{changed_file, line, number_at, path_in}
 use Rattle.affected_tests.specs.Manifest.{makes_manifest, opened_files, is_one_of, path_of, IsMadeFrom}
 use Rattle.affected_tests.specs.Manifest.IsMadeFrom.{by_itself, by_maker}
@@ -36,7 +36,7 @@ both-empty (b ∷ text) more is = absurd cc
 line-apart : (path : List ℕ) → [] ≡ line path → ⊥
 line-apart path is = last-apart path 10 is
 
-module _ (g : GraphText) (entries : List ReadStatement) (folder : Option (List ℕ)) where
+module _ (g : GraphModel) (entries : List ReadStatement) (folder : Option (List ℕ)) where
   abbrev found : List ℕ → Option ℕ
   found path = changed_file (files_of g) folder path
 
@@ -134,7 +134,7 @@ changed-below files folder (p ∷ ps) = by (changed_file files folder p) refl (c
     by (Some n) is all = All-cons (λ n. n < length files) n others (number-below files (path_in folder p) n is) all
 
 -- the paths of the files that are found
-pub changed-paths : {X : Type 0} (g : GraphText) (folder : Option (List ℕ)) (bytes : X → List ℕ) (paths : List X) (files : List FileNo)
+pub changed-paths : {X : Type 0} (g : GraphModel) (folder : Option (List ℕ)) (bytes : X → List ℕ) (paths : List X) (files : List FileNo)
     → map (λ file. file.0) files ≡ filter_map (λ path. changed_file (files_of g) folder (bytes path)) paths
     → map (path_at (files_of g)) files ≡ map (path_of g) (changed_files g folder (map bytes paths))
 changed-paths g folder bytes paths files are =

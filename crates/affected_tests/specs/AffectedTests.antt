@@ -6,7 +6,7 @@ use Rattle.nj_graph.specs.Paths.{clean_path_of}
 use Rattle.nj_graph.specs.Changes.{IsAffected}
 use Rattle.nj_graph.specs.Edges.{edge_at, outputs_of}
 use Rattle.nj_graph.specs.Built.{detail_at}
-use Rattle.nj_graph.specs.Graph.{GraphText, edges_of, rule_name}
+use Rattle.nj_graph.specs.Graph.{GraphModel, edges_of, rule_name}
 
 -- a path as a line
 abbrev pub line : List ℕ → List ℕ
@@ -31,7 +31,7 @@ changed_file files folder path = number_at files (path_in folder path)
 -- ---- tests
 
 -- an edge is of the rule that is given, or none is given
-abbrev pub is_of_rule : GraphText → (rule : Option (List ℕ)) → (edge : ℕ) → Bool
+abbrev pub is_of_rule : GraphModel → (rule : Option (List ℕ)) → (edge : ℕ) → Bool
 is_of_rule g (Some rule) edge = bytes_eq (rule_name g.declarations.rules (detail_at g.built.details edge).rule) rule
 is_of_rule g None edge = true
 
@@ -40,12 +40,12 @@ abbrev pub line_of_test : (beginning : List ℕ) → (path : List ℕ) → List 
 line_of_test beginning path = if starts_with nat_eq path beginning then line path else []
 
 -- the tests among the outputs of an edge
-abbrev pub lines_of_tests : GraphText → (rule : Option (List ℕ)) → (beginning : List ℕ) → (edge : ℕ) → List ℕ
+abbrev pub lines_of_tests : GraphModel → (rule : Option (List ℕ)) → (beginning : List ℕ) → (edge : ℕ) → List ℕ
 lines_of_tests g rule beginning edge =
     if is_of_rule g rule edge then flat_map (line_of_test beginning) (outputs_of (edge_at (edges_of g) edge)) else []
 
 -- The text lists the tests that a change of these files affects: exactly the affected edges' tests, by number.
-pub record ListsTests (g : GraphText) (rule : Option (List ℕ)) (beginning : List ℕ) (changed : List (List ℕ)) (text : List ℕ) : Type 0 where
+pub record ListsTests (g : GraphModel) (rule : Option (List ℕ)) (beginning : List ℕ) (changed : List (List ℕ)) (text : List ℕ) : Type 0 where
   pub edges : List ℕ
   pub affected : (edge : ℕ) → Contains edges edge ↔ IsAffected (edges_of g) changed edge
   pub rises : IsStrictlyIncreasing edges

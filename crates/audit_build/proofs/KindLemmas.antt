@@ -6,84 +6,84 @@ use Rattle.std.proofs.lemmas.List.Elements.{filter-append}
 use Rattle.nj_faults.specs.declared.fault.Place.{Place}
 use Rattle.nj_scope.specs.ReadingList.{ReadStatement}
 use Rattle.nj_graph.specs.Edges.{inputs_of, is_among, outputs_of}
-use Rattle.nj_graph.specs.Graph.{GraphText, files_of}
+use Rattle.nj_graph.specs.Graph.{GraphModel, files_of}
 use Rattle.nj_graph.specs.Origins.{PoolDetail, rule_place_at}
 use Rattle.nj_statements.specs.EdgeList.{block_names_at, edges_read}
 use Rattle.audit_build.specs.declared.kinds.Kind.{Kind}
 use Rattle.audit_build.specs.declared.kinds.Kind.TheVariants.{UnusedOutput, MissingSource, UnusedRule, UnusedPool, UnusedVariable, RepeatedCommand, DepfileWithoutDeps, RepeatedInput}
 use Rattle.audit_build.specs.declared.kinds.Kinds.{Kinds}
-use Rattle.audit_build.specs.Findings.{FindingText, edge_finding}
+use Rattle.audit_build.specs.Findings.{FindingModel, edge_finding}
 use Rattle.audit_build.specs.Kinds.{AskFor, all_kinds, contains, is_asked_for}
 use Rattle.audit_build.specs.Inside.ByKind.{findings_of}
 use Rattle.audit_build.proofs.ListLemmas.{map-append}
 use Rattle.audit_build.specs.AuditBuild.{all_findings, findings_asked_for, edge_numbers, numbers, first_output_at, paths_at, path_of, unused_outputs, unused_outputs_at, is_unused_output, missing_source, missing_sources, user_of_missing, is_used_rule, rule_of_number, unused_rule, unused_rules, pools_of_edges, unused_pool, unused_pools, is_unused_variable, unused_variables, unused_variables_at, repeats_command, repeated_commands, has_depfile_without_deps, depfiles_without_deps, repeated_inputs, repeated_inputs_at, repeated_paths}
 
 -- of findings, all of which are of a kind, a filter by kinds keeps all or none
-abbrev pub AreOf : Kind → List FindingText → Type 0
-AreOf kind found = (asked : Kind → Bool) → filter (λ (f : FindingText). asked f.kind) found ≡ cond (asked kind) found []
+abbrev pub AreOf : Kind → List FindingModel → Type 0
+AreOf kind found = (asked : Kind → Bool) → filter (λ (f : FindingModel). asked f.kind) found ≡ cond (asked kind) found []
 
-nothing : (b : Bool) → ◌≡◌ {A = List FindingText} [] (cond b [] [])
+nothing : (b : Bool) → ◌≡◌ {A = List FindingModel} [] (cond b [] [])
 nothing true = refl
 nothing false = refl
 
-kept : (b : Bool) (f : FindingText) (found rest : List FindingText) → rest ≡ cond b found [] → cond b (f ∷ rest) rest ≡ cond b (f ∷ found) []
+kept : (b : Bool) (f : FindingModel) (found rest : List FindingModel) → rest ≡ cond b found [] → cond b (f ∷ rest) rest ≡ cond b (f ∷ found) []
 kept true f found rest is = ap (λ r. f ∷ r) is
 kept false f found rest is = is
 
-both : (b : Bool) (xs ys : List FindingText) → cond b xs [] ++ cond b ys [] ≡ cond b (xs ++ ys) []
+both : (b : Bool) (xs ys : List FindingModel) → cond b xs [] ++ cond b ys [] ≡ cond b (xs ++ ys) []
 both true xs ys = refl
 both false xs ys = refl
 
-of-more : (kind : Kind) (f : FindingText) (found : List FindingText) → f.kind ≡ kind → AreOf kind found → AreOf kind (f ∷ found)
+of-more : (kind : Kind) (f : FindingModel) (found : List FindingModel) → f.kind ≡ kind → AreOf kind found → AreOf kind (f ∷ found)
 of-more kind f found is are asked =
-    let rest = filter (λ (x : FindingText). asked x.kind) found in
+    let rest = filter (λ (x : FindingModel). asked x.kind) found in
     ap (λ k. cond (asked k) (f ∷ rest) rest) is ∙ kept (asked kind) f found rest (are asked)
 
-part : (p : FindingText → Bool) (xs ys keptxs keptys : List FindingText) → filter p xs ≡ keptxs → filter p ys ≡ keptys → filter p (xs ++ ys) ≡ keptxs ++ keptys
+part : (p : FindingModel → Bool) (xs ys keptxs keptys : List FindingModel) → filter p xs ≡ keptxs → filter p ys ≡ keptys → filter p (xs ++ ys) ≡ keptxs ++ keptys
 part p xs ys keptxs keptys x y = filter-append p xs ys ∙ ap (λ t. t ++ filter p ys) x ∙ ap (λ t. keptxs ++ t) y
 
-of-append : (kind : Kind) (xs ys : List FindingText) → AreOf kind xs → AreOf kind ys → AreOf kind (xs ++ ys)
+of-append : (kind : Kind) (xs ys : List FindingModel) → AreOf kind xs → AreOf kind ys → AreOf kind (xs ++ ys)
 of-append kind xs ys are too asked =
-    part (λ (f : FindingText). asked f.kind) xs ys (cond (asked kind) xs []) (cond (asked kind) ys []) (are asked) (too asked) ∙ both (asked kind) xs ys
+    part (λ (f : FindingModel). asked f.kind) xs ys (cond (asked kind) xs []) (cond (asked kind) ys []) (are asked) (too asked) ∙ both (asked kind) xs ys
 
 module _ {X : Type 0} (kind : Kind) where
-  of-map : (f : X → FindingText) → ((x : X) → (f x).kind ≡ kind) → (xs : List X) → AreOf kind (map f xs)
+  of-map : (f : X → FindingModel) → ((x : X) → (f x).kind ≡ kind) → (xs : List X) → AreOf kind (map f xs)
   of-map f is [] asked = nothing (asked kind)
   of-map f is (x ∷ xs) asked = of-more kind (f x) (map f xs) (is x) (of-map f is xs) asked
 
-  of-flat-map : (h : X → List FindingText) → ((x : X) → AreOf kind (h x)) → (xs : List X) → AreOf kind (flat_map h xs)
+  of-flat-map : (h : X → List FindingModel) → ((x : X) → AreOf kind (h x)) → (xs : List X) → AreOf kind (flat_map h xs)
   of-flat-map h are [] asked = nothing (asked kind)
   of-flat-map h are (x ∷ xs) asked = of-append kind (h x) (flat_map h xs) (are x) (of-flat-map h are xs) asked
 
 -- a finding, if there is one, is of a kind
-abbrev IsOf : Kind → Option FindingText → Type 0
+abbrev IsOf : Kind → Option FindingModel → Type 0
 IsOf kind None = Unit {0}
 IsOf kind (Some f) = f.kind ≡ kind
 
-of-option : (kind : Kind) (o : Option FindingText) (found : List FindingText) → IsOf kind o → AreOf kind found → AreOf kind (cons_option o found)
+of-option : (kind : Kind) (o : Option FindingModel) (found : List FindingModel) → IsOf kind o → AreOf kind found → AreOf kind (cons_option o found)
 of-option kind None found is are = are
 of-option kind (Some f) found is are = of-more kind f found is are
 
 module _ {X : Type 0} (kind : Kind) where
-  of-filter-map : (h : X → Option FindingText) → ((x : X) → IsOf kind (h x)) → (xs : List X) → AreOf kind (filter_map h xs)
+  of-filter-map : (h : X → Option FindingModel) → ((x : X) → IsOf kind (h x)) → (xs : List X) → AreOf kind (filter_map h xs)
   of-filter-map h are [] asked = nothing (asked kind)
   of-filter-map h are (x ∷ xs) asked = of-option kind (h x) (filter_map h xs) (are x) (of-filter-map h are xs) asked
 
-  some-mapped : (f : X → FindingText) → ((x : X) → (f x).kind ≡ kind) → (o : Option X) → IsOf kind (option_map f o)
+  some-mapped : (f : X → FindingModel) → ((x : X) → (f x).kind ≡ kind) → (o : Option X) → IsOf kind (option_map f o)
   some-mapped f is None = tt
   some-mapped f is (Some x) = is x
 
-  and-then : (h : X → Option FindingText) → ((x : X) → IsOf kind (h x)) → (o : Option X) → IsOf kind (option_and_then h o)
+  and-then : (h : X → Option FindingModel) → ((x : X) → IsOf kind (h x)) → (o : Option X) → IsOf kind (option_and_then h o)
   and-then h are None = tt
   and-then h are (Some x) = are x
 
-none-or : (kind : Kind) (b : Bool) (o : Option FindingText) → IsOf kind o → IsOf kind (cond b None o)
+none-or : (kind : Kind) (b : Bool) (o : Option FindingModel) → IsOf kind o → IsOf kind (cond b None o)
 none-or kind true o is = tt
 none-or kind false o is = is
 
 -- ---- the findings of each kind are of it
 
-module _ (g : GraphText) where
+module _ (g : GraphModel) where
   of-outputs : AreOf UnusedOutput (unused_outputs g)
   of-outputs =
       of-flat-map UnusedOutput (unused_outputs_at g)
@@ -96,7 +96,7 @@ module _ (g : GraphText) where
       (λ file. some-mapped MissingSource (λ edge. edge_finding g edge MissingSource (path_of g file)) (λ edge. refl) (user_of_missing g missing file))
       (numbers (length (files_of g)))
 
-  abbrev unused-rule : ℕ → Place → FindingText
+  abbrev unused-rule : ℕ → Place → FindingModel
   unused-rule rule place = record { place = place; kind = UnusedRule; name = (rule_of_number g rule).name }
 
   of-rules : AreOf UnusedRule (unused_rules g)
@@ -112,11 +112,11 @@ module _ (g : GraphText) where
       (λ edge. of-map RepeatedInput (edge_finding g edge RepeatedInput) (λ path. refl) (repeated_paths (inputs_of (paths_at g edge))))
       (edge_numbers g)
 
-module _ (g : GraphText) (entries : List ReadStatement) where
-  abbrev found-pool : List ℕ → PoolDetail → FindingText
+module _ (g : GraphModel) (entries : List ReadStatement) where
+  abbrev found-pool : List ℕ → PoolDetail → FindingModel
   found-pool name p = record { place = p.place; kind = UnusedPool; name = name }
 
-  abbrev pool-named : ℕ → List ℕ → Option FindingText
+  abbrev pool-named : ℕ → List ℕ → Option FindingModel
   pool-named pool name = cond (is_among (pools_of_edges g entries) name) None (option_map (found-pool name) (slice_get g.origins.pools pool))
 
   of-pools : AreOf UnusedPool (unused_pools g entries)
@@ -147,20 +147,20 @@ module _ (g : GraphText) (entries : List ReadStatement) where
 
 -- ---- all of them
 
-grouped : (a b c d e f g h : List FindingText) → a ++ b ++ c ++ d ++ e ++ f ++ g ++ h ≡ a ++ (b ++ (c ++ (d ++ (e ++ (f ++ (g ++ (h ++ [])))))))
+grouped : (a b c d e f g h : List FindingModel) → a ++ b ++ c ++ d ++ e ++ f ++ g ++ h ≡ a ++ (b ++ (c ++ (d ++ (e ++ (f ++ (g ++ (h ++ [])))))))
 grouped a b c d e f g h = simp (append_assoc, append-nil)
 
 -- what is asked for of the findings of a kind
-abbrev pub asked_of : Kinds → (Kind → List FindingText) → Kind → List FindingText
+abbrev pub asked_of : Kinds → (Kind → List FindingModel) → Kind → List FindingModel
 asked_of kinds of kind = cond (contains kinds kind) (of kind) []
 
-eight : (asked : Kind → Bool) (of : Kind → List FindingText) → ((kind : Kind) → AreOf kind (of kind))
+eight : (asked : Kind → Bool) (of : Kind → List FindingModel) → ((kind : Kind) → AreOf kind (of kind))
     → flat_map (λ kind. cond (asked kind) (of kind) []) all_kinds
-    ≡ filter (λ (f : FindingText). asked f.kind) (of UnusedOutput ++ of MissingSource ++ of UnusedRule ++ of UnusedPool ++ of UnusedVariable ++ of RepeatedCommand
+    ≡ filter (λ (f : FindingModel). asked f.kind) (of UnusedOutput ++ of MissingSource ++ of UnusedRule ++ of UnusedPool ++ of UnusedVariable ++ of RepeatedCommand
     ++ of DepfileWithoutDeps ++ of RepeatedInput)
 eight asked of are =
-    let p : FindingText → Bool = λ f. asked f.kind in
-    let k : Kind → List FindingText = λ kind. cond (asked kind) (of kind) [] in
+    let p : FindingModel → Bool = λ f. asked f.kind in
+    let k : Kind → List FindingModel = λ kind. cond (asked kind) (of kind) [] in
     let a = of UnusedOutput in
     let b = of MissingSource in
     let c = of UnusedRule in
@@ -186,7 +186,7 @@ eight asked of are =
     (k RepeatedInput) seven (are RepeatedInput asked) in
     sym (all ∙ grouped (k UnusedOutput) (k MissingSource) (k UnusedRule) (k UnusedPool) (k UnusedVariable) (k RepeatedCommand) (k DepfileWithoutDeps) (k RepeatedInput))
 
-of-kind : (g : GraphText) (entries : List ReadStatement) (missing : List Bool) (kind : Kind) → AreOf kind (findings_of g entries missing kind)
+of-kind : (g : GraphModel) (entries : List ReadStatement) (missing : List Bool) (kind : Kind) → AreOf kind (findings_of g entries missing kind)
 of-kind g entries missing UnusedOutput = of-outputs g
 of-kind g entries missing MissingSource = of-sources g missing
 of-kind g entries missing UnusedRule = of-rules g
@@ -197,15 +197,15 @@ of-kind g entries missing DepfileWithoutDeps = of-depfiles g entries
 of-kind g entries missing RepeatedInput = of-inputs g
 
 -- kind by kind, those that are asked for are a filter of all
-pub asked-law : (kinds : Kinds) (g : GraphText) (entries : List ReadStatement) (missing : List Bool)
+pub asked-law : (kinds : Kinds) (g : GraphModel) (entries : List ReadStatement) (missing : List Bool)
     → flat_map (asked_of kinds (findings_of g entries missing)) all_kinds ≡ findings_asked_for kinds (all_findings g entries missing)
 asked-law kinds g entries missing = eight (contains kinds) (findings_of g entries missing) (of-kind g entries missing)
 
 -- one kind more
-pub one-asked : (b : Bool) (text found : List FindingText) → b ≡ true → text ++ found ≡ text ++ (cond b found [] ++ [])
+pub one-asked : (b : Bool) (text found : List FindingModel) → b ≡ true → text ++ found ≡ text ++ (cond b found [] ++ [])
 one-asked b text found is = ap (λ t. text ++ t) (sym (append-nil found)) ∙ ap (λ c. text ++ (cond c found [] ++ [])) (sym is)
 
-pub none-asked : (b : Bool) (text found : List FindingText) → b ≡ false → text ≡ text ++ (cond b found [] ++ [])
+pub none-asked : (b : Bool) (text found : List FindingModel) → b ≡ false → text ≡ text ++ (cond b found [] ++ [])
 none-asked b text found is = sym (append-nil text) ∙ ap (λ c. text ++ (cond c found [] ++ [])) (sym is)
 
 -- ---- words

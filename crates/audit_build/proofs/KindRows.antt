@@ -6,7 +6,7 @@ use Rattle.audit_build.specs.declared.kinds.Kind.{Kind}
 use Rattle.audit_build.specs.declared.kinds.Kind.TheVariants.{UnusedOutput, MissingSource, UnusedRule, UnusedPool, RepeatedCommand, DepfileWithoutDeps, RepeatedInput}
 use Rattle.audit_build.specs.declared.kinds.Kinds.{Kinds}
 use Rattle.audit_build.specs.AuditBuild.{findings_asked_for}
-use Rattle.audit_build.specs.Findings.{FindingText}
+use Rattle.audit_build.specs.Findings.{FindingModel}
 use Rattle.audit_build.specs.Kinds.{all_kinds, first_unknown, is_asked_for}
 
 -- the kinds that these words ask for
@@ -62,7 +62,7 @@ only_rules = record {
   repeated_input = false;
 }
 
-abbrev finding : Place → Kind → FindingText
+abbrev finding : Place → Kind → FindingModel
 finding place kind = record { place = place; kind = kind; name = codes "a" }
 
 filtered : (p q : Place) → findings_asked_for only_rules (finding p UnusedOutput ∷ finding p UnusedRule ∷ finding q UnusedPool ∷ finding q UnusedRule ∷ [])

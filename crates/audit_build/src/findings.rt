@@ -3,7 +3,7 @@
 ghost use Rattle.std.specs.Prelude.{◌≡◌, [], ◌∷◌, ◌++◌, ◌<◌, OnOk, length, map};
 ghost use Rattle.nj_graph.specs.Graph.{edges_of};
 ghost use Rattle.nj_graph.specs.Origins.{place_text};
-ghost use Rattle.audit_build.specs.Findings.{edge_finding, finding_text};
+ghost use Rattle.audit_build.specs.Findings.{edge_finding, finding_model};
 
 use crate::kinds::Kind;
 use nj_graph::{EdgeNo, Graph, PlaceRef};
@@ -26,11 +26,11 @@ pub struct Findings<'a> {
 
 impl<'a> Model for Findings<'a> {
     ghost use Rattle.std.specs.Prelude.{List, map};
-    ghost use Rattle.audit_build.specs.Findings.{FindingText, finding_text};
+    ghost use Rattle.audit_build.specs.Findings.{FindingModel, finding_model};
 
-    ghost Value = { List FindingText };
+    ghost Value = { List FindingModel };
 
-    ghost view = { λ f. map finding_text f.list.items };
+    ghost view = { λ f. map finding_model f.list.items };
 }
 
 impl<'a> Findings<'a> {
@@ -45,7 +45,7 @@ impl<'a> Findings<'a> {
 
     /// All of them, in order.
     pub fn as_slice(&self) -> &[Finding<'a>]
-        ensures { map finding_text result.now ≡ self.now }
+        ensures { map finding_model result.now ≡ self.now }
     {
         self.list.as_slice()
     }

@@ -5,7 +5,7 @@ use Rattle.sha2.specs.Sha256.{sha256}
 use Rattle.hex.specs.Hex.{encode_lower}
 use Rattle.nj_graph.specs.ReadingList.{ReadStatement}
 use Rattle.nj_graph.specs.Edges.{EdgePaths, edge_at, inputs_of, first_output, maker_of}
-use Rattle.nj_graph.specs.Graph.{edges_of, late_text_of, GraphText, IsGraphOf}
+use Rattle.nj_graph.specs.Graph.{edges_of, late_text_of, GraphModel, IsGraphOf}
 
 -- a field: its length, a colon, its bytes
 abbrev pub field : List ℕ → List ℕ
@@ -86,7 +86,7 @@ KeysAreUnique = (edges : List EdgePaths) (entries : List ReadStatement) (e : ℕ
 
 -- each edge of a graph has one, and so has each that a walk visits
 abbrev pub EdgesHaveKeys : Type 0
-EdgesHaveKeys = (g : GraphText) (entries : List ReadStatement) → IsGraphOf g entries
+EdgesHaveKeys = (g : GraphModel) (entries : List ReadStatement) → IsGraphOf g entries
     → (e : ℕ) → e < length (edges_of g) → (key : List ℕ) × IsKey (edges_of g) entries e key
 
 -- some edges have one text only

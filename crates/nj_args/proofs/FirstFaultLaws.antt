@@ -8,14 +8,14 @@ use Rattle.nj_args.specs.Fields.{given_rows, is_on, words_in}
 use Rattle.nj_args.specs.FirstFaults.{Mistake, no_tool, unknown_tool, foreign_option, bad_take, bad_mark, bad_words, bad_depth, all_mistakes, NamesTool, HasMistake, toolless, unknown, no_number, no_mark, Lacks, HasNoMistake, IsFirstOf, first, later, FirstFaultIsReported, FaultlessWordsAreRequests}
 use Rattle.nj_args.specs.Inside.Held.{goes_with}
 use Rattle.nj_args.specs.Numbers.{given_number}
-use Rattle.nj_requests.specs.Actions.{ActionText, commands, single_commands, inputs, targets, query, rules, compdb, RequestText}
+use Rattle.nj_requests.specs.Actions.{ActionModel, commands, single_commands, inputs, targets, query, rules, compdb, RequestModel}
 use Rattle.nj_args.specs.Requests.{main_file, style_of, request_of, request_in, action_of, asked_of, commands_of, take_of, start_of, query_of, rules_of}
 use Rattle.nj_args.specs.RunMarks.{given_run_mark}
 use Rattle.nj_args.specs.Tools.{tool_named, first_foreign, all_options}
-use Rattle.nj_args.specs.declared.faults.ToolOption.{ToolOption}
-use Rattle.nj_args.specs.declared.faults.ToolOption.TheVariants as option
-use Rattle.nj_args.specs.declared.faults.UsageFault.{UsageFault}
-use Rattle.nj_args.specs.declared.faults.UsageFault.TheVariants.{Unparsed, UnknownTool, ForeignOption, BadNumber, BadMark}
+use Rattle.nj_args.specs.declared.usage_fault.ToolOption.{ToolOption}
+use Rattle.nj_args.specs.declared.usage_fault.ToolOption.TheVariants as option
+use Rattle.nj_args.specs.declared.usage_fault.UsageFault.{UsageFault}
+use Rattle.nj_args.specs.declared.usage_fault.UsageFault.TheVariants.{Unparsed, UnknownTool, ForeignOption, BadNumber, BadMark}
 use Rattle.nj_args.specs.declared.tools.Tool.{Tool}
 use Rattle.nj_args.specs.declared.tools.Tool.TheVariants.{Commands, Inputs, Targets, Query, Rules, Compdb}
 use Rattle.nj_args.proofs.Mistakes.{LacksAll, Ends, in_value, in_fault, skip, mapped, bound, reported, found, none_found, NotForeign, not_foreign, not_given, lacks_bad_take, lacks_bad_mark, takes_all, refuses}
@@ -90,7 +90,7 @@ module _ (rows : List Row) where
 module _ (rows : List Row) (name : List ℕ) where
   query_ends : NamesTool rows name Query → (words : List (List ℕ)) → words_in rows ≡ words
       → Ends rows (bad_words ∷ bad_depth ∷ []) (query_of name words)
-  query_ends names [] e = refuses rows name Query names ActionText (λ some. some e)
+  query_ends names [] e = refuses rows name Query names ActionModel (λ some. some e)
   query_ends names (word ∷ words) e =
       takes_all rows name Query names (query (word ∷ words)) (λ e. cc) (λ f. let both : word ∷ words ≡ [] = sym e ∙ f in cc)
 
@@ -98,7 +98,7 @@ module _ (rows : List Row) (name : List ℕ) where
       → Ends rows (bad_words ∷ bad_depth ∷ []) (rules_of name (is_on (codes "-d") rows) words)
   rules_end names [] e = takes_all rows name Rules names (rules (is_on (codes "-d") rows)) (λ e. cc) e
   rules_end names (word ∷ words) e =
-      refuses rows name Rules names ActionText (λ none. let both : word ∷ words ≡ [] = sym e ∙ none in cc)
+      refuses rows name Rules names ActionModel (λ none. let both : word ∷ words ≡ [] = sym e ∙ none in cc)
 
   asked_ends : (tool : Tool) → NamesTool rows name tool → NotForeign tool rows → Ends rows last_mistakes (asked_of tool name rows)
   asked_ends Commands names none = commands_end rows name names none
@@ -135,7 +135,7 @@ module _ (rows : List Row) (name : List ℕ) where
           let both : Some tool ≡ None = sym k ∙ ap tool_named same ∙ none in
           absurd (cc)
 
-abbrev request_for : List Row → ActionText → RequestText
+abbrev request_for : List Row → ActionModel → RequestModel
 request_for rows action = record {
   file = unwrap_or (first_of (codes "-f") rows) main_file;
   from_stdin = is_on (codes "--stdin") rows;

@@ -9,10 +9,10 @@ use Rattle.nj_manifest.specs.LineSteps.{◌>>=◌}
 use Rattle.nj_args.specs.CommandLine.{command}
 use Rattle.nj_args.specs.Fields.{is_refused, words_in}
 use Rattle.nj_args.specs.Inside.Held.{word_strings}
-use Rattle.nj_requests.specs.Actions.{RequestText}
+use Rattle.nj_requests.specs.Actions.{RequestModel}
 use Rattle.nj_args.specs.Requests.{given_request, request_in, request_of, wordless}
-use Rattle.nj_args.specs.declared.faults.UsageFault.{UsageFault}
-use Rattle.nj_args.specs.declared.faults.UsageFault.TheVariants.{Unparsed, OutOfMemory}
+use Rattle.nj_args.specs.declared.usage_fault.UsageFault.{UsageFault}
+use Rattle.nj_args.specs.declared.usage_fault.UsageFault.TheVariants.{Unparsed, OutOfMemory}
 
 -- the words of the matches
 pub words_held : (words : Option (Bor (List (Bor (List ℕ))))) (found : Found)
@@ -20,7 +20,7 @@ pub words_held : (words : Option (Bor (List (Bor (List ℕ))))) (found : Found)
     → word_strings words ≡ words_in (rows_of found)
 words_held words found e = ap (λ strings. unwrap_or strings []) (e ∙ raw_values-rows found (codes "words"))
 
-abbrev asked_of : (refused : Bool) → List Row → Result RequestText UsageFault
+abbrev asked_of : (refused : Bool) → List Row → Result RequestModel UsageFault
 asked_of refused rows = ok_or (if refused then None else Some rows) Unparsed >>= request_in
 
 not_refused : (refused : Bool) (rows : List Row) → refused ≡ false → asked_of refused rows ≡ request_in rows
@@ -57,7 +57,7 @@ of_some [] h = absurd (omega arith)
 of_some (word ∷ words) h = refl
 
 -- the same fault of what is equal
-pub same_fault : (asked meant : Result RequestText UsageFault) (fault : UsageFault) → asked ≡ meant
+pub same_fault : (asked meant : Result RequestModel UsageFault) (fault : UsageFault) → asked ≡ meant
     → (fault ≡ OutOfMemory) ⊎ (meant ≡ Err fault) → (fault ≡ OutOfMemory) ⊎ (asked ≡ Err fault)
 same_fault asked meant fault e (inl memory) = inl memory
 same_fault asked meant fault e (inr reported) = inr (e ∙ reported)

@@ -6,7 +6,7 @@ use Rattle.nj_args.specs.CommandLine.{command}
 use Rattle.clap.specs.Words.{Row, matches_of}
 use Rattle.nj_args.specs.Fields.{given_rows, words_in}
 use Rattle.nj_args.specs.FirstFaults.{HasMistake, unknown_tool, bad_take, bad_depth, unknown, no_number, no_depth, TakesWords, levels}
-use Rattle.nj_args.specs.declared.faults.UsageFault.TheVariants.{UnknownTool, BadNumber}
+use Rattle.nj_args.specs.declared.usage_fault.UsageFault.TheVariants.{UnknownTool, BadNumber}
 use Rattle.nj_args.specs.declared.tools.Tool.TheVariants.{Targets}
 
 -- ---- `-t graph --take x`

@@ -9,7 +9,7 @@ use Rattle.clap.specs.declared.error.kind.ErrorKind.TheVariants as kind
 use Rattle.clap.proofs.OnLiterals.{clap_on_literals}
 use Rattle.nj_args.specs.CommandLine.{command}
 use Rattle.nj_args.specs.Inside.Held.{is_memory, refusal}
-use Rattle.nj_args.specs.declared.faults.UsageFault.TheVariants.{Unparsed, OutOfMemory}
+use Rattle.nj_args.specs.declared.usage_fault.UsageFault.TheVariants.{Unparsed, OutOfMemory}
 
 pub simple : is_simple command ≡ true
 unfolding command clap_on_literals

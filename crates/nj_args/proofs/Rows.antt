@@ -6,14 +6,14 @@ use Rattle.nj_needs.specs.MarkTexts.{given_mark}
 use Rattle.nj_requests.specs.declared.style.InputsStyle.{InputsStyle}
 use Rattle.nj_args.specs.CommandLine.{command}
 use Rattle.nj_args.specs.FaultLines.{fault_line}
-use Rattle.nj_requests.specs.Actions.{ActionText, RequestText, commands, compdb, inputs, query, rules, single_commands, targets}
+use Rattle.nj_requests.specs.Actions.{ActionModel, RequestModel, commands, compdb, inputs, query, rules, single_commands, targets}
 use Rattle.nj_args.specs.Requests.{request_of}
-use Rattle.nj_args.specs.declared.faults.UsageFault.{UsageFault}
-use Rattle.nj_args.specs.declared.faults.UsageFault.TheVariants.{Unparsed, UnknownTool, ForeignOption, BadNumber, BadMark, BadWords}
-use Rattle.nj_args.specs.declared.faults.ToolOption.TheVariants.{Single, Descriptions, Expand, Directory, Take, Resume, Validations, DependencyOrder, NoShellEscape, Print0}
+use Rattle.nj_args.specs.declared.usage_fault.UsageFault.{UsageFault}
+use Rattle.nj_args.specs.declared.usage_fault.UsageFault.TheVariants.{Unparsed, UnknownTool, ForeignOption, BadNumber, BadMark, BadWords}
+use Rattle.nj_args.specs.declared.usage_fault.ToolOption.TheVariants.{Single, Descriptions, Expand, Directory, Take, Resume, Validations, DependencyOrder, NoShellEscape, Print0}
 use Rattle.nj_requests.specs.declared.view.TargetsView.TheVariants.{OfRule, Sources, Depth, All}
 
-abbrev asks : ActionText → Result RequestText UsageFault
+abbrev asks : ActionModel → Result RequestModel UsageFault
 asks action = Ok (record { file = codes "build.ninja"; from_stdin = false; dyndep = false; action = action })
 
 -- the style of `inputs` without options

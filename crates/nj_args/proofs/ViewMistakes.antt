@@ -8,7 +8,7 @@ use Rattle.nj_args.specs.Fields.{words_in}
 use Rattle.nj_args.specs.FirstFaults.{bad_words, bad_depth, IsView, roots, one_level, levels, all_outputs, sources, of_rule, NamesTool, no_depth, Lacks, first, later}
 use Rattle.nj_args.specs.Numbers.{given_depth}
 use Rattle.nj_args.specs.Requests.{view_of, depth_of}
-use Rattle.nj_args.specs.declared.faults.UsageFault.TheVariants.{BadNumber, BadWords}
+use Rattle.nj_args.specs.declared.usage_fault.UsageFault.TheVariants.{BadNumber, BadWords}
 use Rattle.nj_args.specs.declared.tools.Tool.TheVariants.{Targets}
 use Rattle.nj_requests.specs.declared.view.TargetsView.{TargetsView}
 use Rattle.nj_requests.specs.declared.view.TargetsView.TheVariants.{OfRule, Sources, Depth, All}

@@ -1,10 +1,10 @@
 -- The line that reports why words are not a valid request.
 use Rattle.std.specs.Prelude.{ℕ, List, ◌++◌, codes}
 use Rattle.nj_text.specs.Faults.{out_of_memory_text}
-use Rattle.nj_args.specs.declared.faults.ToolOption.{ToolOption}
-use Rattle.nj_args.specs.declared.faults.ToolOption.TheVariants as option
-use Rattle.nj_args.specs.declared.faults.UsageFault.{UsageFault}
-use Rattle.nj_args.specs.declared.faults.UsageFault.TheVariants as fault
+use Rattle.nj_args.specs.declared.usage_fault.ToolOption.{ToolOption}
+use Rattle.nj_args.specs.declared.usage_fault.ToolOption.TheVariants as option
+use Rattle.nj_args.specs.declared.usage_fault.UsageFault.{UsageFault}
+use Rattle.nj_args.specs.declared.usage_fault.UsageFault.TheVariants as fault
 
 abbrev pub option_text : ToolOption → List ℕ
 option_text option.Single = codes "-s"

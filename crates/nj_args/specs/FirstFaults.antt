@@ -6,9 +6,9 @@ use Rattle.nj_args.specs.Numbers.{given_number, given_depth}
 use Rattle.nj_args.specs.Requests.{request_of}
 use Rattle.nj_args.specs.RunMarks.{given_run_mark}
 use Rattle.nj_args.specs.Tools.{tool_named, is_foreign, all_options}
-use Rattle.nj_args.specs.declared.faults.ToolOption.{ToolOption}
-use Rattle.nj_args.specs.declared.faults.UsageFault.{UsageFault}
-use Rattle.nj_args.specs.declared.faults.UsageFault.TheVariants.{Unparsed, UnknownTool, ForeignOption, BadNumber, BadMark, BadWords}
+use Rattle.nj_args.specs.declared.usage_fault.ToolOption.{ToolOption}
+use Rattle.nj_args.specs.declared.usage_fault.UsageFault.{UsageFault}
+use Rattle.nj_args.specs.declared.usage_fault.UsageFault.TheVariants.{Unparsed, UnknownTool, ForeignOption, BadNumber, BadMark, BadWords}
 use Rattle.nj_args.specs.declared.tools.Tool.{Tool}
 use Rattle.nj_args.specs.declared.tools.Tool.TheVariants.{Commands, Inputs, Targets, Query, Rules, Compdb}
 

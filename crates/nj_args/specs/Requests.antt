@@ -4,7 +4,7 @@ use Rattle.std.specs.Prelude.{Option, Some, None, option_map, unwrap_or, ok_or, 
 use Rattle.std.specs.Option.{option_map_or}
 use Rattle.std.specs.Str.{bytes_eq}
 use Rattle.nj_manifest.specs.LineSteps.{◌>>=◌}
-use Rattle.nj_requests.specs.Actions.{ActionText, commands, single_commands, inputs, targets, query, rules, compdb, RequestText}
+use Rattle.nj_requests.specs.Actions.{ActionModel, commands, single_commands, inputs, targets, query, rules, compdb, RequestModel}
 use Rattle.nj_requests.specs.declared.style.InputsStyle.{InputsStyle}
 use Rattle.nj_requests.specs.declared.view.TargetsView.{TargetsView}
 use Rattle.nj_requests.specs.declared.view.TargetsView.TheVariants.{OfRule, Sources, Depth, All}
@@ -13,8 +13,8 @@ use Rattle.nj_args.specs.Fields.{given_rows, is_on, words_in}
 use Rattle.nj_args.specs.Numbers.{given_number, given_depth}
 use Rattle.nj_args.specs.RunMarks.{given_run_mark}
 use Rattle.nj_args.specs.Tools.{tool_named, first_foreign}
-use Rattle.nj_args.specs.declared.faults.UsageFault.{UsageFault}
-use Rattle.nj_args.specs.declared.faults.UsageFault.TheVariants.{Unparsed, UnknownTool, ForeignOption, BadNumber, BadMark, BadWords}
+use Rattle.nj_args.specs.declared.usage_fault.UsageFault.{UsageFault}
+use Rattle.nj_args.specs.declared.usage_fault.UsageFault.TheVariants.{Unparsed, UnknownTool, ForeignOption, BadNumber, BadMark, BadWords}
 use Rattle.nj_args.specs.declared.tools.Tool.{Tool}
 use Rattle.nj_args.specs.declared.tools.Tool.TheVariants as tool
 
@@ -29,7 +29,7 @@ start_of validations None = Ok []
 start_of validations (Some text) = ok_or (given_run_mark validations text) (BadMark text)
 
 -- the commands of the edges that the targets need, from a mark on, up to a limit; or with `-s` the commands of the edges that make them
-abbrev pub commands_of : List Row → Result ActionText UsageFault
+abbrev pub commands_of : List Row → Result ActionModel UsageFault
 commands_of rows = if is_on (codes "-s") rows then Ok (single_commands (words_in rows)) else do
   take ← take_of (first_of (codes "--take") rows)
   start ← start_of (is_on (codes "--validations") rows) (first_of (codes "--resume") rows)
@@ -66,12 +66,12 @@ style_of rows = record {
 }
 
 -- one file or more
-abbrev pub query_of : (name : List ℕ) (words : List (List ℕ)) → Result ActionText UsageFault
+abbrev pub query_of : (name : List ℕ) (words : List (List ℕ)) → Result ActionModel UsageFault
 query_of name [] = Err (BadWords name)
 query_of name (word ∷ words) = Ok (query (word ∷ words))
 
 -- no words
-abbrev pub rules_of : (name : List ℕ) (descriptions : Bool) (words : List (List ℕ)) → Result ActionText UsageFault
+abbrev pub rules_of : (name : List ℕ) (descriptions : Bool) (words : List (List ℕ)) → Result ActionModel UsageFault
 rules_of name descriptions [] = Ok (rules descriptions)
 rules_of name descriptions (word ∷ words) = Err (BadWords name)
 
@@ -79,7 +79,7 @@ rules_of name descriptions (word ∷ words) = Err (BadWords name)
 
 -- What the tool of this name is asked for, by options that go with it. `inputs` takes any number of targets, and `compdb` any number of
 -- rules; the working folder is its directory where no other is given.
-abbrev pub asked_of : Tool → (name : List ℕ) → List Row → Result ActionText UsageFault
+abbrev pub asked_of : Tool → (name : List ℕ) → List Row → Result ActionModel UsageFault
 asked_of tool.Commands name rows = commands_of rows
 asked_of tool.Inputs name rows = Ok (inputs (words_in rows) (is_on (codes "--validations") rows) (style_of rows))
 asked_of tool.Targets name rows = view_of name (words_in rows) >>= (λ view. Ok (targets view))
@@ -89,7 +89,7 @@ asked_of tool.Compdb name rows =
     Ok (compdb (words_in rows) (unwrap_or (first_of (codes "--directory") rows) (codes ".")) (is_on (codes "-x") rows))
 
 -- an option that does not go with the tool is a fault
-abbrev pub action_of : (name : List ℕ) → List Row → Result ActionText UsageFault
+abbrev pub action_of : (name : List ℕ) → List Row → Result ActionModel UsageFault
 action_of name rows = do
   tool ← ok_or (tool_named name) (UnknownTool name)
   option_map_or (λ option. Err (ForeignOption option name)) (first_foreign tool rows) (asked_of tool name rows)
@@ -98,7 +98,7 @@ abbrev pub main_file : List ℕ
 main_file = codes "build.ninja"
 
 -- a tool is required
-abbrev pub request_in : List Row → Result RequestText UsageFault
+abbrev pub request_in : List Row → Result RequestModel UsageFault
 request_in rows = do
   name ← ok_or (first_of (codes "-t") rows) Unparsed
   action ← action_of name rows
@@ -110,13 +110,13 @@ request_in rows = do
   })
 
 -- the rows are those that `clap` reads in the words
-abbrev pub given_request : (words : List (List ℕ)) → Result RequestText UsageFault
+abbrev pub given_request : (words : List (List ℕ)) → Result RequestModel UsageFault
 given_request words = ok_or (given_rows words) Unparsed >>= request_in
 
 -- without any words: all commands of a file that standard input gives
-abbrev pub wordless : RequestText
+abbrev pub wordless : RequestModel
 wordless = record { file = main_file; from_stdin = true; dyndep = false; action = commands [] false None [] }
 
-unfoldable pub request_of : (words : List (List ℕ)) → Result RequestText UsageFault
+unfoldable pub request_of : (words : List (List ℕ)) → Result RequestModel UsageFault
 request_of [] = Ok wordless
 request_of (word ∷ words) = given_request (word ∷ words)

@@ -5,8 +5,8 @@ use Rattle.std.specs.Str.{bytes_eq}
 use Rattle.clap.specs.Words.{Row, first_of}
 use Rattle.nj_args.specs.FaultLines.{option_text}
 use Rattle.nj_args.specs.Fields.{is_on}
-use Rattle.nj_args.specs.declared.faults.ToolOption.{ToolOption}
-use Rattle.nj_args.specs.declared.faults.ToolOption.TheVariants.{Single, Descriptions, Expand, Directory, Take, Resume, Validations, DependencyOrder, NoShellEscape, Print0}
+use Rattle.nj_args.specs.declared.usage_fault.ToolOption.{ToolOption}
+use Rattle.nj_args.specs.declared.usage_fault.ToolOption.TheVariants.{Single, Descriptions, Expand, Directory, Take, Resume, Validations, DependencyOrder, NoShellEscape, Print0}
 use Rattle.nj_args.specs.declared.tools.Tool.{Tool}
 use Rattle.nj_args.specs.declared.tools.Tool.TheVariants.{Commands, Inputs, Targets, Query, Rules, Compdb}
 

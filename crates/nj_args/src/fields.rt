@@ -6,10 +6,10 @@ ghost use Rattle.clap.specs.Words.{first_of, matches_of};
 ghost use Rattle.nj_args.specs.CommandLine.{command};
 ghost use Rattle.nj_args.specs.Fields.{is_on, words_in, is_refused};
 ghost use Rattle.nj_args.specs.Inside.Held.{rows_in, word_strings, refusal};
-ghost use Rattle.nj_args.specs.declared.faults.UsageFault.TheVariants.{Unparsed, OutOfMemory};
+ghost use Rattle.nj_args.specs.declared.usage_fault.UsageFault.TheVariants.{Unparsed, OutOfMemory};
 
 use crate::command::command;
-use crate::faults::UsageFault;
+use crate::usage_fault::UsageFault;
 use clap::ArgMatches;
 use clap::error::ErrorKind;
 use std::alloc::Global;

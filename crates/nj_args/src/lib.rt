@@ -2,15 +2,15 @@
 #![tactic(auto)]
 
 mod command;
-mod faults;
 mod fields;
 mod laws;
-mod lines;
-mod numbers;
-mod requests;
+mod option_numbers;
+mod run_request;
 mod tools;
+mod usage_fault;
+mod usage_line;
 
-pub use faults::{ToolOption, UsageFault, Word};
 pub use laws::{first_fault_law, run_marks_law};
 pub use nj_requests::{Action, InputsStyle, Request, TargetsView};
-pub use requests::read_words;
+pub use run_request::read_words;
+pub use usage_fault::{ToolOption, UsageFault, Word};

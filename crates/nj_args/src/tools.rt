@@ -4,8 +4,8 @@ ghost use Rattle.std.specs.Prelude.{◌≡◌, find};
 ghost use Rattle.nj_args.specs.Inside.Held.{goes_with, rows_in};
 ghost use Rattle.nj_args.specs.Tools.{tool_named, is_given, is_foreign, first_foreign};
 
-use crate::faults::ToolOption;
 use crate::fields::{is_on, text_of};
+use crate::usage_fault::ToolOption;
 use clap::ArgMatches;
 
 /// A tool ("Extra tools").

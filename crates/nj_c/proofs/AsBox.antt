@@ -7,7 +7,7 @@ use Rattle.std_heap.specs.contracts.Global as Heap
 use Rattle.std_heap.specs.contracts.GlobalAllocator.TheImpl.{ghosts, dict}
 use Rattle.std_heap.proofs.Global.TheLaws as heap
 use Rattle.nj_c.specs.contracts.kept.Kept as Home
-use Rattle.nj_c.proofs.kept.Kept.TheLaws as home
+use Rattle.nj_c.proofs.session_state.Kept.TheLaws as home
 use Rattle.nj_c.specs.contracts.loose.Loose as Parts
 use Rattle.nj_c.specs.contracts.seal.Seal as Sealed
 

@@ -1,6 +1,6 @@
 -- What a call that changes an open session does to it.
 use Rattle.std.proofs.Common.{◌≡◌, ℤ, Option, Some, subst}
-use Rattle.nj_c.specs.declared.kept.Kept.{Kept}
+use Rattle.nj_c.specs.declared.session_state.Kept.{Kept}
 use Rattle.nj_c.specs.declared.status.Status.{Status}
 use Rattle.nj_c.specs.Loading.{Changes}
 use Rattle.nj_c.specs.Statuses.{code_of}

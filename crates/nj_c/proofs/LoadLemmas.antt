@@ -4,9 +4,9 @@ use Rattle.std.proofs.Common.{◌≡◌, ◌≢◌, inl, inr, ℕ, Bool, true, f
 use Rattle.std.specs.Str.{is_utf8}
 use Rattle.nj_scope.specs.Sources.{SourceState}
 use Rattle.nj_faults.specs.declared.fault.GraphFault.{GraphFault}
-use Rattle.nj_graph.specs.Graph.{GraphText}
-use Rattle.nj_graph.specs.Loads.{LoadedText, Loads}
-use Rattle.nj_c.specs.declared.kept.Kept.{Kept}
+use Rattle.nj_graph.specs.Graph.{GraphModel}
+use Rattle.nj_graph.specs.Loads.{LoadedModel, Loads}
+use Rattle.nj_c.specs.declared.session_state.Kept.{Kept}
 use Rattle.nj_c.specs.declared.status.Status.{Status}
 use Rattle.nj_c.specs.declared.status.Status.TheVariants.{Done, Nothing, Short, Fault, Wanted, NotLoaded, BadNumber, BadMark, NotUtf8, NotOpen, OutOfMemory}
 use Rattle.nj_c.specs.HandedIn.{Handed, handed_in, handed_state, wanted_paths, ReadsAsHanded, SameFiles}
@@ -14,32 +14,32 @@ use Rattle.nj_c.specs.Loading.{unread, GivesGraph, KeepsNothing, ListsNothing, L
 use Rattle.nj_c.specs.Inside.Results.{FinishesLoad, KeepsFault, KeepsGraph, KeepsResult}
 
 -- the graph of what was loaded
-pub gives_same : (state : SourceState) (loaded : LoadedText) (joins : Bool) (graph : GraphText) → joins ≡ false → graph ≡ loaded.graph
+pub gives_same : (state : SourceState) (loaded : LoadedModel) (joins : Bool) (graph : GraphModel) → joins ≡ false → graph ≡ loaded.graph
     → GivesGraph state state loaded joins (Ok graph)
 gives_same state loaded joins graph unjoined is = subst (λ b. GivesGraph state state loaded b (Ok graph)) (sym unjoined) (refl, is)
 
-pub gives_joined : (between after : SourceState) (loaded : LoadedText) (joins : Bool) (result : Result GraphText GraphFault) → joins ≡ true
+pub gives_joined : (between after : SourceState) (loaded : LoadedModel) (joins : Bool) (result : Result GraphModel GraphFault) → joins ≡ true
     → GivesGraph between after loaded true result → GivesGraph between after loaded joins result
 gives_joined between after loaded joins result wanted gives = subst (λ b. GivesGraph between after loaded b result) (sym wanted) gives
 
-pub loads_gives : (before between after : SourceState) (main : List ℕ) (joins : Bool) (loaded : LoadedText) (result : Result GraphText GraphFault)
+pub loads_gives : (before between after : SourceState) (main : List ℕ) (joins : Bool) (loaded : LoadedModel) (result : Result GraphModel GraphFault)
     → Loads main before between (Ok loaded) → GivesGraph between after loaded joins result → LoadsGraph before after main joins result
 loads_gives before between after main joins loaded (Ok graph) loads gives = (between, loaded, loads, gives)
 loads_gives before between after main joins loaded (Err fault) loads gives = inr (between, loaded, loads, gives)
 
 -- what the source declares stays
-loads-same : (before after : SourceState) (main : List ℕ) (result : Result LoadedText GraphFault) → Loads main before after result
+loads-same : (before after : SourceState) (main : List ℕ) (result : Result LoadedModel GraphFault) → Loads main before after result
     → (path : List ℕ) → after.files path ≡ before.files path
 loads-same before after main result loads path = loads.1.read.files path
 
-gives-files : (main : List ℕ) (before between after : SourceState) (joins : Bool) (loaded : LoadedText) (result : Result GraphText GraphFault)
+gives-files : (main : List ℕ) (before between after : SourceState) (joins : Bool) (loaded : LoadedModel) (result : Result GraphModel GraphFault)
     → Loads main before between (Ok loaded) → GivesGraph between after loaded joins result → (path : List ℕ) → after.files path ≡ between.files path
 gives-files main before between after false loaded (Ok graph) loads gives path = ap (λ s. s.files path) gives.0
 gives-files main before between after false loaded (Err fault) loads gives path = absurd gives
 gives-files main before between after true loaded (Ok graph) loads gives path = (gives.2 loads.2.entries loads.2.graph_is).1.read.files path
 gives-files main before between after true loaded (Err fault) loads gives path = (gives loads.2.entries loads.2.graph_is).1.read.files path
 
-pub same_files : (before after : SourceState) (main : List ℕ) (joins : Bool) (result : Result GraphText GraphFault) → LoadsGraph before after main joins result
+pub same_files : (before after : SourceState) (main : List ℕ) (joins : Bool) (result : Result GraphModel GraphFault) → LoadsGraph before after main joins result
     → (path : List ℕ) → after.files path ≡ before.files path
 same_files before after main joins (Ok graph) (between, loaded, loads, gives) path =
     gives-files main before between after joins loaded (Ok graph) loads gives path ∙ loads-same before between main (Ok loaded) loads path
@@ -63,13 +63,13 @@ module _ (before middle : Kept) (files : Handed) (main : List ℕ) (joins : Bool
   abbrev read : Kept
   read = record middle { files = files }
 
-  abbrev Loaded : Result GraphText GraphFault → Type 0
+  abbrev Loaded : Result GraphModel GraphFault → Type 0
   Loaded result = LoadsGraph (handed_state (unread before.files)) (handed_state files) main joins result
 
-  same : (result : Result GraphText GraphFault) → Loaded result → SameFiles before.files files
+  same : (result : Result GraphModel GraphFault) → Loaded result → SameFiles before.files files
   same result loads = same_files (handed_state (unread before.files)) (handed_state files) main joins result loads
 
-  lacks : (after : Kept) (result : Result GraphText GraphFault) → Loaded result → after ≡ read → LoadsKept before after main joins OutOfMemory
+  lacks : (after : Kept) (result : Result GraphModel GraphFault) → Loaded result → after ≡ read → LoadsKept before after main joins OutOfMemory
   lacks after result loads is = subst (λ k. LoadsKept before k main joins OutOfMemory) (sym is)
       (same result loads, nothing, record { output = run.output; errors = run.errors }, record { graph = none.graph; fault = none.fault; wanted = none.wanted })
 
@@ -80,12 +80,12 @@ module _ (before middle : Kept) (files : Handed) (main : List ℕ) (joins : Bool
     some : wanted.items ≢ [] → wanted_paths files ≢ []
     some any none-there = any (no-items wanted.items (are ∙ none-there))
 
-    wants : (after : Kept) (result : Result GraphText GraphFault) → Loaded result → (after ≡ record read { wanted = wanted }) × (wanted.items ≢ [])
+    wants : (after : Kept) (result : Result GraphModel GraphFault) → Loaded result → (after ≡ record read { wanted = wanted }) × (wanted.items ≢ [])
         → LoadsKept before after main joins Wanted
     wants after result loads (is, any) = subst (λ k. LoadsKept before k main joins Wanted) (sym is)
         (same result loads, nothing, record { output = run.output; errors = run.errors }, (result, none.graph, none.fault, are, (loads, found), some any))
 
-    of-graph : (after : Kept) (graph : GraphText) (status : Status) → Loaded (Ok graph) → KeepsGraph read after graph wanted status → LoadsKept before after main joins status
+    of-graph : (after : Kept) (graph : GraphModel) (status : Status) → Loaded (Ok graph) → KeepsGraph read after graph wanted status → LoadsKept before after main joins status
     of-graph after graph Done loads (is, empty) = subst (λ k. LoadsKept before k main joins Done) (sym is)
         (same (Ok graph) loads, nothing, record { output = run.output; errors = run.errors }, (graph, refl, none.fault, none.wanted, (loads, found), whole empty))
     of-graph after graph Wanted loads keeps = wants after (Ok graph) loads keeps
@@ -113,12 +113,12 @@ module _ (before middle : Kept) (files : Handed) (main : List ℕ) (joins : Bool
     of-fault after fault NotUtf8 loads keeps = absurd keeps
     of-fault after fault NotOpen loads keeps = absurd keeps
 
-    of-result : (after : Kept) (result : Result GraphText GraphFault) (status : Status) → Loaded result → KeepsResult read after result wanted status
+    of-result : (after : Kept) (result : Result GraphModel GraphFault) (status : Status) → Loaded result → KeepsResult read after result wanted status
         → LoadsKept before after main joins status
     of-result after (Ok graph) status loads keeps = of-graph after graph status loads keeps
     of-result after (Err fault) status loads keeps = of-fault after fault status loads keeps
 
-  pub loads_kept : (after : Kept) (result : Result GraphText GraphFault) (status : Status) → LoadsGraph (handed_state middle.files) (handed_state files) main joins result
+  pub loads_kept : (after : Kept) (result : Result GraphModel GraphFault) (status : Status) → LoadsGraph (handed_state middle.files) (handed_state files) main joins result
       → FinishesLoad read after result status → LoadsKept before after main joins status
   loads_kept after result status loads (inl (wanted, are, found, keeps)) =
       of-result wanted are found after result status (subst (λ f. LoadsGraph (handed_state f) (handed_state files) main joins result) begun loads) keeps

@@ -5,17 +5,17 @@ use Rattle.std.specs.List.{AllByRecursion, cons_option, filter_map}
 use Rattle.std.proofs.lemmas.Slice.Eq.{bytes_eq-Decides}
 use Rattle.nj_text.specs.declared.spot.Spot.{Spot}
 use Rattle.nj_text.specs.Words.{Text}
-use Rattle.nj_manifest.specs.Statements.{IncludeText}
+use Rattle.nj_manifest.specs.Statements.{IncludeModel}
 use Rattle.nj_scope.specs.Readings.{Reading, reading_of, paths_of, IsPrefix}
 use Rattle.nj_scope.specs.ReadingList.{ReadStatement}
 use Rattle.nj_faults.specs.declared.fault.GraphFault.{GraphFault}
-use Rattle.nj_graph.specs.Graph.{GraphText}
+use Rattle.nj_graph.specs.Graph.{GraphModel}
 use Rattle.nj_faults.specs.Limits.{most_within}
-use Rattle.nj_graph.specs.Reading.{End, Whole, Refused, Lacking, ReadingText, Opens, and_then, item_read, main_place, main_read, main_site, opened_in, opened_site, outcome_read, place_at, text_read}
-use Rattle.nj_graph.specs.Runs.{ReachedText, IsEnd, IsLacking}
-use Rattle.nj_graph.specs.Loads.{LoadedText, LoadedOr, Loads, main_reached, reached_from}
+use Rattle.nj_graph.specs.Reading.{End, Whole, Refused, Lacking, ReadingModel, Opens, and_then, item_read, main_place, main_read, main_site, opened_in, opened_site, outcome_read, place_at, text_read}
+use Rattle.nj_graph.specs.Runs.{ReachedModel, IsEnd, IsLacking}
+use Rattle.nj_graph.specs.Loads.{LoadedModel, LoadedOr, Loads, main_reached, reached_from}
 use Rattle.nj_graph.proofs.ReadingRows.{on_files}
-use Rattle.nj_c.specs.declared.kept.Kept.{Kept}
+use Rattle.nj_c.specs.declared.session_state.Kept.{Kept}
 use Rattle.nj_c.specs.declared.status.Status.TheVariants.{Done, Fault, Wanted, OutOfMemory}
 use Rattle.nj_c.specs.HandedIn.{Handed, handed_in, handed_state, reads_as}
 use Rattle.nj_c.specs.Loading.{unread, KeepsNothing, ListsNothing, LoadsGraph, LoadsKept}
@@ -86,22 +86,22 @@ the_include = record {
   depth = 0;
   number = 0;
   around = [];
-  item = IncludeText (record { spot = at 9; parts = Text a ∷ [] });
+  item = IncludeModel (record { spot = at 9; parts = Text a ∷ [] });
   discovered = None;
 }
 
-abbrev whole : ReadingText
+abbrev whole : ReadingModel
 whole = record { entries = the_include ∷ []; end = Whole }
 
-abbrev up_to_the_end : List ReadStatement → ReadingText
+abbrev up_to_the_end : List ReadStatement → ReadingModel
 up_to_the_end entries = record { entries = entries; end = Whole }
 
 -- by what was found at `m`
-abbrev by_main : List Reading → Option Reading → ReadingText
+abbrev by_main : List Reading → Option Reading → ReadingModel
 by_main files found = outcome_read m (main_place m) [] (λ text. text_read (opened_in files most_within) (main_site m) text []) found
 
 -- by what was found at `a`
-abbrev by_other : List Reading → Option Reading → ReadingText
+abbrev by_other : List Reading → Option Reading → ReadingModel
 by_other files found = and_then
     (outcome_read a (place_at the_include (at 9)) []
     (λ text. text_read (opened_in files 30) (opened_site the_include [] (record { spot = at 9; parts = Text a ∷ [] }) 0 []) text (the_include ∷ [])) found)
@@ -163,14 +163,14 @@ AreFirst files = IsPrefix (paths_of files) (m ∷ a ∷ [])
 both-first : (files : List Reading) → paths_of files ≡ m ∷ a ∷ [] → AreFirst files
 both-first files are = subst (λ paths. IsPrefix paths (m ∷ a ∷ [])) (sym are) ([], refl)
 
-never-ends : (after : Handed) (files : List Reading) (fault : GraphFault) (reached : ReachedText) (end : End) → AreGiven files → reached.read.end ≡ end
+never-ends : (after : Handed) (files : List Reading) (fault : GraphFault) (reached : ReachedModel) (end : End) → AreGiven files → reached.read.end ≡ end
     → IsEnd (handed_state begun) (handed_state after) end fault → (IsLacking end (with-both files) → main_reached m (with-both files) ≡ reached) → ⊥
 never-ends after files fault reached Whole are is answered read = answered
 never-ends after files fault reached (Refused f) are is answered read =
     true≢false (ap (λ r. is-whole r.read.end) (sym (reads-both files are) ∙ read tt) ∙ ap is-whole is)
 never-ends after files fault reached (Lacking path place) are is answered read = let below = answered.1.above (omega arith) in absurd (omega (arith, below))
 
-first-paths : (after : Handed) (files : List Reading) (result : Result LoadedText GraphFault) → AreGiven files
+first-paths : (after : Handed) (files : List Reading) (result : Result LoadedModel GraphFault) → AreGiven files
     → LoadedOr (handed_state begun) (handed_state after) files (main_reached m) result → AreFirst files
 first-paths after files (Ok loaded) are ok = both-first files (whole-paths files are (ap (λ r. r.end) ok.whole.read) ok.whole.came_to)
 first-paths after files (Err fault) are (inl (inl lacks)) =
@@ -220,14 +220,14 @@ module _ (before after : Kept) (is : unread before.files ≡ begun) (same : (pat
       ap (λ file. cons_option (cond (is_some file) None (Some r.path)) others) (as-begun r.path)
       ∙ ap (cons_option (cond (is_some (handed_in begun r.path)) None (Some r.path))) (are-wanted rs)
 
-  loaded-by : (result : Result GraphText GraphFault) → LoadsGraph (handed_state (unread before.files)) (handed_state after.files) m false result
-      → (loaded : Result LoadedText GraphFault) × Loads m (handed_state begun) (handed_state after.files) loaded
+  loaded-by : (result : Result GraphModel GraphFault) → LoadsGraph (handed_state (unread before.files)) (handed_state after.files) m false result
+      → (loaded : Result LoadedModel GraphFault) × Loads m (handed_state begun) (handed_state after.files) loaded
   loaded-by (Ok graph) (between, loaded, loads, gives) =
       (Ok loaded, subst (λ s. Loads m s (handed_state after.files) (Ok loaded)) (ap handed_state is) (subst (λ s. Loads m (handed_state (unread before.files)) s (Ok loaded)) (sym gives.0) loads))
   loaded-by (Err fault) (inl loads) = (Err fault, subst (λ s. Loads m s (handed_state after.files) (Err fault)) (ap handed_state is) loads)
   loaded-by (Err fault) (inr (between, loaded, loads, gives)) = absurd gives
 
-  are-first : (loaded : Result LoadedText GraphFault) → Loads m (handed_state begun) (handed_state after.files) loaded
+  are-first : (loaded : Result LoadedModel GraphFault) → Loads m (handed_state begun) (handed_state after.files) loaded
       → AreGiven after.files.read → AreFirst after.files.read
   are-first loaded (files, read, or) are =
       let these : files ≡ after.files.read = read.added ∙ sym (ap (λ o. unwrap_or o []) read.read.reported) in

@@ -12,8 +12,8 @@ use Rattle.nj_needs.specs.Graphs.{count_of, makers_of, row_of}
 use Rattle.nj_needs.specs.Marks.{is_valid, IsFirstPlace}
 use Rattle.nj_needs.specs.Pages.{IsMarkAfter}
 use Rattle.nj_needs.specs.Walks.{WalkState, BeginsAt, IsFirstPlaceOf}
-use Rattle.nj_graph.specs.Graph.{GraphText}
-use Rattle.nj_c.specs.declared.kept.Kept.{Kept}
+use Rattle.nj_graph.specs.Graph.{GraphModel}
+use Rattle.nj_c.specs.declared.session_state.Kept.{Kept}
 use Rattle.nj_c.specs.declared.pages.Page.{Page}
 use Rattle.nj_c.specs.declared.status.Status.{Status}
 use Rattle.nj_c.specs.declared.status.Status.TheVariants.{Done, Nothing, Short, Fault, Wanted, NotLoaded, BadNumber, NotUtf8, NotOpen, BadMark, OutOfMemory}
@@ -145,7 +145,7 @@ at-none g targets text limit BadNumber none = absurd none
 at-none g targets text limit NotUtf8 none = absurd none
 at-none g targets text limit NotOpen none = absurd none
 
-pub of-numbers : (g : GraphText) (numbers : List ℕ) (targets : List FileNo) (text : List ℕ) (limit : ℕ) (result : Result Page Status) → AreKnown g numbers
+pub of-numbers : (g : GraphModel) (numbers : List ℕ) (targets : List FileNo) (text : List ℕ) (limit : ℕ) (result : Result Page Status) → AreKnown g numbers
     → targets ≡ numbered numbers → PageAt g.built.graph targets text limit result → PageOf g numbers text limit result
 of-numbers g numbers targets text limit (Ok page) known are at = (known, subst (λ t. PageAt g.built.graph t text limit (Ok page)) are at)
 of-numbers g numbers targets text limit (Err BadMark) known are at = (known, subst (λ t. IsBadMark g.built.graph t text) are at)
@@ -162,12 +162,12 @@ of-numbers g numbers targets text limit (Err NotOpen) known are at = absurd at
 
 -- ---- what a session keeps of them
 
-pub lists-page : (before : Kept) (g : GraphText) (targets text : List ℕ) (limit : ℕ) (page : Page) → before.graph ≡ Some g → PageOf g targets text limit (Ok page)
+pub lists-page : (before : Kept) (g : GraphModel) (targets text : List ℕ) (limit : ℕ) (page : Page) → before.graph ≡ Some g → PageOf g targets text limit (Ok page)
     → ListsPage before (record before { found = page.edges; mark = page.mark }) targets text limit Done
 lists-page before g targets text limit page graph of =
     (g, graph, record { files = refl; wanted = refl; graph = refl; fault = refl; run = record { output = refl; errors = refl } }, of.0, of.1)
 
-pub lists-no-page : (before : Kept) (g : GraphText) (targets text : List ℕ) (limit : ℕ) (status : Status) → before.graph ≡ Some g
+pub lists-no-page : (before : Kept) (g : GraphModel) (targets text : List ℕ) (limit : ℕ) (status : Status) → before.graph ≡ Some g
     → PageOf g targets text limit (Err status) → ListsPage before before targets text limit status
 lists-no-page before g targets text limit BadMark graph of = (g, graph, refl, of.0, of.1)
 lists-no-page before g targets text limit BadNumber graph of = (g, graph, refl, of)

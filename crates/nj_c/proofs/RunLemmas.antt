@@ -1,9 +1,9 @@
 -- What a run leaves.
 use Rattle.std.proofs.Common.{◌≡◌, ◌≢◌, ◌⊎◌, inl, inr, ℕ, ℤ, pos, Bool, true, false, Ok, Err, Result, List, [], refl, sym, ap, subst, ◌∙◌, arith, true≢false}
 use Rattle.nj_tools.specs.MemorySinks.{state_of}
-use Rattle.nj_requests.specs.Actions.{ActionText, RequestText}
+use Rattle.nj_requests.specs.Actions.{ActionModel, RequestModel}
 use Rattle.nj_args.specs.Requests.{request_of}
-use Rattle.nj_args.specs.declared.faults.UsageFault.{UsageFault}
+use Rattle.nj_args.specs.declared.usage_fault.UsageFault.{UsageFault}
 use Rattle.nj_scope.specs.ReadingList.{ReadStatement}
 use Rattle.nj_tools.specs.Sinks.{SinkState, FailsAfter, one_more}
 use Rattle.nj_cli.specs.declared.status.Status as run
@@ -15,7 +15,7 @@ use Rattle.nj_tools.specs.Texts.{FailsWithin}
 use Rattle.nj_cli.specs.Runs.{Around, RunsWith, RunsWords, around}
 use Rattle.nj_cli.specs.Inside.RunSteps.{RunEnds}
 use Rattle.nj_cli.specs.Status.{exit_code}
-use Rattle.nj_c.specs.declared.kept.Kept.{Kept}
+use Rattle.nj_c.specs.declared.session_state.Kept.{Kept}
 use Rattle.nj_c.specs.declared.status.Status.{Status}
 use Rattle.nj_c.specs.declared.status.Status.TheVariants.{Done, Nothing, Short, Fault, Wanted, NotLoaded, BadNumber, BadMark, NotUtf8, NotOpen, OutOfMemory}
 use Rattle.nj_c.specs.HandedIn.{Handed, handed_in, handed_state, SameFiles}
@@ -25,7 +25,7 @@ use Rattle.nj_c.specs.Inside.RunsHeld.{FinishesRun, NoRun, Ran, WordsRefused}
 
 -- ---- what the source declares stays
 
-files-with : (request : Result RequestText UsageFault) (old new : Around) (status : run.Status) → RunsWith request old new status
+files-with : (request : Result RequestModel UsageFault) (old new : Around) (status : run.Status) → RunsWith request old new status
     → (path : List ℕ) → new.source.files path ≡ old.source.files path
 files-with (Ok request) old new status runs path = runs.1.read.files path
 files-with (Err fault) old new status runs path = ap (λ s. s.files path) runs.0.source
@@ -155,7 +155,7 @@ reported-status (faulty text) = refl
 fails-once : (old new : SinkState) (front : List ℕ) → old ≡ untouched → FailsAfter old new front → new.failures ≡ 0 → ⊥
 fails-once old new front begun fails none = let one : one_more 0 ≡ 0 = sym (fails.failures ∙ ap (λ s. one_more s.failures) begun) ∙ none in absurd (omega (arith, one))
 
-ends-so : (entries : List ReadStatement) (action : ActionText) (old new : Around) (ended : run.Status) → old.output ≡ untouched → old.error ≡ untouched
+ends-so : (entries : List ReadStatement) (action : ActionModel) (old new : Around) (ended : run.Status) → old.output ≡ untouched → old.error ≡ untouched
     → new.output.failures ≡ 0 → new.error.failures ≡ 0 → RunEnds entries action old new ended → ended ≢ OutputFailed
 ends-so entries action old new ended out err no-out no-err (inl r) = told r.error
   where
@@ -166,7 +166,7 @@ ends-so entries action old new ended out err no-out no-err (inl r) = told r.erro
 ends-so entries action old new ended out err no-out no-err (inr (inl r)) = absurd (fails-once old.output new.output r.output.0 out r.output.2 no-out)
 ends-so entries action old new ended out err no-out no-err (inr (inr r)) = other-status ended cli.Fault refl r.status_is
 
-request-ends : (request : Result RequestText UsageFault) (old new : Around) (ended : run.Status) → old.output ≡ untouched → old.error ≡ untouched
+request-ends : (request : Result RequestModel UsageFault) (old new : Around) (ended : run.Status) → old.output ≡ untouched → old.error ≡ untouched
     → new.output.failures ≡ 0 → new.error.failures ≡ 0 → RunsWith request old new ended → ended ≢ OutputFailed
 request-ends (Ok request) old new ended out err no-out no-err (files, read, inl refused) = other-status ended cli.Fault refl refused.status_is
 request-ends (Ok request) old new ended out err no-out no-err (files, read, inr answered) =

@@ -4,7 +4,7 @@ use Rattle.std.specs.Global.{Vec}
 use Rattle.std.specs.List.{AllByRecursion, cons_option, filter_map, flat_map}
 use Rattle.std.proofs.lemmas.List.{append-nil, flat_map_more, map_push, take_more}
 use Rattle.nj_scope.specs.Readings.{Reading}
-use Rattle.nj_c.specs.declared.handed_in.HandedReading.{HandedReading}
+use Rattle.nj_c.specs.declared.supplied_files.HandedReading.{HandedReading}
 use Rattle.nj_c.specs.Inside.HandedHeld.{read_bytes, reading_held, wanted_of}
 use Rattle.nj_c.proofs.HandedLemmas.{is-known}
 

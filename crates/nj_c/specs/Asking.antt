@@ -3,10 +3,10 @@ use Rattle.std.specs.Prelude.{◌≡◌, ◌≢◌, ◌⊎◌, ◌<◌, ◌≤�
 use Rattle.nj_edges.specs.declared.edges.Kind.{Kind}
 use Rattle.nj_edges.specs.declared.edges.Kind.TheVariants.{Explicit, Implicit, OrderOnly}
 use Rattle.nj_scope.specs.ReadingList.{ReadStatement}
-use Rattle.nj_graph.specs.Graph.{GraphText, IsGraphOf, edges_of, files_of, late_text_of}
+use Rattle.nj_graph.specs.Graph.{GraphModel, IsGraphOf, edges_of, files_of, late_text_of}
 use Rattle.nj_faults.specs.declared.fault.GraphFault.{GraphFault}
 use Rattle.nj_faults.specs.declared.fault.Place.{Place}
-use Rattle.nj_c.specs.declared.kept.Kept.{Kept}
+use Rattle.nj_c.specs.declared.session_state.Kept.{Kept}
 use Rattle.nj_c.specs.declared.status.Status.TheVariants.{Done, Nothing, Short, NotLoaded, BadNumber, NotOpen, OutOfMemory}
 use Rattle.nj_c.specs.Statuses.{code_of}
 
@@ -15,11 +15,11 @@ abbrev pub IfOpen : Option Kept → ℤ → (Kept → Type 0) → Type 0
 IfOpen session result does = MatchOption session (result ≡ code_of NotOpen) does
 
 -- without a graph that is returned, and with one this is so
-abbrev pub IfLoaded : Option GraphText → ℤ → (GraphText → Type 0) → Type 0
+abbrev pub IfLoaded : Option GraphModel → ℤ → (GraphModel → Type 0) → Type 0
 IfLoaded graph result does = MatchOption graph (result ≡ code_of NotLoaded) does
 
 -- of the graph of an open session
-abbrev pub OfGraph : Option Kept → ℤ → (GraphText → Type 0) → Type 0
+abbrev pub OfGraph : Option Kept → ℤ → (GraphModel → Type 0) → Type 0
 OfGraph session result does = IfOpen session result (λ kept. IfLoaded kept.graph result does)
 
 -- a number below the count does this, and any other is refused
@@ -28,11 +28,11 @@ pub record IfNumber (number count : ℕ) (result : ℤ) (does : Type 0) : Type 0
   pub is_not : count ≤ number → result ≡ code_of BadNumber
 
 -- of an edge of the graph of an open session
-abbrev pub OfEdge : Option Kept → ℕ → ℤ → (GraphText → Type 0) → Type 0
+abbrev pub OfEdge : Option Kept → ℕ → ℤ → (GraphModel → Type 0) → Type 0
 OfEdge session edge result does = OfGraph session result (λ g. IfNumber edge (length (edges_of g)) result (does g))
 
 -- of a file of the graph of an open session
-abbrev pub OfFile : Option Kept → ℕ → ℤ → (GraphText → Type 0) → Type 0
+abbrev pub OfFile : Option Kept → ℕ → ℤ → (GraphModel → Type 0) → Type 0
 OfFile session file result does = OfGraph session result (λ g. IfNumber file (length (files_of g)) result (does g))
 
 -- the item of a list at an index was given out, or there is none
@@ -68,7 +68,7 @@ GivesTextOrNot text before after needed_before needed_after result = GivesText t
     ⊎ ((result ≡ code_of OutOfMemory) × (needed_after ≡ needed_before))
 
 -- The value of a variable for an edge was given out. The graph is that of statements which were read.
-abbrev pub GivesValue : GraphText → (edge : ℕ) → (name before after : List ℕ) → (needed_before needed_after : ℕ) → ℤ → Type 0
+abbrev pub GivesValue : GraphModel → (edge : ℕ) → (name before after : List ℕ) → (needed_before needed_after : ℕ) → ℤ → Type 0
 GivesValue g edge name before after needed_before needed_after result = (entries : List ReadStatement) → IsGraphOf g entries
     → GivesTextOrNot (late_text_of entries edge name) before after needed_before needed_after result
 

@@ -5,10 +5,10 @@ use Rattle.nj_scope.specs.ReadingList.{ReadStatement}
 use Rattle.nj_scope.specs.Sources.{SourceState}
 use Rattle.nj_faults.specs.declared.fault.GraphFault.{GraphFault}
 use Rattle.nj_faults.specs.Faults.{no_memory}
-use Rattle.nj_graph.specs.Graph.{GraphText, IsGraphOf}
-use Rattle.nj_graph.specs.Loads.{LoadedText, Loads}
+use Rattle.nj_graph.specs.Graph.{GraphModel, IsGraphOf}
+use Rattle.nj_graph.specs.Loads.{LoadedModel, Loads}
 use Rattle.nj_graph.specs.Joining.{Joins}
-use Rattle.nj_c.specs.declared.kept.Kept.{Kept}
+use Rattle.nj_c.specs.declared.session_state.Kept.{Kept}
 use Rattle.nj_c.specs.declared.status.Status.{Status}
 use Rattle.nj_c.specs.declared.status.Status.TheVariants.{Done, Fault, Wanted, NotUtf8, NotOpen, OutOfMemory}
 use Rattle.nj_c.specs.Statuses.{code_of}
@@ -62,29 +62,29 @@ TakesPath before after path file status =
 -- ---- loading
 
 -- all that is loaded, and its dyndep files are joined if that is wanted
-abbrev pub GivesGraph : (between after : SourceState) → LoadedText → (joins : Bool) → Result GraphText GraphFault → Type 0
+abbrev pub GivesGraph : (between after : SourceState) → LoadedModel → (joins : Bool) → Result GraphModel GraphFault → Type 0
 GivesGraph between after loaded false (Ok graph) = (after ≡ between) × (graph ≡ loaded.graph)
 GivesGraph between after loaded false (Err fault) = ⊥
 GivesGraph between after loaded true (Ok graph) =
-    (joined : LoadedText) × (graph ≡ joined.graph)
+    (joined : LoadedModel) × (graph ≡ joined.graph)
     × ((stated : List ReadStatement) → IsGraphOf loaded.graph stated → Joins stated loaded.files between after (Ok joined))
 GivesGraph between after loaded true (Err fault) =
     (stated : List ReadStatement) → IsGraphOf loaded.graph stated → Joins stated loaded.files between after (Err fault)
 
 -- the load of a main file by a source, without dyndep files or with them
-abbrev pub LoadsGraph : (before after : SourceState) → (main : List ℕ) → (joins : Bool) → Result GraphText GraphFault → Type 0
+abbrev pub LoadsGraph : (before after : SourceState) → (main : List ℕ) → (joins : Bool) → Result GraphModel GraphFault → Type 0
 LoadsGraph before after main joins (Ok graph) =
-    (between : SourceState) × (loaded : LoadedText) × Loads main before between (Ok loaded) × GivesGraph between after loaded joins (Ok graph)
+    (between : SourceState) × (loaded : LoadedModel) × Loads main before between (Ok loaded) × GivesGraph between after loaded joins (Ok graph)
 LoadsGraph before after main joins (Err fault) =
     Loads main before after (Err fault)
-    ⊎ ((between : SourceState) × (loaded : LoadedText) × Loads main before between (Ok loaded) × GivesGraph between after loaded joins (Err fault))
+    ⊎ ((between : SourceState) × (loaded : LoadedModel) × Loads main before between (Ok loaded) × GivesGraph between after loaded joins (Err fault))
 
 -- the files that were handed in, of which nothing was read yet
 abbrev pub unread : Handed → Handed
 unread h = record { paths = h.paths; files = h.files; read = [] }
 
 -- the load of a main file from what was handed in
-abbrev pub LoadsFiles : (before after : Handed) → (main : List ℕ) → (joins : Bool) → Result GraphText GraphFault → Type 0
+abbrev pub LoadsFiles : (before after : Handed) → (main : List ℕ) → (joins : Bool) → Result GraphModel GraphFault → Type 0
 LoadsFiles before after main joins result =
     LoadsGraph (handed_state (unread before)) (handed_state after) main joins result × ReadsAsHanded after
 
@@ -101,13 +101,13 @@ pub record KeepsNothing (kept : Kept) : Type 0 where
 -- What a load leaves, by its status. All files that it read were handed in, unless some are wanted.
 abbrev pub LoadsAs : (before after : Kept) → (main : List ℕ) → (joins : Bool) → Status → Type 0
 LoadsAs before after main joins Done =
-    (graph : GraphText) × (after.graph ≡ Some graph) × (after.fault ≡ None) × (after.wanted.items ≡ [])
+    (graph : GraphModel) × (after.graph ≡ Some graph) × (after.fault ≡ None) × (after.wanted.items ≡ [])
     × LoadsFiles before.files after.files main joins (Ok graph) × (wanted_paths after.files ≡ [])
 LoadsAs before after main joins Fault =
     (fault : GraphFault) × (after.graph ≡ None) × (after.fault ≡ Some fault) × (after.wanted.items ≡ []) × (fault ≢ no_memory)
     × LoadsFiles before.files after.files main joins (Err fault) × (wanted_paths after.files ≡ [])
 LoadsAs before after main joins Wanted =
-    (result : Result GraphText GraphFault) × (after.graph ≡ None) × (after.fault ≡ None) × ListsWanted after
+    (result : Result GraphModel GraphFault) × (after.graph ≡ None) × (after.fault ≡ None) × ListsWanted after
     × LoadsFiles before.files after.files main joins result × (wanted_paths after.files ≢ [])
 LoadsAs before after main joins NotUtf8 = KeepsNothing after × (is_utf8 main ≡ false)
 LoadsAs before after main joins OutOfMemory = KeepsNothing after

@@ -10,9 +10,9 @@ use Rattle.nj_needs.specs.MarkTexts.{given_mark, mark_text}
 use Rattle.nj_needs.specs.Graphs.{makers_of, row_of}
 use Rattle.nj_needs.specs.Marks.{is_valid}
 use Rattle.nj_needs.specs.Walks.{WalkState, BeginsAt}
-use Rattle.nj_graph.specs.Graph.{GraphText, edges_of, files_of}
+use Rattle.nj_graph.specs.Graph.{GraphModel, edges_of, files_of}
 use Rattle.nj_tools.specs.CommandStrings.{StopsAt, written}
-use Rattle.nj_c.specs.declared.kept.Kept.{Kept}
+use Rattle.nj_c.specs.declared.session_state.Kept.{Kept}
 use Rattle.nj_c.specs.declared.status.Status.{Status}
 use Rattle.nj_c.specs.declared.status.Status.TheVariants.{Done, NotLoaded, BadNumber, BadMark, OutOfMemory}
 use Rattle.nj_c.specs.Loading.{SameRun}
@@ -24,7 +24,7 @@ edge_numbers kept = map (λ e. e.0) kept.found.items
 abbrev pub AreBelow : (count : ℕ) → List ℕ → Type 0
 AreBelow count numbers = All (λ n. n < count) numbers
 
-abbrev pub AreKnown : GraphText → List ℕ → Type 0
+abbrev pub AreKnown : GraphModel → List ℕ → Type 0
 AreKnown g numbers = AreBelow (length (files_of g)) numbers
 
 abbrev pub numbered : List ℕ → List FileNo
@@ -40,16 +40,16 @@ pub record Lists (before after : Kept) : Type 0 where
 
 -- ---- what a change reaches
 
-abbrev pub IsReached : GraphText → (files edges : List ℕ) → Type 0
+abbrev pub IsReached : GraphModel → (files edges : List ℕ) → Type 0
 IsReached g files edges = IsStrictlyIncreasing edges
     × ((edge : ℕ) → Contains edges edge ↔ IsAffected (edges_of g) (map (path_at (files_of g)) (numbered files)) edge)
 
 abbrev pub ListsReached : (before after : Kept) → (files : List ℕ) → Status → Type 0
 ListsReached before after files Done =
-    (g : GraphText) × (before.graph ≡ Some g) × Lists before after × AreKnown g files × IsReached g files (edge_numbers after)
+    (g : GraphModel) × (before.graph ≡ Some g) × Lists before after × AreKnown g files × IsReached g files (edge_numbers after)
     × (after.mark.items ≡ [])
 ListsReached before after files BadNumber =
-    (g : GraphText) × (before.graph ≡ Some g) × (after ≡ before) × (AreKnown g files → ⊥)
+    (g : GraphModel) × (before.graph ≡ Some g) × (after ≡ before) × (AreKnown g files → ⊥)
 ListsReached before after files NotLoaded = (before.graph ≡ None) × (after ≡ before)
 ListsReached before after files OutOfMemory = after ≡ before
 ListsReached before after files other = ⊥
@@ -84,13 +84,13 @@ IsBadMark g targets text = IsNoMark text
 
 abbrev pub ListsPage : (before after : Kept) → (targets : List ℕ) → (text : List ℕ) → (limit : ℕ) → Status → Type 0
 ListsPage before after targets text limit Done =
-    (g : GraphText) × (before.graph ≡ Some g) × Lists before after × AreKnown g targets
+    (g : GraphModel) × (before.graph ≡ Some g) × Lists before after × AreKnown g targets
     × ((mark : List ℕ) × (mark_of text ≡ Some mark)
     × IsPage g.built.graph (numbered targets) mark limit (edge_numbers after) after.mark.items)
 ListsPage before after targets text limit BadMark =
-    (g : GraphText) × (before.graph ≡ Some g) × (after ≡ before) × AreKnown g targets × IsBadMark g.built.graph (numbered targets) text
+    (g : GraphModel) × (before.graph ≡ Some g) × (after ≡ before) × AreKnown g targets × IsBadMark g.built.graph (numbered targets) text
 ListsPage before after targets text limit BadNumber =
-    (g : GraphText) × (before.graph ≡ Some g) × (after ≡ before) × (AreKnown g targets → ⊥)
+    (g : GraphModel) × (before.graph ≡ Some g) × (after ≡ before) × (AreKnown g targets → ⊥)
 ListsPage before after targets text limit NotLoaded = (before.graph ≡ None) × (after ≡ before)
 ListsPage before after targets text limit OutOfMemory = after ≡ before
 ListsPage before after targets text limit other = ⊥

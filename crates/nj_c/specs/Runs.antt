@@ -8,7 +8,7 @@ use Rattle.nj_cli.specs.declared.status.Status as run
 use Rattle.nj_cli.specs.declared.status.Status.TheVariants.{OutputFailed}
 use Rattle.nj_cli.specs.Runs.{RunsWords, around}
 use Rattle.nj_cli.specs.Status.{exit_code}
-use Rattle.nj_c.specs.declared.kept.Kept.{Kept}
+use Rattle.nj_c.specs.declared.session_state.Kept.{Kept}
 use Rattle.nj_c.specs.declared.status.Status.{Status}
 use Rattle.nj_c.specs.declared.status.Status.TheVariants.{Done, Wanted, NotUtf8, OutOfMemory}
 use Rattle.nj_c.specs.HandedIn.{Handed, handed_state, wanted_paths, ReadsAsHanded, SameFiles}

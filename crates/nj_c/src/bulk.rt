@@ -10,7 +10,7 @@ ghost use Rattle.nj_c.specs.Buffers.{filled, kinds_of, GivesFiles, GivesNumbers}
 ghost use Rattle.nj_c.specs.Statuses.{code_of};
 
 use crate::items::kind_number;
-use crate::seal::Seal;
+use crate::sealed_box::Seal;
 use crate::session::Session;
 use crate::status::Status;
 use nj_graph::{EdgeGraph, EdgeNo, FileNo};

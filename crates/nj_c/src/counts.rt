@@ -6,7 +6,7 @@ ghost use Rattle.nj_c.specs.declared.status.Status.TheVariants.{Done};
 ghost use Rattle.nj_c.specs.Asking.{IfLoaded, OfGraph};
 ghost use Rattle.nj_c.specs.Statuses.{code_of};
 
-use crate::seal::Seal;
+use crate::sealed_box::Seal;
 use crate::session::Session;
 use crate::status::Status;
 use std::alloc::Global;

@@ -9,7 +9,7 @@ ghost use Rattle.nj_c.specs.Statuses.{code_of};
 
 use crate::buffers::copy_text;
 use crate::fault_kinds::fault_number;
-use crate::seal::Seal;
+use crate::sealed_box::Seal;
 use crate::session::Session;
 use crate::status::Status;
 use nj_graph::Place;

@@ -11,7 +11,7 @@ ghost use Rattle.nj_c.specs.Inside.PagesHeld.{mark_status, numbers_of, EndsAt, M
 
 use crate::buffers::copy_text;
 use crate::items::give_edge;
-use crate::seal::Seal;
+use crate::sealed_box::Seal;
 use crate::session::Session;
 use crate::status::Status;
 use nj_graph::{EdgeNo, FileNo, Graph};

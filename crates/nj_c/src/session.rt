@@ -2,12 +2,12 @@
 
 ghost use Rattle.std.specs.Prelude.{◌≡◌, None, Some, option_map};
 ghost use Rattle.std.specs.declared.option.Option.{Option};
-ghost use Rattle.nj_c.specs.declared.kept.Kept.{Kept};
+ghost use Rattle.nj_c.specs.declared.session_state.Kept.{Kept};
 ghost use Rattle.nj_c.specs.Inside.Keeps.{keeps, kept_coded};
 
-use crate::kept::Kept;
-use crate::loose::Loose;
-use crate::seal::Seal;
+use crate::sealed_box::Seal;
+use crate::session_state::Kept;
+use crate::taken_box::Loose;
 use std::alloc::Global;
 use std::marker::Model;
 use std::mem;

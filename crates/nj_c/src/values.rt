@@ -2,13 +2,13 @@
 
 ghost use Rattle.std.specs.Prelude.{◌≡◌, ◌<◌, List, length, codes};
 ghost use Rattle.nj_scope.specs.ReadingList.{ReadStatement};
-ghost use Rattle.nj_graph.specs.Graph.{edges_of, late_text_of, GraphText, IsGraphOf};
+ghost use Rattle.nj_graph.specs.Graph.{edges_of, late_text_of, GraphModel, IsGraphOf};
 ghost use Rattle.nj_c.specs.declared.status.Status.TheVariants.{OutOfMemory};
 ghost use Rattle.nj_c.specs.Asking.{GivesText, GivesValue, IfLoaded, IfNumber, KeptUnlessDone, OfEdge};
 ghost use Rattle.nj_c.specs.Statuses.{code_of};
 
 use crate::buffers::copy_text;
-use crate::seal::Seal;
+use crate::sealed_box::Seal;
 use crate::session::Session;
 use crate::status::Status;
 use nj_graph::{EdgeNo, Graph};

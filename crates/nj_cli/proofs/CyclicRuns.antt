@@ -6,7 +6,7 @@ use Rattle.nj_scope.specs.Sources.{SourceState}
 use Rattle.nj_scope.specs.ReadingList.{ReadStatement}
 use Rattle.nj_faults.specs.declared.fault.GraphFault.{GraphFault}
 use Rattle.nj_graph.specs.Loads.{LoadedOr, main_reached}
-use Rattle.nj_graph.specs.Reading.{ReadingText, Whole, main_read}
+use Rattle.nj_graph.specs.Reading.{ReadingModel, Whole, main_read}
 use Rattle.nj_graph.specs.Runs.{IsLacking}
 use Rattle.nj_graph.proofs.OtherFiles.{others_are_not_read}
 use Rattle.nj_cli.specs.Runs.{ReadsMore, AreStatements, HaveFault}
@@ -17,9 +17,9 @@ module _ (main : List ℕ) (before after : SourceState) (files : List Reading) (
   -- what was read first are these statements: further files make no difference
   stated-are : (more : ReadsMore main before after files) → more.stated ≡ stated
   stated-are more =
-      let whole = subst (λ (r : ReadingText). IsLacking r.end files) (sym more.whole.read) tt in
+      let whole = subst (λ (r : ReadingModel). IsLacking r.end files) (sym more.whole.read) tt in
       let same = others_are_not_read more.read files main (more.adds.readings, more.adds.added) whole in
-      ap (λ (r : ReadingText). r.entries) (sym more.whole.read ∙ sym same ∙ read)
+      ap (λ (r : ReadingModel). r.entries) (sym more.whole.read ∙ sym same ∙ read)
 
   pub no_more_is_read : ¬ ReadsMore main before after files
   no_more_is_read more = cyclic (subst (λ (es : List ReadStatement). NoEdgeNeedsItself (edges_by_path es)) (stated-are more) more.acyclic)

@@ -20,12 +20,12 @@ use Rattle.nj_needs.proofs.OrderLaws.{commands-reached, commands-once, commands-
 use Rattle.nj_needs.proofs.PageLaws.{mark-keeps_the_rest}
 use Rattle.nj_needs.proofs.PlaceLaws.{first-places_are_one}
 use Rattle.nj_needs.proofs.Striking.{without-none}
-use Rattle.nj_requests.specs.Actions.{ActionText, commands, single_commands}
+use Rattle.nj_requests.specs.Actions.{ActionModel, commands, single_commands}
 use Rattle.nj_args.specs.Requests.{start_of}
 use Rattle.nj_requests.specs.Actions as ask
 use Rattle.nj_args.specs.RunMarks.{run_mark_text}
 use Rattle.nj_args.proofs.RunMarks.{run-mark_reads_back}
-use Rattle.nj_args.specs.declared.faults.UsageFault.TheVariants.{BadMark}
+use Rattle.nj_args.specs.declared.usage_fault.UsageFault.TheVariants.{BadMark}
 use Rattle.nj_tools.specs.CommandStrings.{command_lines, written}
 use Rattle.nj_tools.specs.Inside.Commands.{command_line}
 use Rattle.nj_cli.specs.Answers.{leads, commands_left, IsMarkOf, for_targets, page_text, output_of, Ending, finished, stopped, faulty, PageEnds, EndsFor, Finishes, EndsWith}
@@ -116,7 +116,7 @@ same-targets : (entries : List ReadStatement) (words : List (List ℕ)) (validat
 same-targets entries words validations targets others one other = let e : Ok others ≡ Ok targets = sym other ∙ one in cc
 
 -- what was asked for is one run
-run-is : (words : List (List ℕ)) (validations : Bool) (limit : Option ℕ) (resume : Option (List ℕ)) (run : ActionText) (start : List ℕ) → start_of validations resume ≡ Ok start → IsRun words validations limit resume run
+run-is : (words : List (List ℕ)) (validations : Bool) (limit : Option ℕ) (resume : Option (List ℕ)) (run : ActionModel) (start : List ℕ) → start_of validations resume ≡ Ok start → IsRun words validations limit resume run
     → run ≡ commands words validations limit start
 run-is words validations limit resume run start meant (other, given_too, is) =
     let e : Ok other ≡ Ok start = sym given_too ∙ meant in
@@ -147,7 +147,7 @@ module _ (entries : List ReadStatement) (words : List (List ℕ)) (validations :
   join resume start meant _ _ rest leads_so (no_runs run asked is) = ap (output_of entries) (sym (run-is words validations None resume run start meant asked)) ∙ is
   join resume start meant _ _ _ leads_so (finishes {take = count} {output = output} run asked ends_so is) =
       let run_is = run-is words validations (Some count) resume run start meant asked in
-      let p = page entries (Some count) start words validations finished tt (subst (λ (a : ActionText). EndsWith entries a finished) run_is ends_so) in
+      let p = page entries (Some count) start words validations finished tt (subst (λ (a : ActionModel). EndsWith entries a finished) run_is ends_so) in
       let left = commands_left entries targets start in
       let none_left : drop count left ≡ [] = subst (λ (ts : List (List ℕ)). drop count (commands_left entries ts start) ≡ []) (same-targets entries words validations targets p.targets named p.named) p.ends_so.1 in
       output-is entries None start words validations targets named leads_so
@@ -157,7 +157,7 @@ module _ (entries : List ReadStatement) (words : List (List ℕ)) (validations :
       ∙ ap (λ (t : List ℕ). t ++ []) (sym (append-nil output))
   join resume start meant _ _ rest leads_so (stops {takes = takes} {output = output} {take = count} {outputs = outputs} run mark asked ends_so is more) =
       let run_is = run-is words validations (Some count) resume run start meant asked in
-      let p = page entries (Some count) start words validations (stopped mark) tt (subst (λ (a : ActionText). EndsWith entries a (stopped mark)) run_is ends_so) in
+      let p = page entries (Some count) start words validations (stopped mark) tt (subst (λ (a : ActionModel). EndsWith entries a (stopped mark)) run_is ends_so) in
       let left = commands_left entries targets start in
       let marked : IsMarkOf entries targets start (written (Some count) left) mark =
       subst (λ (ts : List (List ℕ)). IsMarkOf entries ts start (written (Some count) (commands_left entries ts start)) mark) (same-targets entries words validations targets p.targets named p.named) p.ends_so.2 in
@@ -173,7 +173,7 @@ module _ (entries : List ReadStatement) (words : List (List ℕ)) (validations :
 
 pub pages-join : PageStringsJoin
 pages-join entries words validations none resume whole (start, meant, whole_is) ends_so takes outputs rest pages =
-    let p = page entries None start words validations finished tt (subst (λ (a : ActionText). EndsWith entries a finished) whole_is ends_so) in
+    let p = page entries None start words validations finished tt (subst (λ (a : ActionModel). EndsWith entries a finished) whole_is ends_so) in
     ap (output_of entries) whole_is ∙ join entries words validations p.targets p.named none resume start meant takes outputs rest p.leads_so pages
 
 pub stopped-continued : StoppedRunsContinue

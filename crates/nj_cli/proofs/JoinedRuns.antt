@@ -5,10 +5,10 @@ use Rattle.nj_scope.specs.Sources.{SourceState}
 use Rattle.nj_scope.specs.ReadingList.{ReadStatement}
 use Rattle.nj_faults.specs.declared.fault.GraphFault.{GraphFault}
 use Rattle.nj_graph.specs.Joining.{joined_after, Joins}
-use Rattle.nj_graph.specs.Loads.{LoadedText, IsWhole, IsLoaded, LoadedOr, main_reached}
+use Rattle.nj_graph.specs.Loads.{LoadedModel, IsWhole, IsLoaded, LoadedOr, main_reached}
 use Rattle.nj_graph.specs.Runs.{IsRead}
 use Rattle.nj_graph.proofs.Tables.{reads-then}
-use Rattle.nj_requests.specs.Actions.{RequestText}
+use Rattle.nj_requests.specs.Actions.{RequestModel}
 use Rattle.nj_cli.specs.Inside.RunSteps.{GraphOr, ReadsGraph}
 use Rattle.nj_cli.specs.Runs.{ReadsMore, AreStatements, HaveFault}
 use Rattle.nj_cli.proofs.ReturnLemmas.{NoEdgeNeedsItself-stated}
@@ -25,17 +25,17 @@ joining-fault : (main : List ℕ) (dyndep : Bool) (before after : SourceState) (
 joining-fault main true before after files fault asked more refused = inr (more, refused)
 joining-fault main false before after files fault asked more refused = absurd (cc)
 
-module _ (request : RequestText) (asked : request.dyndep ≡ true) (before after : SourceState) (files : List Reading)
+module _ (request : RequestModel) (asked : request.dyndep ≡ true) (before after : SourceState) (files : List Reading)
     (more : ReadsMore request.file before after files) where
-  graph-joined : (result : Result LoadedText GraphFault) → LoadedOr more.between after files (joined_after more.read more.stated) result
+  graph-joined : (result : Result LoadedModel GraphFault) → LoadedOr more.between after files (joined_after more.read more.stated) result
       → GraphOr request before after files result
   graph-joined (Ok loaded) graph =
       (graph.entries, statements-joined request.file request.dyndep before after files graph.entries asked more graph.whole, graph.graph_is, graph.files_are)
   graph-joined (Err fault) refused = joining-fault request.file request.dyndep before after files fault asked more refused
 
 -- the files of a request whose dyndep files were joined
-pub ReadsGraph-joined : (request : RequestText) → request.dyndep ≡ true → (before between after : SourceState) (read : List Reading)
-    (loaded : LoadedText) (result : Result LoadedText GraphFault) → IsRead before between [] read
+pub ReadsGraph-joined : (request : RequestModel) → request.dyndep ≡ true → (before between after : SourceState) (read : List Reading)
+    (loaded : LoadedModel) (result : Result LoadedModel GraphFault) → IsRead before between [] read
     → (l : IsLoaded before between read (main_reached request.file) loaded) → Joins l.entries loaded.files between after result
     → ReadsGraph request before after result
 ReadsGraph-joined request asked before between after read loaded result reads l joins =

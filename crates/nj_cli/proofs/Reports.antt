@@ -1,13 +1,13 @@
 -- What is reported where the words ask for nothing.
 use Rattle.std.proofs.Common.{◌≡◌, ◌≢◌, ◌⊎◌, inl, inr, ℕ, None, Result, Err, List, refl, sym, subst}
 use Rattle.nj_args.specs.FaultLines as lines
-use Rattle.nj_args.specs.declared.faults.UsageFault.{UsageFault}
-use Rattle.nj_args.specs.declared.faults.UsageFault.TheVariants as usage
+use Rattle.nj_args.specs.declared.usage_fault.UsageFault.{UsageFault}
+use Rattle.nj_args.specs.declared.usage_fault.UsageFault.TheVariants as usage
 use Rattle.nj_tools.specs.Lines.{line}
 use Rattle.nj_tools.specs.Sinks.{SinkState}
 use Rattle.nj_cli.specs.Reported.{Reported}
 use Rattle.nj_cli.specs.Inside.RunSteps.{ReportsMisuse}
-use Rattle.nj_requests.specs.Actions.{RequestText}
+use Rattle.nj_requests.specs.Actions.{RequestModel}
 use Rattle.nj_args.specs.Requests.{request_of}
 use Rattle.nj_cli.specs.Runs.{Around, out_of_memory, RunsAndKeepsWith, RunsAndKeeps}
 use Rattle.nj_cli.specs.declared.status.Status.{Status}
@@ -33,7 +33,7 @@ module _ (words : List (List ℕ)) (old new : Around) (source : new.source ≡ o
       → (Reported old.error new.error (line (lines.fault_line fault)) × (status ≡ Usage)) ⊎ (Reported old.error new.error (line out_of_memory) × (status ≡ Fault))
       → RunsAndKeeps words old new status None
   misused fault status why (inl known) =
-      inl (subst (λ (r : Result RequestText UsageFault). RunsAndKeepsWith r old new status None) (sym why)
+      inl (subst (λ (r : Result RequestModel UsageFault). RunsAndKeepsWith r old new status None) (sym why)
       (record { source = source; output = output; error = known.0 }, known.1, refl))
   misused fault status why (inr known) = early status known.0 known.1
 

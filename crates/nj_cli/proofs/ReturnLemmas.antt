@@ -15,7 +15,7 @@ use Rattle.nj_statements.specs.EdgeList.{defaults_read, edges_read}
 use Rattle.nj_faults.specs.declared.fault.GraphFault.{GraphFault}
 use Rattle.nj_faults.specs.FaultLines.{fault_line}
 use Rattle.nj_faults.specs.Faults.{no_memory}
-use Rattle.nj_graph.specs.Graph.{GraphText, edges_of, files_of, IsGraphOf}
+use Rattle.nj_graph.specs.Graph.{GraphModel, edges_of, files_of, IsGraphOf}
 use Rattle.nj_edges.specs.Needs.{makers_of_inputs}
 use Rattle.nj_needs.specs.Growing.{grown_targets}
 use Rattle.nj_needs.specs.Graphs.{row_of_paths, is_phony_in, row_of, makers_of, count_of}
@@ -28,7 +28,7 @@ use Rattle.nj_needs.specs.declared.mark_fault.MarkFault.{MarkFault}
 use Rattle.nj_needs.specs.declared.mark_fault.MarkFault.TheVariants as mark
 use Rattle.nj_needs.specs.Walks.{WalkState, BeginsAt, rest_of}
 use Rattle.nj_needs.proofs.Bridges.{paths-at, row-paths}
-use Rattle.nj_requests.specs.Actions.{ActionText, commands, single_commands}
+use Rattle.nj_requests.specs.Actions.{ActionModel, commands, single_commands}
 use Rattle.nj_requests.specs.Actions as ask
 use Rattle.nj_tools.specs.CommandStrings.{command_lines, written, left_after, StopsAt, single, own_commands_in, own_commands}
 use Rattle.nj_tools.specs.Sinks.{SinkState, Takes}
@@ -36,15 +36,15 @@ use Rattle.nj_tools.specs.Compdb.{compdb_text, unheld_edge}
 use Rattle.nj_tools.specs.Listings.{inputs_text}
 use Rattle.nj_tools.specs.Queries.{query_text}
 use Rattle.nj_tools.specs.Texts.{StopsWithin, TakesFront}
-use Rattle.nj_tools.specs.declared.fault.ToolFault.{ToolFault}
+use Rattle.nj_tools.specs.declared.tool_fault.ToolFault.{ToolFault}
 use Rattle.nj_requests.specs.declared.style.InputsStyle.{InputsStyle}
-use Rattle.nj_tools.specs.declared.fault.ToolFault.TheVariants as tool
+use Rattle.nj_tools.specs.declared.tool_fault.ToolFault.TheVariants as tool
 use Rattle.nj_tools.proofs.SinkLemmas.{Takes-nil}
 use Rattle.nj_cli.specs.Targets.{edges_by_path, NoEdgeNeedsItself, targets_named, or_defaults, with_validations, targets_of}
 use Rattle.nj_cli.specs.Answers.{leads, commands_left, IsMarkOf, for_targets, page_text, single_commands_text, output_of, Ending, finished, stopped, faulty, out_of_range, PageEnds, EndsFor, Finishes, text_fault, EndsWith}
 use Rattle.nj_cli.specs.Inside.RunSteps.{ReturnsFor, fault_of_mark, fault_of_tool}
-use Rattle.nj_cli.specs.declared.fault.RunFault.{RunFault}
-use Rattle.nj_cli.specs.declared.fault.RunFault.TheVariants as fault
+use Rattle.nj_cli.specs.declared.run_fault.RunFault.{RunFault}
+use Rattle.nj_cli.specs.declared.run_fault.RunFault.TheVariants as fault
 
 -- the targets of a run, by those that its words name
 abbrev targets_from : List ReadStatement → (validations : Bool) → Result (List (List ℕ)) GraphFault → Result (List (List ℕ)) GraphFault
@@ -60,12 +60,12 @@ pub TakesFront-none : (s : SinkState) (text : List ℕ) → TakesFront s s text
 TakesFront-none s text = ([], (text, refl), Takes-nil s)
 
 -- the outcome is a fault
-pub ReturnsFor-err : (entries : List ReadStatement) (action : ActionText) (old new : SinkState) (result : Result (Option (List ℕ)) RunFault) (f : RunFault)
+pub ReturnsFor-err : (entries : List ReadStatement) (action : ActionModel) (old new : SinkState) (result : Result (Option (List ℕ)) RunFault) (f : RunFault)
     → IsErrAnd result (λ e. e ≡ f) → ReturnsFor entries action old new (Err f) → ReturnsFor entries action old new result
 ReturnsFor-err entries action old new (Ok mark) f is outcomes = absurd is
 ReturnsFor-err entries action old new (Err e) f is outcomes = subst (λ (r : RunFault). ReturnsFor entries action old new (Err r)) (sym is) outcomes
 
-module _ (entries : List ReadStatement) (g : GraphText) (is : IsGraphOf g entries) where
+module _ (entries : List ReadStatement) (g : GraphModel) (is : IsGraphOf g entries) where
   edges-are : edges_of g ≡ edges_by_path entries
   edges-are = is.built.paths
 
@@ -145,12 +145,12 @@ module _ (entries : List ReadStatement) (g : GraphText) (is : IsGraphOf g entrie
   -- ---- tools without targets
 
   -- what a tool did to its sink
-  finishes : (action : ActionText) (old new : SinkState) → EndsWith entries action finished → Takes old new (output_of entries action)
+  finishes : (action : ActionModel) (old new : SinkState) → EndsWith entries action finished → Takes old new (output_of entries action)
       → ReturnsFor entries action old new (Ok None)
   finishes action old new ends took = (ends, took)
 
   -- a tool that does not finish
-  pub stops : (action : ActionText) (old new : SinkState) (f : ToolFault) → StopsWithin old new (output_of entries action) f
+  pub stops : (action : ActionModel) (old new : SinkState) (f : ToolFault) → StopsWithin old new (output_of entries action) f
       → ReturnsFor entries action old new (Err (fault_of_tool f))
   stops action old new tool.Write stopped_so = stopped_so
   stops action old new tool.OutOfMemory stopped_so = stopped_so

@@ -2,16 +2,16 @@
 use Rattle.std.proofs.Common.{◌≡◌, ℕ, Bool, true, false, true≢false, Some, None, List, [], ◌∷◌, refl, ap}
 use Rattle.std.specs.Fmt.{digits}
 use Rattle.std.specs.Prelude.{⊤, ◌≢◌, codes}
-use Rattle.nj_text.specs.Words.{WordText, Text, Name}
+use Rattle.nj_text.specs.Words.{WordModel, Text, Name}
 use Rattle.nj_text.specs.Quotes.{quoted}
-use Rattle.nj_manifest.specs.LineSteps.{NameText}
-use Rattle.nj_manifest.specs.Statements.{StatementText, RuleText, BuildText}
+use Rattle.nj_manifest.specs.LineSteps.{NameModel}
+use Rattle.nj_manifest.specs.Statements.{StatementModel, RuleModel, BuildModel}
 use Rattle.nj_manifest.proofs.StatementRows.{at}
 use Rattle.nj_scope.specs.ReadingList.{ReadStatement}
 use Rattle.nj_statements.specs.EdgeList.{defaults_read}
 use Rattle.nj_graph.proofs.ReadingRows.{main_file, on_files, read_of}
 use Rattle.nj_needs.specs.MarkTexts.{given_mark, ReadsBack}
-use Rattle.nj_requests.specs.Actions.{ActionText, commands, single_commands}
+use Rattle.nj_requests.specs.Actions.{ActionModel, commands, single_commands}
 use Rattle.nj_args.specs.RunMarks.{run_mark_text}
 use Rattle.nj_cli.specs.declared.status.Status.TheVariants.{Done, Fault, Stopped}
 use Rattle.nj_cli.specs.Answers.{output_of, Ending, finished, stopped, faulty, EndsWith, error_of, status_of}
@@ -23,26 +23,26 @@ use Rattle.nj_cli.specs.Headline.ArePageStrings.{no_runs, finishes, stops}
 abbrev text : List ℕ
 text = codes "rule mk\n  command = mk $out\nbuild a: mk\nbuild b1: mk a\nbuild b2: mk a\nbuild d: mk b1 b2\n"
 
-abbrev entry : (line : ℕ) → StatementText → ReadStatement
+abbrev entry : (line : ℕ) → StatementModel → ReadStatement
 entry line item = record { file = main_file; spot = at line 1; depth = 0; number = 0; around = []; item = item; discovered = None }
 
-abbrev word : (line column : ℕ) → List ℕ → WordText
+abbrev word : (line column : ℕ) → List ℕ → WordModel
 word line column bytes = record { spot = at line column; parts = Text bytes ∷ [] }
 
-abbrev name_at : (line column : ℕ) → List ℕ → NameText
+abbrev name_at : (line column : ℕ) → List ℕ → NameModel
 name_at line column name = record { spot = at line column; name = name }
 
 -- `rule mk` in line 1, with the command `mk $out`
 abbrev the_rule : ReadStatement
-the_rule = entry 1 (RuleText (name_at 1 6 (codes "mk")) (record {
+the_rule = entry 1 (RuleModel (name_at 1 6 (codes "mk")) (record {
   spot = at 2 3;
   name = codes "command";
   value = record { spot = at 2 13; parts = Text (codes "mk ") ∷ Name (codes "out") ∷ [] };
 } ∷ []))
 
 -- `build OUTPUT: mk INPUTS`
-abbrev made : (line : ℕ) → (output : List ℕ) → (column : ℕ) → (inputs : List WordText) → ReadStatement
-made line output column inputs = entry line (BuildText
+abbrev made : (line : ℕ) → (output : List ℕ) → (column : ℕ) → (inputs : List WordModel) → ReadStatement
+made line output column inputs = entry line (BuildModel
     (record { explicit = word line 7 output ∷ []; implicit = [] })
     (name_at line column (codes "mk"))
     (record { explicit = inputs; implicit = []; order_only = []; validations = [] })
@@ -68,10 +68,10 @@ unfoldable on_entries : ⊤
 unfolding on_files quoted defaults_read
 on_entries = tt
 
-abbrev outputs : ActionText → List ℕ → Type 0
+abbrev outputs : ActionModel → List ℕ → Type 0
 outputs action output = output_of entries action ≡ output
 
-abbrev ends_so : ActionText → Ending → Type 0
+abbrev ends_so : ActionModel → Ending → Type 0
 ends_so action ending = EndsWith entries action ending
 
 abbrev d : List (List ℕ)
@@ -265,7 +265,7 @@ status_of_fault = refl
 abbrev checked : List ReadStatement
 checked =
     made 4 (codes "v") 10 (word 4 13 (codes "t") ∷ [])
-    ∷ entry 3 (BuildText
+    ∷ entry 3 (BuildModel
     (record { explicit = word 3 7 (codes "t") ∷ []; implicit = [] })
     (name_at 3 10 (codes "mk"))
     (record { explicit = []; implicit = []; order_only = []; validations = word 3 16 (codes "v") ∷ [] })

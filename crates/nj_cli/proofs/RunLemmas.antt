@@ -7,11 +7,11 @@ use Rattle.nj_faults.specs.declared.fault.GraphFault.{GraphFault}
 use Rattle.nj_faults.specs.FaultLines.{fault_line}
 use Rattle.nj_faults.specs.Faults.{no_memory}
 use Rattle.nj_graph.specs.Graph.{IsGraphOf}
-use Rattle.nj_graph.specs.Loads.{LoadedText}
+use Rattle.nj_graph.specs.Loads.{LoadedModel}
 use Rattle.nj_graph.specs.Runs.{IsRead}
-use Rattle.nj_requests.specs.Actions.{ActionText, RequestText}
+use Rattle.nj_requests.specs.Actions.{ActionModel, RequestModel}
 use Rattle.nj_args.specs.Requests.{request_of}
-use Rattle.nj_args.specs.declared.faults.UsageFault.{UsageFault}
+use Rattle.nj_args.specs.declared.usage_fault.UsageFault.{UsageFault}
 use Rattle.nj_tools.specs.Lines.{line}
 use Rattle.nj_tools.specs.Sinks.{SinkState, Takes}
 use Rattle.nj_tools.specs.Texts.{TakesFront}
@@ -19,17 +19,15 @@ use Rattle.nj_cli.specs.Answers.{output_of, finished, stopped, faulty, out_of_ra
 use Rattle.nj_cli.specs.Reported.{Reported}
 use Rattle.nj_cli.specs.Inside.RunSteps.{ReturnsFor, ReportsLine, ReportsMark, Concludes, RunEnds}
 use Rattle.nj_cli.specs.Runs.{Around, out_of_memory, AreStatements, HaveFault, IsAnswered, RunsAs, RunsWith, RunsWords, RunsAsAndKeeps, RunsAndKeepsWith, RunsAndKeeps}
-use Rattle.nj_cli.specs.declared.fault.RunFault.{RunFault}
-use Rattle.nj_cli.specs.declared.fault.RunFault.TheVariants as fault
+use Rattle.nj_cli.specs.declared.run_fault.RunFault.{RunFault}
+use Rattle.nj_cli.specs.declared.run_fault.RunFault.TheVariants as fault
 use Rattle.nj_cli.specs.declared.status.Status.{Status}
 use Rattle.nj_cli.specs.declared.status.Status.TheVariants.{Done, Fault, Usage, Stopped, OutputFailed}
 use Rattle.nj_cli.proofs.ReturnLemmas.{NoEdgeNeedsItself-stated, TakesFront-none}
 
--- ---- faults
-
 -- ---- the ends
 
-module _ (entries : List ReadStatement) (action : ActionText) (old new : Around) where
+module _ (entries : List ReadStatement) (action : ActionModel) (old new : Around) where
   -- memory ran out before anything was output
   early : new.output ≡ old.output → Reported old.error new.error (line out_of_memory) → RunEnds entries action old new Fault
   early same known = inr (inr (record {
@@ -78,7 +76,7 @@ module _ (entries : List ReadStatement) (action : ActionText) (old new : Around)
   Answers-from status (Err fault.OutOfMemory) outcomes concludes = inr (inr (record { output = outcomes; error = concludes.0; status_is = concludes.1 }))
 
 -- all files were read, and this is the graph of their statements: it is kept
-pub Keeps-answered : (request : RequestText) (files : List Reading) (old new : Around) (loaded : LoadedText) (entries : List ReadStatement) (status : Status)
+pub Keeps-answered : (request : RequestModel) (files : List Reading) (old new : Around) (loaded : LoadedModel) (entries : List ReadStatement) (status : Status)
     → IsRead old.source new.source [] files → AreStatements request.file request.dyndep old.source new.source files entries
     → IsGraphOf loaded.graph entries → loaded.files ≡ files → RunEnds entries request.action old new status → RunsAsAndKeeps request old new status (Some loaded)
 Keeps-answered request files old new loaded entries status read statements graph_is files_are outcomes =
@@ -91,30 +89,30 @@ Keeps-answered request files old new loaded entries status read statements graph
     (files, read, inr (answered, (files_are, graph_is)))
 
 -- the files have a fault, which was reported
-pub Keeps-refused : (request : RequestText) (files : List Reading) (old new : Around) (fault : GraphFault) (status : Status) (kept : Option LoadedText)
+pub Keeps-refused : (request : RequestModel) (files : List Reading) (old new : Around) (fault : GraphFault) (status : Status) (kept : Option LoadedModel)
     → IsRead old.source new.source [] files → HaveFault request.file request.dyndep old.source new.source files fault → new.output ≡ old.output
     → ReportsLine old.error new.error (line (fault_line fault)) → status ≡ Fault → kept ≡ None → RunsAsAndKeeps request old new status kept
 Keeps-refused request files old new fault status kept read reading output error is none =
     (files, read, inl (record { fault = fault; reading = reading; output = output; error = error; status_is = is }, none))
 
 -- what is kept of a request is kept of its words
-pub RunsAndKeeps-from : (words : List (List ℕ)) (request : RequestText) (old new : Around) (status : Status) (kept : Option LoadedText)
+pub RunsAndKeeps-from : (words : List (List ℕ)) (request : RequestModel) (old new : Around) (status : Status) (kept : Option LoadedModel)
     → request_of words ≡ Ok request → RunsAsAndKeeps request old new status kept → RunsAndKeeps words old new status kept
 RunsAndKeeps-from words request old new status kept meant keeps =
-    inl (subst (λ (r : Result RequestText UsageFault). RunsAndKeepsWith r old new status kept) (sym meant) keeps)
+    inl (subst (λ (r : Result RequestModel UsageFault). RunsAndKeepsWith r old new status kept) (sym meant) keeps)
 
 -- what a run does, whatever is kept
-pub RunsAs-kept : (request : RequestText) (old new : Around) (status : Status) (kept : Option LoadedText)
+pub RunsAs-kept : (request : RequestModel) (old new : Around) (status : Status) (kept : Option LoadedModel)
     → RunsAsAndKeeps request old new status kept → RunsAs request old new status
 RunsAs-kept request old new status kept (files, read, inl (refused, none)) = (files, read, inl refused)
 RunsAs-kept request old new status kept (files, read, inr (answered, keeps)) = (files, read, inr answered)
 
-RunsWith-kept : (asked : Result RequestText UsageFault) (old new : Around) (status : Status) (kept : Option LoadedText)
+RunsWith-kept : (asked : Result RequestModel UsageFault) (old new : Around) (status : Status) (kept : Option LoadedModel)
     → RunsAndKeepsWith asked old new status kept → RunsWith asked old new status
 RunsWith-kept (Ok request) old new status kept keeps = RunsAs-kept request old new status kept keeps
 RunsWith-kept (Err fault) old new status kept (ends, is, none) = (ends, is)
 
-pub RunsWords-kept : (words : List (List ℕ)) (old new : Around) (status : Status) (kept : Option LoadedText)
+pub RunsWords-kept : (words : List (List ℕ)) (old new : Around) (status : Status) (kept : Option LoadedModel)
     → RunsAndKeeps words old new status kept → RunsWords words old new status
 RunsWords-kept words old new status kept (inl keeps) = inl (RunsWith-kept (request_of words) old new status kept keeps)
 RunsWords-kept words old new status kept (inr (ends, is, none)) = inr (ends, is)

@@ -2,7 +2,7 @@
 use Rattle.std.specs.Prelude.{◌≡◌, ◌≢◌, ℕ, Bool, true, false, if◌then◌else◌, Option, Some, None, Result, Ok, Err, MatchResult, List, [], ◌++◌, length, slice_get, codes}
 use Rattle.std.specs.Option.{option_map_or}
 use Rattle.nj_scope.specs.ReadingList.{ReadStatement}
-use Rattle.nj_statements.specs.EdgeList.{EdgeText, edges_read}
+use Rattle.nj_statements.specs.EdgeList.{EdgeModel, edges_read}
 use Rattle.nj_faults.specs.declared.fault.Cause.TheVariants.{TextNotUtf8}
 use Rattle.nj_faults.specs.declared.fault.GraphFault.{GraphFault}
 use Rattle.nj_faults.specs.Faults.{fault_at, unplaced}
@@ -18,7 +18,7 @@ use Rattle.nj_tools.specs.Lines.{line}
 use Rattle.nj_tools.specs.Listings.{inputs_text, targets_text}
 use Rattle.nj_tools.specs.Queries.{query_text}
 use Rattle.nj_tools.specs.RuleLists.{rules_text}
-use Rattle.nj_requests.specs.Actions.{ActionText, commands, single_commands}
+use Rattle.nj_requests.specs.Actions.{ActionModel, commands, single_commands}
 use Rattle.nj_requests.specs.Actions as ask
 use Rattle.nj_args.specs.RunMarks.{run_mark_text}
 use Rattle.nj_cli.specs.Targets.{edges_by_path, targets_named, targets_of}
@@ -60,7 +60,7 @@ abbrev pub single_commands_text : List ReadStatement → (targets : List (List �
 single_commands_text entries targets = command_lines entries (own_commands_in (edges_by_path entries) targets)
 
 -- the whole output; empty at a fault, except for what `compdb` writes before one
-abbrev pub output_of : List ReadStatement → ActionText → List ℕ
+abbrev pub output_of : List ReadStatement → ActionModel → List ℕ
 output_of entries (commands words validations take start) =
     for_targets (page_text entries take start) (targets_of entries validations words)
 output_of entries (single_commands words) = for_targets (single_commands_text entries) (targets_of entries false words)
@@ -103,13 +103,13 @@ abbrev pub Finishes : (targets : List (List ℕ)) → Ending → Type 0
 Finishes targets ending = ending ≡ finished
 
 -- JSON cannot contain a string of an edge: the fault is at its build statement
-abbrev pub text_fault : Option EdgeText → GraphFault
+abbrev pub text_fault : Option EdgeModel → GraphFault
 text_fault (Some e) = fault_at e.file e.spot TextNotUtf8
 text_fault None = unplaced TextNotUtf8
 
 -- The ending of a run. The faults of targets, from the left, come before the fault of the mark; `compdb` ends at the first edge that JSON
 -- cannot contain.
-abbrev pub EndsWith : List ReadStatement → ActionText → Ending → Type 0
+abbrev pub EndsWith : List ReadStatement → ActionModel → Ending → Type 0
 EndsWith entries (commands words validations take start) ending =
     EndsFor (PageEnds entries take start) (targets_of entries validations words) ending
 EndsWith entries (single_commands words) ending = EndsFor Finishes (targets_of entries false words) ending
@@ -124,7 +124,7 @@ EndsWith entries (ask.compdb names directory expand) ending =
 -- ---- what is reported of it
 
 -- whether a run follows validations
-abbrev pub follows_validations : ActionText → Bool
+abbrev pub follows_validations : ActionModel → Bool
 follows_validations (commands words validations take start) = validations
 follows_validations (ask.inputs words validations style) = validations
 follows_validations _ = false

@@ -9,7 +9,7 @@ use Rattle.nj_needs.specs.Graphs.{row_of_paths, is_phony_in}
 use Rattle.nj_needs.specs.Laws.{ComesBefore}
 use Rattle.nj_needs.specs.Needs.{Reached}
 use Rattle.nj_needs.specs.Order.{needed_commands}
-use Rattle.nj_requests.specs.Actions.{ActionText, commands}
+use Rattle.nj_requests.specs.Actions.{ActionModel, commands}
 use Rattle.nj_args.specs.Requests.{start_of}
 use Rattle.nj_args.specs.RunMarks.{run_mark_text}
 use Rattle.nj_tools.specs.CommandStrings.{command_lines}
@@ -35,7 +35,7 @@ WritesTheNeeded = (entries : List ReadStatement) (words : List (List ℕ)) (vali
     × (output_of entries (commands words validations None []) ≡ command_lines entries numbers)
 
 -- the run for these words that takes at most `take` edges, and begins at the mark that `--resume` gives, or at the start
-abbrev pub IsRun : (words : List (List ℕ)) → (validations : Bool) → (take : Option ℕ) → (resume : Option (List ℕ)) → ActionText → Type 0
+abbrev pub IsRun : (words : List (List ℕ)) → (validations : Bool) → (take : Option ℕ) → (resume : Option (List ℕ)) → ActionModel → Type 0
 IsRun words validations take resume run =
     (start : List ℕ) × (start_of validations resume ≡ Ok start) × (run ≡ commands words validations take start)
 
@@ -43,12 +43,12 @@ IsRun words validations take resume run =
 -- wrote after `mark `. Their outputs, and the output of a run without a limit from the last mark; that is empty if a run finished.
 pub data ArePageStrings (entries : List ReadStatement) (words : List (List ℕ)) (validations : Bool)
     : (resume : Option (List ℕ)) → (takes : List ℕ) → (outputs : List (List ℕ)) → (rest : List ℕ) → Type 0 where
-  no_runs : {resume : Option (List ℕ)} {rest : List ℕ} (run : ActionText) → IsRun words validations None resume run
+  no_runs : {resume : Option (List ℕ)} {rest : List ℕ} (run : ActionModel) → IsRun words validations None resume run
       → output_of entries run ≡ rest → ArePageStrings entries words validations resume [] [] rest
-  finishes : {resume : Option (List ℕ)} {take : ℕ} {output : List ℕ} (run : ActionText) → IsRun words validations (Some take) resume run
+  finishes : {resume : Option (List ℕ)} {take : ℕ} {output : List ℕ} (run : ActionModel) → IsRun words validations (Some take) resume run
       → EndsWith entries run finished → output_of entries run ≡ output
       → ArePageStrings entries words validations resume (take ∷ []) (output ∷ []) []
-  stops : {resume : Option (List ℕ)} {takes output rest : List ℕ} {take : ℕ} {outputs : List (List ℕ)} (run : ActionText) (mark : List ℕ)
+  stops : {resume : Option (List ℕ)} {takes output rest : List ℕ} {take : ℕ} {outputs : List (List ℕ)} (run : ActionModel) (mark : List ℕ)
       → IsRun words validations (Some take) resume run → EndsWith entries run (stopped mark) → output_of entries run ≡ output
       → ArePageStrings entries words validations (Some (run_mark_text validations mark)) takes outputs rest
       → ArePageStrings entries words validations resume (take ∷ takes) (output ∷ outputs) rest
@@ -56,7 +56,7 @@ pub data ArePageStrings (entries : List ReadStatement) (words : List (List ℕ))
 -- The pages, followed by the rest, are the output of one run without a limit.
 abbrev pub PageStringsJoin : Type 0
 PageStringsJoin = (entries : List ReadStatement) (words : List (List ℕ)) (validations : Bool) → NoEdgeNeedsItself (edges_by_path entries)
-    → (resume : Option (List ℕ)) (whole : ActionText) → IsRun words validations None resume whole → EndsWith entries whole finished
+    → (resume : Option (List ℕ)) (whole : ActionModel) → IsRun words validations None resume whole → EndsWith entries whole finished
     → (takes : List ℕ) (outputs : List (List ℕ)) (rest : List ℕ) → ArePageStrings entries words validations resume takes outputs rest
     → output_of entries whole ≡ concat outputs ++ rest
 
@@ -64,9 +64,9 @@ PageStringsJoin = (entries : List ReadStatement) (words : List (List ℕ)) (vali
 abbrev pub StoppedRunsContinue : Type 0
 StoppedRunsContinue = (entries : List ReadStatement) (words : List (List ℕ)) (validations : Bool) → NoEdgeNeedsItself (edges_by_path entries)
     → (take : Option ℕ) (start mark : List ℕ) → EndsWith entries (commands words validations take start) (stopped mark)
-    → (next : ActionText) × IsRun words validations None (Some (run_mark_text validations mark)) next × EndsWith entries next finished
+    → (next : ActionModel) × IsRun words validations None (Some (run_mark_text validations mark)) next × EndsWith entries next finished
 
 -- A run has one ending, so one mark.
 abbrev pub OneEnding : Type 0
-OneEnding = (entries : List ReadStatement) (action : ActionText) (ending other : Ending) → NoEdgeNeedsItself (edges_by_path entries)
+OneEnding = (entries : List ReadStatement) (action : ActionModel) (ending other : Ending) → NoEdgeNeedsItself (edges_by_path entries)
     → EndsWith entries action ending → EndsWith entries action other → ending ≡ other

@@ -8,15 +8,15 @@ use Rattle.nj_faults.specs.FaultLines.{fault_line}
 use Rattle.nj_faults.specs.Faults.{no_memory}
 use Rattle.nj_graph.specs.Graph.{IsGraphOf}
 use Rattle.nj_graph.specs.Joining.{joined_after}
-use Rattle.nj_graph.specs.Loads.{LoadedText, IsWhole, LoadingFails, main_reached}
+use Rattle.nj_graph.specs.Loads.{LoadedModel, IsWhole, LoadingFails, main_reached}
 use Rattle.nj_graph.specs.Runs.{IsRead}
 use Rattle.nj_tools.specs.Lines.{line}
 use Rattle.nj_tools.specs.Sinks.{SinkState, Takes}
 use Rattle.nj_tools.specs.Texts.{FailsWithin, TakesFront}
 use Rattle.nj_args.specs.FaultLines as usage
-use Rattle.nj_requests.specs.Actions.{ActionText, RequestText}
+use Rattle.nj_requests.specs.Actions.{ActionModel, RequestModel}
 use Rattle.nj_args.specs.Requests.{request_of}
-use Rattle.nj_args.specs.declared.faults.UsageFault.{UsageFault}
+use Rattle.nj_args.specs.declared.usage_fault.UsageFault.{UsageFault}
 use Rattle.nj_cli.specs.Answers.{output_of, Ending, EndsWith, follows_validations, error_of, status_of, status_untold}
 use Rattle.nj_cli.specs.Reported.{Took, Reported}
 use Rattle.nj_cli.specs.Targets.{edges_by_path, NoEdgeNeedsItself}
@@ -38,7 +38,7 @@ out_of_memory = fault_line no_memory
 -- ---- by the statements of its files
 
 -- All was output. The error output took what is reported; or it failed, and a run that stopped cannot be resumed.
-pub record IsReported (entries : List ReadStatement) (action : ActionText) (old new : Around) (status : Status) : Type 0 where
+pub record IsReported (entries : List ReadStatement) (action : ActionModel) (old new : Around) (status : Status) : Type 0 where
   pub ending : Ending
   pub ends : EndsWith entries action ending
   pub output : Takes old.output new.output (output_of entries action)
@@ -46,13 +46,13 @@ pub record IsReported (entries : List ReadStatement) (action : ActionText) (old 
       ⊎ (FailsWithin old.error new.error (error_of (follows_validations action) ending) × (status ≡ status_untold ending))
 
 -- the output failed; nothing is reported
-pub record OutputFails (entries : List ReadStatement) (action : ActionText) (old new : Around) (status : Status) : Type 0 where
+pub record OutputFails (entries : List ReadStatement) (action : ActionModel) (old new : Around) (status : Status) : Type 0 where
   pub output : FailsWithin old.output new.output (output_of entries action)
   pub error : new.error ≡ old.error
   pub status_is : status ≡ OutputFailed
 
 -- an allocation failed, after a prefix of the output
-pub record MemoryFails (entries : List ReadStatement) (action : ActionText) (old new : Around) (status : Status) : Type 0 where
+pub record MemoryFails (entries : List ReadStatement) (action : ActionModel) (old new : Around) (status : Status) : Type 0 where
   pub output : TakesFront old.output new.output (output_of entries action)
   pub error : Reported old.error new.error (line out_of_memory)
   pub status_is : status ≡ Fault
@@ -87,7 +87,7 @@ HaveFault main true before after files fault =
 
 -- No graph can be made of the files: a statement has a fault, or an edge lies on a cycle, or the source failed, or an allocation did.
 -- Nothing is output. The fault is reported, or out of memory if there was no memory for its line.
-pub record IsRefused (request : RequestText) (files : List Reading) (old new : Around) (status : Status) : Type 0 where
+pub record IsRefused (request : RequestModel) (files : List Reading) (old new : Around) (status : Status) : Type 0 where
   pub fault : GraphFault
   pub reading : HaveFault request.file request.dyndep old.source new.source files fault
   pub output : new.output ≡ old.output
@@ -95,7 +95,7 @@ pub record IsRefused (request : RequestText) (files : List Reading) (old new : A
   pub status_is : status ≡ Fault
 
 -- the files were read, and no edge of their statements needs itself by a chain
-pub record IsAnswered (request : RequestText) (files : List Reading) (old new : Around) (status : Status) : Type 0 where
+pub record IsAnswered (request : RequestModel) (files : List Reading) (old new : Around) (status : Status) : Type 0 where
   pub entries : List ReadStatement
   pub statements : AreStatements request.file request.dyndep old.source new.source files entries
   pub acyclic : NoEdgeNeedsItself (edges_by_path entries)
@@ -105,7 +105,7 @@ pub record IsAnswered (request : RequestText) (files : List Reading) (old new : 
 -- ---- the run
 
 -- What a run of this request does: these files were read, each path once, and by them the request was refused or answered.
-abbrev pub RunsAs : RequestText → (old new : Around) → Status → Type 0
+abbrev pub RunsAs : RequestModel → (old new : Around) → Status → Type 0
 RunsAs request old new status =
     (files : List Reading) × IsRead old.source new.source [] files
     × (IsRefused request files old new status ⊎ IsAnswered request files old new status)
@@ -117,7 +117,7 @@ pub record EndsAtOnce (reason : List ℕ) (old new : Around) : Type 0 where
   pub error : Reported old.error new.error reason
 
 -- what a run with words does, by the request that they are, or by the fault that they have
-abbrev pub RunsWith : Result RequestText UsageFault → (old new : Around) → Status → Type 0
+abbrev pub RunsWith : Result RequestModel UsageFault → (old new : Around) → Status → Type 0
 RunsWith (Ok request) old new status = RunsAs request old new status
 RunsWith (Err fault) old new status = EndsAtOnce (line (usage.fault_line fault)) old new × (status ≡ Usage)
 
@@ -130,7 +130,7 @@ RunsWords words old new status =
 
 -- What a run of this request does, and what is kept of it: where it was answered, the files that were read and the graph of their
 -- statements; nothing where it was refused.
-abbrev pub RunsAsAndKeeps : RequestText → (old new : Around) → Status → Option LoadedText → Type 0
+abbrev pub RunsAsAndKeeps : RequestModel → (old new : Around) → Status → Option LoadedModel → Type 0
 RunsAsAndKeeps request old new status kept =
     (files : List Reading) × IsRead old.source new.source [] files
     × ((IsRefused request files old new status × (kept ≡ None))
@@ -138,12 +138,12 @@ RunsAsAndKeeps request old new status kept =
     × IsSomeAnd kept (λ loaded. (loaded.files ≡ files) × IsGraphOf loaded.graph answered.entries)))
 
 -- nothing is kept where the words are not a valid request
-abbrev pub RunsAndKeepsWith : Result RequestText UsageFault → (old new : Around) → Status → Option LoadedText → Type 0
+abbrev pub RunsAndKeepsWith : Result RequestModel UsageFault → (old new : Around) → Status → Option LoadedModel → Type 0
 RunsAndKeepsWith (Ok request) old new status kept = RunsAsAndKeeps request old new status kept
 RunsAndKeepsWith (Err fault) old new status kept = EndsAtOnce (line (usage.fault_line fault)) old new × (status ≡ Usage) × (kept ≡ None)
 
 -- what a run with words does, and what is kept of it
-abbrev pub RunsAndKeeps : (words : List (List ℕ)) → (old new : Around) → Status → Option LoadedText → Type 0
+abbrev pub RunsAndKeeps : (words : List (List ℕ)) → (old new : Around) → Status → Option LoadedModel → Type 0
 RunsAndKeeps words old new status kept =
     RunsAndKeepsWith (request_of words) old new status kept
     ⊎ (EndsAtOnce (line out_of_memory) old new × (status ≡ Fault) × (kept ≡ None))

@@ -1,13 +1,13 @@
 //! A run of `ninja-explain`: from its words and the files of a build to what it writes.
 #![tactic(auto)]
 
-mod fault;
 mod laws;
 mod perform;
 mod report;
 mod run;
+mod run_fault;
+mod run_targets;
 mod status;
-mod targets;
 
 pub use laws::commands_law;
 pub use nj_args::{

@@ -4,13 +4,13 @@ ghost use Rattle.std.specs.Prelude.{◌≡◌, ℕ, ◌<◌, List, length, map, 
 ghost use Rattle.nj_scope.specs.ReadingList.{ReadStatement};
 ghost use Rattle.nj_statements.specs.EdgeList.{edges_read};
 ghost use Rattle.nj_graph.specs.Graph.{edges_of, IsGraphOf};
-ghost use Rattle.nj_requests.specs.Actions.{action_text, commands, single_commands};
+ghost use Rattle.nj_requests.specs.Actions.{action_model, commands, single_commands};
 ghost use Rattle.nj_requests.specs.Actions as ask;
 ghost use Rattle.nj_cli.specs.Answers.{text_fault, follows_validations};
 ghost use Rattle.nj_cli.specs.Inside.RunSteps.{ReturnsFor};
 
-use crate::fault::RunFault;
-use crate::targets::{pick_targets, targets_of};
+use crate::run_fault::RunFault;
+use crate::run_targets::{pick_targets, targets_of};
 use nj_graph::{Cause, EdgeNo, Graph, GraphFault};
 use nj_needs::{Mark, Needs};
 use nj_requests::{Action, InputsStyle, TargetsView};
@@ -28,7 +28,7 @@ pub(crate) fn perform<O: Sink>(
     out: &mut O,
 ) -> Result<Option<Mark>, RunFault>
     ensures { (entries : List ReadStatement) → IsGraphOf graph.now entries
-        → ReturnsFor entries (action_text action.now) (O.state out.old) (O.state out.new) result }
+        → ReturnsFor entries (action_model action.now) (O.state out.old) (O.state out.new) result }
 {
     match action {
         Action::Commands {
@@ -56,7 +56,7 @@ pub(crate) fn perform<O: Sink>(
 
 /// Whether what is to be validated is asked for with the targets.
 pub(crate) fn follows_validations(action: &Action) -> bool
-    ensures { result ≡ follows_validations (action_text action.now) }
+    ensures { result ≡ follows_validations (action_model action.now) }
 {
     match action {
         Action::Commands { validations, .. } | Action::Inputs { validations, .. } => *validations,

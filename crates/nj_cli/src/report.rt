@@ -3,14 +3,14 @@
 ghost use Rattle.std.specs.Prelude.{◌≡◌, ◌++◌, ◌∷◌, [], codes, IfOk};
 ghost use Rattle.nj_faults.specs.FaultLines.{fault_line};
 ghost use Rattle.nj_args.specs.FaultLines as usage;
-ghost use Rattle.nj_args.specs.declared.faults.UsageFault.TheVariants.{Unparsed};
+ghost use Rattle.nj_args.specs.declared.usage_fault.UsageFault.TheVariants.{Unparsed};
 ghost use Rattle.nj_tools.specs.Lines.{line};
 ghost use Rattle.nj_cli.specs.Answers.{mark_line};
 ghost use Rattle.nj_cli.specs.Reported.{Reported};
 ghost use Rattle.nj_cli.specs.Inside.RunSteps.{Concludes, ReportsLine, ReportsMark, ReportsMisuse};
 ghost use Rattle.nj_cli.specs.Runs.{out_of_memory};
 
-use crate::fault::RunFault;
+use crate::run_fault::RunFault;
 use crate::status::Status;
 use nj_args::UsageFault;
 use nj_graph::GraphFault;

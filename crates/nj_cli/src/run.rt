@@ -1,7 +1,7 @@
 //! A run of the program.
 
 ghost use Rattle.std.specs.Prelude.{map, string_bytes};
-ghost use Rattle.nj_requests.specs.Actions.{request_text};
+ghost use Rattle.nj_requests.specs.Actions.{request_model};
 ghost use Rattle.nj_cli.specs.Inside.RunSteps.{ReadsGraph};
 ghost use Rattle.nj_cli.specs.Runs.{RunsAs, RunsWords, RunsAsAndKeeps, RunsAndKeeps, around};
 
@@ -71,7 +71,7 @@ pub fn run_tool<S: FileSource, O: Sink, E: Sink>(
     out: &mut O,
     err: &mut E,
 ) -> Status
-    ensures { RunsAs (request_text request.now)
+    ensures { RunsAs (request_model request.now)
         (around (S.state source.old) (O.state out.old) (E.state err.old))
         (around (S.state source.new) (O.state out.new) (E.state err.new)) result }
 {
@@ -86,7 +86,7 @@ fn run_tool_and_keep<S: FileSource, O: Sink, E: Sink>(
     out: &mut O,
     err: &mut E,
 ) -> Ended
-    ensures { RunsAsAndKeeps (request_text request.now)
+    ensures { RunsAsAndKeeps (request_model request.now)
         (around (S.state source.old) (O.state out.old) (E.state err.old))
         (around (S.state source.new) (O.state out.new) (E.state err.new))
         result.status result.loaded }
@@ -114,7 +114,7 @@ fn read_graph<S: FileSource>(
     source: &mut S,
     request: &Request,
 ) -> Result<Loaded, GraphFault>
-    ensures { ReadsGraph (request_text request.now)
+    ensures { ReadsGraph (request_model request.now)
         (S.state source.old) (S.state source.new) result }
 {
     let loaded = load(alloc, source, &request.file)?;

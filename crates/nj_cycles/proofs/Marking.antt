@@ -4,7 +4,7 @@ use Rattle.std.specs.Prelude.{Contains, slice_index_or, sum_by}
 use Rattle.std.proofs.lemmas.List.{length-set, length_push, get_or-set_same}
 use Rattle.std.proofs.lemmas.List.Elements.{Contains-append_left, Contains-append_right, Contains-push, Contains-push_cases, Contains-append_cases}
 use Rattle.std.proofs.lemmas.List.Sums.{sum_by-set}
-use Rattle.nj_cycles.specs.declared.marks.Marks.{Marks}
+use Rattle.nj_cycles.specs.declared.on_cycle.Marks.{Marks}
 use Rattle.nj_cycles.specs.Cycles.{Needs}
 use Rattle.nj_cycles.specs.Cycles.Chain.{one, more}
 use Rattle.nj_cycles.specs.Inside.Marks.{IsMarked, unmarked, LeadsInto, AreMarks, MarksMore}

@@ -4,9 +4,9 @@ use Rattle.std.specs.Prelude.{slice_get, slice_index, sum_by, IfSome, OnOk}
 use Rattle.std.proofs.lemmas.List.{get_or-set_same}
 use Rattle.std.proofs.lemmas.List.Sums.{sum_by-set}
 use Rattle.std.proofs.lemmas.Option.{slice_get_within, slice_get_cases}
-use Rattle.nj_cycles.specs.declared.walk.Stage.{Stage}
-use Rattle.nj_cycles.specs.declared.walk.Stage.TheVariants.{Unseen, Open, Done}
-use Rattle.nj_cycles.specs.declared.walk.Walk.{Walk}
+use Rattle.nj_cycles.specs.declared.finishing_order.Stage.{Stage}
+use Rattle.nj_cycles.specs.declared.finishing_order.Stage.TheVariants.{Unseen, Open, Done}
+use Rattle.nj_cycles.specs.declared.finishing_order.Walk.{Walk}
 use Rattle.nj_cycles.specs.Cycles.{Needs, AreEdges}
 use Rattle.nj_cycles.specs.Inside.Walks.{stage_of, stage_of_maker, turns_of, Sound, WalkIsSound, IsSoundAt, EndsAt, TakesTurn, Walked}
 use Rattle.nj_cycles.proofs.Places.{index_of, needs_got}

@@ -5,8 +5,8 @@ use Rattle.std.proofs.lemmas.Bool.{cases_lt}
 use Rattle.std.proofs.lemmas.List.{length-set, length_push, take-append-le, take_at}
 use Rattle.std.proofs.lemmas.List.Elements.{Contains-append_left, Contains-push, Contains-push_cases}
 use Rattle.std.proofs.lemmas.List.Sums.{sum_by-set}
-use Rattle.nj_cycles.specs.declared.walk.Stage.{Stage}
-use Rattle.nj_cycles.specs.declared.walk.Stage.TheVariants.{Unseen, Open, Done}
+use Rattle.nj_cycles.specs.declared.finishing_order.Stage.{Stage}
+use Rattle.nj_cycles.specs.declared.finishing_order.Stage.TheVariants.{Unseen, Open, Done}
 use Rattle.nj_cycles.specs.Cycles.{Needs, NeedsByChain}
 use Rattle.nj_cycles.specs.Cycles.Chain.{one}
 use Rattle.nj_cycles.specs.Inside.Walks.{Reaches, stage_of, turns_of, IsSettled, IsFalling, Sound}

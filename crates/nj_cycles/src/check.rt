@@ -2,10 +2,10 @@
 ghost use Rattle.std.specs.Prelude.{IfOk};
 ghost use Rattle.nj_cycles.specs.Cycles.{IsFirstOnCycle, FallingRanksLeaveNoCycle};
 
-use crate::inputs::EdgeInputs;
-use crate::marks::least_on_cycle;
-use crate::users::users_of_edges;
-use crate::walk::finish_all;
+use crate::finishing_order::finish_all;
+use crate::maker_lists::EdgeInputs;
+use crate::on_cycle::least_on_cycle;
+use crate::reversed::users_of_edges;
 use std::alloc::{AllocError, Global};
 
 /// The edge of the smallest number that lies on a dependency cycle itself, and `None` if the graph

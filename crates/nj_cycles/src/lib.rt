@@ -2,10 +2,10 @@
 #![tactic(auto)]
 
 mod check;
-mod inputs;
-mod marks;
-mod users;
-mod walk;
+mod finishing_order;
+mod maker_lists;
+mod on_cycle;
+mod reversed;
 
 pub use check::{acyclic_law, first_on_cycle};
-pub use inputs::EdgeInputs;
+pub use maker_lists::EdgeInputs;

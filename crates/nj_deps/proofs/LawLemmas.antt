@@ -6,13 +6,13 @@ use Rattle.std.proofs.lemmas.Bool.Decides.{eqb_tells}
 use Rattle.std.proofs.lemmas.List.{append_cancel_left}
 use Rattle.nj_deps.specs.LogRecords.{LogRecord, bytes_of}
 use Rattle.nj_deps.specs.LogRecords.LogRecord.{path, dependencies}
-use Rattle.nj_deps.specs.Logs.{LogText, OutputText, IsLogOf, opening, with_output, with_dependencies, outputs_of, output_of, paths_of}
+use Rattle.nj_deps.specs.Logs.{LogModel, OutputModel, IsLogOf, opening, with_output, with_dependencies, outputs_of, output_of, paths_of}
 use Rattle.nj_deps.specs.Laws.{said_of}
 use Rattle.nj_deps.proofs.RecordLemmas.{one_cut}
 
 -- ---- one cut
 
-pub says_one_thing : (bytes : List ℕ) (one other : LogText) → IsLogOf bytes one → IsLogOf bytes other → one ≡ other
+pub says_one_thing : (bytes : List ℕ) (one other : LogModel) → IsLogOf bytes one → IsLogOf bytes other → one ≡ other
 says_one_thing bytes one other a b =
     let bodies = append_cancel_left (opening 4) (flat_map bytes_of a.records ++ a.rest) (flat_map bytes_of b.records ++ b.rest) (sym a.cut ∙ b.cut) in
     let cut = one_cut [] a.records b.records a.rest b.rest (omega arith) a.in_turn b.in_turn a.ends b.ends bodies in
@@ -31,16 +31,16 @@ says_one_thing bytes one other a b =
 -- ---- the last record
 
 -- what is known after more was said: the last of it
-last_or : Option OutputText → List OutputText → Option OutputText
+last_or : Option OutputModel → List OutputModel → Option OutputModel
 last_or known [] = known
 last_or known (o ∷ said) = last_or (Some o) said
 
-last-said : (known : Option OutputText) (o : OutputText) (said : List OutputText) → last_or known (o ∷ said) ≡ slice_get (o ∷ said) (length said)
+last-said : (known : Option OutputModel) (o : OutputModel) (said : List OutputModel) → last_or known (o ∷ said) ≡ slice_get (o ∷ said) (length said)
 unfolding last_or
 last-said known o [] = refl
 last-said known o (p ∷ said) = last-said (Some o) p said
 
-set-same : (outputs : List OutputText) (o : OutputText) (n : ℕ) → o.output ≡ n → output_of (with_output outputs o) n ≡ Some o
+set-same : (outputs : List OutputModel) (o : OutputModel) (n : ℕ) → o.output ≡ n → output_of (with_output outputs o) n ≡ Some o
 set-same [] o n same = ap (λ b. cond b (Some o) None) (eq-eqb o.output n same)
 set-same (p ∷ outputs) o n same = by (set-same outputs o n same) (eqb_tells p.output o.output)
   where
@@ -54,7 +54,7 @@ set-same (p ∷ outputs) o n same = by (set-same outputs o n same) (eqb_tells p.
     by rest (inr apart) = ap (λ b. output_of (cond b (o ∷ outputs) (p ∷ with_output outputs o)) n) apart.0
         ∙ ap (λ b. cond b (Some p) (output_of (with_output outputs o) n)) (differs (eqb_tells p.output n) apart.1) ∙ rest
 
-set-other : (outputs : List OutputText) (o : OutputText) (n : ℕ) → nat_eq o.output n ≡ false → output_of (with_output outputs o) n ≡ output_of outputs n
+set-other : (outputs : List OutputModel) (o : OutputModel) (n : ℕ) → nat_eq o.output n ≡ false → output_of (with_output outputs o) n ≡ output_of outputs n
 set-other [] o n other = ap (λ b. cond b (Some o) None) other
 set-other (p ∷ outputs) o n other = by (set-other outputs o n other) (eqb_tells p.output o.output)
   where
@@ -66,16 +66,16 @@ set-other (p ∷ outputs) o n other = by (set-other outputs o n other) (eqb_tell
     by rest (inr apart) = ap (λ b. output_of (cond b (o ∷ outputs) (p ∷ with_output outputs o)) n) apart.0
         ∙ ap (λ r. cond (nat_eq p.output n) (Some p) r) rest
 
-said-more : (records : List LogRecord) (n : ℕ) (outputs : List OutputText) → output_of (fold with_dependencies outputs records) n ≡ last_or (output_of outputs n) (filter_map (said_of n) records)
+said-more : (records : List LogRecord) (n : ℕ) (outputs : List OutputModel) → output_of (fold with_dependencies outputs records) n ≡ last_or (output_of outputs n) (filter_map (said_of n) records)
 unfolding last_or
 said-more [] n outputs = refl
 said-more (path padded complement ∷ records) n outputs = said-more records n outputs
 said-more (dependencies o l h ns ∷ records) n outputs = said-more records n (with_output outputs new) ∙ by (eqb_tells o n)
   where
-    new : OutputText
+    new : OutputModel
     new = record { output = o; time = l + 2 ^ 32 * h; inputs = ns }
 
-    said : List OutputText
+    said : List OutputModel
     said = filter_map (said_of n) records
 
     by : ((nat_eq o n ≡ true) × (o ≡ n)) ⊎ ((nat_eq o n ≡ false) × (o ≢ n)) → last_or (output_of (with_output outputs new) n) said ≡ last_or (output_of outputs n) (filter_map (said_of n) (dependencies o l h ns ∷ records))
@@ -88,13 +88,13 @@ pub last_counts : (records : List LogRecord) (n : ℕ) → output_of (outputs_of
 unfolding last_or
 last_counts records n = said-more records n [] ∙ by (filter_map (said_of n) records)
   where
-    by : (said : List OutputText) → last_or None said ≡ slice_get said (length said - 1)
+    by : (said : List OutputModel) → last_or None said ≡ slice_get said (length said - 1)
     by [] = refl
     by (o ∷ said) = last-said None o said ∙ ap (slice_get (o ∷ said)) (let e : length said ≡ length (o ∷ said) - 1 = omega arith in e)
 
 -- ---- each output once
 
-differ-set : (k : ℕ) (outputs : List OutputText) (o : OutputText) → nat_eq k o.output ≡ false → AllByRecursion (λ n. nat_eq k n ≡ false) (map (λ p. p.output) outputs) → AllByRecursion (λ n. nat_eq k n ≡ false) (map (λ p. p.output) (with_output outputs o))
+differ-set : (k : ℕ) (outputs : List OutputModel) (o : OutputModel) → nat_eq k o.output ≡ false → AllByRecursion (λ n. nat_eq k n ≡ false) (map (λ p. p.output) outputs) → AllByRecursion (λ n. nat_eq k n ≡ false) (map (λ p. p.output) (with_output outputs o))
 differ-set k [] o new all = (new, tt)
 differ-set k (p ∷ outputs) o new all = by (nat_eq p.output o.output) (differ-set k outputs o new all.1)
   where
@@ -103,7 +103,7 @@ differ-set k (p ∷ outputs) o new all = by (nat_eq p.output o.output) (differ-s
     by true rest = (new, all.1)
     by false rest = (all.0, rest)
 
-distinct-set : (outputs : List OutputText) (o : OutputText) → IsDistinct nat_eq (map (λ p. p.output) outputs) → IsDistinct nat_eq (map (λ p. p.output) (with_output outputs o))
+distinct-set : (outputs : List OutputModel) (o : OutputModel) → IsDistinct nat_eq (map (λ p. p.output) outputs) → IsDistinct nat_eq (map (λ p. p.output) (with_output outputs o))
 unfolding IsDistinct
 distinct-set [] o distinct = (tt, tt)
 distinct-set (p ∷ outputs) o distinct = by (eqb_tells p.output o.output) (distinct-set outputs o distinct.1)
@@ -115,7 +115,7 @@ distinct-set (p ∷ outputs) o distinct = by (eqb_tells p.output o.output) (dist
     by (inr is) rest = subst (λ b. IsDistinct nat_eq (map (λ p. p.output) (cond b (o ∷ outputs) (p ∷ with_output outputs o)))) (sym is.0)
         (differ-set p.output outputs o is.0 distinct.0, rest)
 
-once : (records : List LogRecord) (outputs : List OutputText) → IsDistinct nat_eq (map (λ p. p.output) outputs) → IsDistinct nat_eq (map (λ p. p.output) (fold with_dependencies outputs records))
+once : (records : List LogRecord) (outputs : List OutputModel) → IsDistinct nat_eq (map (λ p. p.output) outputs) → IsDistinct nat_eq (map (λ p. p.output) (fold with_dependencies outputs records))
 once [] outputs distinct = distinct
 once (path padded complement ∷ records) outputs distinct = once records outputs distinct
 once (dependencies o l h ns ∷ records) outputs distinct = once records (with_output outputs (record { output = o; time = l + 2 ^ 32 * h; inputs = ns })) (distinct-set outputs (record { output = o; time = l + 2 ^ 32 * h; inputs = ns }) distinct)

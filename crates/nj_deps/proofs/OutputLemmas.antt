@@ -6,9 +6,9 @@ use Rattle.std.proofs.lemmas.Bool.{cases_lt, eq-eqb}
 use Rattle.std.proofs.lemmas.Bool.Decides.{eqb_tells}
 use Rattle.std.proofs.lemmas.List.{drop-append-le, take-append-le, length-drop, length-set, get_or-set_same, get_or-set_other, get_or_append_left}
 use Rattle.std.proofs.Math.Seq.{drop-append_seam, get_or-append_seam, take-length}
-use Rattle.nj_deps.specs.declared.outputs.HeldOutput.{HeldOutput}
-use Rattle.nj_deps.specs.Logs.{OutputText, IsOfPaths, with_output, output_of}
-use Rattle.nj_deps.specs.Inside.OutputsHeld.{OutputsText, logged, all_logged, IsHeld, later_place, place_of, ArePlaces, with_held, AreOutputsHeld, Keeps}
+use Rattle.nj_deps.specs.declared.logged_outputs.HeldOutput.{HeldOutput}
+use Rattle.nj_deps.specs.Logs.{OutputModel, IsOfPaths, with_output, output_of}
+use Rattle.nj_deps.specs.Inside.OutputsHeld.{OutputsModel, logged, all_logged, IsHeld, later_place, place_of, ArePlaces, with_held, AreOutputsHeld, Keeps}
 use Rattle.nj_deps.specs.Inside.RecordsRead.{BeginsWith, AppendsNumbers}
 
 -- ---- their inputs
@@ -184,14 +184,14 @@ pub known-more : (count count' : ℕ) (ns : List ℕ) → count ≤ count' → A
 known-more count count' [] more known = tt
 known-more count count' (n ∷ ns) more known = let below : n < count = known.0 in (omega arith, known-more count count' ns more known.1)
 
-pub paths-one : (count count' : ℕ) (o : OutputText) → count ≤ count' → IsOfPaths count o → IsOfPaths count' o
+pub paths-one : (count count' : ℕ) (o : OutputModel) → count ≤ count' → IsOfPaths count o → IsOfPaths count' o
 paths-one count count' o more known = let below : o.output < count = known.output in record { output = omega arith; inputs = known-more count count' o.inputs more known.inputs }
 
-pub paths-more : (count count' : ℕ) (outputs : List OutputText) → count ≤ count' → AllByRecursion (IsOfPaths count) outputs → AllByRecursion (IsOfPaths count') outputs
+pub paths-more : (count count' : ℕ) (outputs : List OutputModel) → count ≤ count' → AllByRecursion (IsOfPaths count) outputs → AllByRecursion (IsOfPaths count') outputs
 paths-more count count' [] more known = tt
 paths-more count count' (o ∷ outputs) more known = (paths-one count count' o more known.0, paths-more count count' outputs more known.1)
 
-pub paths-set : (count : ℕ) (outputs : List OutputText) (o : OutputText) → AllByRecursion (IsOfPaths count) outputs → IsOfPaths count o → AllByRecursion (IsOfPaths count) (with_output outputs o)
+pub paths-set : (count : ℕ) (outputs : List OutputModel) (o : OutputModel) → AllByRecursion (IsOfPaths count) outputs → IsOfPaths count o → AllByRecursion (IsOfPaths count) (with_output outputs o)
 paths-set count [] o known one = (one, tt)
 paths-set count (p ∷ outputs) o known one = by (nat_eq p.output o.output) (paths-set count outputs o known.1 one)
   where
@@ -199,7 +199,7 @@ paths-set count (p ∷ outputs) o known one = by (nat_eq p.output o.output) (pat
     by true rest = (one, known.1)
     by false rest = (known.0, rest)
 
-pub paths_at : (count : ℕ) (outputs : List OutputText) (index : ℕ) (o : OutputText) → AllByRecursion (IsOfPaths count) outputs → slice_get outputs index ≡ Some o → IsOfPaths count o
+pub paths_at : (count : ℕ) (outputs : List OutputModel) (index : ℕ) (o : OutputModel) → AllByRecursion (IsOfPaths count) outputs → slice_get outputs index ≡ Some o → IsOfPaths count o
 paths_at count [] index o known at = cc
 paths_at count (p ∷ outputs) zero o known at = let is : p ≡ o = cc in subst (IsOfPaths count) is known.0
 paths_at count (p ∷ outputs) (suc index) o known at = paths_at count outputs index o known.1 at
@@ -215,7 +215,7 @@ pub place-is : (outputs : List HeldOutput) (places : List ℕ) (n place : ℕ) �
 place-is outputs places n place below are at = at ∙ get_or-same places n place 0 below ∙ are n below
 
 -- no output has a number that is not of a path
-pub unknown-output : (count n : ℕ) (outputs : List OutputText) → AllByRecursion (IsOfPaths count) outputs → count ≤ n → output_of outputs n ≡ None
+pub unknown-output : (count n : ℕ) (outputs : List OutputModel) → AllByRecursion (IsOfPaths count) outputs → count ≤ n → output_of outputs n ≡ None
 unknown-output count n [] known past = refl
 unknown-output count n (o ∷ outputs) known past = by (eqb_tells o.output n) (unknown-output count n outputs known.1 past)
   where
@@ -225,7 +225,7 @@ unknown-output count n (o ∷ outputs) known past = by (eqb_tells o.output n) (u
 
 -- ---- all together
 
-abbrev pub view : List ℕ → List HeldOutput → List ℕ → OutputsText
+abbrev pub view : List ℕ → List HeldOutput → List ℕ → OutputsModel
 view inputs outputs places = record { count = length places; outputs = all_logged inputs outputs }
 
 -- inputs that are appended, and another path
@@ -251,10 +251,10 @@ path-held ins outs places held = record {
   of_paths = paths-more (length places) (length (places ++ 0 ∷ [])) (all_logged ins outs) (omega (arith, length-append places (0 ∷ []))) held.of_paths;
 }
 
-pub not-kept : (output time count : ℕ) (bytes ins ins' : List ℕ) (outs : List HeldOutput) (places : List ℕ) (old : OutputsText) (all : Bool) → AreOutputsHeld ins outs places → view ins outs places ≡ old
+pub not-kept : (output time count : ℕ) (bytes ins ins' : List ℕ) (outs : List HeldOutput) (places : List ℕ) (old : OutputsModel) (all : Bool) → AreOutputsHeld ins outs places → view ins outs places ≡ old
     → count ≡ length places → BeginsWith ins ins' → AppendsNumbers count bytes ins ins' all → all ≡ false → Keeps output time bytes old (view ins' outs places) false
 not-kept output time count bytes ins ins' outs places old all held is counts grown appended none = (
-  (λ inputs cut below known. subst (AppendsNumbers count bytes ins ins') none appended inputs cut (subst (λ k. AllByRecursion (λ n. n < k) inputs) (sym (counts ∙ ap (λ (t : OutputsText). t.count) is)) known)),
+  (λ inputs cut below known. subst (AppendsNumbers count bytes ins ins') none appended inputs cut (subst (λ k. AllByRecursion (λ n. n < k) inputs) (sym (counts ∙ ap (λ (t : OutputsModel). t.count) is)) known)),
   ap (λ os. record { count = length places; outputs = os }) (ap (λ xs. all_logged xs outs) grown.1 ∙ logged-grown ins grown.0 (length places) outs held.held) ∙ is,
 )
 
@@ -286,19 +286,19 @@ kept-text output time ins ins' ns outs outs' places places' h kept appended held
     part = ap (λ k. slice_range ins' k h.end) kept.starts ∙ ap (slice_range ins' (length ins)) kept.ends
         ∙ ap (λ xs. slice_range xs (length ins) (length xs)) appended ∙ part-appended ins ns
 
-pub is-kept : (output time count : ℕ) (bytes ins ins' : List ℕ) (outs outs' : List HeldOutput) (places places' : List ℕ) (old : OutputsText) (all : Bool) (h : HeldOutput) → AreOutputsHeld ins outs places
+pub is-kept : (output time count : ℕ) (bytes ins ins' : List ℕ) (outs outs' : List HeldOutput) (places places' : List ℕ) (old : OutputsModel) (all : Bool) (h : HeldOutput) → AreOutputsHeld ins outs places
     → view ins outs places ≡ old → count ≡ length places → AppendsNumbers count bytes ins ins' all → all ≡ true → output < count → IsKept output time ins ins' outs outs' places places' h
     → Keeps output time bytes old (view ins' outs' places') true
 is-kept output time count bytes ins ins' outs outs' places places' old all h held is counts appended known below kept =
     let read = subst (AppendsNumbers count bytes ins ins') known appended in
-    let same : count ≡ old.count = counts ∙ ap (λ (t : OutputsText). t.count) is in (
+    let same : count ≡ old.count = counts ∙ ap (λ (t : OutputsModel). t.count) is in (
       read.0,
       read.2,
       subst (λ k. output < k) same below,
       subst (λ k. AllByRecursion (λ n. n < k) read.0) same read.3,
-      ap (λ k. record { count = k; outputs = all_logged ins' outs' }) (kept.count ∙ ap (λ (t : OutputsText). t.count) is)
+      ap (λ k. record { count = k; outputs = all_logged ins' outs' }) (kept.count ∙ ap (λ (t : OutputsModel). t.count) is)
           ∙ ap (λ os. record { count = old.count; outputs = os }) (kept-text output time ins ins' read.0 outs outs' places places' h kept read.1 held)
-          ∙ ap (λ os. record { count = old.count; outputs = with_output os (record { output = output; time = time; inputs = read.0 }) }) (ap (λ (t : OutputsText). t.outputs) is),
+          ∙ ap (λ os. record { count = old.count; outputs = with_output os (record { output = output; time = time; inputs = read.0 }) }) (ap (λ (t : OutputsModel). t.outputs) is),
     )
 
 pub kept-held : (output time count : ℕ) (bytes ins ins' : List ℕ) (outs outs' : List HeldOutput) (places places' : List ℕ) (all : Bool) (h : HeldOutput) → AreOutputsHeld ins outs places

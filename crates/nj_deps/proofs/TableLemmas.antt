@@ -7,8 +7,8 @@ use Rattle.std.proofs.lemmas.List.Sums.{fold-append}
 use Rattle.nj_deps.specs.LogRecords.{LogRecord, word, words, bytes_of, path_in, Counts, IsNext}
 use Rattle.nj_deps.specs.LogRecords.LogRecord.{path, dependencies}
 use Rattle.nj_deps.specs.Logs.{with_path, with_output, with_dependencies, paths_of, CountInTurn, EndsBefore, IsLogOf, opening}
-use Rattle.nj_deps.specs.Inside.RecordsRead.{IsTimed, IsFramed, TableText, IsContent, Adds, AddsAs, AddsPath, TakesRecord, TakesNone, IsRead}
-use Rattle.nj_deps.specs.Inside.OutputsHeld.{OutputsText, Keeps}
+use Rattle.nj_deps.specs.Inside.RecordsRead.{IsTimed, IsFramed, TableModel, IsContent, Adds, AddsAs, AddsPath, TakesRecord, TakesNone, IsRead}
+use Rattle.nj_deps.specs.Inside.OutputsHeld.{OutputsModel, Keeps}
 use Rattle.nj_deps.proofs.WordLemmas.{apart, apart_last, length-word, length-words, word_is}
 use Rattle.nj_deps.proofs.RecordLemmas.{none-framed, some-framed}
 
@@ -75,7 +75,7 @@ in-turn-more : (paths : List (List ℕ)) (rs : List LogRecord) (r : LogRecord) �
 in-turn-more paths [] r in_turn counts = (counts, tt)
 in-turn-more paths (s ∷ rs) r in_turn counts = (in_turn.0, in-turn-more (with_path paths s) rs r in_turn.1 counts)
 
-pub one-taken : (bytes rest after : List ℕ) (old new : TableText) → IsRead bytes rest old → TakesRecord rest after old new → IsRead bytes after new
+pub one-taken : (bytes rest after : List ℕ) (old new : TableModel) → IsRead bytes rest old → TakesRecord rest after old new → IsRead bytes after new
 one-taken bytes rest after old new so_far taken =
     let r = taken.0 in
     let rs = so_far.records in
@@ -93,7 +93,7 @@ one-taken bytes rest after old new so_far taken =
 
 -- ---- what a content adds
 
-pub path-adds : (padded : List ℕ) (complement : ℕ) (content : List ℕ) (old new : TableText) → complement < 2 ^ 32 → content ≡ padded ++ word complement → length content ≤ 524287
+pub path-adds : (padded : List ℕ) (complement : ℕ) (content : List ℕ) (old new : TableModel) → complement < 2 ^ 32 → content ≡ padded ++ word complement → length content ≤ 524287
     → path_in padded ≢ [] → complement + length old.paths + 1 ≡ 2 ^ 32 → (b : Bool) → AddsPath (path_in padded) old new b → Adds 0 content old new b
 path-adds padded complement content old new small cut size some number true added = (
   path padded complement,
@@ -109,14 +109,14 @@ path-adds padded complement content old new small cut size some number false add
   added.1,
 )
 
-pub no-path-adds : (padded : List ℕ) (complement : ℕ) (content : List ℕ) (old : TableText) → complement < 2 ^ 32 → content ≡ padded ++ word complement
+pub no-path-adds : (padded : List ℕ) (complement : ℕ) (content : List ℕ) (old : TableModel) → complement < 2 ^ 32 → content ≡ padded ++ word complement
     → (path_in padded ≢ [] → complement + length old.paths + 1 ≢ 2 ^ 32) → Adds 0 content old old false
 no-path-adds padded complement content old small cut other = (
   (λ r is counts. (let next = path_record old.paths padded complement content r small cut is counts in other next.not_empty next.number)),
   refl,
 )
 
-pub dependencies-add : (paths : List (List ℕ)) (old new : OutputsText) (output time : ℕ) (bytes content : List ℕ) (timed : IsTimed content output time bytes) → length content ≤ 524287 → output < 2 ^ 32
+pub dependencies-add : (paths : List (List ℕ)) (old new : OutputsModel) (output time : ℕ) (bytes content : List ℕ) (timed : IsTimed content output time bytes) → length content ≤ 524287 → output < 2 ^ 32
     → old.count ≡ length paths → length paths ≤ 2 ^ 32 → (b : Bool) → Keeps output time bytes old new b
     → Adds (2 ^ 31) content (record { paths = paths; outputs = old.outputs }) (record { paths = paths; outputs = new.outputs }) b
 dependencies-add paths old new output time bytes content timed size small count few true kept =
@@ -133,7 +133,7 @@ dependencies-add paths old new output time bytes content timed size small count 
           inputs_known = subst (λ n. AllByRecursion (λ k. k < n) inputs) count kept.3;
         };
       },
-      ap (λ (q : OutputsText). record { paths = paths; outputs = q.outputs }) kept.4
+      ap (λ (q : OutputsModel). record { paths = paths; outputs = q.outputs }) kept.4
           ∙ ap (λ t. record { paths = paths; outputs = with_output old.outputs (record { output = output; time = t; inputs = inputs }) }) timed.is_time,
     )
 dependencies-add paths old new output time bytes content timed size small count few false kept = (
@@ -141,7 +141,7 @@ dependencies-add paths old new output time bytes content timed size small count 
       let d = dependencies_record paths output time bytes content r few small timed is counts in
       kept.0 d.inputs d.cut (subst (λ n. output < n) (sym count) d.output_known) (subst (λ n. AllByRecursion (λ k. k < n) d.inputs) (sym count) d.inputs_known)
       )),
-  ap (λ (q : OutputsText). record { paths = paths; outputs = q.outputs }) kept.1,
+  ap (λ (q : OutputsModel). record { paths = paths; outputs = q.outputs }) kept.1,
 )
 
 pub timed-words : (content : List ℕ) (output time : ℕ) (bytes : List ℕ) → IsTimed content output time bytes → length content % 4 ≡ 0 → length bytes % 4 ≡ 0
@@ -152,7 +152,7 @@ timed-words content output time bytes timed whole =
 
 -- ---- what a record adds
 
-pub takes : (bytes : List ℕ) (head : ℕ) (content after : List ℕ) (old new : TableText) → IsFramed bytes head content after → AddsAs head content old new true → TakesRecord bytes after old new
+pub takes : (bytes : List ℕ) (head : ℕ) (content after : List ℕ) (old new : TableModel) → IsFramed bytes head content after → AddsAs head content old new true → TakesRecord bytes after old new
 takes bytes head content after old new frame added = (
   added.2.0,
   added.2.2,
@@ -160,12 +160,12 @@ takes bytes head content after old new frame added = (
   added.2.3,
 )
 
-pub takes-none : (bytes : List ℕ) (head : ℕ) (content after : List ℕ) (old new : TableText) → head < 2 ^ 32 → IsFramed bytes head content after → AddsAs head content old new false → TakesNone bytes old new
+pub takes-none : (bytes : List ℕ) (head : ℕ) (content after : List ℕ) (old new : TableModel) → head < 2 ^ 32 → IsFramed bytes head content after → AddsAs head content old new false → TakesNone bytes old new
 takes-none bytes head content after old new small frame added = (none-framed old.paths bytes head added.0 content after small added.1 frame added.2.0, added.2.1)
 
 -- ---- a whole log
 
-pub log-read : (bytes body rest : List ℕ) (table : TableText) (size : ℕ) (whole : Bool) → bytes ≡ opening 4 ++ body → IsRead body rest table → EndsBefore table.paths rest
+pub log-read : (bytes body rest : List ℕ) (table : TableModel) (size : ℕ) (whole : Bool) → bytes ≡ opening 4 ++ body → IsRead body rest table → EndsBefore table.paths rest
     → size + length rest ≡ length bytes → whole ≡ nat_eq (length rest) 0
     → IsLogOf bytes (record { paths = table.paths; outputs = table.outputs; size = size; is_whole = whole })
 log-read bytes body rest table size whole line read ends sizes is_whole = record {
@@ -181,7 +181,7 @@ log-read bytes body rest table size whole line read ends sizes is_whole = record
 }
 
 -- what is left is no longer than the log
-pub rest-within : (bytes body rest : List ℕ) (table : TableText) → bytes ≡ opening 4 ++ body → IsRead body rest table → length rest ≤ length bytes
+pub rest-within : (bytes body rest : List ℕ) (table : TableModel) → bytes ≡ opening 4 ++ body → IsRead body rest table → length rest ≤ length bytes
 rest-within bytes body rest table line read =
     let whole = ap length line in
     let part = ap length read.cut in

@@ -1,7 +1,7 @@
 -- How faults are shown.
 use Rattle.std.specs.Prelude.{ℕ, List, ◌++◌, codes, decimal}
-use Rattle.nj_deps.specs.declared.fault.DepsLogFault.{DepsLogFault}
-use Rattle.nj_deps.specs.declared.fault.DepsLogFault.TheVariants.{NoDepsLog, OtherVersion, OutOfMemory}
+use Rattle.nj_deps.specs.declared.log_fault.DepsLogFault.{DepsLogFault}
+use Rattle.nj_deps.specs.declared.log_fault.DepsLogFault.TheVariants.{NoDepsLog, OtherVersion, OutOfMemory}
 
 abbrev pub fault_text : DepsLogFault → List ℕ
 fault_text NoDepsLog = codes "not a deps log"

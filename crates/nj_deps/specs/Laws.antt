@@ -3,15 +3,15 @@ use Rattle.std.specs.Prelude.{◌≡◌, ℕ, ◌+◌, ◌-◌, ◌*◌, ◌^◌
 use Rattle.std.specs.List.{IsDistinct, filter_map}
 use Rattle.nj_deps.specs.LogRecords.{LogRecord}
 use Rattle.nj_deps.specs.LogRecords.LogRecord.{path, dependencies}
-use Rattle.nj_deps.specs.Logs.{LogText, OutputText, IsLogOf, outputs_of, output_of}
+use Rattle.nj_deps.specs.Logs.{LogModel, OutputModel, IsLogOf, outputs_of, output_of}
 
 -- bytes are cut into records that count and a rest in one way, so they say one thing
 abbrev pub BytesSayOneThing : Type 0
-BytesSayOneThing = (bytes : List ℕ) (one other : LogText)
+BytesSayOneThing = (bytes : List ℕ) (one other : LogModel)
     → IsLogOf bytes one → IsLogOf bytes other → one ≡ other
 
 -- what a record says of an output
-abbrev pub said_of : (number : ℕ) → LogRecord → Option OutputText
+abbrev pub said_of : (number : ℕ) → LogRecord → Option OutputModel
 said_of number (path padded complement) = None
 said_of number (dependencies output low high inputs) =
     if nat_eq output number

@@ -3,25 +3,25 @@ use Rattle.std.specs.Prelude.{◌≡◌, ◌≢◌, ℕ, ◌+◌, ◌*◌, ◌<�
 use Rattle.std.specs.List.{flat_map, find, AllByRecursion}
 use Rattle.nj_deps.specs.LogRecords.{LogRecord, word, bytes_of, path_in, Counts}
 use Rattle.nj_deps.specs.LogRecords.LogRecord.{path, dependencies}
-use Rattle.nj_deps.specs.declared.fault.DepsLogFault.{DepsLogFault}
-use Rattle.nj_deps.specs.declared.fault.DepsLogFault.TheVariants.{NoDepsLog, OtherVersion, OutOfMemory}
-use Rattle.nj_deps.specs.declared.outputs.LoggedOutput.{LoggedOutput}
+use Rattle.nj_deps.specs.declared.log_fault.DepsLogFault.{DepsLogFault}
+use Rattle.nj_deps.specs.declared.log_fault.DepsLogFault.TheVariants.{NoDepsLog, OtherVersion, OutOfMemory}
+use Rattle.nj_deps.specs.declared.logged_outputs.LoggedOutput.{LoggedOutput}
 
 -- ---- of records
 
 -- an output and what it depends on, by the numbers of their paths, and the time of the record
-pub record OutputText : Type 0 where
+pub record OutputModel : Type 0 where
   pub output : ℕ
   pub time : ℕ
   pub inputs : List ℕ
 
 -- all its numbers are of paths, of which there are so many
-pub record IsOfPaths (count : ℕ) (o : OutputText) : Type 0 where
+pub record IsOfPaths (count : ℕ) (o : OutputModel) : Type 0 where
   pub output : o.output < count
   pub inputs : AllByRecursion (λ number. number < count) o.inputs
 
-abbrev pub output_text : LoggedOutput → OutputText
-output_text logged =
+abbrev pub output_model : LoggedOutput → OutputModel
+output_model logged =
     record { output = logged.output; time = logged.time; inputs = logged.inputs.now }
 
 -- the paths with the one that a record names
@@ -30,14 +30,14 @@ with_path paths (path padded complement) = paths ++ path_in padded ∷ []
 with_path paths (dependencies output low high inputs) = paths
 
 -- in place of what was known of the output, or at the end
-abbrev pub with_output : List OutputText → OutputText → List OutputText
+abbrev pub with_output : List OutputModel → OutputModel → List OutputModel
 with_output [] logged = logged ∷ []
 with_output (other ∷ outputs) logged =
     if nat_eq other.output logged.output
     then logged ∷ outputs else other ∷ with_output outputs logged
 
 -- the outputs with the one of a record
-abbrev pub with_dependencies : List OutputText → LogRecord → List OutputText
+abbrev pub with_dependencies : List OutputModel → LogRecord → List OutputModel
 with_dependencies outputs (path padded complement) = outputs
 with_dependencies outputs (dependencies output low high inputs) =
     with_output outputs (record { output = output; time = low + 2 ^ 32 * high; inputs = inputs })
@@ -45,7 +45,7 @@ with_dependencies outputs (dependencies output low high inputs) =
 abbrev pub paths_of : List LogRecord → List (List ℕ)
 paths_of records = fold with_path [] records
 
-abbrev pub outputs_of : List LogRecord → List OutputText
+abbrev pub outputs_of : List LogRecord → List OutputModel
 outputs_of records = fold with_dependencies [] records
 
 -- ---- of bytes
@@ -68,15 +68,15 @@ opening version = first_line ++ word version
 
 -- what a deps log says: its paths and outputs, how many of its bytes were read, and whether they
 -- were all
-pub record LogText : Type 0 where
+pub record LogModel : Type 0 where
   pub paths : List (List ℕ)
-  pub outputs : List OutputText
+  pub outputs : List OutputModel
   pub size : ℕ
   pub is_whole : Bool
 
 -- Bytes are an opening, records that count, and a rest that begins with none. What counts is these
 -- records alone.
-pub record IsLogOf (bytes : List ℕ) (log : LogText) : Type 0 where
+pub record IsLogOf (bytes : List ℕ) (log : LogModel) : Type 0 where
   pub records : List LogRecord
   pub rest : List ℕ
   pub cut : bytes ≡ opening 4 ++ (flat_map bytes_of records ++ rest)
@@ -95,5 +95,5 @@ IsLogFault bytes (OtherVersion version) =
 IsLogFault bytes OutOfMemory = Unit {0}
 
 -- what is known of the output of this number
-abbrev pub output_of : List OutputText → (number : ℕ) → Option OutputText
+abbrev pub output_of : List OutputModel → (number : ℕ) → Option OutputModel
 output_of outputs number = find (λ logged. nat_eq logged.output number) outputs

@@ -2,16 +2,16 @@
 //! Ninja manual).
 #![tactic(auto)]
 
-mod fault;
 mod laws;
+mod little_endian;
 mod log;
-mod outputs;
+mod log_fault;
+mod log_table;
+mod logged_outputs;
 mod records;
-mod table;
-mod words;
 
-pub use fault::DepsLogFault;
 pub use laws::{bytes_say_one_thing, each_output_once, last_record_counts};
 pub use log::DepsLog;
+pub use log_fault::DepsLogFault;
+pub use logged_outputs::LoggedOutput;
 pub use nj_names::HashKeys;
-pub use outputs::LoggedOutput;

@@ -2,12 +2,12 @@
 
 ghost use Rattle.std.specs.Prelude.{◌≡◌, ◌<◌, ◌++◌, Some, length, position, slice_get, bytes_eq, option_map, IfSome, IfOk, IfErr};
 ghost use Rattle.std.specs.List.{IsDistinct};
-ghost use Rattle.nj_deps.specs.Logs.{IsLogOf, IsLogFault, opening, output_of, output_text, IsOfPaths};
+ghost use Rattle.nj_deps.specs.Logs.{IsLogOf, IsLogFault, opening, output_of, output_model, IsOfPaths};
 
-use crate::fault::DepsLogFault;
-use crate::outputs::LoggedOutput;
+use crate::log_fault::DepsLogFault;
+use crate::log_table::LogTable;
+use crate::logged_outputs::LoggedOutput;
 use crate::records::split_opening;
-use crate::table::LogTable;
 use nj_names::HashKeys;
 use std::alloc::Global;
 use std::marker::Model;
@@ -24,9 +24,9 @@ pub struct DepsLog {
 }
 
 impl Model for DepsLog {
-    ghost use Rattle.nj_deps.specs.Logs.{LogText};
+    ghost use Rattle.nj_deps.specs.Logs.{LogModel};
 
-    ghost Value = { LogText };
+    ghost Value = { LogModel };
 
     ghost view = { λ l. record {
       paths = l.table.paths;
@@ -120,8 +120,8 @@ impl DepsLog {
     #[tactic(auto, using(crate::proofs::OutputLemmas::paths_at))]
     pub fn output(&self, index: usize) -> LoggedOutput<'_>
         requires { index < length self.now.outputs }
-        ensures output { slice_get self.now.outputs index ≡ Some (output_text result) }
-        ensures known { IsOfPaths (length self.now.paths) (output_text result) }
+        ensures output { slice_get self.now.outputs index ≡ Some (output_model result) }
+        ensures known { IsOfPaths (length self.now.paths) (output_model result) }
     {
         self.table.output(index)
     }
@@ -129,8 +129,8 @@ impl DepsLog {
     /// The output with the path of this number; `None` if the path is not of an output.
     #[tactic(auto, using(crate::proofs::OutputLemmas::paths_at))]
     pub fn output_of(&self, number: usize) -> Option<LoggedOutput<'_>>
-        ensures output { option_map output_text result ≡ output_of self.now.outputs number }
-        ensures known { IfSome result (λ o. IsOfPaths (length self.now.paths) (output_text o)) }
+        ensures output { option_map output_model result ≡ output_of self.now.outputs number }
+        ensures known { IfSome result (λ o. IsOfPaths (length self.now.paths) (output_model o)) }
     {
         match self.table.index_of(number) {
             Some(index) => Some(self.table.output(index)),

@@ -5,7 +5,7 @@ ghost use Rattle.nj_deps.specs.LogRecords.{path_in, without_zero};
 ghost use Rattle.nj_deps.specs.Logs.{opening};
 ghost use Rattle.nj_deps.specs.Inside.RecordsRead.{IsFramed, IsUnframed};
 
-use crate::words::split_number;
+use crate::little_endian::split_number;
 
 /// The bit by which records of dependencies differ from those of paths.
 pub(crate) const DEPENDENCIES: u32 = 1 << 31;

@@ -9,9 +9,9 @@ use Rattle.std.proofs.lemmas.List.Quantifiers.{position-Some}
 use Rattle.std.proofs.lemmas.Map.Keys.{IsDistinct-tail, apart_from_distinct}
 use Rattle.std.proofs.lemmas.Option.{get_or_from_slice_get, slice_get_within}
 use Rattle.std.proofs.lemmas.Slice.Eq.{bytes_eq-Decides}
-use Rattle.nj_edge_env.specs.declared.bounds.Bound.{Bound}
+use Rattle.nj_edge_env.specs.declared.name_values.Bound.{Bound}
 use Rattle.nj_edge_env.specs.Inside.BlocksHeld.{bound_of, values_of, values_by_name, names_of, bounds_of, list_at, IsPart, BoundsAreHeld, BlocksAreHeld, BeginsWith, IsFirstAt, IsNumberOf, BindNeitherAfter, is_pool_or_dyndep}
-use Rattle.nj_edge_env.specs.Blocks.{BlocksText, bound_in}
+use Rattle.nj_edge_env.specs.Blocks.{BlocksModel, bound_in}
 use Rattle.nj_edge_env.proofs.BoundLemmas.{values_at, values_kept, longer, bounds_grow, swapped, test-from_apart}
 
 abbrev pub Rows : Type 0
@@ -257,7 +257,7 @@ later len last edge names bounds lists from held = record {
 -- ---- `pool` and `dyndep`
 
 -- a block of this edge binds a name, and nothing else changes
-pub neither-after : (assigning edge : ℕ) (name : List ℕ) (old new : BlocksText) → old.last ≤ edge → new.last ≡ edge
+pub neither-after : (assigning edge : ℕ) (name : List ℕ) (old new : BlocksModel) → old.last ≤ edge → new.last ≡ edge
     → ((e : ℕ) (x : List ℕ) → (nat_eq e edge && bytes_eq x name) ≡ false → bound_in new e x ≡ bound_in old e x)
     → BindNeitherAfter assigning old → BindNeitherAfter (cond (is_pool_or_dyndep name) edge assigning) new
 neither-after assigning edge name old new from now same neither = by (is_pool_or_dyndep name) refl

@@ -7,8 +7,8 @@ use Rattle.std.specs.Ordering.{nat_cmp, ordering_reverse, min_by_ordering, is_eq
 use Rattle.std.specs.Cmp.Lexicographic.{slice_cmp, texts_ties}
 use Rattle.std.proofs.lemmas.Cmp.{nat_list_cmp_total}
 use Rattle.std.proofs.lemmas.List.{length-map}
-use Rattle.nj_text.specs.Words.{PartText}
-use Rattle.nj_scope.specs.Rules.{RuleLineText}
+use Rattle.nj_text.specs.Words.{PartModel}
+use Rattle.nj_scope.specs.Rules.{RuleLineModel}
 use Rattle.nj_scope.specs.RulesHeld.{has_key}
 use Rattle.nj_edge_env.specs.LateStrings.{rule_value, refers}
 use Rattle.nj_edge_env.specs.VariableCycles.{RefersTo, Reaches, IsOnCycle, IsCycleFound, keys_of, referring, reaching, keys_on_cycles, variable_cycle_of}
@@ -119,7 +119,7 @@ same_or_longer p q (k ∷ keys) wider = by (p k) (q k) refl refl (same_or_longer
 
 -- ---- keys that reach a name
 
-module _ (block : List ℕ → Option (List ℕ)) (lines : List RuleLineText) where
+module _ (block : List ℕ → Option (List ℕ)) (lines : List RuleLineModel) where
   -- whether the key's value refers to one of the names
   abbrev leads : (names : List (List ℕ)) → (key : List ℕ) → Bool
   leads names key = list_any (refers (unwrap_or (rule_value block lines key) [])) names
@@ -176,10 +176,10 @@ module _ (block : List ℕ → Option (List ℕ)) (lines : List RuleLineText) wh
       by (inl is) = is
       by (inr lt) =
           let within = length_filtered (leads (name ∷ reaching (length lines) block lines name)) (keys_of lines) in
-          let as_many : length (keys_of lines) ≡ length lines = length-map lines (λ (l : RuleLineText). l.key) in
+          let as_many : length (keys_of lines) ≡ length lines = length-map lines (λ (l : RuleLineModel). l.key) in
           absurd (omega arith)
 
-  key_of_line : (ls : List RuleLineText) (key : List ℕ) → has_key ls key ≡ true → is_among (keys_of ls) key ≡ true
+  key_of_line : (ls : List RuleLineModel) (key : List ℕ) → has_key ls key ≡ true → is_among (keys_of ls) key ≡ true
   key_of_line [] key h = h
   key_of_line (l ∷ ls) key h = elim (either (bytes_eq key l.key) (has_key ls key) h) [
     | inl e ↦ first (bytes_eq key l.key) (is_among (keys_of ls) key) e
@@ -201,7 +201,7 @@ module _ (block : List ℕ → Option (List ℕ)) (lines : List RuleLineText) wh
   refers_to : (key other : List ℕ) → refers (unwrap_or (rule_value block lines key) []) other ≡ true → RefersTo block lines key other
   refers_to key other h = by (rule_value block lines key) refl h
     where
-      by : (value : Option (List PartText)) → rule_value block lines key ≡ value → refers (unwrap_or value []) other ≡ true → RefersTo block lines key other
+      by : (value : Option (List PartModel)) → rule_value block lines key ≡ value → refers (unwrap_or value []) other ≡ true → RefersTo block lines key other
       by None e r = absurd (true≢false (sym r))
       by (Some parts) e r = (parts, e, r)
 
@@ -293,7 +293,7 @@ none_less x (y ∷ ys) key among =
 
 -- ---- the law
 
-pub computed_found : (block : List ℕ → Option (List ℕ)) (lines : List RuleLineText) → IsCycleFound block lines (variable_cycle_of block lines)
+pub computed_found : (block : List ℕ → Option (List ℕ)) (lines : List RuleLineModel) → IsCycleFound block lines (variable_cycle_of block lines)
 unfolding variable_cycle_of
 computed_found block lines = by (keys_on_cycles block lines) refl
   where
@@ -308,7 +308,7 @@ same_text : (x y : List ℕ) → order x y ≡ Equal → x ≡ y
 same_text x y e = same_name x y (texts_ties x y ∙ ap is_eq e)
 
 -- there is only one result
-one_found : (block : List ℕ → Option (List ℕ)) (lines : List RuleLineText) (outcome other : Option (List ℕ)) → IsCycleFound block lines outcome → IsCycleFound block lines other → outcome ≡ other
+one_found : (block : List ℕ → Option (List ℕ)) (lines : List RuleLineModel) (outcome other : Option (List ℕ)) → IsCycleFound block lines outcome → IsCycleFound block lines other → outcome ≡ other
 one_found block lines None None p q = refl
 one_found block lines None (Some y) p q = absurd (p y q.0)
 one_found block lines (Some x) None p q = absurd (q x p.0)
@@ -320,5 +320,5 @@ one_found block lines (Some x) (Some y) p q = ap Some (by (order x y) refl)
     by Greater e = absurd (p.1 y q.0 (turned x y Greater e))
 
 -- so what is found is what is computed
-pub is_computed : (block : List ℕ → Option (List ℕ)) (lines : List RuleLineText) (outcome : Option (List ℕ)) → IsCycleFound block lines outcome → outcome ≡ variable_cycle_of block lines
+pub is_computed : (block : List ℕ → Option (List ℕ)) (lines : List RuleLineModel) (outcome : Option (List ℕ)) → IsCycleFound block lines outcome → outcome ≡ variable_cycle_of block lines
 is_computed block lines outcome found = one_found block lines outcome (variable_cycle_of block lines) found (computed_found block lines)

@@ -4,13 +4,13 @@ use Rattle.std.specs.Prelude.{slice_index_or, option_copied}
 use Rattle.std.specs.Ordering.{nat_cmp}
 use Rattle.std.specs.declared.cmp.Ordering.TheVariants.{Less}
 use Rattle.std.specs.Cmp.Lexicographic.{slice_cmp}
-use Rattle.nj_text.specs.Words.{PartText}
-use Rattle.nj_scope.specs.Rules.{RuleLineText}
+use Rattle.nj_text.specs.Words.{PartModel}
+use Rattle.nj_scope.specs.Rules.{RuleLineModel}
 use Rattle.nj_scope.specs.RulesHeld.{key_count, key_at}
 use Rattle.nj_scope.proofs.KeyLemmas.{keys_are_numbered}
 use Rattle.nj_edge_env.specs.LateStrings.{rule_value, refers}
 use Rattle.nj_edge_env.specs.VariableCycles.{RefersTo, Reaches, IsOnCycle, IsCycleFound, variable_cycle_of}
-use Rattle.nj_edge_env.specs.ReferencesHeld.{ReferringKeyText, AreReferences, TellsCycles, name_at, row_at, unbound}
+use Rattle.nj_edge_env.specs.ReferencesHeld.{ReferringKeyModel, AreReferences, TellsCycles, name_at, row_at, unbound}
 use Rattle.nj_edge_env.specs.Inside.CyclesHeld.{IsMarked, AreCounted, Refers, LeadsTo, IsOnLoop, IsLeastLoop}
 use Rattle.nj_cycles.specs.Cycles.Chain.{one, more}
 use Rattle.nj_edge_env.proofs.GivenLemmas.{rule_value_is, rule_value_of, given_at}
@@ -33,11 +33,11 @@ get_end [] b = refl
 get_end (x ∷ xs) b = get_end xs b
 
 -- the keys of numbers below i
-pub record CountedBelow (block : List ℕ → Option (List ℕ)) (keys : List ReferringKeyText) (i : ℕ) (counts : List Bool) : Type 0 where
+pub record CountedBelow (block : List ℕ → Option (List ℕ)) (keys : List ReferringKeyModel) (i : ℕ) (counts : List Bool) : Type 0 where
   pub len : length counts ≡ i
   pub are : (n : ℕ) → n < i → slice_index_or counts n false ≡ not (is_some (block (name_at keys n)))
 
-pub counted_more : (block : List ℕ → Option (List ℕ)) (keys : List ReferringKeyText) (i : ℕ) (counts pushed : List Bool) (b : Bool) → CountedBelow block keys i counts → pushed ≡ counts ++ b ∷ []
+pub counted_more : (block : List ℕ → Option (List ℕ)) (keys : List ReferringKeyModel) (i : ℕ) (counts pushed : List Bool) (b : Bool) → CountedBelow block keys i counts → pushed ≡ counts ++ b ∷ []
     → b ≡ not (is_some (block (name_at keys i))) → CountedBelow block keys (i + 1) pushed
 counted_more block keys i counts pushed b so is e = record {
   len = ap length is ∙ length-append counts (b ∷ []) ∙ ap (λ k. k + 1) so.len;
@@ -46,12 +46,12 @@ counted_more block keys i counts pushed b so is e = record {
       (ap (λ xs. slice_index_or xs i false) is ∙ ap (λ k. slice_index_or (counts ++ b ∷ []) k false) (sym so.len) ∙ get_end counts b ∙ e);
 }
 
-pub all_counted : (block : List ℕ → Option (List ℕ)) (keys : List ReferringKeyText) (i : ℕ) (counts held : List Bool) → CountedBelow block keys i counts → length keys ≤ i → held ≡ counts
+pub all_counted : (block : List ℕ → Option (List ℕ)) (keys : List ReferringKeyModel) (i : ℕ) (counts held : List Bool) → CountedBelow block keys i counts → length keys ≤ i → held ≡ counts
     → AreCounted block keys held
 all_counted block keys i counts held so le e n below = ap (λ xs. slice_index_or xs n false) e ∙ so.are n (omega arith)
 
 -- where nothing is bound each key counts
-pub unbound_counted : (keys : List ReferringKeyText) (count : ℕ) (counts : List Bool) → counts ≡ replicate count true → count ≡ length keys → AreCounted unbound keys counts
+pub unbound_counted : (keys : List ReferringKeyModel) (count : ℕ) (counts : List Bool) → counts ≡ replicate count true → count ≡ length keys → AreCounted unbound keys counts
 unbound_counted keys count counts is same n below = ap (λ marks. slice_index_or marks n false) is ∙ by count n (subst (λ m. n < m) (sym same) below)
   where
     by : (count n : ℕ) → n < count → slice_index_or (replicate count true) n false ≡ true
@@ -61,16 +61,16 @@ unbound_counted keys count counts is same n below = ap (λ marks. slice_index_or
 
 -- ---- numbers and names
 
-row_within : (keys : List ReferringKeyText) (key other : ℕ) → IsMarked (row_at keys key) other → key < length keys
+row_within : (keys : List ReferringKeyModel) (key other : ℕ) → IsMarked (row_at keys key) other → key < length keys
 row_within [] key other m = absurd (true≢false (sym m))
 row_within (k ∷ keys) zero other m = omega arith
 row_within (k ∷ keys) (suc key) other m = let lt = row_within keys key other m in omega arith
 
-module _ (block : List ℕ → Option (List ℕ)) (lines : List RuleLineText) (keys : List ReferringKeyText) (counts : List Bool) (are : AreReferences lines keys) (counted : AreCounted block keys counts) where
+module _ (block : List ℕ → Option (List ℕ)) (lines : List RuleLineModel) (keys : List ReferringKeyModel) (counts : List Bool) (are : AreReferences lines keys) (counted : AreCounted block keys counts) where
   value_of : (key : List ℕ) (other : List ℕ) → block key ≡ None → refers (unwrap_or (rule_value unbound lines key) []) other ≡ true → RefersTo block lines key other
   value_of key other free h = of (rule_value unbound lines key) refl h
     where
-      of : (o : Option (List PartText)) → rule_value unbound lines key ≡ o → refers (unwrap_or o []) other ≡ true → RefersTo block lines key other
+      of : (o : Option (List PartModel)) → rule_value unbound lines key ≡ o → refers (unwrap_or o []) other ≡ true → RefersTo block lines key other
       of None e h = absurd (true≢false (sym h))
       of (Some parts) e h = let is = rule_value_is unbound lines key parts e in (parts, rule_value_of block lines key is.no_paths free ∙ is.given, h)
 
@@ -125,20 +125,20 @@ module _ (block : List ℕ → Option (List ℕ)) (lines : List RuleLineText) (k
 -- ---- where nothing is bound
 
 -- fewer keys count where a block binds some
-unbound_refers : (block : List ℕ → Option (List ℕ)) (lines : List RuleLineText) (a b : List ℕ) → RefersTo block lines a b → RefersTo unbound lines a b
+unbound_refers : (block : List ℕ → Option (List ℕ)) (lines : List RuleLineModel) (a b : List ℕ) → RefersTo block lines a b → RefersTo unbound lines a b
 unbound_refers block lines a b r = let is = rule_value_is block lines a r.0 r.1 in (r.0, rule_value_of unbound lines a is.no_paths refl ∙ is.given, r.2)
 
-unbound_reaches : (block : List ℕ → Option (List ℕ)) (lines : List RuleLineText) (a b : List ℕ) → Reaches block lines a b → Reaches unbound lines a b
+unbound_reaches : (block : List ℕ → Option (List ℕ)) (lines : List RuleLineModel) (a b : List ℕ) → Reaches block lines a b → Reaches unbound lines a b
 unbound_reaches block lines a b (one r) = one (unbound_refers block lines a b r)
 unbound_reaches block lines a b (more {g = c} r d) = more (unbound_refers block lines a c r) (unbound_reaches block lines c b d)
 
-pub never_cycle : (lines : List RuleLineText) (keys : List ReferringKeyText) (counts : List Bool) (least : Option ℕ) → AreReferences lines keys → AreCounted unbound keys counts → IsLeastLoop keys counts least
+pub never_cycle : (lines : List RuleLineModel) (keys : List ReferringKeyModel) (counts : List Bool) (least : Option ℕ) → AreReferences lines keys → AreCounted unbound keys counts → IsLeastLoop keys counts least
     → is_some least ≡ false → (block : List ℕ → Option (List ℕ)) → variable_cycle_of block lines ≡ None
 never_cycle lines keys counts None are counted so none block =
     sym (is_computed block lines None (λ key on. least_found unbound lines keys counts are counted None so key (unbound_reaches block lines key key on)))
 never_cycle lines keys counts (Some n) are counted so none block = absurd (true≢false none)
 
-pub some_cycle : (lines : List RuleLineText) (keys : List ReferringKeyText) (counts : List Bool) (least : Option ℕ) → AreReferences lines keys → AreCounted unbound keys counts → IsLeastLoop keys counts least
+pub some_cycle : (lines : List RuleLineModel) (keys : List ReferringKeyModel) (counts : List Bool) (least : Option ℕ) → AreReferences lines keys → AreCounted unbound keys counts → IsLeastLoop keys counts least
     → is_some least ≡ is_some (variable_cycle_of unbound lines)
 some_cycle lines keys counts None are counted so = ap is_some (least_computed unbound lines keys counts are counted None so)
 some_cycle lines keys counts (Some n) are counted so = ap is_some (least_computed unbound lines keys counts are counted (Some n) so)
@@ -148,7 +148,7 @@ copied_some None p e = ap is_some e
 copied_some (Some x) p e = ap is_some e
 
 -- what is held of a rule tells the key that is computed
-pub reported : (block : List ℕ → Option (List ℕ)) (lines : List RuleLineText) (keys : List ReferringKeyText) (counts : List Bool) (least : Option ℕ) → TellsCycles lines keys → AreCounted block keys counts
+pub reported : (block : List ℕ → Option (List ℕ)) (lines : List RuleLineModel) (keys : List ReferringKeyModel) (counts : List Bool) (least : Option ℕ) → TellsCycles lines keys → AreCounted block keys counts
     → IsLeastLoop keys counts least → option_map (name_at keys) least ≡ variable_cycle_of block lines
 reported block lines keys counts least (inl are) counted so = least_computed block lines keys counts are counted least so
 reported block lines keys counts None (inr (none, never)) counted so = sym (never block)

@@ -7,8 +7,8 @@ use Rattle.std.proofs.Common.{inl, inr}
 use Rattle.std.proofs.lemmas.Slice.Eq.{bytes_eq-Decides}
 use Rattle.std.proofs.lemmas.List.{reverse-append}
 use Rattle.std.proofs.lemmas.List.Folds.{list_any-append}
-use Rattle.nj_text.specs.Words.{PartText, Text, Name}
-use Rattle.nj_scope.specs.Rules.{RuleLineText, given}
+use Rattle.nj_text.specs.Words.{PartModel, Text, Name}
+use Rattle.nj_scope.specs.Rules.{RuleLineModel, given}
 use Rattle.nj_scope.specs.RulesHeld.{has_key}
 use Rattle.nj_scope.specs.Scopes.{expanded}
 use Rattle.nj_edge_env.specs.LateStrings.{LateNames, text_of_paths, paths_text, names_paths, value_given, unless_empty, is_of_command, rule_value, file_value, refers, Denotes, late_in, late_text}
@@ -48,12 +48,12 @@ with_paths quoting inputs outputs name h =
     some_paths (bytes_eq name (codes "in")) (bytes_eq name (codes "in_newline")) (bytes_eq name (codes "out")) (paths_text quoting 32 inputs) (paths_text quoting 10 inputs) (paths_text quoting 32 outputs) h
 
 -- what the rule's value of a name tells
-pub record IsRuleValue (block : List ℕ → Option (List ℕ)) (lines : List RuleLineText) (name : List ℕ) (parts : List PartText) : Type 0 where
+pub record IsRuleValue (block : List ℕ → Option (List ℕ)) (lines : List RuleLineModel) (name : List ℕ) (parts : List PartModel) : Type 0 where
   pub no_paths : names_paths name ≡ false
   pub unbound : block name ≡ None
   pub given : value_given lines name ≡ Some parts
 
-pub rule_value_is : (block : List ℕ → Option (List ℕ)) (lines : List RuleLineText) (name : List ℕ) (parts : List PartText) → rule_value block lines name ≡ Some parts → IsRuleValue block lines name parts
+pub rule_value_is : (block : List ℕ → Option (List ℕ)) (lines : List RuleLineModel) (name : List ℕ) (parts : List PartModel) → rule_value block lines name ≡ Some parts → IsRuleValue block lines name parts
 rule_value_is block lines name parts h = by (names_paths name) (block name) refl refl h
   where
     by : (b : Bool) (o : Option (List ℕ)) → names_paths name ≡ b → block name ≡ o → (if b || is_some o then None else value_given lines name) ≡ Some parts → IsRuleValue block lines name parts
@@ -61,12 +61,12 @@ rule_value_is block lines name parts h = by (names_paths name) (block name) refl
     by false None p q e = record { no_paths = p; unbound = q; given = e }
     by false (Some v) p q e = cc
 
-pub rule_value_of : (block : List ℕ → Option (List ℕ)) (lines : List RuleLineText) (name : List ℕ) → names_paths name ≡ false → block name ≡ None → rule_value block lines name ≡ value_given lines name
+pub rule_value_of : (block : List ℕ → Option (List ℕ)) (lines : List RuleLineModel) (name : List ℕ) → names_paths name ≡ false → block name ≡ None → rule_value block lines name ≡ value_given lines name
 rule_value_of block lines name p q = ap (λ b. if b || is_some (block name) then None else value_given lines name) p ∙ ap (λ o. if is_some o then None else value_given lines name) q
 
 -- ---- values
 
-pub expanded_same : (f g : List ℕ → List ℕ) (parts : List PartText) → ((name : List ℕ) → refers parts name ≡ true → f name ≡ g name) → expanded f parts ≡ expanded g parts
+pub expanded_same : (f g : List ℕ → List ℕ) (parts : List PartModel) → ((name : List ℕ) → refers parts name ≡ true → f name ≡ g name) → expanded f parts ≡ expanded g parts
 expanded_same f g [] same = refl
 expanded_same f g (Text bytes ∷ parts) same = ap (λ text. bytes ++ text) (expanded_same f g parts same)
 expanded_same f g (Name name ∷ parts) same =
@@ -82,13 +82,13 @@ expanded_same f g (Name name ∷ parts) same =
 pub data Way (quoting : Bool) (n : LateNames) (name : List ℕ) : Type 0 where
   of_paths : (text : List ℕ) → text_of_paths quoting n.inputs n.outputs name ≡ Some text → Way quoting n name
   of_block : names_paths name ≡ false → (value : List ℕ) → n.block name ≡ Some value → Way quoting n name
-  of_rule : (parts : List PartText) → rule_value n.block n.lines name ≡ Some parts → Way quoting n name
+  of_rule : (parts : List PartModel) → rule_value n.block n.lines name ≡ Some parts → Way quoting n name
   of_file : names_paths name ≡ false → n.block name ≡ None → value_given n.lines name ≡ None → Way quoting n name
 
 pub way : (quoting : Bool) (n : LateNames) (name : List ℕ) → Way quoting n name
 way quoting n name = by (names_paths name) (n.block name) (value_given n.lines name) refl refl refl
   where
-    by : (b : Bool) (o : Option (List ℕ)) (v : Option (List PartText)) → names_paths name ≡ b → n.block name ≡ o → value_given n.lines name ≡ v → Way quoting n name
+    by : (b : Bool) (o : Option (List ℕ)) (v : Option (List PartModel)) → names_paths name ≡ b → n.block name ≡ o → value_given n.lines name ≡ v → Way quoting n name
     by true o v p q r = let t = with_paths quoting n.inputs n.outputs name p in of_paths t.0 t.1
     by false (Some value) v p q r = of_block p value q
     by false None (Some parts) p q r = of_rule parts (rule_value_of n.block n.lines name p q ∙ r)
@@ -111,7 +111,7 @@ once_block value quoting n name text p h = after_paths value quoting n name p �
 after_block : (value : List ℕ → List ℕ) (quoting : Bool) (n : LateNames) (name : List ℕ) → names_paths name ≡ false → n.block name ≡ None → once value quoting n name ≡ unwrap_or (option_map (expanded value) (rule_value n.block n.lines name)) (file_value n name)
 after_block value quoting n name p h = after_paths value quoting n name p ∙ ap (λ o. unwrap_or (option_or o (option_map (expanded value) (rule_value n.block n.lines name))) (file_value n name)) h
 
-pub once_rule : (value : List ℕ → List ℕ) (quoting : Bool) (n : LateNames) (name : List ℕ) (parts : List PartText) → rule_value n.block n.lines name ≡ Some parts → once value quoting n name ≡ expanded value parts
+pub once_rule : (value : List ℕ → List ℕ) (quoting : Bool) (n : LateNames) (name : List ℕ) (parts : List PartModel) → rule_value n.block n.lines name ≡ Some parts → once value quoting n name ≡ expanded value parts
 once_rule value quoting n name parts h =
     let is = rule_value_is n.block n.lines name parts h in
     after_block value quoting n name is.no_paths is.unbound ∙ ap (λ o. unwrap_or (option_map (expanded value) o) (file_value n name)) h
@@ -132,16 +132,16 @@ given_within quoting n (suc depth) name s = elim (way quoting n name) [
 ]
 
 -- the lines of other keys than these
-pub unseen : (seen : List (List ℕ)) → List RuleLineText → ℕ
+pub unseen : (seen : List (List ℕ)) → List RuleLineModel → ℕ
 unseen seen [] = zero
 unseen seen (l ∷ lines) = if is_among seen l.key then unseen seen lines else suc (unseen seen lines)
 
-unseen_all : (lines : List RuleLineText) → unseen [] lines ≡ length lines
+unseen_all : (lines : List RuleLineModel) → unseen [] lines ≡ length lines
 unfolding unseen
 unseen_all [] = refl
 unseen_all (l ∷ lines) = ap suc (unseen_all lines)
 
-unseen_longer : (seen : List (List ℕ)) (name : List ℕ) (lines : List RuleLineText) → unseen (name ∷ seen) lines ≤ unseen seen lines
+unseen_longer : (seen : List (List ℕ)) (name : List ℕ) (lines : List RuleLineModel) → unseen (name ∷ seen) lines ≤ unseen seen lines
 unfolding unseen
 unseen_longer seen name [] = omega arith
 unseen_longer seen name (l ∷ lines) = by (bytes_eq l.key name) (is_among seen l.key) (unseen_longer seen name lines)
@@ -153,7 +153,7 @@ unseen_longer seen name (l ∷ lines) = by (bytes_eq l.key name) (is_among seen 
     by false true h = h
     by false false h = omega arith
 
-unseen_fewer : (seen : List (List ℕ)) (name : List ℕ) (lines : List RuleLineText) → is_among seen name ≡ false → has_key lines name ≡ true → unseen (name ∷ seen) lines < unseen seen lines
+unseen_fewer : (seen : List (List ℕ)) (name : List ℕ) (lines : List RuleLineModel) → is_among seen name ≡ false → has_key lines name ≡ true → unseen (name ∷ seen) lines < unseen seen lines
 unfolding unseen
 unseen_fewer seen name [] new has = absurd (true≢false (sym has))
 unseen_fewer seen name (l ∷ lines) new has = by (bytes_eq name l.key) (unseen_fewer seen name lines new) refl has
@@ -179,24 +179,24 @@ unseen_fewer seen name (l ∷ lines) new has = by (bytes_eq name l.key) (unseen_
         here false b p q h = absurd (true≢false (sym p))
     by false rest e h = at (bytes_eq l.key name) (is_among seen l.key) (rest h)
 
-pub given_at : (lines : List RuleLineText) (key : List ℕ) (parts : List PartText) → value_given lines key ≡ Some parts → given lines key ≡ Some parts
+pub given_at : (lines : List RuleLineModel) (key : List ℕ) (parts : List PartModel) → value_given lines key ≡ Some parts → given lines key ≡ Some parts
 given_at lines key parts h = by (is_of_command key) (given lines key) h
   where
-    by : (b : Bool) (v : Option (List PartText)) → unless_empty b v ≡ Some parts → v ≡ Some parts
+    by : (b : Bool) (v : Option (List PartModel)) → unless_empty b v ≡ Some parts → v ≡ Some parts
     by true None h = h
     by true (Some []) h = cc
     by true (Some (p ∷ ps)) h = h
     by false v h = h
 
-found_last : (lines : List RuleLineText) (key : List ℕ) (parts : List PartText) → option_map (λ l. l.value) (find (λ l. bytes_eq key l.key) lines) ≡ Some parts → has_key lines key ≡ true
+found_last : (lines : List RuleLineModel) (key : List ℕ) (parts : List PartModel) → option_map (λ l. l.value) (find (λ l. bytes_eq key l.key) lines) ≡ Some parts → has_key lines key ≡ true
 found_last [] key parts h = cc
 found_last (l ∷ lines) key parts h = by (bytes_eq key l.key) (found_last lines key parts) h
   where
-    by : (b : Bool) → (option_map (λ (m : RuleLineText). m.value) (find (λ m. bytes_eq key m.key) lines) ≡ Some parts → has_key lines key ≡ true) → option_map (λ (m : RuleLineText). m.value) (if b then Some l else find (λ m. bytes_eq key m.key) lines) ≡ Some parts → (b || has_key lines key) ≡ true
+    by : (b : Bool) → (option_map (λ (m : RuleLineModel). m.value) (find (λ m. bytes_eq key m.key) lines) ≡ Some parts → has_key lines key ≡ true) → option_map (λ (m : RuleLineModel). m.value) (if b then Some l else find (λ m. bytes_eq key m.key) lines) ≡ Some parts → (b || has_key lines key) ≡ true
     by true rest h = refl
     by false rest h = rest h
 
-has_reversed : (lines : List RuleLineText) (key : List ℕ) → has_key (reverse lines) key ≡ has_key lines key
+has_reversed : (lines : List RuleLineModel) (key : List ℕ) → has_key (reverse lines) key ≡ has_key lines key
 has_reversed [] key = refl
 has_reversed (l ∷ lines) key =
     ap (λ ls. has_key ls key) (reverse-append (l ∷ []) lines) ∙ list_any-append (λ m. bytes_eq key m.key) (reverse lines) (l ∷ [])
@@ -208,16 +208,16 @@ has_reversed (l ∷ lines) key =
     swapped false true = refl
     swapped false false = refl
 
-reached_push : (block : List ℕ → Option (List ℕ)) (lines : List RuleLineText) (key next other : List ℕ) → Reaches block lines key next → RefersTo block lines next other → Reaches block lines key other
+reached_push : (block : List ℕ → Option (List ℕ)) (lines : List RuleLineModel) (key next other : List ℕ) → Reaches block lines key next → RefersTo block lines next other → Reaches block lines key other
 reached_push block lines key next other (one r) s = more r (one s)
 reached_push block lines key next other (more {g = middle} r c) s = more r (reached_push block lines middle next other c s)
 
 -- a value of the rule that counts comes from a line
-pub counts_in_line : (block : List ℕ → Option (List ℕ)) (lines : List RuleLineText) (name : List ℕ) (parts : List PartText) → rule_value block lines name ≡ Some parts → has_key lines name ≡ true
+pub counts_in_line : (block : List ℕ → Option (List ℕ)) (lines : List RuleLineModel) (name : List ℕ) (parts : List PartModel) → rule_value block lines name ≡ Some parts → has_key lines name ≡ true
 counts_in_line block lines name parts h =
     sym (has_reversed lines name) ∙ found_last (reverse lines) name parts (given_at lines name parts (rule_value_is block lines name parts h).given)
 
-pub settled : (block : List ℕ → Option (List ℕ)) (lines : List RuleLineText) → HasNoCycle block lines → (depth : ℕ) (seen : List (List ℕ)) (name : List ℕ)
+pub settled : (block : List ℕ → Option (List ℕ)) (lines : List RuleLineModel) → HasNoCycle block lines → (depth : ℕ) (seen : List (List ℕ)) (name : List ℕ)
     → ((s : List ℕ) → is_among seen s ≡ true → Reaches block lines s name) → unseen seen lines < depth → Settles block lines depth name
 settled block lines none zero seen name comes lt = absurd (omega arith)
 settled block lines none (suc depth) seen name comes lt = λ other r.
@@ -233,7 +233,7 @@ settled block lines none (suc depth) seen name comes lt = λ other r.
     onward other r s false e h = reached_push block lines s name other (comes s h) r
 
 -- without a cycle, no more lines come after one another than there are
-pub settled_all : (block : List ℕ → Option (List ℕ)) (lines : List RuleLineText) → HasNoCycle block lines → (name : List ℕ) → Settles block lines (suc (length lines)) name
+pub settled_all : (block : List ℕ → Option (List ℕ)) (lines : List RuleLineModel) → HasNoCycle block lines → (name : List ℕ) → Settles block lines (suc (length lines)) name
 settled_all block lines none name = settled block lines none (suc (length lines)) [] name (λ s h. absurd (true≢false (sym h))) (let e = unseen_all lines in omega arith)
 
 pub meant : LateTextIsGiven
@@ -254,7 +254,7 @@ from_block quoting n name value u p h (by_rule parts v e f) = let t = sym (rule_
 from_block quoting n name value u p h (by_file q o e) = let t = sym o ∙ h in cc
 
 -- what a name gives whose value is the rule's
-from_rule : (quoting : Bool) (n : LateNames) (name u : List ℕ) (parts : List PartText) → rule_value n.block n.lines name ≡ Some parts → Denotes quoting n name u
+from_rule : (quoting : Bool) (n : LateNames) (name u : List ℕ) (parts : List PartModel) → rule_value n.block n.lines name ≡ Some parts → Denotes quoting n name u
     → (value : List ℕ → List ℕ) × ((other : List ℕ) → refers parts other ≡ true → Denotes quoting n other (value other)) × (u ≡ expanded value parts)
 from_rule quoting n name u parts h (by_paths e) = let t = sym (without_paths quoting n.inputs n.outputs name (rule_value_is n.block n.lines name parts h).no_paths) ∙ e in absurd cc
 from_rule quoting n name u parts h (by_block q e) = let t = sym (rule_value_is n.block n.lines name parts h).unbound ∙ e in absurd cc
@@ -280,11 +280,11 @@ one_text quoting n name text other (by_file p q e) s = sym (from_file quoting n 
 
 -- ---- cycles
 
-not_a_rule_s : (block : List ℕ → Option (List ℕ)) (lines : List RuleLineText) (key other : List ℕ) → rule_value block lines key ≡ None → ¬ Reaches block lines key other
+not_a_rule_s : (block : List ℕ → Option (List ℕ)) (lines : List RuleLineModel) (key other : List ℕ) → rule_value block lines key ≡ None → ¬ Reaches block lines key other
 not_a_rule_s block lines key other h (one r) = let t = sym h ∙ r.1 in cc
 not_a_rule_s block lines key other h (more r c) = let t = sym h ∙ r.1 in cc
 
-rule_value_none : (b : Bool) (o : Option (List ℕ)) (v : Option (List PartText)) → ((b ≡ true) ⊎ ((value : List ℕ) × (o ≡ Some value))) → (if b || is_some o then None else v) ≡ None
+rule_value_none : (b : Bool) (o : Option (List ℕ)) (v : Option (List PartModel)) → ((b ≡ true) ⊎ ((value : List ℕ) × (o ≡ Some value))) → (if b || is_some o then None else v) ≡ None
 rule_value_none true o v h = refl
 rule_value_none false (Some x) v h = refl
 rule_value_none false None v (inl e) = absurd (true≢false (sym e))
@@ -297,13 +297,13 @@ has_paths quoting n name text h = by (names_paths name) refl
     by true e = e
     by false e = let t = sym (without_paths quoting n.inputs n.outputs name e) ∙ h in cc
 
-first_step : (block : List ℕ → Option (List ℕ)) (lines : List RuleLineText) (key other : List ℕ) → Reaches block lines key other
+first_step : (block : List ℕ → Option (List ℕ)) (lines : List RuleLineModel) (key other : List ℕ) → Reaches block lines key other
     → (next : List ℕ) × RefersTo block lines key next × ((next ≡ other) ⊎ Reaches block lines next other)
 first_step block lines key other (one r) = (other, r, inl refl)
 first_step block lines key other (more {g = next} r d) = (next, r, inr d)
 
 -- the next on a cycle is on it too
-turned : (block : List ℕ → Option (List ℕ)) (lines : List RuleLineText) (key : List ℕ) → IsOnCycle block lines key → (next : List ℕ) × RefersTo block lines key next × IsOnCycle block lines next
+turned : (block : List ℕ → Option (List ℕ)) (lines : List RuleLineModel) (key : List ℕ) → IsOnCycle block lines key → (next : List ℕ) × RefersTo block lines key next × IsOnCycle block lines next
 turned block lines key c =
     let f = first_step block lines key key c in
     (f.0, f.1, elim f.2 [ inl e ↦ subst (λ x. IsOnCycle block lines x) (sym e) c | inr d ↦ reached_push block lines f.0 key f.0 d f.1 ])

@@ -2,8 +2,8 @@
 use Rattle.std.proofs.Common.{◌≡◌, ℕ, List, [], ◌∷◌, Option, Some, None, false, if◌then◌else◌, bytes_eq, refl}
 use Rattle.std.specs.Prelude.{codes}
 use Rattle.nj_text.specs.Quotes.{quoted}
-use Rattle.nj_text.specs.Words.{PartText, Text, Name}
-use Rattle.nj_scope.specs.Rules.{RuleLineText}
+use Rattle.nj_text.specs.Words.{PartModel, Text, Name}
+use Rattle.nj_scope.specs.Rules.{RuleLineModel}
 use Rattle.nj_edge_env.specs.LateStrings.{LateNames, asked_text}
 use Rattle.nj_edge_env.specs.VariableCycles.{IsOnCycle, variable_cycle_of}
 use Rattle.nj_cycles.specs.Cycles.Chain.{one, more}
@@ -14,18 +14,18 @@ nothing name = None
 abbrev only : (name value : List ℕ) → List ℕ → Option (List ℕ)
 only name value asked = if bytes_eq asked name then Some value else None
 
-abbrev line : (key : List ℕ) → List PartText → RuleLineText
+abbrev line : (key : List ℕ) → List PartModel → RuleLineModel
 line key value = record { key = key; value = value }
 
 -- a file in which x is 2
 abbrev two : List ℕ → List ℕ
 two name = if bytes_eq name (codes "x") then codes "2" else []
 
-abbrev edge : (block : List ℕ → Option (List ℕ)) → List RuleLineText → LateNames
+abbrev edge : (block : List ℕ → Option (List ℕ)) → List RuleLineModel → LateNames
 edge block lines = record { inputs = codes "it's x" ∷ []; outputs = codes "o 1" ∷ []; block = block; lines = lines; is_phony = false; file = two }
 
 -- command = echo $x
-abbrev echo : List RuleLineText
+abbrev echo : List RuleLineModel
 echo = line (codes "command") (Text (codes "echo ") ∷ Name (codes "x") ∷ []) ∷ []
 
 of_file : asked_text (edge nothing echo) (codes "command") ≡ codes "echo 2"
@@ -35,7 +35,7 @@ of_block : asked_text (edge (only (codes "x") (codes "1.3")) echo) (codes "comma
 of_block = refl
 
 -- command = cp $in $out
-abbrev copy : List RuleLineText
+abbrev copy : List RuleLineModel
 copy = line (codes "command") (Text (codes "cp ") ∷ Name (codes "in") ∷ Text (codes " ") ∷ Name (codes "out") ∷ []) ∷ line (codes "rspfile") (Name (codes "out") ∷ []) ∷ []
 
 in_quotes : asked_text (edge nothing copy) (codes "command") ≡ codes "cp 'it'\\''s x' 'o 1'"
@@ -47,7 +47,7 @@ unfolding quoted
 as_it_is = refl
 
 -- command = $description, description = $command
-abbrev circle : List RuleLineText
+abbrev circle : List RuleLineModel
 circle = line (codes "command") (Name (codes "description") ∷ []) ∷ line (codes "description") (Name (codes "command") ∷ []) ∷ []
 
 on_cycle : IsOnCycle nothing circle (codes "command")

@@ -7,7 +7,7 @@ use Rattle.std.proofs.lemmas.Cmp.{nat_list_cmp_total}
 use Rattle.std.proofs.lemmas.Bool.{cases_lt}
 use Rattle.std.proofs.lemmas.List.{get_or_past, get_or-set_other}
 use Rattle.std.proofs.lemmas.List.Elements.{All-get_or}
-use Rattle.nj_edge_env.specs.ReferencesHeld.{ReferringKeyText, name_at, row_at}
+use Rattle.nj_edge_env.specs.ReferencesHeld.{ReferringKeyModel, name_at, row_at}
 use Rattle.nj_edge_env.specs.Inside.CyclesHeld.{IsMarked, marked, unmarked, LeadsTo, IsOnLoop, SameLoops, RefersToMarked, Points, IsLeft, MarksLead, IsClosed, IsLesser, IsLeastBelow}
 use Rattle.nj_cycles.specs.Cycles.Chain.{one, more}
 
@@ -53,11 +53,11 @@ still_marked (b ∷ marks) (suc i) (suc n) m = still_marked marks i n m
 -- ---- keys that refer to no marked key
 
 -- what leads somewhere counts
-leads_counted : (keys : List ReferringKeyText) (counts : List Bool) (a b : ℕ) → LeadsTo keys counts a b → IsMarked counts a
+leads_counted : (keys : List ReferringKeyModel) (counts : List Bool) (a b : ℕ) → LeadsTo keys counts a b → IsMarked counts a
 leads_counted keys counts a b (one r) = r.0
 leads_counted keys counts a b (more r c) = r.0
 
-module _ (keys : List ReferringKeyText) (counts : List Bool) (key : ℕ) (none : ¬ RefersToMarked keys counts key) where
+module _ (keys : List ReferringKeyModel) (counts : List Bool) (key : ℕ) (none : ¬ RefersToMarked keys counts key) where
   -- a key that refers to a marked one keeps its mark
   other_stays : (a b : ℕ) → IsMarked counts a → IsMarked (row_at keys a) b → IsMarked counts b → IsMarked (set counts key false) a
   other_stays a b counted refers m =
@@ -75,23 +75,23 @@ module _ (keys : List ReferringKeyText) (counts : List Bool) (key : ℕ) (none :
   pub same_without : SameLoops keys counts (set counts key false)
   same_without k = (λ c. kept k k c (leads_counted keys counts k k c), before k k)
 
-pub same_loops : (keys : List ReferringKeyText) (counts : List Bool) → SameLoops keys counts counts
+pub same_loops : (keys : List ReferringKeyModel) (counts : List Bool) → SameLoops keys counts counts
 same_loops keys counts k = (λ c. c, λ c. c)
 
-pub same_then : (keys : List ReferringKeyText) (first second third : List Bool) → SameLoops keys first second → SameLoops keys second third → SameLoops keys first third
+pub same_then : (keys : List ReferringKeyModel) (first second third : List Bool) → SameLoops keys first second → SameLoops keys second third → SameLoops keys first third
 same_then keys first second third p q k = (λ c. (q k).0 ((p k).0 c), λ c. (p k).1 ((q k).1 c))
 
-pub record StripSoFar (keys : List ReferringKeyText) (start counts : List Bool) (is_less : Bool) : Type 0 where
+pub record StripSoFar (keys : List ReferringKeyModel) (start counts : List Bool) (is_less : Bool) : Type 0 where
   pub len : length counts ≡ length start
   pub same : SameLoops keys start counts
   pub as_before : is_less ≡ false → counts ≡ start
   pub less : is_less ≡ true → marked counts < marked start
   pub most : marked counts ≤ marked start
 
-pub strip_none : (keys : List ReferringKeyText) (start : List Bool) → StripSoFar keys start start false
+pub strip_none : (keys : List ReferringKeyModel) (start : List Bool) → StripSoFar keys start start false
 strip_none keys start = record { len = refl; same = same_loops keys start; as_before = λ e. refl; less = λ e. absurd (true≢false (sym e)); most = omega arith }
 
-pub strip_taken : (keys : List ReferringKeyText) (start counts : List Bool) (is_less : Bool) (key : ℕ) → StripSoFar keys start counts is_less → key < length counts
+pub strip_taken : (keys : List ReferringKeyModel) (start counts : List Bool) (is_less : Bool) (key : ℕ) → StripSoFar keys start counts is_less → key < length counts
     → IsMarked counts key → ¬ RefersToMarked keys counts key → StripSoFar keys start (set counts key false) true
 strip_taken keys start counts is_less key so below m none =
     let fewer = mark_taken counts key below m in
@@ -105,7 +105,7 @@ strip_taken keys start counts is_less key so below m none =
 
 -- ---- keys that lead to the target
 
-module _ (keys : List ReferringKeyText) (counts marks : List Bool) (target : ℕ) where
+module _ (keys : List ReferringKeyModel) (counts marks : List Bool) (target : ℕ) where
   points_on : (key : ℕ) → IsMarked counts key → Points keys marks target key → MarksLead keys counts marks target → LeadsTo keys counts key target
   points_on key counted (inl r) lead = one (counted, r)
   points_on key counted (inr (n, r, m)) lead = more (counted, r) (lead n m)
@@ -121,7 +121,7 @@ module _ (keys : List ReferringKeyText) (counts marks : List Bool) (target : ℕ
   all_marked closed key (one r) = closed key r.0 (inl r.1)
   all_marked closed key (more {g = n} r c) = closed key r.0 (inr (n, r.1, all_marked closed n c))
 
-pub record RoundSoFar (keys : List ReferringKeyText) (counts : List Bool) (target : ℕ) (start : List Bool) (key : ℕ) (marks : List Bool) (is_new : Bool) : Type 0 where
+pub record RoundSoFar (keys : List ReferringKeyModel) (counts : List Bool) (target : ℕ) (start : List Bool) (key : ℕ) (marks : List Bool) (is_new : Bool) : Type 0 where
   pub len : length marks ≡ length counts
   pub sound : MarksLead keys counts start target → MarksLead keys counts marks target
   pub as_before : is_new ≡ false → marks ≡ start
@@ -129,7 +129,7 @@ pub record RoundSoFar (keys : List ReferringKeyText) (counts : List Bool) (targe
   pub fewer : is_new ≡ true → unmarked marks < unmarked start
   pub least : unmarked marks ≤ unmarked start
 
-pub round_taken : (keys : List ReferringKeyText) (counts : List Bool) (target : ℕ) (start : List Bool) (key : ℕ) (marks : List Bool) (is_new : Bool) → RoundSoFar keys counts target start key marks is_new
+pub round_taken : (keys : List ReferringKeyModel) (counts : List Bool) (target : ℕ) (start : List Bool) (key : ℕ) (marks : List Bool) (is_new : Bool) → RoundSoFar keys counts target start key marks is_new
     → key < length counts → IsLeft keys counts marks target key → RoundSoFar keys counts target start (key + 1) (set marks key true) true
 round_taken keys counts target start key marks is_new so below left =
     let fewer = mark_set marks key (subst (λ n. key < n) (sym so.len) below) left.clear in
@@ -142,7 +142,7 @@ round_taken keys counts target start key marks is_new so below left =
       least = omega (arith, fewer, so.least);
     }
 
-pub round_passed : (keys : List ReferringKeyText) (counts : List Bool) (target : ℕ) (start : List Bool) (key : ℕ) (marks : List Bool) (is_new : Bool) → RoundSoFar keys counts target start key marks is_new
+pub round_passed : (keys : List ReferringKeyModel) (counts : List Bool) (target : ℕ) (start : List Bool) (key : ℕ) (marks : List Bool) (is_new : Bool) → RoundSoFar keys counts target start key marks is_new
     → (IsMarked counts key → Points keys marks target key → IsMarked marks key) → RoundSoFar keys counts target start (key + 1) marks is_new
 round_passed keys counts target start key marks is_new so none = record {
   len = so.len;
@@ -154,7 +154,7 @@ round_passed keys counts target start key marks is_new so none = record {
 }
 
 -- a round in which nothing is marked
-pub round_closed : (keys : List ReferringKeyText) (counts : List Bool) (target : ℕ) (start : List Bool) (key : ℕ) (marks : List Bool) → RoundSoFar keys counts target start key marks false
+pub round_closed : (keys : List ReferringKeyModel) (counts : List Bool) (target : ℕ) (start : List Bool) (key : ℕ) (marks : List Bool) → RoundSoFar keys counts target start key marks false
     → length counts ≤ key → IsClosed keys counts marks target
 round_closed keys counts target start key marks so le n counted points = let lt = marked_within counts n counted in so.closed refl n (omega arith) counted points
 
@@ -168,7 +168,7 @@ less_own x h = let e = nat_list_cmp_total.antisymm x x in by (slice_cmp nat_cmp 
     by Equal e h = cc
     by Greater e h = cc
 
-module _ (keys : List ReferringKeyText) (counts : List Bool) where
+module _ (keys : List ReferringKeyModel) (counts : List Bool) where
   abbrev NotLess : (least number : ℕ) → Type 0
   NotLess least number = IsOnLoop keys counts number → slice_cmp nat_cmp (name_at keys number) (name_at keys least) ≢ Less
 
@@ -195,6 +195,6 @@ module _ (keys : List ReferringKeyText) (counts : List Bool) where
   least_before others end None same so = λ n lt on. so n lt ((same n).0 on)
   least_before others end (Some m) same so = (so.0, (same m).1 so.1, λ n lt on. so.2 n lt ((same n).0 on))
 
-pub least_within : (keys : List ReferringKeyText) (counts : List Bool) (end : ℕ) (least : Option ℕ) → IsLeastBelow keys counts end least → IfSome least (λ n. n < length keys)
+pub least_within : (keys : List ReferringKeyModel) (counts : List Bool) (end : ℕ) (least : Option ℕ) → IsLeastBelow keys counts end least → IfSome least (λ n. n < length keys)
 least_within keys counts end None so = search
 least_within keys counts end (Some m) so = so.0

@@ -6,14 +6,14 @@ use Rattle.std.proofs.lemmas.Bool.{leb-true}
 use Rattle.std.proofs.lemmas.List.Folds.{list_any_more}
 use Rattle.std.proofs.lemmas.Option.{slice_get_within, get_or_from_slice_get}
 use Rattle.std.proofs.Math.Seq.{drop-append_seam, take-length}
-use Rattle.nj_text.specs.Words.{PartText, Text, Name}
+use Rattle.nj_text.specs.Words.{PartModel, Text, Name}
 use Rattle.nj_scope.specs.Readings.{IsPrefix}
-use Rattle.nj_scope.specs.Rules.{RuleLineText, given}
+use Rattle.nj_scope.specs.Rules.{RuleLineModel, given}
 use Rattle.nj_scope.specs.RulesHeld.{key_at, IsNumber}
 use Rattle.nj_scope.specs.Scopes.{expanded}
 use Rattle.nj_edge_env.specs.Blocks.{bound_in}
-use Rattle.nj_edge_env.specs.declared.edge.LateEdge.{LateEdge}
-use Rattle.nj_edge_env.specs.declared.memo.KeyText.{KeyText}
+use Rattle.nj_edge_env.specs.declared.late_edge.LateEdge.{LateEdge}
+use Rattle.nj_edge_env.specs.declared.key_memo.KeyText.{KeyText}
 use Rattle.nj_scope.specs.ReadingList.{value_after}
 use Rattle.nj_edge_env.specs.LateEdges.{late_names}
 use Rattle.nj_edge_env.specs.LateStrings.{LateNames, late_in, rule_value, refers, refers_in}
@@ -23,7 +23,7 @@ use Rattle.nj_edge_env.proofs.TextLemmas.{text_turn, name_turn, none_turn}
 
 -- ---- depth
 
-pub settles_longer : (block : List ℕ → Option (List ℕ)) (lines : List RuleLineText) (depth more : ℕ) (name : List ℕ) → depth ≤ more → Settles block lines depth name → Settles block lines more name
+pub settles_longer : (block : List ℕ → Option (List ℕ)) (lines : List RuleLineModel) (depth more : ℕ) (name : List ℕ) → depth ≤ more → Settles block lines depth name → Settles block lines more name
 settles_longer block lines zero more name le s = absurd s
 settles_longer block lines (suc depth) zero name le s = absurd (omega arith)
 settles_longer block lines (suc depth) (suc more) name le s = λ other r. settles_longer block lines depth more other (omega arith) (s other r)
@@ -91,7 +91,7 @@ module _ (quoting : Bool) (e : LateEdge) where
 
 -- ---- the parts of a value
 
-pub record PartsSoFar (quoting : Bool) (e : LateEdge) (depth : ℕ) (parts : List PartText) (old : List ℕ) (known : List (Option KeyText)) (new : List ℕ) (height : Option ℕ) : Type 0 where
+pub record PartsSoFar (quoting : Bool) (e : LateEdge) (depth : ℕ) (parts : List PartModel) (old : List ℕ) (known : List (Option KeyText)) (new : List ℕ) (height : Option ℕ) : Type 0 where
   pub grows : IsPrefix old new
   pub text : ForEdge e (λ n. new ≡ old ++ expanded (late_in depth quoting n) parts)
   pub strings : AreKeyStrings quoting e known new
@@ -136,7 +136,7 @@ module _ (quoting : Bool) (e : LateEdge) (depth : ℕ) (old : List ℕ) where
 
   -- ---- a line of the rule
 
-  pub parts_none : (value : List PartText) (known : List (Option KeyText)) (new : List ℕ) → AreKeyStrings quoting e known old → new ≡ old → PartsSoFar quoting e depth (take 0 value) old known new (Some 0)
+  pub parts_none : (value : List PartModel) (known : List (Option KeyText)) (new : List ℕ) → AreKeyStrings quoting e known old → new ≡ old → PartsSoFar quoting e depth (take 0 value) old known new (Some 0)
   parts_none value known new are same = record {
     grows = ([], same ∙ sym (append-nil old));
     text = λ entries around by scope. same ∙ sym (append-nil old);
@@ -144,12 +144,12 @@ module _ (quoting : Bool) (e : LateEdge) (depth : ℕ) (old : List ℕ) where
     settles = (omega arith, λ other r. absurd (true≢false (sym r)));
   }
 
-  refers_turn : (value : List PartText) (i : ℕ) (part : PartText) (other : List ℕ) → slice_get value i ≡ Some part → refers (take (i + 1) value) other ≡ (refers (take i value) other || refers_in part other)
+  refers_turn : (value : List PartModel) (i : ℕ) (part : PartModel) (other : List ℕ) → slice_get value i ≡ Some part → refers (take (i + 1) value) other ≡ (refers (take i value) other || refers_in part other)
   refers_turn value i part other here =
       list_any_more (λ p. refers_in p other) value i part (slice_get_within value i part here)
       ∙ ap (λ p. refers (take i value) other || refers_in p other) (get_or_from_slice_get value i part part here)
 
-  pub parts_bytes : (value : List PartText) (i : ℕ) (part : PartText) (bytes : List ℕ) (known : List (Option KeyText)) (before after : List ℕ) (height : Option ℕ) → slice_get value i ≡ Some part → part ≡ Text bytes
+  pub parts_bytes : (value : List PartModel) (i : ℕ) (part : PartModel) (bytes : List ℕ) (known : List (Option KeyText)) (before after : List ℕ) (height : Option ℕ) → slice_get value i ≡ Some part → part ≡ Text bytes
       → PartsSoFar quoting e depth (take i value) old known before height → after ≡ before ++ bytes → PartsSoFar quoting e depth (take (i + 1) value) old known after height
   parts_bytes value i part bytes known before after height here is so more = record {
     grows = grows_on old before after so.grows (bytes, more);
@@ -172,7 +172,7 @@ module _ (quoting : Bool) (e : LateEdge) (depth : ℕ) (old : List ℕ) where
       by None s = tt
       by (Some d) s = (s.0, λ other r. s.1 other (earlier other r))
 
-  pub parts_name : (value : List PartText) (i : ℕ) (part : PartText) (name : List ℕ) (known more_known : List (Option KeyText)) (before after : List ℕ) (height below : Option ℕ) → 0 < depth → slice_get value i ≡ Some part → part ≡ Name name
+  pub parts_name : (value : List PartModel) (i : ℕ) (part : PartModel) (name : List ℕ) (known more_known : List (Option KeyText)) (before after : List ℕ) (height below : Option ℕ) → 0 < depth → slice_get value i ≡ Some part → part ≡ Name name
       → PartsSoFar quoting e depth (take i value) old known before height → AppendsLate quoting e (depth - 1) name before more_known after below → PartsSoFar quoting e depth (take (i + 1) value) old more_known after (taller height below)
   parts_name value i part name known more_known before after height below low here is so more = record {
     grows = grows_on old before after so.grows more.grows;
@@ -204,7 +204,7 @@ module _ (quoting : Bool) (e : LateEdge) (depth : ℕ) (old : List ℕ) where
             ],
           )
 
-  pub parts_cut : (value : List PartText) (i : ℕ) (part : PartText) (name : List ℕ) (known : List (Option KeyText)) (before after : List ℕ) (height : Option ℕ) → depth ≤ 0 → slice_get value i ≡ Some part → part ≡ Name name
+  pub parts_cut : (value : List PartModel) (i : ℕ) (part : PartModel) (name : List ℕ) (known : List (Option KeyText)) (before after : List ℕ) (height : Option ℕ) → depth ≤ 0 → slice_get value i ≡ Some part → part ≡ Name name
       → PartsSoFar quoting e depth (take i value) old known before height → after ≡ before → PartsSoFar quoting e depth (take (i + 1) value) old known after None
   parts_cut value i part name known before after height low here is so same = record {
     grows = subst (IsPrefix old) (sym same) so.grows;
@@ -215,18 +215,18 @@ module _ (quoting : Bool) (e : LateEdge) (depth : ℕ) (old : List ℕ) where
     settles = tt;
   }
 
-  rule_gives : (name : List ℕ) (number : ℕ) (value : List PartText) → IsNumber e.rule.now.lines name number → is_some (rule_value (bound_in e.blocks.now e.edge) e.rule.now.lines name) ≡ true
+  rule_gives : (name : List ℕ) (number : ℕ) (value : List PartModel) → IsNumber e.rule.now.lines name number → is_some (rule_value (bound_in e.blocks.now e.edge) e.rule.now.lines name) ≡ true
       → given e.rule.now.lines (key_at e.rule.now.lines number) ≡ Some value → rule_value (bound_in e.blocks.now e.edge) e.rule.now.lines name ≡ Some value
   rule_gives name number value is counts at = by (rule_value (bound_in e.blocks.now e.edge) e.rule.now.lines name) refl counts
     where
-      by : (o : Option (List PartText)) → rule_value (bound_in e.blocks.now e.edge) e.rule.now.lines name ≡ o → is_some o ≡ true → rule_value (bound_in e.blocks.now e.edge) e.rule.now.lines name ≡ Some value
+      by : (o : Option (List PartModel)) → rule_value (bound_in e.blocks.now e.edge) e.rule.now.lines name ≡ o → is_some o ≡ true → rule_value (bound_in e.blocks.now e.edge) e.rule.now.lines name ≡ Some value
       by None h s = absurd (true≢false (sym s))
       by (Some others) h s =
           let lines = e.rule.now.lines in
           let there = given_at lines name others (rule_value_is (bound_in e.blocks.now e.edge) lines name others h).given in
           h ∙ sym there ∙ ap (given lines) (sym is.is) ∙ at
 
-  pub line_appended : (name : List ℕ) (number : ℕ) (value : List PartText) (i : ℕ) (plain : List ℕ) (known : List (Option KeyText)) (new : List ℕ) (height : Option ℕ) (start end : ℕ) (kept : List (Option KeyText))
+  pub line_appended : (name : List ℕ) (number : ℕ) (value : List PartModel) (i : ℕ) (plain : List ℕ) (known : List (Option KeyText)) (new : List ℕ) (height : Option ℕ) (start end : ℕ) (kept : List (Option KeyText))
       → AppendsPlain quoting e name old plain (Some number) → given e.rule.now.lines (key_at e.rule.now.lines number) ≡ Some value → length value ≤ i → i ≤ length value
       → PartsSoFar quoting e depth (take i value) old known new height → start ≡ length plain → end ≡ length new → kept ≡ with_text known number start end height
       → AppendsLate quoting e depth name old kept new height

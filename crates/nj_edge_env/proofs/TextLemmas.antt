@@ -5,14 +5,14 @@ use Rattle.std.proofs.lemmas.List.{append-nil}
 use Rattle.std.proofs.lemmas.Option.{slice_get_within, get_or_from_slice_get}
 use Rattle.std.proofs.Math.Seq.{take-suc}
 use Rattle.std.specs.Prelude.{is_some}
-use Rattle.nj_text.specs.Words.{PartText, Text, Name}
+use Rattle.nj_text.specs.Words.{PartModel, Text, Name}
 use Rattle.nj_scope.specs.Scopes.{part_expanded, expanded}
-use Rattle.nj_scope.specs.Rules.{RuleLineText, given}
+use Rattle.nj_scope.specs.Rules.{RuleLineModel, given}
 use Rattle.nj_scope.specs.RulesHeld.{key_at, IsNumber}
 use Rattle.nj_edge_env.specs.LateStrings.{LateNames, late_in, is_of_command, unless_empty, value_given}
 use Rattle.nj_edge_env.proofs.ReferenceLemmas.{value_at}
 
-part_turn : (f : List ℕ → List ℕ) (parts : List PartText) (i : ℕ) (p : PartText) (start before after : List ℕ) → slice_get parts i ≡ Some p
+part_turn : (f : List ℕ → List ℕ) (parts : List PartModel) (i : ℕ) (p : PartModel) (start before after : List ℕ) → slice_get parts i ≡ Some p
     → before ≡ start ++ expanded f (take i parts) → after ≡ before ++ part_expanded f p → after ≡ start ++ expanded f (take (i + 1) parts)
 part_turn f parts i p start before after here so more =
     more ∙ ap (λ x. x ++ part_expanded f p) so ∙ append_assoc start (expanded f (take i parts)) (part_expanded f p)
@@ -20,17 +20,17 @@ part_turn f parts i p start before after here so more =
     (sym (ap (expanded f) (ap (λ n. take n parts) (add-one i) ∙ take-suc parts i p (slice_get_within parts i p here) ∙ ap (λ q. take i parts ++ q ∷ []) (get_or_from_slice_get parts i p p here))
     ∙ flat_map-append (part_expanded f) (take i parts) (p ∷ []) ∙ ap (λ x. expanded f (take i parts) ++ x) (append-nil (part_expanded f p))))
 
-pub text_turn : (f : List ℕ → List ℕ) (parts : List PartText) (i : ℕ) (part : PartText) (bytes start before after : List ℕ) → slice_get parts i ≡ Some part → part ≡ Text bytes
+pub text_turn : (f : List ℕ → List ℕ) (parts : List PartModel) (i : ℕ) (part : PartModel) (bytes start before after : List ℕ) → slice_get parts i ≡ Some part → part ≡ Text bytes
     → before ≡ start ++ expanded f (take i parts) → after ≡ before ++ bytes → after ≡ start ++ expanded f (take (i + 1) parts)
 text_turn f parts i part bytes start before after here is so more = part_turn f parts i (Text bytes) start before after (here ∙ ap Some is) so more
 
-pub name_turn : (depth : ℕ) (quoting : Bool) (n : LateNames) (parts : List PartText) (i : ℕ) (part : PartText) (name start before after : List ℕ) → 0 < depth → slice_get parts i ≡ Some part → part ≡ Name name
+pub name_turn : (depth : ℕ) (quoting : Bool) (n : LateNames) (parts : List PartModel) (i : ℕ) (part : PartModel) (name start before after : List ℕ) → 0 < depth → slice_get parts i ≡ Some part → part ≡ Name name
     → before ≡ start ++ expanded (late_in depth quoting n) (take i parts) → after ≡ before ++ late_in (suc (depth - 1)) quoting n name → after ≡ start ++ expanded (late_in depth quoting n) (take (i + 1) parts)
 name_turn depth quoting n parts i part name start before after low here is so more =
     let d : suc (depth - 1) ≡ depth = omega arith in
     part_turn (late_in depth quoting n) parts i (Name name) start before after (here ∙ ap Some is) so (more ∙ ap (λ k. before ++ late_in k quoting n name) d)
 
-pub none_turn : (depth : ℕ) (quoting : Bool) (n : LateNames) (parts : List PartText) (i : ℕ) (part : PartText) (name start before after : List ℕ) → depth ≤ 0 → slice_get parts i ≡ Some part → part ≡ Name name
+pub none_turn : (depth : ℕ) (quoting : Bool) (n : LateNames) (parts : List PartModel) (i : ℕ) (part : PartModel) (name start before after : List ℕ) → depth ≤ 0 → slice_get parts i ≡ Some part → part ≡ Name name
     → before ≡ start ++ expanded (late_in depth quoting n) (take i parts) → after ≡ before → after ≡ start ++ expanded (late_in depth quoting n) (take (i + 1) parts)
 none_turn depth quoting n parts i part name start before after low here is so more =
     let d : depth ≡ 0 = omega arith in
@@ -38,17 +38,17 @@ none_turn depth quoting n parts i part name start before after low here is so mo
 
 -- ---- keys
 
-some_unless : (b : Bool) (p : PartText) (parts : List PartText) → true ≡ is_some (unless_empty b (Some (p ∷ parts)))
+some_unless : (b : Bool) (p : PartModel) (parts : List PartModel) → true ≡ is_some (unless_empty b (Some (p ∷ parts)))
 some_unless true p parts = refl
 some_unless false p parts = refl
 
-pub given_by_number : (lines : List RuleLineText) (key : List ℕ) (number : ℕ) (value : List PartText) → IsNumber lines key number → given lines (key_at lines number) ≡ Some value → 0 < length value
+pub given_by_number : (lines : List RuleLineModel) (key : List ℕ) (number : ℕ) (value : List PartModel) → IsNumber lines key number → given lines (key_at lines number) ≡ Some value → 0 < length value
     → true ≡ is_some (value_given lines key)
 given_by_number lines key number [] is at long = absurd (omega arith)
 given_by_number lines key number (p ∷ parts) is at long =
     some_unless (is_of_command key) p parts ∙ ap (λ value. is_some (unless_empty (is_of_command key) value)) (sym at ∙ ap (given lines) is.is)
 
-pub given_plain : (lines : List RuleLineText) (key : List ℕ) (number : ℕ) → IsNumber lines key number → is_of_command key ≡ false → true ≡ is_some (value_given lines key)
+pub given_plain : (lines : List RuleLineModel) (key : List ℕ) (number : ℕ) → IsNumber lines key number → is_of_command key ≡ false → true ≡ is_some (value_given lines key)
 given_plain lines key number is plain =
     let v = value_at lines number is.within in
     ap is_some (sym v.1) ∙ ap (λ k. is_some (given lines k)) is.is ∙ ap (λ b. is_some (unless_empty b (given lines key))) (sym plain)

@@ -4,15 +4,15 @@ use Rattle.std.specs.Map.{lookup}
 
 -- by name the edges whose blocks bind it, with the values; by edge the names that its block binds, each once, as they were first
 -- bound, up to the last edge that binds one; and the last edge whose block was given a binding, at first 0
-pub record BlocksText : Type 0 where
+pub record BlocksModel : Type 0 where
   pub values : List (List ℕ × List (ℕ × List ℕ))
   pub names : List (List (List ℕ))
   pub last : ℕ
 
 -- the value that the block of an edge binds to a name
-abbrev pub bound_in : BlocksText → (edge : ℕ) → (name : List ℕ) → Option (List ℕ)
+abbrev pub bound_in : BlocksModel → (edge : ℕ) → (name : List ℕ) → Option (List ℕ)
 bound_in blocks edge name = option_and_then (lookup (λ e. edge == e)) (lookup (bytes_eq name) blocks.values)
 
 -- the names that the block of an edge binds, each once, in the order in which they were first bound
-abbrev pub names_in : BlocksText → (edge : ℕ) → List (List ℕ)
+abbrev pub names_in : BlocksModel → (edge : ℕ) → List (List ℕ)
 names_in blocks edge = slice_index_or blocks.names edge []

@@ -3,7 +3,7 @@ use Rattle.std.specs.Prelude.{ℕ, List, map, bytes_eq}
 use Rattle.nj_edges.specs.Files.{path_at}
 use Rattle.nj_scope.specs.Rules.{phony}
 use Rattle.nj_edge_env.specs.Blocks.{bound_in}
-use Rattle.nj_edge_env.specs.declared.edge.LateEdge.{LateEdge}
+use Rattle.nj_edge_env.specs.declared.late_edge.LateEdge.{LateEdge}
 use Rattle.nj_edge_env.specs.LateStrings.{LateNames}
 
 abbrev pub late_names : LateEdge → (file : List ℕ → List ℕ) → LateNames

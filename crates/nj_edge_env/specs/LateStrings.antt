@@ -4,8 +4,8 @@ use Rattle.std.specs.Option.{option_or}
 use Rattle.std.specs.Prelude.{unwrap_or, option_map, List, [], ◌∷◌, map, length, codes, bytes_eq}
 use Rattle.std.specs.List.{list_any, join_with_byte}
 use Rattle.nj_text.specs.Quotes.{quoted}
-use Rattle.nj_text.specs.Words.{PartText, Text, Name}
-use Rattle.nj_scope.specs.Rules.{RuleLineText, given}
+use Rattle.nj_text.specs.Words.{PartModel, Text, Name}
+use Rattle.nj_scope.specs.Rules.{RuleLineModel, given}
 use Rattle.nj_scope.specs.Scopes.{expanded}
 use Rattle.nj_names.specs.NameTables.{is_among}
 
@@ -15,7 +15,7 @@ pub record LateNames : Type 0 where
   pub inputs : List (List ℕ)
   pub outputs : List (List ℕ)
   pub block : List ℕ → Option (List ℕ)
-  pub lines : List RuleLineText
+  pub lines : List RuleLineModel
   pub is_phony : Bool
   pub file : List ℕ → List ℕ
 
@@ -42,16 +42,16 @@ abbrev pub is_of_command : (name : List ℕ) → Bool
 is_of_command name = is_among (codes "command" ∷ codes "rspfile" ∷ codes "rspfile_content" ∷ []) name
 
 -- a value without any part
-abbrev pub unless_empty : Bool → Option (List PartText) → Option (List PartText)
+abbrev pub unless_empty : Bool → Option (List PartModel) → Option (List PartModel)
 unless_empty true (Some []) = None
 unless_empty unless value = value
 
 -- The value that the rule gives: of its last line of this key. For names that determine what an edge runs, no parts are no value.
-abbrev pub value_given : List RuleLineText → (key : List ℕ) → Option (List PartText)
+abbrev pub value_given : List RuleLineModel → (key : List ℕ) → Option (List PartModel)
 value_given lines key = unless_empty (is_of_command key) (given lines key)
 
 -- the value of the rule that counts: no path, and nothing that the block binds, has its name
-abbrev pub rule_value : (block : List ℕ → Option (List ℕ)) → List RuleLineText → (name : List ℕ) → Option (List PartText)
+abbrev pub rule_value : (block : List ℕ → Option (List ℕ)) → List RuleLineModel → (name : List ℕ) → Option (List PartModel)
 rule_value block lines name = if names_paths name || is_some (block name) then None else value_given lines name
 
 -- the file's value; a phony edge runs nothing
@@ -60,12 +60,12 @@ file_value n name = if n.is_phony && is_of_command name then [] else n.file name
 
 -- ---- the value of a name
 
-abbrev pub refers_in : PartText → (name : List ℕ) → Bool
+abbrev pub refers_in : PartModel → (name : List ℕ) → Bool
 refers_in (Text bytes) name = false
 refers_in (Name other) name = bytes_eq name other
 
 -- whether a value has a reference to this name
-abbrev pub refers : List PartText → (name : List ℕ) → Bool
+abbrev pub refers : List PartModel → (name : List ℕ) → Bool
 refers parts name = list_any (λ part. refers_in part name) parts
 
 -- The value of a name, in no order of evaluation: the paths of the edge, else the value of the block, else the rule's value, where
@@ -73,7 +73,7 @@ refers parts name = list_any (λ part. refers_in part name) parts
 pub data Denotes (quoting : Bool) (n : LateNames) : List ℕ → List ℕ → Type 0 where
   by_paths : {name text : List ℕ} → text_of_paths quoting n.inputs n.outputs name ≡ Some text → Denotes quoting n name text
   by_block : {name text : List ℕ} → names_paths name ≡ false → n.block name ≡ Some text → Denotes quoting n name text
-  by_rule : {name : List ℕ} → (parts : List PartText) → (value : List ℕ → List ℕ) → rule_value n.block n.lines name ≡ Some parts
+  by_rule : {name : List ℕ} → (parts : List PartModel) → (value : List ℕ → List ℕ) → rule_value n.block n.lines name ≡ Some parts
       → ((other : List ℕ) → refers parts other ≡ true → Denotes quoting n other (value other)) → Denotes quoting n name (expanded value parts)
   by_file : {name : List ℕ} → names_paths name ≡ false → n.block name ≡ None → value_given n.lines name ≡ None
       → Denotes quoting n name (file_value n name)

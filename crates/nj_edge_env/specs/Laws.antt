@@ -1,8 +1,8 @@
 -- Laws of late strings, in the words of Ninja's manual.
 use Rattle.std.specs.Prelude.{◌≡◌, ℕ, Bool, false, Option, Some, None, List}
-use Rattle.nj_text.specs.Words.{PartText}
+use Rattle.nj_text.specs.Words.{PartModel}
 use Rattle.nj_scope.specs.Scopes.{expanded}
-use Rattle.nj_scope.specs.Rules.{RuleLineText}
+use Rattle.nj_scope.specs.Rules.{RuleLineModel}
 use Rattle.nj_edge_env.specs.LateStrings.{LateNames, Denotes, late_text, names_paths, value_given, file_value}
 use Rattle.nj_edge_env.specs.VariableCycles.{IsOnCycle, HasNoCycle, IsCycleFound, variable_cycle_of}
 
@@ -27,7 +27,7 @@ BlockWins = (quoting : Bool) (n : LateNames) (name value : List ℕ) → names_p
 
 -- The rule wins over the file; its value is expanded by the values of the names in it.
 abbrev pub RuleWins : Type 0
-RuleWins = (quoting : Bool) (n : LateNames) (name : List ℕ) (parts : List PartText) → HasNoCycle n.block n.lines
+RuleWins = (quoting : Bool) (n : LateNames) (name : List ℕ) (parts : List PartModel) → HasNoCycle n.block n.lines
     → names_paths name ≡ false → n.block name ≡ None → value_given n.lines name ≡ Some parts
     → late_text quoting n name ≡ expanded (late_text quoting n) parts
 
@@ -39,5 +39,5 @@ FileIsLast = (quoting : Bool) (n : LateNames) (name : List ℕ) → names_paths 
 
 -- The key that is computed is the least one that refers back to itself, and there is none where none does.
 abbrev pub ComputedCycleIsFound : Type 0
-ComputedCycleIsFound = (block : List ℕ → Option (List ℕ)) (lines : List RuleLineText)
+ComputedCycleIsFound = (block : List ℕ → Option (List ℕ)) (lines : List RuleLineModel)
     → IsCycleFound block lines (variable_cycle_of block lines)

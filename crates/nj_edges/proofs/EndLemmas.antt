@@ -7,7 +7,7 @@ use Rattle.std.proofs.lemmas.List.{length-map, length-set, map-set}
 use Rattle.nj_names.proofs.ListLemmas.{slice_range-rest}
 use Rattle.nj_edges.specs.declared.files.FileNo.{FileNo}
 use Rattle.nj_edges.specs.declared.edges.EdgeRow.{EdgeRow}
-use Rattle.nj_edges.specs.declared.joining.AddedSpans.{AddedSpans}
+use Rattle.nj_edges.specs.declared.dyndep_edges.AddedSpans.{AddedSpans}
 use Rattle.nj_edges.specs.Edges.{EdgePaths, first_edge}
 use Rattle.nj_edges.specs.Inside.EdgesHeld.{AreNumbers, HaveMakers, edge_of, edges_of, has_number, paths_at, within}
 use Rattle.nj_edges.specs.Joining.{AddedFiles, JoinTable, changed_at, with_added, with_joined}

@@ -7,7 +7,7 @@ use Rattle.std.proofs.lemmas.List.Folds.{list_any-append}
 use Rattle.nj_edges.specs.declared.files.FileNo.{FileNo}
 use Rattle.nj_edges.specs.declared.edges.EdgeRow.{EdgeRow}
 use Rattle.nj_edges.specs.declared.edges.Span.{Span}
-use Rattle.nj_edges.specs.declared.joining.AddedSpans.{AddedSpans}
+use Rattle.nj_edges.specs.declared.dyndep_edges.AddedSpans.{AddedSpans}
 use Rattle.nj_edges.specs.Edges.{first_edge}
 use Rattle.nj_edges.specs.Inside.EdgesHeld.{AreNumbers, EdgesAreHeld, IsWithin, RowIsWithin, TableIsHeld, has_number, output_rows, paths_at, table_of, within}
 use Rattle.nj_edges.specs.EdgeTables.{EdgeTable, no_files}

@@ -8,7 +8,7 @@ use Rattle.nj_names.proofs.ListLemmas.{slice_range-append, slice_range-rest}
 use Rattle.nj_edges.specs.declared.files.FileNo.{FileNo}
 use Rattle.nj_edges.specs.declared.edges.EdgeRow.{EdgeRow}
 use Rattle.nj_edges.specs.declared.edges.KindEnds.{KindEnds}
-use Rattle.nj_edges.specs.declared.joining.AddedSpans.{AddedSpans}
+use Rattle.nj_edges.specs.declared.dyndep_edges.AddedSpans.{AddedSpans}
 use Rattle.nj_edges.specs.Edges.{EdgePaths}
 use Rattle.nj_edges.specs.Inside.EdgesHeld.{RowIsWithin, edge_of, edges_of, paths_at, within}
 use Rattle.nj_edges.specs.EdgeTables.{edge_read}

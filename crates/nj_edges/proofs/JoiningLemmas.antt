@@ -11,7 +11,7 @@ use Rattle.std.proofs.lemmas.Option.{get_or_from_slice_get, slice_get-get_or, sl
 use Rattle.nj_names.proofs.ListLemmas.{get-last}
 use Rattle.nj_edges.specs.declared.files.FileNo.{FileNo}
 use Rattle.nj_edges.specs.declared.edges.EdgeRow.{EdgeRow}
-use Rattle.nj_edges.specs.declared.joining.AddedSpans.{AddedSpans}
+use Rattle.nj_edges.specs.declared.dyndep_edges.AddedSpans.{AddedSpans}
 use Rattle.nj_edges.specs.Edges.{EdgePaths, first_edge, is_among, maker_of, outputs_of}
 use Rattle.nj_edges.specs.Inside.EdgesHeld.{AreNumbers, HaveMakers, edge_of, edges_of, has_number, paths_at, with_maker, within}
 use Rattle.nj_edges.specs.Files.{with_path}

@@ -4,7 +4,7 @@ use Rattle.std.specs.List.{AllByRecursion}
 use Rattle.std.proofs.lemmas.List.{get_or-replicate, length-replicate}
 use Rattle.nj_edges.specs.declared.files.FileNo.{FileNo}
 use Rattle.nj_edges.specs.declared.edges.EdgeRow.{EdgeRow}
-use Rattle.nj_edges.specs.declared.joining.AddedSpans.{AddedSpans}
+use Rattle.nj_edges.specs.declared.dyndep_edges.AddedSpans.{AddedSpans}
 use Rattle.nj_edges.specs.EdgeGraphs.{EdgeGraph}
 use Rattle.nj_edges.specs.Edges.{EdgePaths, first_edge}
 use Rattle.nj_edges.specs.Inside.EdgesHeld.{AreNamed, EdgesAreHeld, edges_of, has_number}

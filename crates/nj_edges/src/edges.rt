@@ -8,7 +8,7 @@ ghost use Rattle.nj_edges.specs.Inside.EdgesHeld.{row_between, has_number, is_ma
 ghost use Rattle.nj_edges.specs.EdgeTables.{no_files, EndWithin, with_output, with_input, with_validation, is_made, is_named_so_far, edge_read};
 
 use crate::files::{FileNo, Files};
-use crate::lists::after;
+use crate::list_parts::after;
 use crate::makers::{Makers, name};
 use crate::rows::Rows;
 use nj_names::HashKeys;

@@ -12,8 +12,8 @@ ghost use Rattle.nj_edges.specs.Needs.{makers_of_inputs};
 
 use crate::edges::{EdgeNo, EdgeRow, Edges, Kind, KindEnds, Span};
 use crate::files::{FileNo, Files};
-use crate::inputs::InputMakers;
-use crate::lists::{first, part};
+use crate::input_makers::InputMakers;
+use crate::list_parts::{first, part};
 use crate::makers::Makers;
 use crate::roots::roots;
 use crate::rows::Rows;

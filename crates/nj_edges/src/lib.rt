@@ -2,22 +2,22 @@
 #![tactic(auto)]
 
 mod affected;
+mod dyndep_edges;
 mod edges;
 mod files;
 mod graph;
-mod inputs;
-mod joining;
-mod lists;
+mod input_makers;
+mod list_parts;
 mod makers;
-mod numbers;
+mod number_ranges;
 mod roots;
 mod rows;
 mod users;
 
 pub use affected::affected_law;
+pub use dyndep_edges::JoiningEdges;
 pub use edges::{EdgeNo, Edges, Kind, KindEnds};
 pub use files::{FileNo, Files};
 pub use graph::{CycleEdge, EdgeGraph, Finished};
-pub use joining::JoiningEdges;
 pub use nj_names::HashKeys;
-pub use numbers::{EdgeNumbers, FileNumbers};
+pub use number_ranges::{EdgeNumbers, FileNumbers};

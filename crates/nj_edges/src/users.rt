@@ -8,7 +8,7 @@ ghost use Rattle.nj_edges.specs.Inside.UsersHeld.{AreCounted, AreCounts, AreEnds
 use crate::edges::{EdgeNo, EdgeRow, Span};
 use crate::files::FileNo;
 use crate::graph::row_at;
-use crate::lists::part;
+use crate::list_parts::part;
 use crate::rows::Rows;
 use std::alloc::{AllocError, Global};
 

@@ -6,7 +6,7 @@ use Rattle.nj_graph.proofs.Continuing.{unless_fault}
 use Rattle.std.specs.List.{list_any}
 use Rattle.std.proofs.lemmas.List.{append-nil, append_assoc}
 use Rattle.nj_manifest.specs.Faults.{Fault}
-use Rattle.nj_manifest.specs.Statements.{StatementText, BindingText, RuleText, PoolText, BuildText, DefaultText, IncludeText, SubninjaText, PlacedText}
+use Rattle.nj_manifest.specs.Statements.{StatementModel, BindingModel, RuleModel, PoolModel, BuildModel, DefaultModel, IncludeModel, SubninjaModel, PlacedModel}
 use Rattle.nj_scope.specs.Readings as table
 use Rattle.nj_scope.specs.Readings.{reading_of, IsPrefix}
 use Rattle.nj_scope.specs.ReadingList.{ReadStatement, files_opened, path_named}
@@ -15,7 +15,7 @@ use Rattle.nj_faults.specs.declared.fault.GraphFault.{GraphFault}
 use Rattle.nj_faults.specs.Faults.{fault_in}
 use Rattle.nj_graph.specs.Parsed.{parsed}
 use Rattle.nj_faults.specs.Limits.{most_within, most_opened}
-use Rattle.nj_graph.specs.Reading.{Site, entry_at, own_fault, End, Whole, Refused, Lacking, ReadingText, continued, and_then, Opens, item_read, statement_read, end_by, statements_read, text_read, found_read, outcome_read, if_capacity, opened_in, main_site, main_read, path_at_end}
+use Rattle.nj_graph.specs.Reading.{Site, entry_at, own_fault, End, Whole, Refused, Lacking, ReadingModel, continued, and_then, Opens, item_read, statement_read, end_by, statements_read, text_read, found_read, outcome_read, if_capacity, opened_in, main_site, main_read, path_at_end}
 
 -- ---- paths before others
 
@@ -39,7 +39,7 @@ prefix-named before (path ∷ paths) =
 
 -- ---- one reading after the other
 
-pub and_then-comes : (main : List ℕ) (front : List (List ℕ)) (r : ReadingText) (k : List ReadStatement → ReadingText)
+pub and_then-comes : (main : List ℕ) (front : List (List ℕ)) (r : ReadingModel) (k : List ReadStatement → ReadingModel)
     → IsPrefix front (come_to main r)
     → ((entries : List ReadStatement) → IsPrefix (paths_read main entries) (come_to main (k entries)))
     → IsPrefix front (come_to main (and_then r k))
@@ -51,7 +51,7 @@ and_then-comes main front r k comes others = by_end r.end comes
     by_end (Lacking path place) p = p
 
 -- a reading, by what was read before it
-abbrev pub ComesTo : (main : List ℕ) → List ReadStatement → ReadingText → Type 0
+abbrev pub ComesTo : (main : List ℕ) → List ReadStatement → ReadingModel → Type 0
 ComesTo main before r = IsPrefix (paths_read main before) (come_to main r)
 
 abbrev pub OpensCome : (main : List ℕ) → Opens → Type 0
@@ -61,14 +61,14 @@ OpensCome main opens = (site : Site) (place : Place) (e : ReadStatement) (before
 ends-there : (main : List ℕ) (before : List ReadStatement) (end : End) → ComesTo main before (record { entries = before; end = end })
 ends-there main before end = prefix-named (paths_read main before) (path_at_end end)
 
-item_read-comes : (main : List ℕ) (opens : Opens) → OpensCome main opens → (e : ReadStatement) (before : List ReadStatement) (item : StatementText) → ComesTo main before (item_read opens e before item)
-item_read-comes main opens comes e before (BindingText name value) = prefix-named (paths_read main before) (option_to_list (path_named e before e.item))
-item_read-comes main opens comes e before (RuleText name lines) = prefix-named (paths_read main before) (option_to_list (path_named e before e.item))
-item_read-comes main opens comes e before (PoolText name lines) = prefix-named (paths_read main before) (option_to_list (path_named e before e.item))
-item_read-comes main opens comes e before (BuildText outputs rule inputs lines) = prefix-named (paths_read main before) (option_to_list (path_named e before e.item))
-item_read-comes main opens comes e before (DefaultText words) = prefix-named (paths_read main before) (option_to_list (path_named e before e.item))
-item_read-comes main opens comes e before (IncludeText word) = comes _ _ _ before
-item_read-comes main opens comes e before (SubninjaText word) = comes _ _ _ before
+item_read-comes : (main : List ℕ) (opens : Opens) → OpensCome main opens → (e : ReadStatement) (before : List ReadStatement) (item : StatementModel) → ComesTo main before (item_read opens e before item)
+item_read-comes main opens comes e before (BindingModel name value) = prefix-named (paths_read main before) (option_to_list (path_named e before e.item))
+item_read-comes main opens comes e before (RuleModel name lines) = prefix-named (paths_read main before) (option_to_list (path_named e before e.item))
+item_read-comes main opens comes e before (PoolModel name lines) = prefix-named (paths_read main before) (option_to_list (path_named e before e.item))
+item_read-comes main opens comes e before (BuildModel outputs rule inputs lines) = prefix-named (paths_read main before) (option_to_list (path_named e before e.item))
+item_read-comes main opens comes e before (DefaultModel words) = prefix-named (paths_read main before) (option_to_list (path_named e before e.item))
+item_read-comes main opens comes e before (IncludeModel word) = comes _ _ _ before
+item_read-comes main opens comes e before (SubninjaModel word) = comes _ _ _ before
 
 statement_read-comes : (main : List ℕ) (opens : Opens) → OpensCome main opens → (e : ReadStatement) (before : List ReadStatement) → ComesTo main before (statement_read opens e before)
 statement_read-comes main opens comes e before = by_fault (own_fault e before)
@@ -77,7 +77,7 @@ statement_read-comes main opens comes e before = by_fault (own_fault e before)
     by_fault (Some fault) = ends-there main before (Refused fault)
     by_fault None = item_read-comes main opens comes e before e.item
 
-statements_read-come : (main : List ℕ) (opens : Opens) → OpensCome main opens → (site : Site) (statements : List PlacedText) (fault : Option Fault) (before : List ReadStatement) → ComesTo main before (statements_read opens site statements fault before)
+statements_read-come : (main : List ℕ) (opens : Opens) → OpensCome main opens → (site : Site) (statements : List PlacedModel) (fault : Option Fault) (before : List ReadStatement) → ComesTo main before (statements_read opens site statements fault before)
 unfolding statements_read
 statements_read-come main opens comes site [] fault before = ends-there main before (end_by (option_map (fault_in site.file) fault))
 statements_read-come main opens comes site (s ∷ others) fault before =
@@ -106,7 +106,7 @@ opened-comes main files (suc left) site place e before = by_capacity (nat_lt (fi
 pub item-comes : (main : List ℕ) (files : List table.Reading) (left : ℕ) (e : ReadStatement) (before : List ReadStatement) → IsPrefix (paths_read main before) (come_to main (statement_read (opened_in files left) e before))
 item-comes main files left = statement_read-comes main (opened_in files left) (opened-comes main files left)
 
-pub statements-come : (main : List ℕ) (files : List table.Reading) (left : ℕ) (site : Site) (statements : List PlacedText) (fault : Option Fault) (before : List ReadStatement) → IsPrefix (paths_read main before) (come_to main (statements_read (opened_in files left) site statements fault before))
+pub statements-come : (main : List ℕ) (files : List table.Reading) (left : ℕ) (site : Site) (statements : List PlacedModel) (fault : Option Fault) (before : List ReadStatement) → IsPrefix (paths_read main before) (come_to main (statements_read (opened_in files left) site statements fault before))
 statements-come main files left = statements_read-come main (opened_in files left) (opened-comes main files left)
 
 -- ---- the path of a file
@@ -123,13 +123,13 @@ opened-names main files left site place e before names capacity =
     front : List (List ℕ)
     front = with_new (paths_read main before) site.file
 
-    Front : ReadingText → Type 0
+    Front : ReadingModel → Type 0
     Front r = IsPrefix front (come_to main r)
 
     named : paths_read main (e ∷ before) ≡ front
     named = ap (λ o. with_news (paths_read main before) (option_to_list o)) names
 
-    reads : List ℕ → ReadingText
+    reads : List ℕ → ReadingModel
     reads t = text_read (opened_in files left) site t (e ∷ before)
 
     by_text : (text : Option (List ℕ)) → Front (found_read site.file place before reads text)

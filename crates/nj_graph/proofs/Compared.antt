@@ -2,8 +2,8 @@
 use Rattle.std.specs.Prelude.{◌≡◌, ◌⊎◌, ℕ, Result, Err, List}
 use Rattle.std.proofs.Common.{inl, inr}
 use Rattle.nj_text.specs.declared.fault.LexFault.TheVariants as lex
-use Rattle.nj_manifest.specs.declared.fault.ParseFault.{ParseFault}
-use Rattle.nj_manifest.specs.declared.fault.ParseFault.TheVariants as parse
+use Rattle.nj_manifest.specs.declared.parse_fault.ParseFault.{ParseFault}
+use Rattle.nj_manifest.specs.declared.parse_fault.ParseFault.TheVariants as parse
 use Rattle.nj_manifest.specs.Faults.{Fault, fault_text}
 use Rattle.nj_manifest.specs.Parsers.{Fails, IsNext}
 use Rattle.nj_manifest.specs.DyndepParsers.{IsNextEntry}

@@ -4,17 +4,17 @@ use Rattle.nj_statements.specs.Inside.EdgeSteps.{lines_of_rule}
 use Rattle.std.specs.List.{AllByRecursion}
 use Rattle.std.proofs.lemmas.List.{length-map}
 use Rattle.std.proofs.lemmas.Option.{slice_get-map, slice_get-get_or, get_or_from_slice_get}
-use Rattle.nj_scope.specs.Rules.{RuleText, RuleLineText, phony}
+use Rattle.nj_scope.specs.Rules.{RuleModel, RuleLineModel, phony}
 use Rattle.nj_scope.specs.ReadingList.{ReadStatement, value_after}
-use Rattle.nj_edge_env.specs.Blocks.{BlocksText, bound_in}
+use Rattle.nj_edge_env.specs.Blocks.{BlocksModel, bound_in}
 use Rattle.nj_edges.specs.Edges.{EdgePaths, edge_at}
 use Rattle.nj_edges.specs.Files.{AreFiles, path_at}
 use Rattle.nj_edges.specs.declared.files.FileNo.{FileNo}
 use Rattle.nj_edge_env.specs.LateStrings.{LateNames, asked_text}
-use Rattle.nj_statements.specs.EdgeList.{EdgeText, edges_read, names_of_edge, block_of_edge}
+use Rattle.nj_statements.specs.EdgeList.{EdgeModel, edges_read, names_of_edge, block_of_edge}
 use Rattle.nj_statements.specs.Built.{EdgeDetail, detail_at, detail_of}
 use Rattle.nj_statements.proofs.LateLemmas.{paths-are, same-everywhere}
-use Rattle.nj_graph.specs.Graph.{GraphText, edges_of, files_of, IsOpenScope, HasRule, IsGraphOf, late_text_of}
+use Rattle.nj_graph.specs.Graph.{GraphModel, edges_of, files_of, IsOpenScope, HasRule, IsGraphOf, late_text_of}
 use Rattle.nj_graph.proofs.EdgeRules.{edges-open}
 
 -- ---- elements of lists
@@ -45,19 +45,19 @@ names-are n m inputs outputs block lines is_phony file =
     ap (λ (x : List (List ℕ)). record n { inputs = x }) inputs
     ∙ ap (λ (x : List (List ℕ)). record n { inputs = m.inputs; outputs = x }) outputs
     ∙ ap (λ (x : List ℕ → Option (List ℕ)). record n { inputs = m.inputs; outputs = m.outputs; block = x }) block
-    ∙ ap (λ (x : List RuleLineText). record n { inputs = m.inputs; outputs = m.outputs; block = m.block; lines = x }) lines
+    ∙ ap (λ (x : List RuleLineModel). record n { inputs = m.inputs; outputs = m.outputs; block = m.block; lines = x }) lines
     ∙ ap (λ (x : Bool). record n { inputs = m.inputs; outputs = m.outputs; block = m.block; lines = m.lines; is_phony = x }) is_phony
     ∙ ap (λ (x : List ℕ → List ℕ). record m { file = x }) file
 
 -- ---- an edge
 
-module _ (g : GraphText) (entries : List ReadStatement) (is : IsGraphOf g entries) (n : ℕ) (below : n < length (edges_of g)) where
-  pub there : (e : EdgeText) × (slice_get (edges_read entries) n ≡ Some e)
+module _ (g : GraphModel) (entries : List ReadStatement) (is : IsGraphOf g entries) (n : ℕ) (below : n < length (edges_of g)) where
+  pub there : (e : EdgeModel) × (slice_get (edges_read entries) n ≡ Some e)
   there =
       let count = ap length is.built.paths ∙ length-map (edges_read entries) (λ e. e.paths) in
       element (edges_read entries) n (omega (arith, below, count))
 
-  abbrev pub edge : EdgeText
+  abbrev pub edge : EdgeModel
   edge = there.0
 
   pub edge-open : IsOpenScope g.declarations.scopes edge.number edge.around
@@ -76,7 +76,7 @@ module _ (g : GraphText) (entries : List ReadStatement) (is : IsGraphOf g entrie
   block-is = same-everywhere (λ name. bound_in g.built.blocks n name) edge.block (λ name. is.built.blocks n name ∙ ap (λ o. block_of_edge o name) there.1)
 
   -- the names of the edge are the names of its statement
-  pub names-same : (files : List (List ℕ)) (ins outs : List FileNo) (blocks : BlocksText) (rule : RuleText) (scope : ℕ)
+  pub names-same : (files : List (List ℕ)) (ins outs : List FileNo) (blocks : BlocksModel) (rule : RuleModel) (scope : ℕ)
       → files ≡ files_of g → AreFiles (files_of g) ins (edge_at (edges_of g) n).explicit_inputs → AreFiles (files_of g) outs (edge_at (edges_of g) n).explicit_outputs
       → blocks ≡ g.built.blocks → rule ≡ get_or g.declarations.rules (detail_at g.built.details n).rule rule → scope ≡ (detail_at g.built.details n).scope
       → record {
@@ -92,12 +92,12 @@ module _ (g : GraphText) (entries : List ReadStatement) (is : IsGraphOf g entrie
       (ap (λ fs. map (path_at fs) ins) files_are ∙ paths-are (files_of g) ins _ inputs ∙ ap (λ (p : EdgePaths). p.explicit_inputs) paths-at)
       (ap (λ fs. map (path_at fs) outs) files_are ∙ paths-are (files_of g) outs _ outputs ∙ ap (λ (p : EdgePaths). p.explicit_outputs) paths-at)
       (ap (λ b. bound_in b n) blocks_are ∙ block-is)
-      (ap (λ (r : RuleText). r.lines) rule_same ∙ ap lines_of_rule (sym has.rule_is ∙ ap (λ rules. slice_get rules edge.rule) is.declares.rules))
-      (ap (λ (r : RuleText). bytes_eq r.name phony) rule_same ∙ has.phony_is)
+      (ap (λ (r : RuleModel). r.lines) rule_same ∙ ap lines_of_rule (sym has.rule_is ∙ ap (λ rules. slice_get rules edge.rule) is.declares.rules))
+      (ap (λ (r : RuleModel). bytes_eq r.name phony) rule_same ∙ has.phony_is)
       (ap (λ s. value_after entries (s ∷ edge.around)) (scope_is ∙ ap (λ (d : EdgeDetail). d.scope) detail-is))
     where
       rule_same : rule ≡ has.rule
       rule_same = at ∙ get_or_from_slice_get g.declarations.rules (detail_at g.built.details n).rule has.rule rule (ap (λ (d : EdgeDetail). slice_get g.declarations.rules d.rule) detail-is ∙ has.rule_is)
 
   pub text-same : (asked : List ℕ) (names : LateNames) → names ≡ names_of_edge entries edge → asked_text names asked ≡ late_text_of entries n asked
-  text-same asked names same = ap (λ x. asked_text x asked) same ∙ sym (ap (λ (o : Option EdgeText). unwrap_or (option_map (λ e. asked_text (names_of_edge entries e) asked) o) []) there.1)
+  text-same asked names same = ap (λ x. asked_text x asked) same ∙ sym (ap (λ (o : Option EdgeModel). unwrap_or (option_map (λ e. asked_text (names_of_edge entries e) asked) o) []) there.1)

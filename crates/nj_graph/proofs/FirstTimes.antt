@@ -13,9 +13,9 @@ use Rattle.nj_scope.proofs.Gathering.{with_given}
 use Rattle.nj_edges.specs.Edges.{is_among}
 use Rattle.nj_edges.specs.Repeats.{each_once}
 use Rattle.nj_faults.specs.declared.fault.GraphFault.{GraphFault}
-use Rattle.nj_graph.specs.Reading.{ReadingText, main_read, with_all_new, path_at_end, paths_come_to}
-use Rattle.nj_graph.specs.Runs.{ReachedText}
-use Rattle.nj_graph.specs.Loads.{LoadedText, LoadsAfter, Loads, main_reached}
+use Rattle.nj_graph.specs.Reading.{ReadingModel, main_read, with_all_new, path_at_end, paths_come_to}
+use Rattle.nj_graph.specs.Runs.{ReachedModel}
+use Rattle.nj_graph.specs.Loads.{LoadedModel, LoadsAfter, Loads, main_reached}
 use Rattle.nj_graph.specs.Joining.{all_joined, joined_after, Joins}
 use Rattle.nj_graph.specs.Inside.PathsReached.{with_new, with_news, paths_read, come_to, reached_of, come_joined}
 use Rattle.nj_graph.proofs.JoiningTables.{all_new-append}
@@ -82,7 +82,7 @@ paths_read-is main (e ∷ before) =
     ap (λ paths. with_news paths (option_to_list (path_named e before e.item))) (paths_read-is main before)
     ∙ given-news (main ∷ []) (gathered path_named before) (path_named e before e.item)
 
-come_to-is : (main : List ℕ) (r : ReadingText) → come_to main r ≡ paths_come_to main r
+come_to-is : (main : List ℕ) (r : ReadingModel) → come_to main r ≡ paths_come_to main r
 come_to-is main r =
     ap (λ paths. with_news paths (path_at_end r.end)) (paths_read-is main r.entries)
     ∙ sym (all_new-append (main ∷ []) (gathered path_named r.entries) (path_at_end r.end))
@@ -97,9 +97,9 @@ joined-is old stated files =
 
 -- ---- so what is read or joined is as it is stated
 
-pub loads : (main : List ℕ) (before after : SourceState) (result : Result LoadedText GraphFault) → LoadsAfter [] before after (reached_of main) result → Loads main before after result
-loads main before after result h = subst (λ (reading : List Reading → ReachedText). LoadsAfter [] before after reading result) (fun_ext (reached-is main)) h
+pub loads : (main : List ℕ) (before after : SourceState) (result : Result LoadedModel GraphFault) → LoadsAfter [] before after (reached_of main) result → Loads main before after result
+loads main before after result h = subst (λ (reading : List Reading → ReachedModel). LoadsAfter [] before after reading result) (fun_ext (reached-is main)) h
 
-pub joins : (stated : List ReadStatement) (old : List Reading) (before after : SourceState) (result : Result LoadedText GraphFault)
+pub joins : (stated : List ReadStatement) (old : List Reading) (before after : SourceState) (result : Result LoadedModel GraphFault)
     → LoadsAfter old before after (come_joined old stated) result → Joins stated old before after result
-joins stated old before after result h = subst (λ (reading : List Reading → ReachedText). LoadsAfter old before after reading result) (fun_ext (joined-is old stated)) h
+joins stated old before after result h = subst (λ (reading : List Reading → ReachedModel). LoadsAfter old before after reading result) (fun_ext (joined-is old stated)) h

@@ -1,15 +1,15 @@
 -- Small graphs, worked out on the definitions.
 use Rattle.std.proofs.Common.{◌≡◌, ℕ, List, [], ◌∷◌, map, true, false, refl}
 use Rattle.std.specs.Prelude.{codes}
-use Rattle.nj_text.specs.Words.{PartText, Text, Name}
-use Rattle.nj_scope.specs.Rules.{RuleText, RuleLineText, phony_rule}
-use Rattle.nj_graph.specs.Graph.{GraphText, insert_by, sorted_by, main_rules_of, main_rule_at, has_description, description_text}
+use Rattle.nj_text.specs.Words.{PartModel, Text, Name}
+use Rattle.nj_scope.specs.Rules.{RuleModel, RuleLineModel, phony_rule}
+use Rattle.nj_graph.specs.Graph.{GraphModel, insert_by, sorted_by, main_rules_of, main_rule_at, has_description, description_text}
 
-abbrev line : (key : List ℕ) → List PartText → RuleLineText
+abbrev line : (key : List ℕ) → List PartModel → RuleLineModel
 line key value = record { key = key; value = value }
 
 -- rule cc, with two descriptions, of which the last one counts: an escape is its byte
-abbrev cc_rule : RuleText
+abbrev cc_rule : RuleModel
 cc_rule = record {
   scope = 0;
   name = codes "cc";
@@ -20,16 +20,16 @@ cc_rule = record {
 }
 
 -- rule quiet, with `description =`
-abbrev quiet_rule : RuleText
+abbrev quiet_rule : RuleModel
 quiet_rule = record { scope = 0; name = codes "quiet"; lines = line (codes "description") [] ∷ [] }
 
 -- a rule without lines
-abbrev bare : (scope : ℕ) → (name : List ℕ) → RuleText
+abbrev bare : (scope : ℕ) → (name : List ℕ) → RuleModel
 bare scope name = record { scope = scope; name = name; lines = [] }
 
 -- ---- which are listed, and in which order
 
-abbrev names : List RuleText → List (List ℕ)
+abbrev names : List RuleModel → List (List ℕ)
 names rules = map (λ r. r.name) (main_rules_of rules)
 
 phony_is_listed : names (phony_rule ∷ []) ≡ codes "phony" ∷ []
@@ -46,7 +46,7 @@ not_of_a_child = refl
 
 -- ---- descriptions
 
-abbrev graph : GraphText
+abbrev graph : GraphModel
 graph = record {
   declarations = record { scopes = []; rules = phony_rule ∷ quiet_rule ∷ cc_rule ∷ []; pools = [] };
   built = record { graph = record { files = []; edges = [] }; details = []; blocks = record { values = []; names = []; last = 0 }; defaults = []; assigned = []; pending = [] };

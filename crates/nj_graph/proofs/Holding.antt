@@ -7,12 +7,12 @@ use Rattle.std.specs.Option.{option_or, option_to_list}
 use mathlib.Core.Path.{fun_ext}
 use Rattle.nj_text.specs.declared.spot.Spot.{Spot}
 use Rattle.nj_text.specs.Numbers.{leading_number_of}
-use Rattle.nj_text.specs.Words.{WordText}
-use Rattle.nj_manifest.specs.LineSteps.{NameText}
-use Rattle.nj_manifest.specs.Statements.{LineText, StatementText}
+use Rattle.nj_text.specs.Words.{WordModel}
+use Rattle.nj_manifest.specs.LineSteps.{NameModel}
+use Rattle.nj_manifest.specs.Statements.{LineModel, StatementModel}
 use Rattle.nj_scope.specs.Readings.{EachPathOnce, paths_of}
 use Rattle.nj_scope.specs.Scopes.{Bounds, value_in, expanded, rule_at}
-use Rattle.nj_scope.specs.Declarations.{DeclarationsText, DeclaredBy, SameScopes}
+use Rattle.nj_scope.specs.Declarations.{DeclarationsModel, DeclaredBy, SameScopes}
 use Rattle.nj_scope.specs.Limits.{is_depth}
 use Rattle.nj_scope.specs.Pools.{is_pool}
 use Rattle.nj_scope.specs.ReadingList.{ReadStatement, scope_of, binds, bounds, rules, is_declared, pools, path_named}
@@ -57,14 +57,14 @@ name-is-other true newer fault h = absurd (true≢false h)
 name-is-other false newer fault h = refl
 
 -- a rule that is new
-pub rule-new : (main : List ℕ) (held : Reader) (entries : List ReadStatement) (file : List ℕ) (number : ℕ) (name : NameText) → Has main held entries
+pub rule-new : (main : List ℕ) (held : Reader) (entries : List ReadStatement) (file : List ℕ) (number : ℕ) (name : NameModel) → Has main held entries
     → true ≡ not (is_declared (rule_at held.declarations.scopes number name.name) name.name) → rule_fault file number entries name ≡ None
 rule-new main held entries file number name has new =
     fault-unless (is_declared (rules entries number name.name) name.name) (fault_at file name.spot (DuplicateRule name.name))
     (new ∙ ap (λ r. not (is_declared r name.name)) (has.declares.declared number name.name))
 
 -- a pool that is new
-pub pool-new : (main : List ℕ) (held : Reader) (entries : List ReadStatement) (file scope : List ℕ) (name : NameText) (lines : List LineText) → Has main held entries
+pub pool-new : (main : List ℕ) (held : Reader) (entries : List ReadStatement) (file scope : List ℕ) (name : NameModel) (lines : List LineModel) → Has main held entries
     → true ≡ not (is_pool held.declarations.pools name.name) → pool_fault file scope entries name lines ≡ depth_fault file scope entries lines
 pool-new main held entries file scope name lines has new =
     ap (λ f. option_or f (depth_fault file scope entries lines)) (fault-unless (is_pool (pools entries) name.name) (fault_at file name.spot (DuplicatePool name.name)) (new ∙ ap (λ ps. not (is_pool ps name.name)) has.declares.pools))
@@ -80,17 +80,17 @@ bounds-same e entries nothing n x = by (n == e.number)
     by true = ap (λ o. option_or o (bounds entries n x)) (nothing (value_in (bounds entries) (scope_of e)) x)
     by false = refl
 
-expanded-kept : (e : ReadStatement) (entries : List ReadStatement) → ((value : List ℕ → List ℕ) (x : List ℕ) → binds value e.item x ≡ None) → (scope : List ℕ) (word : WordText) → expanded_in scope (e ∷ entries) word ≡ expanded_in scope entries word
+expanded-kept : (e : ReadStatement) (entries : List ReadStatement) → ((value : List ℕ → List ℕ) (x : List ℕ) → binds value e.item x ≡ None) → (scope : List ℕ) (word : WordModel) → expanded_in scope (e ∷ entries) word ≡ expanded_in scope entries word
 expanded-kept e entries nothing scope word =
     ap (λ (bound : Bounds). expanded (value_in bound scope) word.parts) (fun_ext (λ n. fun_ext (λ x. bounds-same e entries nothing n x)))
 
-pub depths-same : (file : List ℕ) (e : ReadStatement) (entries : List ReadStatement) → ((value : List ℕ → List ℕ) (x : List ℕ) → binds value e.item x ≡ None) → (scope : List ℕ) (lines : List LineText) → depth_fault file scope (e ∷ entries) lines ≡ depth_fault file scope entries lines
+pub depths-same : (file : List ℕ) (e : ReadStatement) (entries : List ReadStatement) → ((value : List ℕ → List ℕ) (x : List ℕ) → binds value e.item x ≡ None) → (scope : List ℕ) (lines : List LineModel) → depth_fault file scope (e ∷ entries) lines ≡ depth_fault file scope entries lines
 depths-same file e entries nothing scope [] = refl
 depths-same file e entries nothing scope (l ∷ lines) =
     ap (λ gives. option_map reported (cond (not (is_depth gives)) (Some l) (find (λ m. not (is_depth (expanded_in scope (e ∷ entries) m.value))) lines))) (expanded-kept e entries nothing scope l.value)
     ∙ by (not (is_depth (expanded_in scope entries l.value))) (depths-same file e entries nothing scope lines)
   where
-    reported : LineText → GraphFault
+    reported : LineModel → GraphFault
     reported m = fault_at file m.spot BadDepth
 
     by : (b : Bool) → depth_fault file scope (e ∷ entries) lines ≡ depth_fault file scope entries lines → option_map reported (cond b (Some l) (find (λ m. not (is_depth (expanded_in scope (e ∷ entries) m.value))) lines)) ≡ option_map reported (cond b (Some l) (find (λ m. not (is_depth (expanded_in scope entries m.value))) lines))
@@ -98,19 +98,19 @@ depths-same file e entries nothing scope (l ∷ lines) =
     by false others = others
 
 -- the depth of a pool
-pub depth-same : (e : ReadStatement) (entries : List ReadStatement) → ((value : List ℕ → List ℕ) (x : List ℕ) → binds value e.item x ≡ None) → (scope : List ℕ) (lines : List LineText) → depth_of scope (e ∷ entries) lines ≡ depth_of scope entries lines
+pub depth-same : (e : ReadStatement) (entries : List ReadStatement) → ((value : List ℕ → List ℕ) (x : List ℕ) → binds value e.item x ≡ None) → (scope : List ℕ) (lines : List LineModel) → depth_of scope (e ∷ entries) lines ≡ depth_of scope entries lines
 depth-same e entries nothing scope lines =
-    ap (λ (bound : Bounds). unwrap_or (option_and_then (λ (l : LineText). leading_number_of (expanded (value_in bound scope) l.value.parts)) (slice_get lines (length lines - 1))) 0) (fun_ext (λ n. fun_ext (λ x. bounds-same e entries nothing n x)))
+    ap (λ (bound : Bounds). unwrap_or (option_and_then (λ (l : LineModel). leading_number_of (expanded (value_in bound scope) l.value.parts)) (slice_get lines (length lines - 1))) 0) (fun_ext (λ n. fun_ext (λ x. bounds-same e entries nothing n x)))
 
 -- ---- scopes that stay
 
-pub same-grows : (before after : DeclarationsText) → SameScopes before after → Grows before.scopes after.scopes
+pub same-grows : (before after : DeclarationsModel) → SameScopes before after → Grows before.scopes after.scopes
 same-grows before after same = let count = same.count in record { count = omega (arith, count); parents = λ n below. same.parents n }
 
 -- ---- `build` and `default` statements
 
 -- a statement at a place of an open file
-pub placed-entry : (file : OpenFile) (place : PlaceRef) (spot : Spot) (around : List ℕ) (depth : ℕ) (item : StatementText)
+pub placed-entry : (file : OpenFile) (place : PlaceRef) (spot : Spot) (around : List ℕ) (depth : ℕ) (item : StatementModel)
     → place.file.now ≡ file.name.now → place.spot ≡ spot
     → entry_at_place place file.scope around depth item ≡ entry_at (site_of file around depth) (record { spot = spot; item = item })
 placed-entry file place spot around depth item file_is spot_is =

@@ -21,7 +21,7 @@ use Rattle.nj_statements.specs.EdgeList.{edges_read, paths_of_edges, pending_rea
 use Rattle.nj_statements.specs.Joining.{discover}
 use Rattle.nj_graph.specs.Parsed.{parsed_in}
 use Rattle.nj_graph.specs.Reading.{Whole, Refused, Lacking, statements_read, opened_in, main_read}
-use Rattle.nj_graph.specs.Runs.{ReachedText}
+use Rattle.nj_graph.specs.Runs.{ReachedModel}
 use Rattle.nj_graph.specs.Joining.{entries_of, entries_joined, file_joined, files_joined, all_joined}
 use Rattle.nj_graph.proofs.ReadingRows.{main_file, file, missing, read_of}
 
@@ -41,7 +41,7 @@ abbrev three_edges : List ℕ
 three_edges = one_edge ++ codes "build p: phony || ee\n  dyndep = ./ee\nbuild q: phony || dd\n  dyndep = dd\n"
 
 -- what is joined where the main file has this text
-abbrev joined_of : (text : List ℕ) → (files : List Reading) → ReachedText
+abbrev joined_of : (text : List ℕ) → (files : List Reading) → ReachedModel
 joined_of text files = all_joined files (read_of text []).entries
 
 -- the text of a dyndep file of the first version
@@ -49,10 +49,10 @@ abbrev dyndeps : (entries : List ℕ) → List ℕ
 dyndeps entries = codes "ninja_dyndep_version = 1\n" ++ entries
 
 -- where `dd` has these entries
-abbrev joined_by : (text entries : List ℕ) → ReachedText
+abbrev joined_by : (text entries : List ℕ) → ReachedModel
 joined_by text entries = joined_of text (file (codes "dd") (dyndeps entries) ∷ [])
 
-abbrev paths_joined : ReachedText → List EdgePaths
+abbrev paths_joined : ReachedModel → List EdgePaths
 paths_joined j = paths_of_edges (edges_read j.read.entries)
 
 abbrev edge_of_o : (outputs inputs : List (List ℕ)) → EdgePaths

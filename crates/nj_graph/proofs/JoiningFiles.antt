@@ -11,12 +11,12 @@ use Rattle.nj_faults.specs.declared.fault.Place.{Place}
 use Rattle.nj_faults.specs.declared.fault.GraphFault.{GraphFault}
 use Rattle.nj_faults.specs.declared.fault.Cause.TheVariants.{Missing, PathNotText}
 use Rattle.nj_faults.specs.Faults.{IsFault, no_memory}
-use Rattle.nj_statements.specs.EdgeList.{Pending, edges_read, EdgeText}
+use Rattle.nj_statements.specs.EdgeList.{Pending, edges_read, EdgeModel}
 use Rattle.nj_statements.specs.Built.{EdgeDetail, detail_at, detail_of}
 use Rattle.nj_statements.specs.Answers.{Checks}
 use Rattle.nj_statements.specs.Joining.{lacking_fault}
-use Rattle.nj_statements.specs.JoiningHeld.{JoiningText}
-use Rattle.nj_graph.specs.Reading.{Refused, Lacking, ReadingText, end_by, stopped, outcome_read}
+use Rattle.nj_statements.specs.JoiningHeld.{JoiningModel}
+use Rattle.nj_graph.specs.Reading.{Refused, Lacking, ReadingModel, end_by, stopped, outcome_read}
 use Rattle.nj_graph.specs.Joining.{statement_place, text_joined, path_asked, file_joined}
 use Rattle.nj_graph.specs.Inside.JoiningContracts.{TextJoined, TextRefused, FileJoined, FileStops, JoinsFile}
 use Rattle.nj_graph.proofs.Comes.{prefix-self, prefix-named}
@@ -31,10 +31,10 @@ absent (Some x) h = absurd (true≢false h)
 abbrev place_of_detail : EdgeDetail → Place
 place_of_detail d = record { file = d.file; spot = d.spot }
 
-abbrev place_of_edge : EdgeText → Place
+abbrev place_of_edge : EdgeModel → Place
 place_of_edge e = record { file = e.file; spot = e.spot }
 
-places-are : (es : List EdgeText) → map place_of_detail (map detail_of es) ≡ map place_of_edge es
+places-are : (es : List EdgeModel) → map place_of_detail (map detail_of es) ≡ map place_of_edge es
 places-are [] = refl
 places-are (e ∷ es) = ap (λ places. place_of_detail (detail_of e) ∷ places) (places-are es)
 
@@ -42,7 +42,7 @@ module _ (stated joined : List ReadStatement) (p : Pending) where
   abbrev at_statement : Place
   at_statement = statement_place stated p.edge
 
-  abbrev reads : (text : List ℕ) → ReadingText
+  abbrev reads : (text : List ℕ) → ReadingModel
   reads text = text_joined p.file stated text joined
 
   named : is_utf8 p.file ≡ true → (all : List Reading) → file_joined all stated p joined ≡ outcome_read p.file at_statement joined reads (reading_of all p.file)
@@ -158,7 +158,7 @@ module _ (stated joined : List ReadStatement) (p : Pending) where
       }
       stops-text fault (inr r) = stops-refused fault r
 
-      module _ (held : JoiningText) (t : TextJoined p.file stated text joined held) where
+      module _ (held : JoiningModel) (t : TextJoined p.file stated text joined held) where
         -- an edge is pending on it
         stops-unjoined : (fault : GraphFault) → IsFault (lacking_fault p.file t.now) fault → FileStops stated joined p before after old fault
         stops-unjoined fault (inl none) = stops-text fault (inl none)

@@ -13,17 +13,17 @@ use Rattle.nj_edges.specs.Needs.{makers_of_inputs}
 use Rattle.nj_faults.specs.declared.fault.GraphFault.{GraphFault}
 use Rattle.nj_faults.specs.Faults.{no_memory}
 use Rattle.nj_statements.specs.EdgeList.{Pending, edges_read, paths_of_edges, pending_read}
-use Rattle.nj_statements.specs.Built.{BuiltText, ComesTo, detail_of}
+use Rattle.nj_statements.specs.Built.{BuiltModel, ComesTo, detail_of}
 use Rattle.nj_statements.specs.Joining.{discover}
-use Rattle.nj_statements.specs.JoiningHeld.{JoiningText, has_pending}
+use Rattle.nj_statements.specs.JoiningHeld.{JoiningModel, has_pending}
 use Rattle.nj_statements.proofs.DiscoverLemmas.{declared-discover, all-discover}
 use Rattle.nj_statements.proofs.DiscoverEdges.{all_edges-discover}
 use Rattle.nj_graph.specs.Reading.{Whole}
 use Rattle.nj_graph.specs.Origins.{origins_read, main_of}
-use Rattle.nj_graph.specs.Graph.{GraphText, IsOpenScope, HasRule, IsGraphOf}
+use Rattle.nj_graph.specs.Graph.{GraphModel, IsOpenScope, HasRule, IsGraphOf}
 use Rattle.nj_graph.specs.Inside.GraphHeld.{IsKnown, IsGraph}
-use Rattle.nj_graph.specs.Runs.{ReachedText}
-use Rattle.nj_graph.specs.Loads.{LoadedText, IsWhole}
+use Rattle.nj_graph.specs.Runs.{ReachedModel}
+use Rattle.nj_graph.specs.Loads.{LoadedModel, IsWhole}
 use Rattle.nj_graph.specs.Joining.{all_joined, Joins}
 use Rattle.nj_graph.specs.Inside.JoiningContracts.{FilesJoined, FilesStop}
 use Rattle.nj_graph.proofs.Comes.{prefix-self, prefix-named}
@@ -38,15 +38,15 @@ none-pending [] h = refl
 none-pending (p ∷ ps) h = absurd (true≢false h)
 
 module _ (stated : List ReadStatement) (source : SourceState) (old : List Reading) (once : EachPathOnce old) where
-  pub joins-nothing : (loaded : LoadedText) (g : GraphText) → loaded ≡ record { files = old; graph = g } → IsGraphOf g stated → has_pending g.built.pending ≡ false → Joins stated old source source (Ok loaded)
+  pub joins-nothing : (loaded : LoadedModel) (g : GraphModel) → loaded ≡ record { files = old; graph = g } → IsGraphOf g stated → has_pending g.built.pending ≡ false → Joins stated old source source (Ok loaded)
   joins-nothing loaded g same is none = joins stated old source source (Ok loaded) (
     old,
     read-nothing source old once,
     record {
-      files_are = ap (λ (l : LoadedText). l.files) same;
+      files_are = ap (λ (l : LoadedModel). l.files) same;
       entries = stated;
-      whole = record { read = ap (λ (j : ReachedText). j.read) nothing; came_to = ap (λ (j : ReachedText). with_news (paths_of old) j.paths) nothing; failures = refl };
-      graph_is = subst (λ (l : LoadedText). IsGraphOf l.graph stated) (sym same) is;
+      whole = record { read = ap (λ (j : ReachedModel). j.read) nothing; came_to = ap (λ (j : ReachedModel). with_news (paths_of old) j.paths) nothing; failures = refl };
+      graph_is = subst (λ (l : LoadedModel). IsGraphOf l.graph stated) (sym same) is;
     },
   )
     where
@@ -62,7 +62,7 @@ module _ (stated : List ReadStatement) (before after : SourceState) (old : List 
 
   -- ---- all is joined
 
-  module _ (table : List Reading) (held : JoiningText) (f : FilesJoined stated before after old table held) where
+  module _ (table : List Reading) (held : JoiningModel) (f : FilesJoined stated before after old table held) where
     itself : IsPrefix f.files f.files
     itself = ([], sym (append-nil f.files))
 
@@ -70,14 +70,14 @@ module _ (stated : List ReadStatement) (before after : SourceState) (old : List 
     all-joined = f.joins f.files itself
 
     whole : IsWhole before after f.files (come_joined old stated) f.now
-    whole = record { read = ap (λ (j : ReachedText). j.read) all-joined; came_to = ap (λ (j : ReachedText). with_news (paths_of old) j.paths) all-joined ∙ f.came_to; failures = f.reads.failures }
+    whole = record { read = ap (λ (j : ReachedModel). j.read) all-joined; came_to = ap (λ (j : ReachedModel). with_news (paths_of old) j.paths) all-joined ∙ f.came_to; failures = f.reads.failures }
 
     pub none-pending-then : pending_read f.now ≡ []
-    none-pending-then = subst (λ (j : ReachedText). pending_read j.read.entries ≡ []) all-joined (none-unjoined f.files stated (ap (λ (j : ReachedText). j.read.end) all-joined))
+    none-pending-then = subst (λ (j : ReachedModel). pending_read j.read.entries ≡ []) all-joined (none-unjoined f.files stated (ap (λ (j : ReachedModel). j.read.end) all-joined))
 
     -- what stays of the statements
     stays : (P : List ReadStatement → Type 0) → ((edge : ℕ) (found : Discovered) (entries : List ReadStatement) → P entries → P (discover edge found entries)) → P stated → P f.now
-    stays P keeps h = subst (λ (j : ReachedText). P j.read.entries) all-joined (kept-by-all P keeps f.files stated h)
+    stays P keeps h = subst (λ (j : ReachedModel). P j.read.entries) all-joined (kept-by-all P keeps f.files stated h)
 
     pub joins-fault : (fault : GraphFault) → ComesTo f.now (Err fault) → Joins stated old before after (Err fault)
     joins-fault fault (inl none) = joins stated old before after (Err fault) (
@@ -86,14 +86,14 @@ module _ (stated : List ReadStatement) (before after : SourceState) (old : List 
       inl (inl (record {
         answered = none;
         failures = f.reads.failures;
-        came_to = λ all ext. subst (λ ps. IsPrefix (paths_of f.files) ps) (sym (ap (λ (j : ReachedText). with_news (paths_of old) j.paths) (f.joins all ext) ∙ f.came_to)) (prefix-self (paths_of f.files));
+        came_to = λ all ext. subst (λ ps. IsPrefix (paths_of f.files) ps) (sym (ap (λ (j : ReachedModel). with_news (paths_of old) j.paths) (f.joins all ext) ∙ f.came_to)) (prefix-self (paths_of f.files));
       })),
     )
     joins-fault fault (inr cycle) = joins stated old before after (Err fault) (f.files, f.reads.reads, inr (record { entries = f.now; whole = whole; cycle = cycle }))
 
     -- ---- the graph
 
-    module _ (g : GraphText) (is : IsGraphOf g stated) (built : BuiltText) (comes : ComesTo f.now (Ok built)) where
+    module _ (g : GraphModel) (is : IsGraphOf g stated) (built : BuiltModel) (comes : ComesTo f.now (Ok built)) where
       has-rules : AllByRecursion (HasRule g.declarations.rules) (edges_read f.now)
       has-rules =
           stays (λ entries. AllByRecursion (HasRule g.declarations.rules) (edges_read entries))
@@ -109,15 +109,15 @@ module _ (stated : List ReadStatement) (before after : SourceState) (old : List 
         origins = stays (λ entries. g.origins ≡ origins_read (main_of g.origins) entries) (λ edge found entries same. same ∙ sym (origins-discover (main_of g.origins) edge found entries)) is.origins;
       }
 
-      pub joins-graph : (loaded : LoadedText) → loaded ≡ record { files = table; graph = record { declarations = g.declarations; built = built; origins = g.origins } } → Joins stated old before after (Ok loaded)
+      pub joins-graph : (loaded : LoadedModel) → loaded ≡ record { files = table; graph = record { declarations = g.declarations; built = built; origins = g.origins } } → Joins stated old before after (Ok loaded)
       joins-graph loaded same = joins stated old before after (Ok loaded) (
         f.files,
         f.reads.reads,
         record {
-          files_are = ap (λ (l : LoadedText). l.files) same ∙ f.reads.held_is;
+          files_are = ap (λ (l : LoadedModel). l.files) same ∙ f.reads.held_is;
           entries = f.now;
           whole = whole;
-          graph_is = subst (λ (l : LoadedText). IsGraphOf l.graph f.now) (sym same) joined-graph;
+          graph_is = subst (λ (l : LoadedModel). IsGraphOf l.graph f.now) (sym same) joined-graph;
         },
       )
 

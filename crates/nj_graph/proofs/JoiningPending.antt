@@ -5,18 +5,18 @@ use Rattle.std.specs.List.{AllByRecursion, list_any}
 use Rattle.std.specs.Str.{is_utf8}
 use Rattle.std.proofs.lemmas.Slice.Eq.{bytes_eq-Decides}
 use Rattle.nj_manifest.specs.Faults.{Fault}
-use Rattle.nj_manifest.specs.Dyndeps.{EntryText}
+use Rattle.nj_manifest.specs.Dyndeps.{EntryModel}
 use Rattle.nj_scope.specs.Readings.{Reading, reading_of}
 use Rattle.nj_scope.specs.ReadingList.{Discovered, ReadStatement}
 use Rattle.nj_faults.specs.declared.fault.Place.{Place}
 use Rattle.nj_faults.specs.declared.fault.GraphFault.{GraphFault}
 use Rattle.nj_faults.specs.declared.fault.Cause.TheVariants.{PathNotText}
-use Rattle.nj_statements.specs.EdgeList.{EdgeText, Pending, edges_read, pending_read}
+use Rattle.nj_statements.specs.EdgeList.{EdgeModel, Pending, edges_read, pending_read}
 use Rattle.nj_statements.specs.Joining.{discover, discovered_by, entry_fault, with_entry, no_statement, lacking_fault, dyndep_files}
 use Rattle.nj_statements.proofs.DiscoverLemmas.{with_entry-by}
 use Rattle.nj_statements.proofs.DiscoverEdges.{pending-discover, pending-within}
-use Rattle.nj_graph.specs.Reading.{End, Whole, Refused, Lacking, ReadingText, end_by, stopped, found_read, outcome_read}
-use Rattle.nj_graph.specs.Runs.{ReachedText}
+use Rattle.nj_graph.specs.Reading.{End, Whole, Refused, Lacking, ReadingModel, end_by, stopped, found_read, outcome_read}
+use Rattle.nj_graph.specs.Runs.{ReachedModel}
 use Rattle.nj_graph.specs.Joining.{entries_joined, text_joined, statement_place, file_joined, continued, files_joined, all_joined, JoinedStaysJoined}
 
 -- ---- lists
@@ -65,10 +65,10 @@ find-none test (x ∷ xs) h = by (test x) (find-none test xs) refl h
 -- ---- what stays as files are joined
 
 module _ (P : List ReadStatement → Type 0) (keeps : (edge : ℕ) (found : Discovered) (entries : List ReadStatement) → P entries → P (discover edge found entries)) where
-  pub kept-by-entry : (stated joined : List ReadStatement) (entry : EntryText) → P joined → P (with_entry stated joined entry)
+  pub kept-by-entry : (stated joined : List ReadStatement) (entry : EntryModel) → P joined → P (with_entry stated joined entry)
   kept-by-entry stated joined entry h = with_entry-by P stated joined entry h (λ edge. keeps edge (discovered_by entry) joined h)
 
-  kept-by-entries : (file : List ℕ) (stated : List ReadStatement) (entries : List EntryText) (fault : Option Fault) (joined : List ReadStatement) → P joined → P (entries_joined file stated entries fault joined).entries
+  kept-by-entries : (file : List ℕ) (stated : List ReadStatement) (entries : List EntryModel) (fault : Option Fault) (joined : List ReadStatement) → P joined → P (entries_joined file stated entries fault joined).entries
   unfolding entries_joined
   kept-by-entries file stated [] None joined h = h
   kept-by-entries file stated [] (Some fault) joined h = h
@@ -86,7 +86,7 @@ module _ (P : List ReadStatement → Type 0) (keeps : (edge : ℕ) (found : Disc
       at_statement : Place
       at_statement = statement_place stated p.edge
 
-      reads : List ℕ → ReadingText
+      reads : List ℕ → ReadingModel
       reads text = text_joined p.file stated text joined
 
       by_found : (text : Option (List ℕ)) → P (found_read p.file at_statement joined reads text).entries
@@ -118,7 +118,7 @@ module _ (P : List ReadStatement → Type 0) (keeps : (edge : ℕ) (found : Disc
 
 -- ---- after a whole file no edge is pending on it
 
-entries-whole : (file : List ℕ) (stated : List ReadStatement) (entries : List EntryText) (fault : Option Fault) (joined : List ReadStatement) → (entries_joined file stated entries fault joined).end ≡ Whole
+entries-whole : (file : List ℕ) (stated : List ReadStatement) (entries : List EntryModel) (fault : Option Fault) (joined : List ReadStatement) → (entries_joined file stated entries fault joined).end ≡ Whole
     → lacking_fault file (entries_joined file stated entries fault joined).entries ≡ None
 unfolding entries_joined
 entries-whole file stated [] None joined h = by (lacking_fault file joined) h
@@ -129,7 +129,7 @@ entries-whole file stated [] None joined h = by (lacking_fault file joined) h
 entries-whole file stated [] (Some fault) joined h = absurd cc
 entries-whole file stated (entry ∷ others) fault joined h = by (entry_fault file stated joined entry) (entries-whole file stated others fault (with_entry stated joined entry)) h
   where
-    later : ReadingText
+    later : ReadingModel
     later = entries_joined file stated others fault (with_entry stated joined entry)
 
     by : (f : Option GraphFault) → (later.end ≡ Whole → lacking_fault file later.entries ≡ None) → (unless_fault f joined later).end ≡ Whole → lacking_fault file (unless_fault f joined later).entries ≡ None
@@ -143,7 +143,7 @@ file-whole files stated p joined h = by_text (is_utf8 p.file) h
     at_statement : Place
     at_statement = statement_place stated p.edge
 
-    reads : List ℕ → ReadingText
+    reads : List ℕ → ReadingModel
     reads text = text_joined p.file stated text joined
 
     by_found : (text : Option (List ℕ)) → (found_read p.file at_statement joined reads text).end ≡ Whole → lacking_fault p.file (found_read p.file at_statement joined reads text).entries ≡ None
@@ -163,7 +163,7 @@ file-whole files stated p joined h = by_text (is_utf8 p.file) h
 lacking-none : (file : List ℕ) (joined : List ReadStatement) → lacking_fault file joined ≡ None → AllByRecursion (λ q. bytes_eq q.file file ≡ false) (pending_read joined)
 lacking-none file joined h = find-none (λ q. bytes_eq q.file file) (pending_read joined) (by (find (λ q. bytes_eq q.file file) (pending_read joined)) refl h)
   where
-    there : (q : Pending) → q.edge < length (edges_read joined) → (found : Option EdgeText) → slice_get (edges_read joined) q.edge ≡ found → option_map (no_statement file) found ≡ None → ⊥
+    there : (q : Pending) → q.edge < length (edges_read joined) → (found : Option EdgeModel) → slice_get (edges_read joined) q.edge ≡ found → option_map (no_statement file) found ≡ None → ⊥
     there q within None at none = within-some (edges_read joined) q.edge within at
     there q within (Some edge) at none = absurd cc
 
@@ -250,5 +250,5 @@ nothing-joined files stated none = ap (λ ps. files_joined files stated (dyndep_
 
 pub joined_stays_joined : JoinedStaysJoined
 joined_stays_joined files others stated joined is whole =
-    nothing-joined others joined.read.entries (subst (λ (j : ReachedText). pending_read j.read.entries ≡ []) is (none-unjoined files stated (ap (λ (j : ReachedText). j.read.end) is ∙ whole)))
+    nothing-joined others joined.read.entries (subst (λ (j : ReachedModel). pending_read j.read.entries ≡ []) is (none-unjoined files stated (ap (λ (j : ReachedModel). j.read.end) is ∙ whole)))
     ∙ ap (λ end. record { read = record { entries = joined.read.entries; end = end }; paths = [] }) (sym whole)

@@ -8,9 +8,9 @@ use Rattle.nj_scope.specs.Sources.{SourceState, Rises}
 use Rattle.nj_faults.specs.declared.fault.GraphFault.{GraphFault}
 use Rattle.nj_statements.specs.EdgeList.{Pending, pending_read}
 use Rattle.nj_statements.specs.Joining.{dyndep_files}
-use Rattle.nj_statements.specs.JoiningHeld.{JoiningText, HasJoined}
-use Rattle.nj_graph.specs.Reading.{End, Whole, Refused, Lacking, ReadingText}
-use Rattle.nj_graph.specs.Runs.{IsRead, IsEnd, paths_with, ReachedText, Stops}
+use Rattle.nj_statements.specs.JoiningHeld.{JoiningModel, HasJoined}
+use Rattle.nj_graph.specs.Reading.{End, Whole, Refused, Lacking, ReadingModel}
+use Rattle.nj_graph.specs.Runs.{IsRead, IsEnd, paths_with, ReachedModel, Stops}
 use Rattle.nj_graph.specs.Inside.ReaderContracts.{ReadsAll}
 use Rattle.nj_graph.specs.Joining.{continued, path_asked, file_joined, files_joined, all_joined}
 use Rattle.nj_graph.specs.Inside.JoiningContracts.{FileJoined, FileLacksMemory, FileEnds, FileStops, FilesJoined, FilesStop}
@@ -36,7 +36,7 @@ end-before before mid after Whole fault same h = h
 end-before before mid after (Refused expected) fault same h = (h.0, h.1 ∙ same)
 end-before before mid after (Lacking path place) fault same h = (h.0, subst (λ n. Rises n after.failures) same h.1)
 
-stays : (end : End) (p : Pending) (entries : List ReadStatement) (others : List ReadStatement → ReachedText) → IsStopped end → continued end p entries others ≡ record { read = record { entries = entries; end = end }; paths = path_asked p }
+stays : (end : End) (p : Pending) (entries : List ReadStatement) (others : List ReadStatement → ReachedModel) → IsStopped end → continued end p entries others ≡ record { read = record { entries = entries; end = end }; paths = path_asked p }
 stays Whole p entries others h = absurd h
 stays (Refused fault) p entries others h = refl
 stays (Lacking path place) p entries others h = refl
@@ -44,11 +44,11 @@ stays (Lacking path place) p entries others h = refl
 -- ---- the files so far
 
 -- a joining after one that came to these paths
-abbrev remainder : List (List ℕ) → ReachedText → ReachedText
+abbrev remainder : List (List ℕ) → ReachedModel → ReachedModel
 remainder paths j = record { read = j.read; paths = paths ++ j.paths }
 
 -- What was joined is held, and the whole joins what the files that are left join from here on.
-pub record FilesUnderway (stated : List ReadStatement) (before after : SourceState) (old table : List Reading) (held : JoiningText) (left : List Pending) : Type 0 where
+pub record FilesUnderway (stated : List ReadStatement) (before after : SourceState) (old table : List Reading) (held : JoiningModel) (left : List Pending) : Type 0 where
   pub files : List Reading
   pub reads : ReadsAll before after old files table
   pub now : List ReadStatement
@@ -58,11 +58,11 @@ pub record FilesUnderway (stated : List ReadStatement) (before after : SourceSta
   pub continues : (all : List Reading) → IsPrefix files all → all_joined all stated ≡ remainder paths (files_joined all stated left now)
 
 module _ (stated : List ReadStatement) (before : SourceState) (old : List Reading) where
-  pub files-at-first : (held : JoiningText) → EachPathOnce old → HasJoined held stated stated → FilesUnderway stated before before old old held (dyndep_files (pending_read stated))
+  pub files-at-first : (held : JoiningModel) → EachPathOnce old → HasJoined held stated stated → FilesUnderway stated before before old old held (dyndep_files (pending_read stated))
   unfolding all_joined
   files-at-first held once has = record { files = old; reads = reads-all-nothing before old once; now = stated; has = has; paths = []; came_to = refl; continues = λ all ext. refl }
 
-  module _ (mid : SourceState) (table : List Reading) (held : JoiningText) where
+  module _ (mid : SourceState) (table : List Reading) (held : JoiningModel) where
     pub files-end : FilesUnderway stated before mid old table held [] → FilesJoined stated before mid old table held
     unfolding files_joined
     files-end u = record {
@@ -77,14 +77,14 @@ module _ (stated : List ReadStatement) (before : SourceState) (old : List Readin
 
     module _ (p : Pending) (others : List Pending) (u : FilesUnderway stated before mid old table held (p ∷ others)) where
       -- the next file
-      next : (all : List Reading) → IsPrefix u.files all → (r : ReadingText) → file_joined all stated p u.now ≡ r → all_joined all stated ≡ remainder u.paths (continued r.end p r.entries (files_joined all stated others))
+      next : (all : List Reading) → IsPrefix u.files all → (r : ReadingModel) → file_joined all stated p u.now ≡ r → all_joined all stated ≡ remainder u.paths (continued r.end p r.entries (files_joined all stated others))
       unfolding files_joined
-      next all ext r is = u.continues all ext ∙ ap (λ (x : ReadingText). remainder u.paths (continued x.end p x.entries (files_joined all stated others))) is
+      next all ext r is = u.continues all ext ∙ ap (λ (x : ReadingModel). remainder u.paths (continued x.end p x.entries (files_joined all stated others))) is
 
       came : with_news (paths_of old) (u.paths ++ path_asked p) ≡ with_news (paths_of u.files) (path_asked p)
       came = all_new-append (paths_of old) u.paths (path_asked p) ∙ ap (λ ps. with_news ps (path_asked p)) u.came_to
 
-      pub files-turn : (after : SourceState) (later_table : List Reading) (later : JoiningText) → FileJoined stated u.now p mid after table later_table later → FilesUnderway stated before after old later_table later others
+      pub files-turn : (after : SourceState) (later_table : List Reading) (later : JoiningModel) → FileJoined stated u.now p mid after table later_table later → FilesUnderway stated before after old later_table later others
       files-turn after later_table later f = record {
         files = f.files;
         reads = reads-all-then before mid after old u.files f.files table later_table u.reads there;
@@ -100,16 +100,16 @@ module _ (stated : List ReadStatement) (before : SourceState) (old : List Readin
           there = subst (λ fs. ReadsAll mid after fs f.files later_table) u.reads.held_is f.reads
 
       -- the paths begin with the path of the file
-      first-asked : (end : End) (entries : List ReadStatement) (k : List ReadStatement → ReachedText) → (more : List (List ℕ)) × ((continued end p entries k).paths ≡ path_asked p ++ more)
+      first-asked : (end : End) (entries : List ReadStatement) (k : List ReadStatement → ReachedModel) → (more : List (List ℕ)) × ((continued end p entries k).paths ≡ path_asked p ++ more)
       first-asked Whole entries k = ((k entries).paths, refl)
       first-asked (Refused fault) entries k = ([], sym (append-nil (path_asked p)))
       first-asked (Lacking path place) entries k = ([], sym (append-nil (path_asked p)))
 
       asks : (all : List Reading) → IsPrefix u.files all → IsPrefix (with_news (paths_of u.files) (path_asked p)) (with_news (paths_of old) (all_joined all stated).paths)
       asks all ext =
-          let r : ReadingText = file_joined all stated p u.now in
+          let r : ReadingModel = file_joined all stated p u.now in
           let more = first-asked r.end r.entries (files_joined all stated others) in
-          let paths : (all_joined all stated).paths ≡ (u.paths ++ path_asked p) ++ more.0 = ap (λ (j : ReachedText). j.paths) (next all ext r refl) ∙ ap (λ ps. u.paths ++ ps) more.1 ∙ sym (append_assoc u.paths (path_asked p) more.0) in
+          let paths : (all_joined all stated).paths ≡ (u.paths ++ path_asked p) ++ more.0 = ap (λ (j : ReachedModel). j.paths) (next all ext r refl) ∙ ap (λ ps. u.paths ++ ps) more.1 ∙ sym (append_assoc u.paths (path_asked p) more.0) in
           let whole : with_news (paths_of old) (all_joined all stated).paths ≡ with_news (with_news (paths_of u.files) (path_asked p)) more.0 =
           ap (with_news (paths_of old)) paths ∙ all_new-append (paths_of old) (u.paths ++ path_asked p) more.0 ∙ ap (λ ps. with_news ps more.0) came in
           subst (IsPrefix (with_news (paths_of u.files) (path_asked p))) (sym whole) (prefix-named (with_news (paths_of u.files) (path_asked p)) more.0)

@@ -6,8 +6,8 @@ use Rattle.nj_manifest.specs.declared.entries.Entry as text
 use Rattle.nj_manifest.specs.Faults.{Fault}
 use Rattle.nj_manifest.specs.LineSteps.{◌>>=◌}
 use Rattle.nj_manifest.specs.Dyndeps as dyndep
-use Rattle.nj_manifest.specs.Dyndeps.{EntryText, version_next, next_entry, left_entry, DyndepLeft}
-use Rattle.nj_manifest.specs.DyndepParsers.{entry_text}
+use Rattle.nj_manifest.specs.Dyndeps.{EntryModel, version_next, next_entry, left_entry, DyndepLeft}
+use Rattle.nj_manifest.specs.DyndepParsers.{entry_model}
 use Rattle.nj_manifest.specs.Inside.ParserContracts.{left_by}
 use Rattle.nj_manifest.proofs.Starts.{ahead}
 use Rattle.nj_manifest.proofs.DyndepMeasures.{entry-takes, version-takes, left_entry-takes, text-ahead}
@@ -15,7 +15,7 @@ use Rattle.nj_scope.specs.ReadingList.{ReadStatement}
 use Rattle.nj_faults.specs.declared.fault.GraphFault.{GraphFault}
 use Rattle.nj_faults.specs.Faults.{IsFault, fault_in, no_memory}
 use Rattle.nj_statements.specs.Joining.{entry_fault, with_entry}
-use Rattle.nj_statements.specs.JoiningHeld.{JoiningText, HasJoined}
+use Rattle.nj_statements.specs.JoiningHeld.{JoiningModel, HasJoined}
 use Rattle.nj_graph.specs.Parsed.{Parsed, none_parsed, and_parsed, parsed_in}
 use Rattle.nj_graph.specs.Reading.{Refused}
 use Rattle.nj_graph.specs.Joining.{after_version, entries_of, entries_joined, text_joined}
@@ -33,12 +33,12 @@ bind-err (Err e) k f h = inl cc
 -- ---- the entries to come
 
 -- the entries of the lines that a parser has before it, the version first if it was not read
-abbrev pub entries_left : (most : ℕ) → (version_read : Bool) → List Line → Parsed EntryText
+abbrev pub entries_left : (most : ℕ) → (version_read : Bool) → List Line → Parsed EntryModel
 entries_left most true lines = parsed_in next_entry most lines
 entries_left most false lines = after_version most (version_next lines)
 
 -- An entry is the first of those to come; after it there are fewer lines.
-pub entries-step : (most : ℕ) (b : Bool) (ls rest : List Line) (entry : EntryText) → left_entry b ls ≡ Ok (Some entry, rest) → ahead ls < most
+pub entries-step : (most : ℕ) (b : Bool) (ls rest : List Line) (entry : EntryModel) → left_entry b ls ≡ Ok (Some entry, rest) → ahead ls < most
     → (fewer : ℕ) × (entries_left most b ls ≡ and_parsed entry (entries_left fewer true rest)) × (ahead rest < fewer)
 entries-step most true ls rest entry h less = parsed-step next_entry most ls rest entry h (entry-takes ls entry rest h) less
 entries-step most false ls rest entry h less =
@@ -66,14 +66,14 @@ entries-fault most false ls f h less = by (bind-err (version_next ls) next_entry
 -- ---- the entries so far
 
 -- What was joined is held, and what the text joins is what the lines that are left join from here on.
-pub record TextUnderway (file : List ℕ) (stated : List ReadStatement) (text : List ℕ) (joined : List ReadStatement) (held : JoiningText) (version_read : Bool) (lines : List Line) : Type 0 where
+pub record TextUnderway (file : List ℕ) (stated : List ReadStatement) (text : List ℕ) (joined : List ReadStatement) (held : JoiningModel) (version_read : Bool) (lines : List Line) : Type 0 where
   pub now : List ReadStatement
   pub has : HasJoined held stated now
   pub most : ℕ
   pub capacity : ahead lines < most
   pub continues : text_joined file stated text joined ≡ entries_joined file stated (entries_left most version_read lines).items (entries_left most version_read lines).fault now
 
-module _ (file : List ℕ) (stated : List ReadStatement) (text : List ℕ) (joined : List ReadStatement) (held : JoiningText) where
+module _ (file : List ℕ) (stated : List ReadStatement) (text : List ℕ) (joined : List ReadStatement) (held : JoiningModel) where
   pub text-at-first : HasJoined held stated joined → TextUnderway file stated text joined held false (text_lines text)
   unfolding entries_of
   text-at-first has = record { now = joined; has = has; most = suc (length text); capacity = text-ahead text; continues = refl }
@@ -84,26 +84,26 @@ module _ (file : List ℕ) (stated : List ReadStatement) (text : List ℕ) (join
     text-ends rest h = record {
       now = u.now;
       has = u.has;
-      joins = u.continues ∙ ap (λ (es : Parsed EntryText). entries_joined file stated es.items es.fault u.now) (entries-end u.most b lines rest h);
+      joins = u.continues ∙ ap (λ (es : Parsed EntryModel). entries_joined file stated es.items es.fault u.now) (entries-end u.most b lines rest h);
     }
 
     pub text-fault : (fault : GraphFault) (found : Fault) → left_entry b lines ≡ Err found → fault ≡ fault_in file found → TextRefused file stated text joined fault
     unfolding entries_joined
     text-fault fault found h is = record {
       now = u.now;
-      joins = u.continues ∙ ap (λ (es : Parsed EntryText). entries_joined file stated es.items es.fault u.now) (entries-fault u.most b lines found h u.capacity) ∙ ap (λ f. record { entries = u.now; end = Refused f }) (sym is);
+      joins = u.continues ∙ ap (λ (es : Parsed EntryModel). entries_joined file stated es.items es.fault u.now) (entries-fault u.most b lines found h u.capacity) ∙ ap (λ f. record { entries = u.now; end = Refused f }) (sym is);
     }
 
-    module _ (entry : EntryText) (rest : List Line) (next : left_entry b lines ≡ Ok (Some entry, rest)) where
+    module _ (entry : EntryModel) (rest : List Line) (next : left_entry b lines ≡ Ok (Some entry, rest)) where
       step : (fewer : ℕ) × (entries_left u.most b lines ≡ and_parsed entry (entries_left fewer true rest)) × (ahead rest < fewer)
       step = entries-step u.most b lines rest entry next u.capacity
 
       joins-next : text_joined file stated text joined ≡ unless_fault (entry_fault file stated u.now entry) u.now
           (entries_joined file stated (entries_left step.0 true rest).items (entries_left step.0 true rest).fault (with_entry stated u.now entry))
       unfolding entries_joined
-      joins-next = u.continues ∙ ap (λ (es : Parsed EntryText). entries_joined file stated es.items es.fault u.now) step.1
+      joins-next = u.continues ∙ ap (λ (es : Parsed EntryModel). entries_joined file stated es.items es.fault u.now) step.1
 
-      pub text-turn : (later : JoiningText) → entry_fault file stated u.now entry ≡ None → HasJoined later stated (with_entry stated u.now entry) → TextUnderway file stated text joined later true rest
+      pub text-turn : (later : JoiningModel) → entry_fault file stated u.now entry ≡ None → HasJoined later stated (with_entry stated u.now entry) → TextUnderway file stated text joined later true rest
       text-turn later none has = record {
         now = with_entry stated u.now entry;
         has = has;
@@ -131,7 +131,7 @@ next-of file true lines after result h = h
 next-of file false lines after result h = h
 
 pub next-some : (file : List ℕ) (before after : DyndepLeft) (b : Bool) (lines : List Line) (found : Option text.Entry) (entry : text.Entry) → before ≡ left_by b lines → found ≡ Some entry → NextEntryIs file before after (Ok found)
-    → (rest : List Line) × (left_entry b lines ≡ Ok (Some (entry_text entry), rest)) × (after ≡ left_by true rest)
+    → (rest : List Line) × (left_entry b lines ≡ Ok (Some (entry_model entry), rest)) × (after ≡ left_by true rest)
 next-some file before after b lines found entry at is next =
     subst (λ f. NextEntryOf file (left_entry b lines) after (Ok f)) is (next-of file b lines after (Ok found) (subst (λ s. NextEntryIs file s after (Ok found)) at next))
 
@@ -144,7 +144,7 @@ to-come : (b : Bool) (lines : List Line) → lines_to_come (left_by b lines) ≡
 to-come true lines = refl
 to-come false lines = refl
 
-pub fewer-to-come : (before after : DyndepLeft) (b : Bool) (lines rest : List Line) (entry : EntryText) → before ≡ left_by b lines → after ≡ left_by true rest → left_entry b lines ≡ Ok (Some entry, rest)
+pub fewer-to-come : (before after : DyndepLeft) (b : Bool) (lines rest : List Line) (entry : EntryModel) → before ≡ left_by b lines → after ≡ left_by true rest → left_entry b lines ≡ Ok (Some entry, rest)
     → lines_to_come after < lines_to_come before
 fewer-to-come before after b lines rest entry at remainder next =
     let takes = left_entry-takes b lines entry rest next in
@@ -152,7 +152,7 @@ fewer-to-come before after b lines rest entry at remainder next =
     let there : lines_to_come after ≡ ahead rest = ap lines_to_come remainder in
     omega (arith, takes, here, there)
 
-pub next-stops : (file : List ℕ) (stated : List ReadStatement) (text : List ℕ) (joined : List ReadStatement) (held : JoiningText) (b : Bool) (lines : List Line) (before after : DyndepLeft) (fault : GraphFault)
+pub next-stops : (file : List ℕ) (stated : List ReadStatement) (text : List ℕ) (joined : List ReadStatement) (held : JoiningModel) (b : Bool) (lines : List Line) (before after : DyndepLeft) (fault : GraphFault)
     → TextUnderway file stated text joined held b lines → before ≡ left_by b lines → NextEntryIs file before after (Err fault) → (fault ≡ no_memory) ⊎ TextRefused file stated text joined fault
 next-stops file stated text joined held b lines before after fault u at next = by (next-of file b lines after (Err fault) (subst (λ s. NextEntryIs file s after (Err fault)) at next))
   where

@@ -3,20 +3,20 @@ use Rattle.std.proofs.Common.{◌≡◌, ℕ, if◌then◌else◌, Some, None, u
 use Rattle.nj_scope.proofs.Gathering.{with_given}
 use Rattle.std.specs.Option.{option_or}
 use Rattle.std.proofs.lemmas.Slice.Eq.{bytes_eq-Decides}
-use Rattle.nj_text.specs.Words.{WordText}
-use Rattle.nj_manifest.specs.Statements.{StatementText, BindingText}
+use Rattle.nj_text.specs.Words.{WordModel}
+use Rattle.nj_manifest.specs.Statements.{StatementModel, BindingModel}
 use Rattle.nj_scope.specs.Scopes.{first_given, value_in, expanded}
 use Rattle.nj_scope.specs.ReadingList.{ReadStatement, scope_of, binds, bounds}
-use Rattle.nj_statements.specs.EdgeList.{EdgeText, edges_read, edge_given}
+use Rattle.nj_statements.specs.EdgeList.{EdgeModel, edges_read, edge_given}
 use Rattle.nj_graph.specs.Reading.{expanded_in}
 use Rattle.nj_graph.specs.Laws.{LaterBindingsCount, LaterBindingsChangeNoEdge}
 
 -- what the scope of the edge binds is the new value
-binds-now : (e : ReadStatement) (before : List ReadStatement) (edge : EdgeText) (name : List ℕ) (word : WordText) → e.item ≡ BindingText name word → e.number ≡ edge.number → bounds (e ∷ before) edge.number name ≡ Some (expanded_in (scope_of e) before word)
+binds-now : (e : ReadStatement) (before : List ReadStatement) (edge : EdgeModel) (name : List ℕ) (word : WordModel) → e.item ≡ BindingModel name word → e.number ≡ edge.number → bounds (e ∷ before) edge.number name ≡ Some (expanded_in (scope_of e) before word)
 unfolding bounds
 binds-now e before edge name word is number =
     ap (λ b. option_or (if b then binds value e.item name else None) (bounds before edge.number name)) (eq-eqb edge.number e.number (sym number))
-    ∙ ap (λ (i : StatementText). option_or (binds value i name) (bounds before edge.number name)) is
+    ∙ ap (λ (i : StatementModel). option_or (binds value i name) (bounds before edge.number name)) is
     ∙ ap (λ b. option_or (if b then Some (expanded value word.parts) else None) (bounds before edge.number name)) ((bytes_eq-Decides name name).1 refl)
   where
     value : List ℕ → List ℕ

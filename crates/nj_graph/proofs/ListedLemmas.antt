@@ -7,24 +7,24 @@ use Rattle.std.proofs.lemmas.List.{map_push, append-nil}
 use Rattle.std.proofs.lemmas.List.Elements.{filter_more}
 use Rattle.std.proofs.lemmas.List.Sorted.{ranks_by}
 use Rattle.std.proofs.lemmas.Option.{slice_get-get_or}
-use Rattle.nj_scope.specs.Rules.{RuleText, phony_rule, rules_in}
+use Rattle.nj_scope.specs.Rules.{RuleModel, phony_rule, rules_in}
 use Rattle.nj_graph.specs.Graph.{is_before, sorted_by, main_rules_of, rule_name}
 use Rattle.nj_graph.specs.Inside.GraphHeld.{HasMainRules}
 use Rattle.nj_graph.proofs.SortLemmas.{sorted_by-map, stable_sort-is}
 
-abbrev pub name_of : Option RuleText → List ℕ
+abbrev pub name_of : Option RuleModel → List ℕ
 name_of rule = unwrap_or (option_map (λ r. r.name) rule) []
 
-abbrev some_rule : RuleText → Option RuleText
+abbrev some_rule : RuleModel → Option RuleModel
 some_rule rule = Some rule
 
-module _ (rules : List RuleText) where
+module _ (rules : List RuleModel) where
   abbrev pub comes_before : ℕ → ℕ → Bool
   comes_before m n = is_before (rule_name rules m) (rule_name rules n)
 
   -- ---- rule by rule
 
-  module _ (numbers : List ℕ) (i : ℕ) (rule : RuleText) (below : i < length rules) (is : rule ≡ get_or rules i rule) (so_far : map (slice_get rules) numbers ≡ map some_rule (rules_in (take i rules) 0)) where
+  module _ (numbers : List ℕ) (i : ℕ) (rule : RuleModel) (below : i < length rules) (is : rule ≡ get_or rules i rule) (so_far : map (slice_get rules) numbers ≡ map some_rule (rules_in (take i rules) 0)) where
     -- with the next rule
     more : rules_in (take (i + 1) rules) 0 ≡ rules_in (take i rules) 0 ++ cond (0 == rule.scope) (rule ∷ []) []
     more = filter_more (λ r. 0 == r.scope) rules i rule below ∙ ap (λ r. rules_in (take i rules) 0 ++ cond (0 == r.scope) (r ∷ []) []) (sym is)
@@ -46,7 +46,7 @@ module _ (rules : List RuleText) where
 
   -- ---- sorted
 
-  abbrev by_name : Option RuleText → Option RuleText → Bool
+  abbrev by_name : Option RuleModel → Option RuleModel → Bool
   by_name r s = is_before (name_of r) (name_of s)
 
   pub sorted-held : (numbers sorted : List ℕ) → map (slice_get rules) numbers ≡ map some_rule (rules_in rules 0) → IsSortedBy comes_before sorted → IsStableBy comes_before numbers sorted → HasMainRules rules sorted
@@ -57,7 +57,7 @@ module _ (rules : List RuleText) where
       ∙ sym (sorted_by-map some_rule by_name (rules_in rules 0))
 
 -- the rule at an index
-pub held-at : (rules : List RuleText) (numbers : List ℕ) (listed : List RuleText) → map (slice_get rules) numbers ≡ map some_rule listed → (i d : ℕ) → i < length listed → slice_get rules (get_or numbers i d) ≡ Some (get_or listed i phony_rule)
+pub held-at : (rules : List RuleModel) (numbers : List ℕ) (listed : List RuleModel) → map (slice_get rules) numbers ≡ map some_rule listed → (i d : ℕ) → i < length listed → slice_get rules (get_or numbers i d) ≡ Some (get_or listed i phony_rule)
 held-at rules [] [] h i d below = absurd (omega (arith, below))
 held-at rules [] (r ∷ listed) h i d below = absurd cc
 held-at rules (n ∷ numbers) [] h i d below = absurd cc

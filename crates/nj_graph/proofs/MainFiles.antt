@@ -15,13 +15,13 @@ use Rattle.nj_graph.specs.declared.reader.Reader.{Reader}
 use Rattle.nj_faults.specs.declared.fault.Cause.TheVariants.{Missing}
 use Rattle.nj_faults.specs.Faults.{no_memory}
 use Rattle.nj_faults.specs.Limits.{most_within}
-use Rattle.nj_graph.specs.Reading.{Refused, Lacking, ReadingText, opened_in, text_read, outcome_read, main_site, main_place, main_read}
+use Rattle.nj_graph.specs.Reading.{Refused, Lacking, ReadingModel, opened_in, text_read, outcome_read, main_site, main_place, main_read}
 use Rattle.nj_graph.specs.Inside.ReaderContracts.{IsNew, Has, ReadsAll, ReadsText, ReadsOrStops, StopsAt}
 use Rattle.nj_cycles.specs.Cycles.{IsAcyclic}
 use Rattle.nj_edges.specs.Needs.{makers_of_inputs}
 use Rattle.nj_statements.specs.EdgeList.{edges_read, paths_of_edges}
 use Rattle.nj_statements.specs.Answers.{HasEdges}
-use Rattle.nj_statements.specs.Built.{BuiltText, IsBuiltOf, ComesTo, detail_of}
+use Rattle.nj_statements.specs.Built.{BuiltModel, IsBuiltOf, ComesTo, detail_of}
 use Rattle.nj_graph.specs.Origins.{main_of}
 use Rattle.nj_graph.specs.Graph.{IsOpenScope, HasRule, IsGraphOf}
 use Rattle.nj_graph.specs.Inside.GraphHeld.{IsKnown}
@@ -30,13 +30,13 @@ use Rattle.nj_graph.proofs.OriginLemmas.{origins-of_main, main-named}
 use Rattle.nj_graph.proofs.EdgeRules.{edges-have, edges-open, known-details}
 use Rattle.nj_graph.proofs.ReadingLaws.{read_is_faultless}
 use Rattle.nj_graph.specs.Runs.{IsRead}
-use Rattle.nj_graph.specs.Loads.{LoadedText, IsWhole, Loads}
+use Rattle.nj_graph.specs.Loads.{LoadedModel, IsWhole, Loads}
 use Rattle.nj_graph.proofs.Found.{FindsText, FindsNone, CannotTell, HasNoMemory}
 use Rattle.nj_graph.proofs.Comes.{main-comes}
 use Rattle.nj_graph.proofs.Tables.{extends-trans, reading-kept, read-extends, reads-all-then, read-nothing}
 use Rattle.nj_graph.proofs.Turns.{stops-then}
 
-abbrev main_reading : (main : List ℕ) → List Reading → ReadingText
+abbrev main_reading : (main : List ℕ) → List Reading → ReadingModel
 main_reading main all = main_read all main
 
 -- a path is in the list of itself
@@ -158,19 +158,19 @@ module _ (main : List ℕ) (before after : SourceState) (old held : Reader) (r :
 
   -- each edge has a rule, since no statement has a fault
   has-rules : AllByRecursion (HasRule held.declarations.rules) (edges_read r.entries)
-  has-rules = subst (λ rules. AllByRecursion (HasRule rules) (edges_read r.entries)) (sym r.has.declares.rules) (edges-have r.entries (subst (λ (x : ReadingText). Faultless x.entries) is-whole.read (read_is_faultless r.files main)))
+  has-rules = subst (λ rules. AllByRecursion (HasRule rules) (edges_read r.entries)) (sym r.has.declares.rules) (edges-have r.entries (subst (λ (x : ReadingModel). Faultless x.entries) is-whole.read (read_is_faultless r.files main)))
 
   -- its scope and its rule are there
-  pub details-known : (built : BuiltText) → IsBuiltOf built r.entries → AllByRecursion (IsKnown held.declarations) built.details
+  pub details-known : (built : BuiltModel) → IsBuiltOf built r.entries → AllByRecursion (IsKnown held.declarations) built.details
   details-known built is =
       subst (AllByRecursion (IsKnown held.declarations)) (sym is.details) (known-details held.declarations (edges_read r.entries) (edges-open held.declarations.scopes r.entries r.has.scopes) has-rules)
 
-  pub details-count : (built : BuiltText) → IsBuiltOf built r.entries → length built.details ≡ length built.graph.edges
+  pub details-count : (built : BuiltModel) → IsBuiltOf built r.entries → length built.details ≡ length built.graph.edges
   details-count built is =
       ap length is.details ∙ length-map (edges_read r.entries) detail_of ∙ sym (ap length is.paths ∙ length-map (edges_read r.entries) (λ e. e.paths))
 
   -- and the graph has what was declared and built
-  pub is-loaded : (loaded : LoadedText) (built : BuiltText) → old.files ≡ [] → loaded.files ≡ held.files → loaded.graph ≡ record { declarations = held.declarations; built = built; origins = held.origins }
+  pub is-loaded : (loaded : LoadedModel) (built : BuiltModel) → old.files ≡ [] → loaded.files ≡ held.files → loaded.graph ≡ record { declarations = held.declarations; built = built; origins = held.origins }
       → ComesTo r.entries (Ok built) → Loads main before after (Ok loaded)
   is-loaded loaded built none same_files same_graph comes = loads main before after (Ok loaded) (
     r.files,

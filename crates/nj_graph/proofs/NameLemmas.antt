@@ -8,7 +8,7 @@ use Rattle.std.proofs.lemmas.Cmp.{nat_list_cmp_total}
 use Rattle.std.proofs.lemmas.List.Elements.{All-contains, All-filter, All-contains_itself, filter_passes}
 use Rattle.std.proofs.lemmas.List.Sorted.{IsPermutation-refl, IsPermutation-cons, IsPermutation-trans, IsPermutation-sym, IsPermutation-middle, Contains-permutation}
 use Rattle.std.proofs.lemmas.Map.Text.{is_eq-slice_cmp}
-use Rattle.nj_scope.specs.Rules.{RuleText, rules_in, rule_names}
+use Rattle.nj_scope.specs.Rules.{RuleModel, rules_in, rule_names}
 use Rattle.nj_scope.specs.ReadingList.{ReadStatement, rules_read}
 use Rattle.nj_scope.proofs.NewRules.{EachRuleIsNew}
 use Rattle.nj_scope.proofs.RuleNames.{names-distinct}
@@ -91,19 +91,19 @@ module _ {X : Type 0} where
   permuted-sorted lt (x ∷ xs) =
       IsPermutation-trans (x ∷ xs) (x ∷ sorted_by lt xs) (insert_by lt x (sorted_by lt xs)) (IsPermutation-cons x xs (sorted_by lt xs) (permuted-sorted lt xs)) (permuted-insert lt x (sorted_by lt xs))
 
-listed-unsorted : (rules : List RuleText) (rule : RuleText) → Contains (rules_in rules 0) rule → (rule.scope ≡ 0) × Contains rules rule
+listed-unsorted : (rules : List RuleModel) (rule : RuleModel) → Contains (rules_in rules 0) rule → (rule.scope ≡ 0) × Contains rules rule
 listed-unsorted rules rule c = (
   sym (eqb-true 0 rule.scope (All-contains (λ r. (0 == r.scope) ≡ true) (rules_in rules 0) rule (filter_passes (λ r. 0 == r.scope) rules) c)),
   All-contains (Contains rules) (rules_in rules 0) rule (All-filter (λ r. 0 == r.scope) (Contains rules) rules (All-contains_itself rules)) c,
 )
 
-unsorted-listed : (rules : List RuleText) (rule : RuleText) → (rule.scope ≡ 0) × Contains rules rule → Contains (rules_in rules 0) rule
+unsorted-listed : (rules : List RuleModel) (rule : RuleModel) → (rule.scope ≡ 0) × Contains rules rule → Contains (rules_in rules 0) rule
 unsorted-listed rules rule c = contains-filter (λ r. 0 == r.scope) rules rule (eq-eqb 0 rule.scope (sym c.0)) c.1
 
 pub lists_main_rules : ListsMainRules
 unfolding main_rules_of
 lists_main_rules rules rule =
-    let all : List RuleText = rules_in rules 0 in
+    let all : List RuleModel = rules_in rules 0 in
     let moved : IsPermutation all (sorted_by (λ r s. is_before r.name s.name) all) = permuted-sorted (λ r s. is_before r.name s.name) all in (
       λ h. listed-unsorted rules rule (Contains-permutation (sorted_by (λ r s. is_before r.name s.name) all) all rule (IsPermutation-sym all (sorted_by (λ r s. is_before r.name s.name) all) moved) h),
       λ h. Contains-permutation all (sorted_by (λ r s. is_before r.name s.name) all) rule moved (unsorted-listed rules rule h),

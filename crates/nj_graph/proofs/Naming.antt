@@ -6,34 +6,34 @@ use Rattle.nj_graph.proofs.Continuing.{unless_fault}
 use Rattle.std.specs.Bool.{then_some}
 use Rattle.std.specs.Option.{option_or, option_to_list}
 use Rattle.nj_text.specs.declared.spot.Spot.{Spot}
-use Rattle.nj_text.specs.Words.{WordText}
+use Rattle.nj_text.specs.Words.{WordModel}
 use Rattle.nj_text.specs.declared.fault.UnitFault.TheVariants as unit
 use Rattle.nj_manifest.specs.Faults.{Fault, Bad}
-use Rattle.nj_manifest.specs.Statements.{StatementText, BindingText, RuleText, PoolText, BuildText, DefaultText, IncludeText, SubninjaText, LineText, OutputsText, InputsText}
+use Rattle.nj_manifest.specs.Statements.{StatementModel, BindingModel, RuleModel, PoolModel, BuildModel, DefaultModel, IncludeModel, SubninjaModel, LineModel, OutputsModel, InputsModel}
 use Rattle.nj_scope.specs.Readings.{Reading, EachPathOnce, IsPrefix, paths_of}
 use Rattle.nj_scope.specs.Scopes.{child, parent_at, first_given}
-use Rattle.nj_scope.specs.Declarations.{DeclarationsText, DeclaredBy, TakesIn}
+use Rattle.nj_scope.specs.Declarations.{DeclarationsModel, DeclaredBy, TakesIn}
 use Rattle.nj_scope.specs.ReadingList.{ReadStatement, scope_of, value_after, path_named}
 use Rattle.nj_scope.specs.Sources.{SourceState}
 use Rattle.nj_faults.specs.declared.fault.GraphFault.{GraphFault}
-use Rattle.nj_graph.specs.declared.opening.Naming.{Naming}
-use Rattle.nj_graph.specs.declared.opening.Naming.TheVariants as naming
+use Rattle.nj_graph.specs.declared.file_statements.Naming.{Naming}
+use Rattle.nj_graph.specs.declared.file_statements.Naming.TheVariants as naming
 use Rattle.nj_graph.specs.declared.reader.Reader.{Reader}
 use Rattle.nj_graph.specs.declared.reader.OpenFile.{OpenFile}
 use Rattle.nj_faults.specs.declared.fault.Place.{Place}
 use Rattle.nj_faults.specs.declared.fault.Cause.{Cause}
 use Rattle.nj_faults.specs.Faults.{IsFault, fault_at, fault_in, no_memory}
-use Rattle.nj_graph.specs.Reading.{Site, entry_at, expanded_in, place_at, path_fault, depth_fault, item_fault, own_fault, Whole, Refused, ReadingText, Opens, item_read, statement_read, opened_in, text_read, path_at_fault}
+use Rattle.nj_graph.specs.Reading.{Site, entry_at, expanded_in, place_at, path_fault, depth_fault, item_fault, own_fault, Whole, Refused, ReadingModel, Opens, item_read, statement_read, opened_in, text_read, path_at_fault}
 use Rattle.nj_graph.specs.Inside.ReaderContracts.{site_scope}
 use Rattle.nj_edges.specs.Edges.{EdgePaths}
 use Rattle.nj_faults.specs.declared.fault.Cause.TheVariants.{RuleVariableCycle}
-use Rattle.nj_statements.specs.EdgeList.{Values, EdgeText, path_given, line_values, edges_read, paths_of_edges, edge_of_build, names_of_edge}
+use Rattle.nj_statements.specs.EdgeList.{Values, EdgeModel, path_given, line_values, edges_read, paths_of_edges, edge_of_build, names_of_edge}
 use Rattle.nj_statements.specs.BuildFaults.{empty_path, unknown_rule, two_makers, outputs_fault, paths_fault, variable_cycle_fault, late_fault, target_fault}
 use Rattle.nj_statements.specs.Answers.{HasEdges}
 use Rattle.nj_statements.proofs.Holding.{names_files, kept-other}
 use Rattle.nj_graph.specs.Runs.{IsRead, Stops}
 use Rattle.nj_graph.specs.Graph.{IsOpenScope}
-use Rattle.nj_graph.specs.Origins.{OriginsText, place_of}
+use Rattle.nj_graph.specs.Origins.{OriginsModel, place_of}
 use Rattle.nj_graph.specs.Inside.OriginsHeld.{origins_with}
 use Rattle.nj_graph.specs.Inside.ReaderContracts.{named_item, named_site, site_of, EntersScope, Has, Grows, IsOpenIn, ReadsOne, StopsAt, OpensText, OpensNamed}
 use Rattle.nj_graph.proofs.Comes.{item-comes, statements-come}
@@ -56,28 +56,28 @@ or-names : (first others : Option GraphFault) → NamesNone first → NamesNone 
 or-names (Some first) others one more = one
 or-names None others one more = more
 
-depth-names : (file : List ℕ) (found : Option LineText) (cause : Cause) → path_at_fault cause ≡ [] → NamesNone (option_map (λ l. fault_at file l.spot cause) found)
+depth-names : (file : List ℕ) (found : Option LineModel) (cause : Cause) → path_at_fault cause ≡ [] → NamesNone (option_map (λ l. fault_at file l.spot cause) found)
 depth-names file (Some l) cause none fault h = ap (λ f. path_at_fault f.cause) (sym (some-is _ fault h)) ∙ none
 depth-names file None cause none fault h = absurd cc
 
-first-names : (fault_of : WordText → Option GraphFault) → ((word : WordText) → NamesNone (fault_of word)) → (words : List WordText) → NamesNone (first_given fault_of words)
+first-names : (fault_of : WordModel → Option GraphFault) → ((word : WordModel) → NamesNone (fault_of word)) → (words : List WordModel) → NamesNone (first_given fault_of words)
 first-names fault_of none [] = λ fault h. absurd cc
 first-names fault_of none (word ∷ words) = or-names (fault_of word) (first_given fault_of words) (none word) (first-names fault_of none words)
 
-empty-names : (file : List ℕ) (values : Values) (word : WordText) → NamesNone (empty_path file values word)
+empty-names : (file : List ℕ) (values : Values) (word : WordModel) → NamesNone (empty_path file values word)
 empty-names file values word = if-names _ file word.spot _ refl
 
-target-names : (file : List ℕ) (values : Values) (edges : List EdgePaths) (word : WordText) → NamesNone (target_fault file values edges word)
+target-names : (file : List ℕ) (values : Values) (edges : List EdgePaths) (word : WordModel) → NamesNone (target_fault file values edges word)
 target-names file values edges word = or-names (empty_path file values word) _ (empty-names file values word) (if-names _ file word.spot _ refl)
 
-outputs-name : (file : List ℕ) (values : Values) (edges : List EdgePaths) (left : List (List ℕ)) (words : List WordText) → NamesNone (outputs_fault file values edges left words)
+outputs-name : (file : List ℕ) (values : Values) (edges : List EdgePaths) (left : List (List ℕ)) (words : List WordModel) → NamesNone (outputs_fault file values edges left words)
 outputs-name file values edges left [] = λ fault h. absurd cc
 outputs-name file values edges left (word ∷ words) =
     or-names (option_or (empty_path file values word) (two_makers file values edges left word)) _
     (or-names (empty_path file values word) _ (empty-names file values word) (if-names _ file word.spot _ refl))
     (outputs-name file values edges (left ++ path_given values word ∷ []) words)
 
-paths-name : (file : List ℕ) (values : Values) (edges : List EdgePaths) (outputs : OutputsText) (inputs : InputsText) → NamesNone (paths_fault file values edges outputs inputs)
+paths-name : (file : List ℕ) (values : Values) (edges : List EdgePaths) (outputs : OutputsModel) (inputs : InputsModel) → NamesNone (paths_fault file values edges outputs inputs)
 paths-name file values edges outputs inputs =
     or-names (outputs_fault file values edges [] (outputs.explicit ++ outputs.implicit)) _
     (outputs-name file values edges [] (outputs.explicit ++ outputs.implicit))
@@ -87,23 +87,23 @@ key-names : (file : List ℕ) (spot : Spot) (key : Option (List ℕ)) → NamesN
 key-names file spot (Some k) fault h = ap (λ f. path_at_fault f.cause) (sym (some-is _ fault h))
 key-names file spot None fault h = absurd cc
 
-late-names : (before : List ReadStatement) (edge : EdgeText) → NamesNone (late_fault before edge)
+late-names : (before : List ReadStatement) (edge : EdgeModel) → NamesNone (late_fault before edge)
 late-names before edge =
     or-names (variable_cycle_fault edge.file edge.spot (names_of_edge before edge)) _ (key-names edge.file edge.spot _)
     (or-names _ _ (if-names _ edge.file edge.spot _ refl) (if-names _ edge.file edge.spot _ refl))
 
-item-names : (e : ReadStatement) (before : List ReadStatement) (item : StatementText) → NamesNone (item_fault e before item)
-item-names e before (BindingText name value) = if-names _ e.file e.spot _ refl
-item-names e before (RuleText name lines) = if-names _ e.file name.spot _ refl
-item-names e before (PoolText name lines) = or-names _ (depth_fault e.file (scope_of e) before lines) (if-names _ e.file name.spot _ refl) (depth-names e.file _ _ refl)
-item-names e before (BuildText outputs rule inputs lines) =
+item-names : (e : ReadStatement) (before : List ReadStatement) (item : StatementModel) → NamesNone (item_fault e before item)
+item-names e before (BindingModel name value) = if-names _ e.file e.spot _ refl
+item-names e before (RuleModel name lines) = if-names _ e.file name.spot _ refl
+item-names e before (PoolModel name lines) = or-names _ (depth_fault e.file (scope_of e) before lines) (if-names _ e.file name.spot _ refl) (depth-names e.file _ _ refl)
+item-names e before (BuildModel outputs rule inputs lines) =
     or-names (unknown_rule e before rule) _ (if-names _ e.file rule.spot _ refl)
     (or-names (paths_fault e.file (line_values e before lines) (paths_of_edges (edges_read before)) outputs inputs) _
     (paths-name e.file (line_values e before lines) (paths_of_edges (edges_read before)) outputs inputs)
     (late-names before (edge_of_build e before outputs rule inputs lines)))
-item-names e before (DefaultText words) = first-names _ (target-names e.file (value_after before (scope_of e)) (paths_of_edges (edges_read before))) words
-item-names e before (IncludeText word) = or-names _ _ (if-names _ e.file word.spot _ refl) (if-names _ e.file word.spot _ refl)
-item-names e before (SubninjaText word) = or-names _ _ (if-names _ e.file word.spot _ refl) (if-names _ e.file word.spot _ refl)
+item-names e before (DefaultModel words) = first-names _ (target-names e.file (value_after before (scope_of e)) (paths_of_edges (edges_read before))) words
+item-names e before (IncludeModel word) = or-names _ _ (if-names _ e.file word.spot _ refl) (if-names _ e.file word.spot _ refl)
+item-names e before (SubninjaModel word) = or-names _ _ (if-names _ e.file word.spot _ refl) (if-names _ e.file word.spot _ refl)
 
 pub syntax-names : (file : List ℕ) (fault : Fault) → path_at_fault (fault_in file fault).cause ≡ []
 syntax-names file (Bad (unit.BadByte spot)) = refl
@@ -113,7 +113,7 @@ syntax-names file fault = refl
 
 -- ---- the two kinds of statements that name a file
 
-module _ (kind : Naming) (site : Site) (start : Spot) (entries : List ReadStatement) (word : WordText) where
+module _ (kind : Naming) (site : Site) (start : Spot) (entries : List ReadStatement) (word : WordModel) where
   abbrev names : ReadStatement
   names = entry_at site (record { spot = start; item = named_item kind word })
 
@@ -127,7 +127,7 @@ module _ (kind : Naming) (site : Site) (start : Spot) (entries : List ReadStatem
   named-file = elim kind as (λ k. (named_site k names entries word).file ≡ expanded_in (site_scope site) entries word) [ naming.Include ↦ refl | naming.Subninja ↦ refl ]
 
   -- where it is opened from
-  pub named-origins : (o : OriginsText) → origins_with names entries o ≡ record o {
+  pub named-origins : (o : OriginsModel) → origins_with names entries o ≡ record o {
     openings = o.openings ++ record { path = expanded_in (site_scope site) entries word; named_at = Some (place_of names); scope = (named_site kind names entries word).number } ∷ [];
   }
   named-origins o =
@@ -147,12 +147,12 @@ module _ (kind : Naming) (site : Site) (start : Spot) (entries : List ReadStatem
   named-read none opens = ap (λ f. unless_fault f entries (item_read opens names entries names.item)) (named-fault ∙ none) ∙ named-item opens
 
 -- a new scope for the file after `subninja`
-pub enters-new : {X : Type 0} (old : Reader) (new : DeclarationsText) (file : OpenFile) (start : Spot) (word : WordText) (entries : List ReadStatement) (around : List ℕ) (depth : ℕ) (result : Result ℕ X)
+pub enters-new : {X : Type 0} (old : Reader) (new : DeclarationsModel) (file : OpenFile) (start : Spot) (word : WordModel) (entries : List ReadStatement) (around : List ℕ) (depth : ℕ) (result : Result ℕ X)
     → IfOk result (λ n. n ≡ length old.declarations.scopes) → OnOk result (parent_at new.scopes (length old.declarations.scopes) ≡ Some file.scope)
     → ((n : ℕ) → n < length old.declarations.scopes → parent_at new.scopes n ≡ parent_at old.declarations.scopes n) → OnOk result (length new.scopes ≡ length old.declarations.scopes + 1)
-    → OnOk result (TakesIn old.declarations new file.scope around (SubninjaText word)) → DeclaredBy old.declarations entries → IsOpenIn old file around
+    → OnOk result (TakesIn old.declarations new file.scope around (SubninjaModel word)) → DeclaredBy old.declarations entries → IsOpenIn old file around
     → IfOk result (λ n. EntersScope (record { declarations = new; building = old.building; files = old.files; origins = old.origins }) n
-    (named_site naming.Subninja (entry_at (site_of file around depth) (record { spot = start; item = SubninjaText word })) entries word) (entry_at (site_of file around depth) (record { spot = start; item = SubninjaText word })) entries)
+    (named_site naming.Subninja (entry_at (site_of file around depth) (record { spot = start; item = SubninjaModel word })) entries word) (entry_at (site_of file around depth) (record { spot = start; item = SubninjaModel word })) entries)
 enters-new old new file start word entries around depth (Err e) number within others count opened declares inside = tt
 enters-new old new file start word entries around depth (Ok n) number within others count opened declares inside =
     let grown = open-grown old.declarations.scopes new.scopes file.scope around (record { count = omega (arith, count); parents = others }) inside in
@@ -167,7 +167,7 @@ enters-new old new file start word entries around depth (Ok n) number within oth
 
 -- ---- a run that stops
 
-pub stops-same : (main : List ℕ) (before after : SourceState) (old : List Reading) (first second : List Reading → ReadingText) (fault : GraphFault)
+pub stops-same : (main : List ℕ) (before after : SourceState) (old : List Reading) (first second : List Reading → ReadingModel) (fault : GraphFault)
     → ((all : List Reading) → second all ≡ first all) → StopsAt main before after old first fault → StopsAt main before after old second fault
 stops-same main before after old first second fault same s = record { files = s.files; reads = s.reads; stops = by s.stops }
   where
@@ -180,7 +180,7 @@ module _ (main : List ℕ) (before after : SourceState) (old : Reader) (entries 
   read-no_more = subst (λ source. IsRead before source old.files old.files) (sym same) (read-nothing before old.files has.once)
 
   -- there was no memory, and nothing more was read
-  pub stops-memory : (reading : List Reading → ReadingText) (fault : GraphFault) → ((all : List Reading) → IsPrefix (paths_read main entries) (come_to main (reading all))) → fault ≡ no_memory
+  pub stops-memory : (reading : List Reading → ReadingModel) (fault : GraphFault) → ((all : List Reading) → IsPrefix (paths_read main entries) (come_to main (reading all))) → fault ≡ no_memory
       → StopsAt main before after old.files reading fault
   stops-memory reading fault comes none = record {
     files = old.files;
@@ -189,7 +189,7 @@ module _ (main : List ℕ) (before after : SourceState) (old : Reader) (entries 
   }
 
   -- a fault before which nothing more was read
-  pub stops-refused : (reading : List Reading → ReadingText) (fault : GraphFault) (expected : GraphFault) → ((all : List Reading) → reading all ≡ record { entries = entries; end = Refused expected }) → path_at_fault expected.cause ≡ [] → fault ≡ expected
+  pub stops-refused : (reading : List Reading → ReadingModel) (fault : GraphFault) (expected : GraphFault) → ((all : List Reading) → reading all ≡ record { entries = entries; end = Refused expected }) → path_at_fault expected.cause ≡ [] → fault ≡ expected
       → StopsAt main before after old.files reading fault
   stops-refused reading fault expected is none reported = record {
     files = old.files;
@@ -206,7 +206,7 @@ module _ (main : List ℕ) (before after : SourceState) (old : Reader) (entries 
       (item-names e entries e.item fault reported) refl
 
   -- the same where this is what the statement gives
-  pub stops-item : (left : ℕ) (site : Site) (spot : Spot) (item meant : StatementText) (fault : GraphFault) → item ≡ meant
+  pub stops-item : (left : ℕ) (site : Site) (spot : Spot) (item meant : StatementModel) (fault : GraphFault) → item ≡ meant
       → IsFault (own_fault (entry_at site (record { spot = spot; item = meant })) entries) fault
       → StopsAt main before after old.files (λ all. statement_read (opened_in all left) (entry_at site (record { spot = spot; item = item })) entries) fault
   stops-item left site spot item meant fault is reported =

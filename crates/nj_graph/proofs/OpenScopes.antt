@@ -1,15 +1,15 @@
 -- Scopes that were opened stay opened.
 use Rattle.std.proofs.Common.{◌≡◌, ℕ, ◌<◌, ◌≤◌, Option, List, [], ◌∷◌, length, arith, refl, ◌∙◌}
 use Rattle.std.specs.List.{AllByRecursion}
-use Rattle.nj_scope.specs.Scopes.{IsScope, outermost, child, ScopeText, parent_at}
+use Rattle.nj_scope.specs.Scopes.{IsScope, outermost, child, ScopeModel, parent_at}
 use Rattle.nj_scope.specs.ReadingList.{ReadStatement}
 use Rattle.nj_graph.specs.Graph.{IsOpenScope}
 use Rattle.nj_graph.specs.Inside.ReaderContracts.{Grows}
 
-pub grows-self : (scopes : List ScopeText) → Grows scopes scopes
+pub grows-self : (scopes : List ScopeModel) → Grows scopes scopes
 grows-self scopes = record { count = omega arith; parents = λ n h. refl }
 
-pub grows-then : (before mid after : List ScopeText) → Grows before mid → Grows mid after → Grows before after
+pub grows-then : (before mid after : List ScopeModel) → Grows before mid → Grows mid after → Grows before after
 grows-then before mid after p q =
     let first = p.count in
     let second = q.count in
@@ -23,19 +23,19 @@ still-there : (before after : ℕ) → before ≤ after → (ns : List ℕ) → 
 still-there before after more [] there = tt
 still-there before after more (n ∷ ns) there = (omega (arith, more, there.0), still-there before after more ns there.1)
 
-pub open-grown : (before after : List ScopeText) (number : ℕ) (around : List ℕ) → Grows before after → IsOpenScope before number around → IsOpenScope after number around
+pub open-grown : (before after : List ScopeModel) (number : ℕ) (around : List ℕ) → Grows before after → IsOpenScope before number around → IsOpenScope after number around
 open-grown before after number around grows comes = record {
   within = scope-kept (parent_at before) (parent_at after) (length before) grows.parents number (number ∷ around) comes.within comes.there;
   there = still-there (length before) (length after) grows.count (number ∷ around) comes.there;
 }
 
 -- the scopes of statements
-abbrev pub AreOpen : List ScopeText → List ReadStatement → Type 0
+abbrev pub AreOpen : List ScopeModel → List ReadStatement → Type 0
 AreOpen scopes entries = AllByRecursion (λ e. IsOpenScope scopes e.number e.around) entries
 
-all-grown : (before after : List ScopeText) → Grows before after → (entries : List ReadStatement) → AreOpen before entries → AreOpen after entries
+all-grown : (before after : List ScopeModel) → Grows before after → (entries : List ReadStatement) → AreOpen before entries → AreOpen after entries
 all-grown before after grows [] opened = tt
 all-grown before after grows (e ∷ entries) opened = (open-grown before after e.number e.around grows opened.0, all-grown before after grows entries opened.1)
 
-pub open-next : (before after : List ScopeText) (e : ReadStatement) (entries : List ReadStatement) → Grows before after → IsOpenScope before e.number e.around → AreOpen before entries → AreOpen after (e ∷ entries)
+pub open-next : (before after : List ScopeModel) (e : ReadStatement) (entries : List ReadStatement) → Grows before after → IsOpenScope before e.number e.around → AreOpen before entries → AreOpen after (e ∷ entries)
 open-next before after e entries grows inside opened = all-grown before after grows (e ∷ entries) (inside, opened)

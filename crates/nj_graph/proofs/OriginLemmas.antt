@@ -6,7 +6,7 @@ use Rattle.std.specs.List.{AllByRecursion}
 use Rattle.std.proofs.lemmas.List.{map-append}
 use Rattle.std.proofs.lemmas.Option.{slice_get-get_or}
 use Rattle.nj_text.specs.Numbers.{leading_number_of}
-use Rattle.nj_manifest.specs.Statements.{LineText, StatementText, BindingText, RuleText, PoolText, BuildText, DefaultText, IncludeText, SubninjaText}
+use Rattle.nj_manifest.specs.Statements.{LineModel, StatementModel, BindingModel, RuleModel, PoolModel, BuildModel, DefaultModel, IncludeModel, SubninjaModel}
 use Rattle.nj_scope.specs.Readings.{IsPrefix}
 use Rattle.nj_scope.specs.Scopes.{expanded}
 use Rattle.nj_scope.specs.ReadingList.{Discovered, ReadStatement, scope_of, value_after, scopes_opened, files_opened, gathered}
@@ -18,7 +18,7 @@ use Rattle.nj_statements.proofs.DiscoverLemmas.{value_after-discover, scopes_ope
 use Rattle.nj_graph.specs.declared.origins.HeldPlace.{HeldPlace}
 use Rattle.nj_graph.specs.declared.origins.HeldPool.{HeldPool}
 use Rattle.nj_graph.specs.declared.origins.HeldOpening.{HeldOpening}
-use Rattle.nj_graph.specs.Origins.{place_of, PoolDetail, OpeningText, OriginsText, rule_place_given, rule_places, pool_detail_given, pool_details, opening_given, main_opening, openings_read, origins_read, path_opened, main_of}
+use Rattle.nj_graph.specs.Origins.{place_of, PoolDetail, OpeningModel, OriginsModel, rule_place_given, rule_places, pool_detail_given, pool_details, opening_given, main_opening, openings_read, origins_read, path_opened, main_of}
 use Rattle.nj_graph.specs.Inside.OriginsHeld.{place_held, pool_held, opening_held, origins_held, AreNamed, origins_with}
 use Rattle.nj_graph.proofs.JoiningTables.{get-prefix}
 
@@ -87,19 +87,19 @@ module _ (names later : List (List ℕ)) (grows : IsPrefix names later) (rules :
       (map-same (λ p. Some (place_held later p)) (λ p. Some (place_held names p)) (Below (length names)) (λ p is. ap Some (place-grown names later grows p is)) rules named.rules_named)
       ∙ ap (λ (ps : List PoolDetail). record { rules = None ∷ map (λ p. Some (place_held names p)) rules; pools = ps; openings = map (opening_held later) openings })
       (map-same (pool_held later) (pool_held names) (PoolBelow (length names)) (λ p is. ap (λ (at : Place). record { place = at; depth = p.depth }) (place-grown names later grows p.place is)) pools named.pools_named)
-      ∙ ap (λ (os : List OpeningText). record { rules = None ∷ map (λ p. Some (place_held names p)) rules; pools = map (pool_held names) pools; openings = os })
+      ∙ ap (λ (os : List OpeningModel). record { rules = None ∷ map (λ p. Some (place_held names p)) rules; pools = map (pool_held names) pools; openings = os })
       (map-same (opening_held later) (opening_held names) (OpeningBelow (length names)) opening-same openings named.openings_named)
 
   -- ---- one more
 
   module _ (p : HeldPlace) (place : Place) (is : place_held later p ≡ place) (below : p.file < length later) where
-    abbrev held : OriginsText
+    abbrev held : OriginsModel
     held = origins_held names rules pools openings
 
     pub rule-added : origins_held later (rules ++ p ∷ []) pools openings ≡ record held { rules = held.rules ++ Some place ∷ [] }
     rule-added =
         ap (λ (rs : List (Option Place)). record { rules = None ∷ rs; pools = map (pool_held later) pools; openings = map (opening_held later) openings }) (map-append (λ q. Some (place_held later q)) rules (p ∷ []))
-        ∙ ap (λ (o : OriginsText). record o { rules = o.rules ++ Some (place_held later p) ∷ [] }) origins-grown
+        ∙ ap (λ (o : OriginsModel). record o { rules = o.rules ++ Some (place_held later p) ∷ [] }) origins-grown
         ∙ ap (λ (at : Place). record held { rules = held.rules ++ Some at ∷ [] }) is
 
     pub rule-named : AreNamed later (rules ++ p ∷ []) pools openings
@@ -112,7 +112,7 @@ module _ (names later : List (List ℕ)) (grows : IsPrefix names later) (rules :
     pub pool-added : (depth : ℕ) → origins_held later rules (pools ++ record { place = p; depth = depth } ∷ []) openings ≡ record held { pools = held.pools ++ record { place = place; depth = depth } ∷ [] }
     pool-added depth =
         ap (λ (ps : List PoolDetail). record { rules = None ∷ map (λ q. Some (place_held later q)) rules; pools = ps; openings = map (opening_held later) openings }) (map-append (pool_held later) pools (record { place = p; depth = depth } ∷ []))
-        ∙ ap (λ (o : OriginsText). record o { pools = o.pools ++ record { place = place_held later p; depth = depth } ∷ [] }) origins-grown
+        ∙ ap (λ (o : OriginsModel). record o { pools = o.pools ++ record { place = place_held later p; depth = depth } ∷ [] }) origins-grown
         ∙ ap (λ (at : Place). record held { pools = held.pools ++ record { place = at; depth = depth } ∷ [] }) is
 
     pub pool-named : (depth : ℕ) → AreNamed later rules (pools ++ record { place = p; depth = depth } ∷ []) openings
@@ -128,8 +128,8 @@ module _ (names later : List (List ℕ)) (grows : IsPrefix names later) (rules :
 
       pub opening-added : origins_held later rules pools (openings ++ opened ∷ []) ≡ record held { openings = held.openings ++ record { path = path; named_at = Some place; scope = scope } ∷ [] }
       opening-added =
-          ap (λ (os : List OpeningText). record { rules = None ∷ map (λ q. Some (place_held later q)) rules; pools = map (pool_held later) pools; openings = os }) (map-append (opening_held later) openings (opened ∷ []))
-          ∙ ap (λ (o : OriginsText). record o { openings = o.openings ++ record { path = name_at later file; named_at = Some (place_held later p); scope = scope } ∷ [] }) origins-grown
+          ap (λ (os : List OpeningModel). record { rules = None ∷ map (λ q. Some (place_held later q)) rules; pools = map (pool_held later) pools; openings = os }) (map-append (opening_held later) openings (opened ∷ []))
+          ∙ ap (λ (o : OriginsModel). record o { openings = o.openings ++ record { path = name_at later file; named_at = Some (place_held later p); scope = scope } ∷ [] }) origins-grown
           ∙ ap (λ (at : Place). record held { openings = held.openings ++ record { path = name_at later file; named_at = Some at; scope = scope } ∷ [] }) is
           ∙ ap (λ (text : List ℕ). record held { openings = held.openings ++ record { path = text; named_at = Some place; scope = scope } ∷ [] }) gives
 
@@ -143,14 +143,14 @@ module _ (names later : List (List ℕ)) (grows : IsPrefix names later) (rules :
 -- ---- by the statements
 
 -- as many files are opened as the statements open
-counted : (e : ReadStatement) (before : List ReadStatement) (item : StatementText) (others : List OpeningText) → length (with_given others (opening_given e before item)) ≡ length others + opens_file item
-counted e before (IncludeText word) others = length-append others _
-counted e before (SubninjaText word) others = length-append others _
-counted e before (BindingText name word) others = sym (add-zero (length others))
-counted e before (RuleText name lines) others = sym (add-zero (length others))
-counted e before (PoolText name lines) others = sym (add-zero (length others))
-counted e before (BuildText outputs rule inputs lines) others = sym (add-zero (length others))
-counted e before (DefaultText words) others = sym (add-zero (length others))
+counted : (e : ReadStatement) (before : List ReadStatement) (item : StatementModel) (others : List OpeningModel) → length (with_given others (opening_given e before item)) ≡ length others + opens_file item
+counted e before (IncludeModel word) others = length-append others _
+counted e before (SubninjaModel word) others = length-append others _
+counted e before (BindingModel name word) others = sym (add-zero (length others))
+counted e before (RuleModel name lines) others = sym (add-zero (length others))
+counted e before (PoolModel name lines) others = sym (add-zero (length others))
+counted e before (BuildModel outputs rule inputs lines) others = sym (add-zero (length others))
+counted e before (DefaultModel words) others = sym (add-zero (length others))
 
 suc-more : (n k : ℕ) → suc (n + k) ≡ suc n + k
 suc-more n k = omega arith
@@ -175,45 +175,45 @@ pub origins-more : (main : List ℕ) (e : ReadStatement) (before : List ReadStat
 origins-more main e before =
     ap (λ (rs : List (Option Place)). record { rules = rs; pools = pool_details (e ∷ before); openings = with_given (openings_read main before) (opening_given e before e.item) })
     (after-first None (gathered rule_place_given before) (rule_place_given e before e.item))
-    ∙ ap (λ (os : List OpeningText). record { rules = rule_places (e ∷ before); pools = pool_details (e ∷ before); openings = os })
+    ∙ ap (λ (os : List OpeningModel). record { rules = rule_places (e ∷ before); pools = pool_details (e ∷ before); openings = os })
     (after-first (main_opening main) (gathered opening_given before) (opening_given e before e.item))
 
 -- what is kept of the statements after a main file gives that file
-pub origins-of_main : (o : OriginsText) (main : List ℕ) (entries : List ReadStatement) → o ≡ origins_read main entries → o ≡ origins_read (main_of o) entries
+pub origins-of_main : (o : OriginsModel) (main : List ℕ) (entries : List ReadStatement) → o ≡ origins_read main entries → o ≡ origins_read (main_of o) entries
 origins-of_main o main entries is = is ∙ ap (λ m. origins_read m entries) (sym (ap main_of is ∙ main-named main entries))
 
 -- ---- what is discovered changes nothing of it
 
-rule-by : (e : ReadStatement) (before other : List ReadStatement) (item : StatementText) → rule_place_given e other item ≡ rule_place_given e before item
-rule-by e before other (RuleText name lines) = refl
-rule-by e before other (BindingText name word) = refl
-rule-by e before other (PoolText name lines) = refl
-rule-by e before other (BuildText outputs rule inputs lines) = refl
-rule-by e before other (DefaultText words) = refl
-rule-by e before other (IncludeText word) = refl
-rule-by e before other (SubninjaText word) = refl
+rule-by : (e : ReadStatement) (before other : List ReadStatement) (item : StatementModel) → rule_place_given e other item ≡ rule_place_given e before item
+rule-by e before other (RuleModel name lines) = refl
+rule-by e before other (BindingModel name word) = refl
+rule-by e before other (PoolModel name lines) = refl
+rule-by e before other (BuildModel outputs rule inputs lines) = refl
+rule-by e before other (DefaultModel words) = refl
+rule-by e before other (IncludeModel word) = refl
+rule-by e before other (SubninjaModel word) = refl
 
-pool-by : (e : ReadStatement) (before other : List ReadStatement) → value_after other ≡ value_after before → (item : StatementText) → pool_detail_given e other item ≡ pool_detail_given e before item
-pool-by e before other same (PoolText name lines) =
-    ap (λ (values : List ℕ → List ℕ → List ℕ). Some (record { place = place_of e; depth = unwrap_or (option_and_then (λ (l : LineText). leading_number_of (expanded (values (scope_of e)) l.value.parts)) (slice_get lines (length lines - 1))) 0 })) same
-pool-by e before other same (BindingText name word) = refl
-pool-by e before other same (RuleText name lines) = refl
-pool-by e before other same (BuildText outputs rule inputs lines) = refl
-pool-by e before other same (DefaultText words) = refl
-pool-by e before other same (IncludeText word) = refl
-pool-by e before other same (SubninjaText word) = refl
+pool-by : (e : ReadStatement) (before other : List ReadStatement) → value_after other ≡ value_after before → (item : StatementModel) → pool_detail_given e other item ≡ pool_detail_given e before item
+pool-by e before other same (PoolModel name lines) =
+    ap (λ (values : List ℕ → List ℕ → List ℕ). Some (record { place = place_of e; depth = unwrap_or (option_and_then (λ (l : LineModel). leading_number_of (expanded (values (scope_of e)) l.value.parts)) (slice_get lines (length lines - 1))) 0 })) same
+pool-by e before other same (BindingModel name word) = refl
+pool-by e before other same (RuleModel name lines) = refl
+pool-by e before other same (BuildModel outputs rule inputs lines) = refl
+pool-by e before other same (DefaultModel words) = refl
+pool-by e before other same (IncludeModel word) = refl
+pool-by e before other same (SubninjaModel word) = refl
 
-opening-by : (e : ReadStatement) (before other : List ReadStatement) → value_after other ≡ value_after before → scopes_opened other ≡ scopes_opened before → (item : StatementText) → opening_given e other item ≡ opening_given e before item
-opening-by e before other same count (IncludeText word) =
+opening-by : (e : ReadStatement) (before other : List ReadStatement) → value_after other ≡ value_after before → scopes_opened other ≡ scopes_opened before → (item : StatementModel) → opening_given e other item ≡ opening_given e before item
+opening-by e before other same count (IncludeModel word) =
     ap (λ (values : List ℕ → List ℕ → List ℕ). Some (record { path = expanded (values (scope_of e)) word.parts; named_at = Some (place_of e); scope = e.number })) same
-opening-by e before other same count (SubninjaText word) =
+opening-by e before other same count (SubninjaModel word) =
     ap (λ (values : List ℕ → List ℕ → List ℕ). Some (record { path = expanded (values (scope_of e)) word.parts; named_at = Some (place_of e); scope = scopes_opened other })) same
     ∙ ap (λ (n : ℕ). Some (record { path = expanded (value_after before (scope_of e)) word.parts; named_at = Some (place_of e); scope = n })) count
-opening-by e before other same count (BindingText name word) = refl
-opening-by e before other same count (RuleText name lines) = refl
-opening-by e before other same count (PoolText name lines) = refl
-opening-by e before other same count (BuildText outputs rule inputs lines) = refl
-opening-by e before other same count (DefaultText words) = refl
+opening-by e before other same count (BindingModel name word) = refl
+opening-by e before other same count (RuleModel name lines) = refl
+opening-by e before other same count (PoolModel name lines) = refl
+opening-by e before other same count (BuildModel outputs rule inputs lines) = refl
+opening-by e before other same count (DefaultModel words) = refl
 
 module _ (main : List ℕ) (edge : ℕ) (found : Discovered) where
   pub origins-discover : (entries : List ReadStatement) → origins_read main (discover edge found entries) ≡ origins_read main entries
@@ -232,6 +232,6 @@ module _ (main : List ℕ) (edge : ℕ) (found : Discovered) where
           ∙ ap (λ (o : Option (Option Place)). record (origins_with e others (origins_read main others)) { rules = with_given (rule_places others) o }) (rule-by e before others e.item)
           ∙ ap (λ (o : Option PoolDetail). record (origins_with e others (origins_read main others)) { rules = with_given (rule_places others) (rule_place_given e before e.item); pools = with_given (pool_details others) o })
           (pool-by e before others (value_after-discover edge found before) e.item)
-          ∙ ap (λ (o : Option OpeningText). record (origins_with e before (origins_read main others)) { openings = with_given (openings_read main others) o })
+          ∙ ap (λ (o : Option OpeningModel). record (origins_with e before (origins_read main others)) { openings = with_given (openings_read main others) o })
           (opening-by e before others (value_after-discover edge found before) (scopes_opened-discover edge found before) e.item)
           ∙ ap (origins_with e before) rest ∙ origins-more main e before

@@ -4,10 +4,10 @@ use Rattle.std.specs.Prelude.{codes}
 use Rattle.nj_manifest.proofs.StatementRows.{at}
 use Rattle.nj_scope.specs.Readings.{Reading}
 use Rattle.nj_faults.specs.declared.fault.Place.{Place}
-use Rattle.nj_graph.specs.Origins.{OriginsText, main_opening, origins_read}
+use Rattle.nj_graph.specs.Origins.{OriginsModel, main_opening, origins_read}
 use Rattle.nj_graph.proofs.ReadingRows.{on_files, main_file, file, read_of}
 
-abbrev origins_of : (text : List ℕ) → (others : List Reading) → OriginsText
+abbrev origins_of : (text : List ℕ) → (others : List Reading) → OriginsModel
 origins_of text others = origins_read main_file (read_of text others).entries
 
 -- the place of a line of a file

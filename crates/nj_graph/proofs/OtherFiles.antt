@@ -2,7 +2,7 @@
 use Rattle.std.proofs.Common.{◌≡◌, ℕ, zero, suc, Bool, true, false, nat_lt, Option, Some, None, is_some, List, [], ◌∷◌, refl, sym, ap, subst, ◌∙◌, true≢false}
 use Rattle.nj_graph.proofs.Continuing.{unless_fault}
 use Rattle.nj_manifest.specs.Faults.{Fault}
-use Rattle.nj_manifest.specs.Statements.{StatementText, BindingText, RuleText, PoolText, BuildText, DefaultText, IncludeText, SubninjaText, PlacedText}
+use Rattle.nj_manifest.specs.Statements.{StatementModel, BindingModel, RuleModel, PoolModel, BuildModel, DefaultModel, IncludeModel, SubninjaModel, PlacedModel}
 use Rattle.nj_scope.specs.Readings as table
 use Rattle.nj_scope.specs.Readings.{reading_of, is_read, IsPrefix}
 use Rattle.nj_scope.specs.ReadingList.{ReadStatement, files_opened}
@@ -10,19 +10,19 @@ use Rattle.nj_faults.specs.declared.fault.Place.{Place}
 use Rattle.nj_faults.specs.declared.fault.GraphFault.{GraphFault}
 use Rattle.nj_graph.specs.Parsed.{parsed}
 use Rattle.nj_faults.specs.Limits.{most_within, most_opened}
-use Rattle.nj_graph.specs.Reading.{Site, entry_at, own_fault, End, Whole, Refused, Lacking, ReadingText, and_then, Opens, item_read, statement_read, statements_read, text_read, found_read, outcome_read, if_capacity, opened_in, main_site, main_read}
+use Rattle.nj_graph.specs.Reading.{Site, entry_at, own_fault, End, Whole, Refused, Lacking, ReadingModel, and_then, Opens, item_read, statement_read, statements_read, text_read, found_read, outcome_read, if_capacity, opened_in, main_site, main_read}
 use Rattle.nj_graph.specs.Runs.{IsLacking}
 use Rattle.nj_graph.specs.Laws.{OthersAreNotRead}
 use Rattle.nj_graph.proofs.Tables.{reading-kept}
 
 -- both readings are the same, where that by fewer files lacks nothing that the others have
-abbrev SameReading : (all : List table.Reading) → ReadingText → ReadingText → Type 0
+abbrev SameReading : (all : List table.Reading) → ReadingModel → ReadingModel → Type 0
 SameReading all few more = IsLacking few.end all → more ≡ few
 
 abbrev SameOpens : (all : List table.Reading) → Opens → Opens → Type 0
 SameOpens all few more = (site : Site) (place : Place) (e : ReadStatement) (before : List ReadStatement) → SameReading all (few site place e before) (more site place e before)
 
-and_then-same : (all : List table.Reading) (few more : ReadingText) (k l : List ReadStatement → ReadingText) → SameReading all few more → ((entries : List ReadStatement) → SameReading all (k entries) (l entries)) → SameReading all (and_then few k) (and_then more l)
+and_then-same : (all : List table.Reading) (few more : ReadingModel) (k l : List ReadStatement → ReadingModel) → SameReading all few more → ((entries : List ReadStatement) → SameReading all (k entries) (l entries)) → SameReading all (and_then few k) (and_then more l)
 and_then-same all few more k l first others lacks = by few.end refl
   where
     by : (end : End) → few.end ≡ end → and_then more l ≡ and_then few k
@@ -37,14 +37,14 @@ and_then-same all few more k l first others lacks = by few.end refl
         let lacking : few ≡ record { entries = few.entries; end = Lacking path place } = ap (λ e. record { entries = few.entries; end = e }) is in
         ap (λ r. and_then r l) (first (subst (λ e. IsLacking e all) (sym is) (subst (λ r. IsLacking (and_then r k).end all) lacking lacks)) ∙ lacking) ∙ ap (λ r. and_then r k) (sym lacking)
 
-item-same : (all : List table.Reading) (few more : Opens) → SameOpens all few more → (e : ReadStatement) (before : List ReadStatement) (item : StatementText) → SameReading all (item_read few e before item) (item_read more e before item)
-item-same all few more same e before (BindingText name value) = λ lacks. refl
-item-same all few more same e before (RuleText name lines) = λ lacks. refl
-item-same all few more same e before (PoolText name lines) = λ lacks. refl
-item-same all few more same e before (BuildText outputs rule inputs lines) = λ lacks. refl
-item-same all few more same e before (DefaultText words) = λ lacks. refl
-item-same all few more same e before (IncludeText word) = same _ _ _ before
-item-same all few more same e before (SubninjaText word) = same _ _ _ before
+item-same : (all : List table.Reading) (few more : Opens) → SameOpens all few more → (e : ReadStatement) (before : List ReadStatement) (item : StatementModel) → SameReading all (item_read few e before item) (item_read more e before item)
+item-same all few more same e before (BindingModel name value) = λ lacks. refl
+item-same all few more same e before (RuleModel name lines) = λ lacks. refl
+item-same all few more same e before (PoolModel name lines) = λ lacks. refl
+item-same all few more same e before (BuildModel outputs rule inputs lines) = λ lacks. refl
+item-same all few more same e before (DefaultModel words) = λ lacks. refl
+item-same all few more same e before (IncludeModel word) = same _ _ _ before
+item-same all few more same e before (SubninjaModel word) = same _ _ _ before
 
 statement-same : (all : List table.Reading) (few more : Opens) → SameOpens all few more → (e : ReadStatement) (before : List ReadStatement) → SameReading all (statement_read few e before) (statement_read more e before)
 statement-same all few more same e before = by (own_fault e before)
@@ -53,7 +53,7 @@ statement-same all few more same e before = by (own_fault e before)
     by (Some fault) = λ lacks. refl
     by None = item-same all few more same e before e.item
 
-statements-same : (all : List table.Reading) (few more : Opens) → SameOpens all few more → (site : Site) (statements : List PlacedText) (fault : Option Fault) (before : List ReadStatement) → SameReading all (statements_read few site statements fault before) (statements_read more site statements fault before)
+statements-same : (all : List table.Reading) (few more : Opens) → SameOpens all few more → (site : Site) (statements : List PlacedModel) (fault : Option Fault) (before : List ReadStatement) → SameReading all (statements_read few site statements fault before) (statements_read more site statements fault before)
 unfolding statements_read
 statements-same all few more same site [] fault before = λ lacks. refl
 statements-same all few more same site (s ∷ others) fault before =

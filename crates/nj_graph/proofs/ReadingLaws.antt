@@ -6,7 +6,7 @@ use Rattle.std.specs.Bool.{then_some}
 use Rattle.std.specs.List.{AllByRecursion}
 use Rattle.std.proofs.lemmas.Bool.{ltb-true}
 use Rattle.nj_manifest.specs.Faults.{Fault}
-use Rattle.nj_manifest.specs.Statements.{StatementText, BindingText, RuleText, PoolText, BuildText, DefaultText, IncludeText, SubninjaText, PlacedText}
+use Rattle.nj_manifest.specs.Statements.{StatementModel, BindingModel, RuleModel, PoolModel, BuildModel, DefaultModel, IncludeModel, SubninjaModel, PlacedModel}
 use Rattle.nj_scope.specs.Readings as table
 use Rattle.nj_scope.specs.Readings.{reading_of, is_read}
 use Rattle.nj_scope.specs.ReadingList.{ReadStatement, rules, is_declared, files_opened}
@@ -17,12 +17,12 @@ use Rattle.nj_faults.specs.declared.fault.Cause.TheVariants.{DuplicateRule}
 use Rattle.nj_faults.specs.Faults.{fault_at}
 use Rattle.nj_graph.specs.Parsed.{parsed}
 use Rattle.nj_faults.specs.Limits.{most_within, most_opened}
-use Rattle.nj_graph.specs.Reading.{Site, entry_at, item_fault, own_fault, End, Whole, Refused, Lacking, ReadingText, continued, and_then, Opens, item_read, statement_read, statements_read, text_read, found_read, outcome_read, if_capacity, opened_in, main_site, main_read}
+use Rattle.nj_graph.specs.Reading.{Site, entry_at, item_fault, own_fault, End, Whole, Refused, Lacking, ReadingModel, continued, and_then, Opens, item_read, statement_read, statements_read, text_read, found_read, outcome_read, if_capacity, opened_in, main_site, main_read}
 use Rattle.nj_graph.specs.Laws.{Faultless, ReadIsFaultless, OpenFilesAreBounded, OpeningsAreBounded, MainRulesRise}
 use Rattle.nj_graph.proofs.NameLemmas.{names_rise-read}
 
 -- there is capacity for a file that the statement names
-abbrev pub HasCapacity : StatementText → (before : List ReadStatement) → Type 0
+abbrev pub HasCapacity : StatementModel → (before : List ReadStatement) → Type 0
 HasCapacity item before = opens_file item ≡ 1 → nat_lt (files_opened before) most_opened ≡ true
 
 opens-none : ◌≡◌ {A = ℕ} 0 1 → ⊥
@@ -45,25 +45,25 @@ module _ (P : List ReadStatement → Type 0) (next : (e : ReadStatement) (before
         within : e.depth ≤ most_within
         within = omega (arith, depth)
 
-        by_item : (item : StatementText) → e.item ≡ item → own_fault e before ≡ None → P (item_read opens e before item).entries
-        by_item (BindingText name value) is none = next e before p none (λ one. absurd (opens-none (ap opens_file (sym is) ∙ one))) within
-        by_item (RuleText name lines) is none = next e before p none (λ one. absurd (opens-none (ap opens_file (sym is) ∙ one))) within
-        by_item (PoolText name lines) is none = next e before p none (λ one. absurd (opens-none (ap opens_file (sym is) ∙ one))) within
-        by_item (BuildText outputs rule inputs lines) is none = next e before p none (λ one. absurd (opens-none (ap opens_file (sym is) ∙ one))) within
-        by_item (DefaultText words) is none = next e before p none (λ one. absurd (opens-none (ap opens_file (sym is) ∙ one))) within
-        by_item (IncludeText word) is none = keeps _ _ e before deeper p (λ capacity. next e before p none (λ one. capacity) within)
-        by_item (SubninjaText word) is none = keeps _ _ e before deeper p (λ capacity. next e before p none (λ one. capacity) within)
+        by_item : (item : StatementModel) → e.item ≡ item → own_fault e before ≡ None → P (item_read opens e before item).entries
+        by_item (BindingModel name value) is none = next e before p none (λ one. absurd (opens-none (ap opens_file (sym is) ∙ one))) within
+        by_item (RuleModel name lines) is none = next e before p none (λ one. absurd (opens-none (ap opens_file (sym is) ∙ one))) within
+        by_item (PoolModel name lines) is none = next e before p none (λ one. absurd (opens-none (ap opens_file (sym is) ∙ one))) within
+        by_item (BuildModel outputs rule inputs lines) is none = next e before p none (λ one. absurd (opens-none (ap opens_file (sym is) ∙ one))) within
+        by_item (DefaultModel words) is none = next e before p none (λ one. absurd (opens-none (ap opens_file (sym is) ∙ one))) within
+        by_item (IncludeModel word) is none = keeps _ _ e before deeper p (λ capacity. next e before p none (λ one. capacity) within)
+        by_item (SubninjaModel word) is none = keeps _ _ e before deeper p (λ capacity. next e before p none (λ one. capacity) within)
 
         by : (f : Option GraphFault) → own_fault e before ≡ f → P (unless_fault f before (item_read opens e before e.item)).entries
         by (Some fault) is = p
         by None is = by_item e.item refl is
 
-    statements-keep : (site : Site) (statements : List PlacedText) (fault : Option Fault) (before : List ReadStatement) → site.depth + left ≡ most_within → P before → P (statements_read opens site statements fault before).entries
+    statements-keep : (site : Site) (statements : List PlacedModel) (fault : Option Fault) (before : List ReadStatement) → site.depth + left ≡ most_within → P before → P (statements_read opens site statements fault before).entries
     unfolding statements_read
     statements-keep site [] fault before depth p = p
     statements-keep site (s ∷ others) fault before depth p = by (statement_read opens (entry_at site s) before) (statement-keeps (entry_at site s) before depth p) (λ entries q. statements-keep site others fault entries depth q)
       where
-        by : (r : ReadingText) → P r.entries → ((before : List ReadStatement) → P before → P (statements_read opens site others fault before).entries) → P (and_then r (λ entries. statements_read opens site others fault entries)).entries
+        by : (r : ReadingModel) → P r.entries → ((before : List ReadStatement) → P before → P (statements_read opens site others fault before).entries) → P (and_then r (λ entries. statements_read opens site others fault entries)).entries
         by r q rest = by_end r.end
           where
             by_end : (end : End) → P (continued end r.entries (λ entries. statements_read opens site others fault entries)).entries
@@ -101,16 +101,16 @@ open_files_are_bounded files main = reading-keeps (λ entries. AllByRecursion (�
 pub openings_are_bounded : OpeningsAreBounded
 openings_are_bounded files main = reading-keeps (λ entries. files_opened entries ≤ most_opened) (λ e before p none capacity depth. subst (λ n. n ≤ most_opened) (sym (files-more e before)) (by before e.item p capacity (opens_file e.item) refl (opens_one e.item))) (omega arith) files main
   where
-    opens_one : (item : StatementText) → opens_file item ≤ 1
-    opens_one (BindingText name value) = omega arith
-    opens_one (RuleText name lines) = omega arith
-    opens_one (PoolText name lines) = omega arith
-    opens_one (BuildText outputs rule inputs lines) = omega arith
-    opens_one (DefaultText words) = omega arith
-    opens_one (IncludeText word) = omega arith
-    opens_one (SubninjaText word) = omega arith
+    opens_one : (item : StatementModel) → opens_file item ≤ 1
+    opens_one (BindingModel name value) = omega arith
+    opens_one (RuleModel name lines) = omega arith
+    opens_one (PoolModel name lines) = omega arith
+    opens_one (BuildModel outputs rule inputs lines) = omega arith
+    opens_one (DefaultModel words) = omega arith
+    opens_one (IncludeModel word) = omega arith
+    opens_one (SubninjaModel word) = omega arith
 
-    by : (before : List ReadStatement) (item : StatementText) → files_opened before ≤ most_opened → HasCapacity item before → (n : ℕ) → opens_file item ≡ n → n ≤ 1 → files_opened before + n ≤ most_opened
+    by : (before : List ReadStatement) (item : StatementModel) → files_opened before ≤ most_opened → HasCapacity item before → (n : ℕ) → opens_file item ≡ n → n ≤ 1 → files_opened before + n ≤ most_opened
     by before item p capacity zero e less = omega (arith, p)
     by before item p capacity (suc zero) e less = omega (arith, ltb-true (files_opened before) most_opened (capacity e))
     by before item p capacity (suc (suc n)) e less = absurd (omega (arith, less))
@@ -118,18 +118,18 @@ openings_are_bounded files main = reading-keeps (λ entries. files_opened entrie
 -- ---- rules
 
 -- a rule that has no fault is new
-rule-is-new : (e : ReadStatement) (before : List ReadStatement) (item : StatementText) → item_fault e before item ≡ None → RuleIsNew before e.number item
-rule-is-new e before (RuleText name lines) none = by (is_declared (rules before e.number name.name) name.name) refl none
+rule-is-new : (e : ReadStatement) (before : List ReadStatement) (item : StatementModel) → item_fault e before item ≡ None → RuleIsNew before e.number item
+rule-is-new e before (RuleModel name lines) none = by (is_declared (rules before e.number name.name) name.name) refl none
   where
     by : (b : Bool) → is_declared (rules before e.number name.name) name.name ≡ b → then_some b (fault_at e.file name.spot (DuplicateRule name.name)) ≡ None → is_declared (rules before e.number name.name) name.name ≡ false
     by true e h = absurd cc
     by false e h = e
-rule-is-new e before (BindingText name value) none = tt
-rule-is-new e before (PoolText name lines) none = tt
-rule-is-new e before (BuildText outputs rule inputs lines) none = tt
-rule-is-new e before (DefaultText words) none = tt
-rule-is-new e before (IncludeText word) none = tt
-rule-is-new e before (SubninjaText word) none = tt
+rule-is-new e before (BindingModel name value) none = tt
+rule-is-new e before (PoolModel name lines) none = tt
+rule-is-new e before (BuildModel outputs rule inputs lines) none = tt
+rule-is-new e before (DefaultModel words) none = tt
+rule-is-new e before (IncludeModel word) none = tt
+rule-is-new e before (SubninjaModel word) none = tt
 
 pub main_rules_rise : MainRulesRise
 main_rules_rise files main =

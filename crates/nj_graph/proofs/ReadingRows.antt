@@ -16,7 +16,7 @@ use Rattle.nj_graph.specs.Parsed.{parsed_in}
 use Rattle.nj_faults.specs.declared.fault.Cause.{Cause}
 use Rattle.nj_faults.specs.declared.fault.Cause.TheVariants.{Syntax, EmptyPath, BadDepth, DuplicateRule, DuplicatePool, VersionTooNew, Missing, PathNotText, TooDeep, UnknownRule, TwoMakers, UnknownTarget}
 use Rattle.nj_faults.specs.Faults.{fault_at}
-use Rattle.nj_graph.specs.Reading.{Whole, Refused, Lacking, ReadingText, statements_read, opened_in, main_read, paths_come_to}
+use Rattle.nj_graph.specs.Reading.{Whole, Refused, Lacking, ReadingModel, statements_read, opened_in, main_read, paths_come_to}
 
 -- what a row unfolds to compute on its files
 unfoldable pub on_files : ⊤
@@ -36,7 +36,7 @@ abbrev pub missing : (path : List ℕ) → Reading
 missing path = record { path = path; bytes = None }
 
 -- what is read where the main file has this text, and the others are these
-abbrev pub read_of : (text : List ℕ) → (others : List Reading) → ReadingText
+abbrev pub read_of : (text : List ℕ) → (others : List Reading) → ReadingModel
 read_of text others = main_read (file main_file text ∷ others) main_file
 
 abbrev pub reads_all : (text : List ℕ) → (others : List Reading) → Type 0

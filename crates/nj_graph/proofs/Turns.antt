@@ -6,8 +6,8 @@ use Rattle.nj_text.specs.Lines.{Line}
 use Rattle.nj_manifest.specs.Faults.{Fault}
 use Rattle.nj_manifest.specs.declared.statement.Placed.{Placed}
 use Rattle.nj_manifest.specs.declared.statement.Statement.{Statement}
-use Rattle.nj_manifest.specs.Contents.{placed_text}
-use Rattle.nj_manifest.specs.Statements.{PlacedText, next_statement, Left, Lines, Refused}
+use Rattle.nj_manifest.specs.Contents.{placed_model}
+use Rattle.nj_manifest.specs.Statements.{PlacedModel, next_statement, Left, Lines, Refused}
 use Rattle.nj_manifest.proofs.Starts.{ahead}
 use Rattle.nj_manifest.proofs.Consumed.{statement_takes}
 use Rattle.nj_scope.specs.Readings.{Reading, IsPrefix, paths_of}
@@ -18,8 +18,8 @@ use Rattle.nj_graph.specs.declared.reader.Reader.{Reader}
 use Rattle.nj_faults.specs.Faults.{fault_in, no_memory}
 use Rattle.nj_graph.specs.Parsed.{Parsed, parsed_in, and_parsed}
 use Rattle.nj_graph.specs.Reading as reading
-use Rattle.nj_graph.specs.Reading.{Site, entry_at, End, Whole, Lacking, ReadingText, Opens, continued, and_then, opened_in, statement_read, statements_read, text_read, path_at_fault}
-use Rattle.nj_graph.specs.Runs.{IsRead, IsEnd, ReachedText, Stops}
+use Rattle.nj_graph.specs.Reading.{Site, entry_at, End, Whole, Lacking, ReadingModel, Opens, continued, and_then, opened_in, statement_read, statements_read, text_read, path_at_fault}
+use Rattle.nj_graph.specs.Runs.{IsRead, IsEnd, ReachedModel, Stops}
 use Rattle.nj_graph.specs.Inside.ReaderContracts.{Has, ReadsAll, ReadsOne, StopsAt, OpensNamed, ReadsText, ReadsOrStops, NextOf, NextIs}
 use Rattle.nj_graph.proofs.Comes.{and_then-comes, statements-come}
 use Rattle.nj_graph.proofs.Tables.{extends-trans, read-extends, reads-then, reads-all-then}
@@ -45,11 +45,11 @@ is-end-before before mid after (reading.Refused expected) fault same h = (h.0, h
 is-end-before before mid after (Lacking path place) fault same h = (h.0, subst (λ n. Rises n after.failures) same h.1)
 
 -- a reading passes on how another one stops
-pub record Passes (main : List ℕ) (files : List Reading) (inner outer : List Reading → ReadingText) : Type 0 where
+pub record Passes (main : List ℕ) (files : List Reading) (inner outer : List Reading → ReadingModel) : Type 0 where
   pub comes : (all : List Reading) → IsPrefix files all → (front : List (List ℕ)) → IsPrefix front (come_to main (inner all)) → IsPrefix front (come_to main (outer all))
   pub ends : (all : List Reading) → IsPrefix files all → (entries : List ReadStatement) (end : End) → IsStopped end → inner all ≡ record { entries = entries; end = end } → outer all ≡ record { entries = entries; end = end }
 
-module _ (main : List ℕ) (before mid after : SourceState) (old files held : List Reading) (inner outer : List Reading → ReadingText) (reads : ReadsAll before mid old files held) (passes : Passes main files inner outer) where
+module _ (main : List ℕ) (before mid after : SourceState) (old files held : List Reading) (inner outer : List Reading → ReadingModel) (reads : ReadsAll before mid old files held) (passes : Passes main files inner outer) where
   pub stops-then : (fault : GraphFault) → StopsAt main mid after held inner fault → StopsAt main before after old outer fault
   stops-then fault s = record { files = s.files; reads = reads-then before mid after old files s.files reads.reads there; stops = by s.stops }
     where
@@ -65,15 +65,15 @@ module _ (main : List ℕ) (before mid after : SourceState) (old files held : Li
         reached = e.reached;
         answered = is-end-before before mid after e.reached.read.end fault reads.failures e.answered;
         read = λ all ext lacks.
-            ap (reached_by main) (passes.ends all (within all ext) e.reached.read.entries e.reached.read.end (is-stopped mid after e.reached.read.end fault e.answered) (ap (λ (r : ReachedText). r.read) (e.read all ext lacks)))
-            ∙ sym (ap (λ (r : ReachedText). reached_by main r.read) (e.read all ext lacks)) ∙ e.read all ext lacks;
+            ap (reached_by main) (passes.ends all (within all ext) e.reached.read.entries e.reached.read.end (is-stopped mid after e.reached.read.end fault e.answered) (ap (λ (r : ReachedModel). r.read) (e.read all ext lacks)))
+            ∙ sym (ap (λ (r : ReachedModel). reached_by main r.read) (e.read all ext lacks)) ∙ e.read all ext lacks;
         came_to = e.came_to;
       })
 
 -- ---- the file that a statement names
 
 module _ (main : List ℕ) (before mid after : SourceState) (old opened held : Reader) (left : ℕ) (inner : Site) (text : List ℕ) (e : ReadStatement) (entries : List ReadStatement) where
-  abbrev outer : List Reading → ReadingText
+  abbrev outer : List Reading → ReadingModel
   outer all = statement_read (opened_in all left) e entries
 
   pub reads-named : OpensNamed main before mid old opened left inner text e entries → (result : Result (Unit {0}) GraphFault)
@@ -131,7 +131,7 @@ pub record Underway (main : List ℕ) (before after : SourceState) (old held : R
   pub continues : (all : List Reading) → IsPrefix files all → text_read (opened_in all left) site text entries ≡ statements_read (opened_in all left) site (parsed_in next_statement most lines).items (parsed_in next_statement most lines).fault now
 
 module _ (main : List ℕ) (before after : SourceState) (old held : Reader) (left : ℕ) (site : Site) (text : List ℕ) (entries : List ReadStatement) (lines : List Line) where
-  abbrev reading_of_text : List Reading → ReadingText
+  abbrev reading_of_text : List Reading → ReadingModel
   reading_of_text all = text_read (opened_in all left) site text entries
 
   -- the end of the text
@@ -142,7 +142,7 @@ module _ (main : List ℕ) (before after : SourceState) (old held : Reader) (lef
     reads = u.reads;
     entries = u.now;
     has = u.has;
-    read = λ all ext. u.continues all ext ∙ ap (λ (s : Parsed PlacedText). statements_read (opened_in all left) site s.items s.fault u.now) (parsed-end next_statement u.most lines rest h);
+    read = λ all ext. u.continues all ext ∙ ap (λ (s : Parsed PlacedModel). statements_read (opened_in all left) site s.items s.fault u.now) (parsed-end next_statement u.most lines rest h);
   }
 
   -- there was no memory for the next statement
@@ -166,21 +166,21 @@ module _ (main : List ℕ) (before after : SourceState) (old held : Reader) (lef
     stops = inr (record {
       reached = reached_by main (record { entries = u.now; end = reading.Refused (fault_in site.file found) });
       answered = (reported, u.reads.failures);
-      read = λ all ext lacks. ap (reached_by main) (u.continues all ext ∙ ap (λ (s : Parsed PlacedText). statements_read (opened_in all left) site s.items s.fault u.now) (parsed-fault next_statement u.most lines found h u.capacity));
+      read = λ all ext lacks. ap (reached_by main) (u.continues all ext ∙ ap (λ (s : Parsed PlacedModel). statements_read (opened_in all left) site s.items s.fault u.now) (parsed-fault next_statement u.most lines found h u.capacity));
       came_to = ap (with_news (paths_read main u.now)) (syntax-names site.file found) ∙ sym u.has.paths_are ∙ ap paths_of u.reads.held_is;
     });
   }
 
   -- ---- a statement
 
-  module _ (last : SourceState) (later : Reader) (s : PlacedText) (rest : List Line) (next : next_statement lines ≡ Ok (Some s, rest)) where
-    abbrev remainder : (fewer : ℕ) → List Reading → List ReadStatement → ReadingText
+  module _ (last : SourceState) (later : Reader) (s : PlacedModel) (rest : List Line) (next : next_statement lines ≡ Ok (Some s, rest)) where
+    abbrev remainder : (fewer : ℕ) → List Reading → List ReadStatement → ReadingModel
     remainder fewer all es = statements_read (opened_in all left) site (parsed_in next_statement fewer rest).items (parsed_in next_statement fewer rest).fault es
 
     first : (u : Underway main before after old held left site text entries lines) (fewer : ℕ) → parsed_in next_statement u.most lines ≡ and_parsed s (parsed_in next_statement fewer rest)
         → (all : List Reading) → IsPrefix u.files all → reading_of_text all ≡ and_then (statement_read (opened_in all left) (entry_at site s) u.now) (remainder fewer all)
     unfolding statements_read
-    first u fewer is all ext = u.continues all ext ∙ ap (λ (x : Parsed PlacedText). statements_read (opened_in all left) site x.items x.fault u.now) is
+    first u fewer is all ext = u.continues all ext ∙ ap (λ (x : Parsed PlacedModel). statements_read (opened_in all left) site x.items x.fault u.now) is
 
     pub turn : (u : Underway main before after old held left site text entries lines) → ReadsText main after last held later (λ all. statement_read (opened_in all left) (entry_at site s) u.now)
         → Underway main before last old later left site text entries rest
@@ -207,7 +207,7 @@ module _ (main : List ℕ) (before after : SourceState) (old held : Reader) (lef
           ends = λ all ext es end stopped h. first u step.0 step.1 all ext ∙ ap (λ x. and_then x (remainder step.0 all)) h ∙ stays es end (remainder step.0 all) stopped;
         }) fault stops
       where
-        stays : (es : List ReadStatement) (end : End) (k : List ReadStatement → ReadingText) → IsStopped end → continued end es k ≡ record { entries = es; end = end }
+        stays : (es : List ReadStatement) (end : End) (k : List ReadStatement → ReadingModel) → IsStopped end → continued end es k ≡ record { entries = es; end = end }
         stays es Whole k h = absurd h
         stays es (reading.Refused f) k h = refl
         stays es (Lacking path place) k h = refl
@@ -215,13 +215,13 @@ module _ (main : List ℕ) (before after : SourceState) (old held : Reader) (lef
 -- ---- what a parser returns
 
 pub next-some : (file : List ℕ) (before after : Left) (lines : List Line) (found : Option (Placed Statement)) (s : Placed Statement) → before ≡ Lines lines → found ≡ Some s → NextIs file before after (Ok found)
-    → (rest : List Line) × (next_statement lines ≡ Ok (Some (placed_text s), rest)) × (after ≡ Lines rest)
+    → (rest : List Line) × (next_statement lines ≡ Ok (Some (placed_model s), rest)) × (after ≡ Lines rest)
 next-some file before after lines found s at is next = subst (λ f. NextOf file lines after (Ok f)) is (subst (λ b. NextIs file b after (Ok found)) at next)
 
 pub next-none : (file : List ℕ) (before after : Left) (lines : List Line) (found : Option (Placed Statement)) → before ≡ Lines lines → found ≡ None → NextIs file before after (Ok found) → (rest : List Line) × (next_statement lines ≡ Ok (None, rest))
 next-none file before after lines found at is next = subst (λ f. NextOf file lines after (Ok f)) is (subst (λ b. NextIs file b after (Ok found)) at next)
 
-pub fewer-left : (before after : Left) (lines rest : List Line) (s : PlacedText) → before ≡ Lines lines → after ≡ Lines rest → next_statement lines ≡ Ok (Some s, rest) → lines_left after < lines_left before
+pub fewer-left : (before after : Left) (lines rest : List Line) (s : PlacedModel) → before ≡ Lines lines → after ≡ Lines rest → next_statement lines ≡ Ok (Some s, rest) → lines_left after < lines_left before
 fewer-left before after lines rest s at remainder next = rw (at, remainder) (statement_takes lines s rest next)
 
 pub next-stops : (main : List ℕ) (reported after : SourceState) (old held : Reader) (left : ℕ) (site : Site) (text : List ℕ) (entries : List ReadStatement) (lines : List Line) (before later : Left) (fault : GraphFault)

@@ -5,49 +5,49 @@ use Rattle.std.specs.List.{AllByRecursion, Contains, IsDistinct}
 use Rattle.std.specs.List.Sorted.{IsStrictlySortedBy}
 use Rattle.std.specs.Cmp.Lexicographic.{slice_cmp}
 use Rattle.std.specs.Ordering.{is_lt, nat_cmp}
-use Rattle.nj_text.specs.Words.{PartText}
-use Rattle.nj_scope.specs.Declarations.{DeclarationsText, DeclaredBy}
+use Rattle.nj_text.specs.Words.{PartModel}
+use Rattle.nj_scope.specs.Declarations.{DeclarationsModel, DeclaredBy}
 use Rattle.nj_scope.specs.ReadingList.{ReadStatement, rules_read}
 use Rattle.nj_scope.specs.Late.{parts_written}
-use Rattle.nj_scope.specs.Rules.{RuleText, phony, phony_rule, rules_in, rule_names, given}
-use Rattle.nj_scope.specs.Scopes.{IsScope, ScopeText, parent_at}
+use Rattle.nj_scope.specs.Rules.{RuleModel, phony, phony_rule, rules_in, rule_names, given}
+use Rattle.nj_scope.specs.Scopes.{IsScope, ScopeModel, parent_at}
 use Rattle.nj_cycles.specs.Cycles.{IsAcyclic}
 use Rattle.nj_edges.specs.Edges.{EdgePaths}
 use Rattle.nj_edges.specs.Needs.{makers_of_inputs}
 use Rattle.nj_edge_env.specs.LateStrings.{asked_text}
-use Rattle.nj_statements.specs.EdgeList.{EdgeText, edges_read, names_of_edge}
-use Rattle.nj_statements.specs.Built.{BuiltText, IsBuiltOf, EdgeDetail, detail_at, detail_of}
-use Rattle.nj_graph.specs.Origins.{OriginsText, origins_read, main_of}
+use Rattle.nj_statements.specs.EdgeList.{EdgeModel, edges_read, names_of_edge}
+use Rattle.nj_statements.specs.Built.{BuiltModel, IsBuiltOf, EdgeDetail, detail_at, detail_of}
+use Rattle.nj_graph.specs.Origins.{OriginsModel, origins_read, main_of}
 
 -- What the statements of its files declare, after all reading, the edges and defaults that they yield, and where rules, pools and files
 -- come from.
-pub record GraphText : Type 0 where
-  pub declarations : DeclarationsText
-  pub built : BuiltText
-  pub origins : OriginsText
+pub record GraphModel : Type 0 where
+  pub declarations : DeclarationsModel
+  pub built : BuiltModel
+  pub origins : OriginsModel
 
 -- its edges, by their paths
-abbrev pub edges_of : GraphText → List EdgePaths
+abbrev pub edges_of : GraphModel → List EdgePaths
 edges_of g = g.built.graph.edges
 
 -- the paths of its files, by their numbers
-abbrev pub files_of : GraphText → List (List ℕ)
+abbrev pub files_of : GraphModel → List (List ℕ)
 files_of g = g.built.graph.files
 
 -- a scope with those around it, which were all opened
-pub record IsOpenScope (scopes : List ScopeText) (number : ℕ) (around : List ℕ) : Type 0 where
+pub record IsOpenScope (scopes : List ScopeModel) (number : ℕ) (around : List ℕ) : Type 0 where
   pub within : IsScope (parent_at scopes) number (number ∷ around)
   pub there : AllByRecursion (λ n. n < length scopes) (number ∷ around)
 
 -- an edge has one of these rules, and is phony where that is called `phony`
-pub record HasRule (rules : List RuleText) (e : EdgeText) : Type 0 where
-  pub rule : RuleText
+pub record HasRule (rules : List RuleModel) (e : EdgeModel) : Type 0 where
+  pub rule : RuleModel
   pub rule_is : slice_get rules e.rule ≡ Some rule
   pub phony_is : bytes_eq rule.name phony ≡ e.paths.is_phony
 
 -- The graph is what the statements give: what they declare, in which scopes, and their edges and defaults; each edge has a rule, and none
 -- needs itself by a chain. Rules, pools and files come from where the statements are, after the main file was opened.
-pub record IsGraphOf (g : GraphText) (entries : List ReadStatement) : Type 0 where
+pub record IsGraphOf (g : GraphModel) (entries : List ReadStatement) : Type 0 where
   pub declares : DeclaredBy g.declarations entries
   pub scopes : AllByRecursion (λ e. IsOpenScope g.declarations.scopes e.number e.around) entries
   pub built : IsBuiltOf g.built entries
@@ -65,11 +65,11 @@ late_text_of entries number asked =
 -- ---- the rule of an edge
 
 -- the name of the rule of a number, if there is one
-abbrev pub rule_name : List RuleText → (number : ℕ) → List ℕ
+abbrev pub rule_name : List RuleModel → (number : ℕ) → List ℕ
 rule_name rules number = unwrap_or (option_map (λ r. r.name) (slice_get rules number)) []
 
 -- the name of the rule of an edge: of the rule that is in force before its statement
-abbrev pub rule_name_of : List ReadStatement → EdgeText → List ℕ
+abbrev pub rule_name_of : List ReadStatement → EdgeModel → List ℕ
 rule_name_of entries e = rule_name (rules_read entries) e.rule
 
 -- the value for the edge of a number; past the last edge it is empty
@@ -105,37 +105,37 @@ is_before name other = is_lt (slice_cmp nat_cmp name other)
 
 -- The rules of the main file's scope, by name: `phony` and the rules of included files are among them, and those of subninja files
 -- are not.
-unfoldable pub main_rules_of : List RuleText → List RuleText
+unfoldable pub main_rules_of : List RuleModel → List RuleModel
 main_rules_of rules = sorted_by (λ r s. is_before r.name s.name) (rules_in rules 0)
 
-abbrev pub main_rules : GraphText → List RuleText
+abbrev pub main_rules : GraphModel → List RuleModel
 main_rules g = main_rules_of g.declarations.rules
 
 -- the one at this index
-abbrev pub main_rule_at : GraphText → ℕ → RuleText
+abbrev pub main_rule_at : GraphModel → ℕ → RuleModel
 main_rule_at g index = slice_index_or (main_rules g) index phony_rule
 
 -- ---- its description
 
 -- the value of the last `description` line, if there is one
-abbrev pub description : RuleText → Option (List PartText)
+abbrev pub description : RuleModel → Option (List PartModel)
 description r = given r.lines (codes "description")
 
-abbrev pub has_description : RuleText → Bool
+abbrev pub has_description : RuleModel → Bool
 has_description r = is_some (description r)
 
 -- its text, not expanded; without such a line it is empty
-abbrev pub description_text : RuleText → List ℕ
+abbrev pub description_text : RuleModel → List ℕ
 description_text r = unwrap_or (option_map parts_written (description r)) []
 
 -- ---- laws
 
 -- Where no two rules of the main scope have the same name, the names are in strictly ascending byte order, so that each occurs once.
 abbrev pub NamesRise : Type 0
-NamesRise = (rules : List RuleText) → IsDistinct bytes_eq (rule_names rules 0)
+NamesRise = (rules : List RuleModel) → IsDistinct bytes_eq (rule_names rules 0)
     → IsStrictlySortedBy (slice_cmp nat_cmp) (map (λ r. r.name) (main_rules_of rules))
 
 -- A rule is listed exactly when it is one of the main scope.
 abbrev pub ListsMainRules : Type 0
-ListsMainRules = (rules : List RuleText) (rule : RuleText)
+ListsMainRules = (rules : List RuleModel) (rule : RuleModel)
     → Contains (main_rules_of rules) rule ↔ ((rule.scope ≡ 0) × Contains rules rule)

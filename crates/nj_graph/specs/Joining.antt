@@ -4,7 +4,7 @@ use Rattle.std.specs.Option.{option_or}
 use Rattle.std.specs.Str.{is_utf8}
 use Rattle.nj_text.specs.Lines.{Line, text_lines}
 use Rattle.nj_manifest.specs.Faults.{Fault}
-use Rattle.nj_manifest.specs.Dyndeps.{EntryText, version_next, next_entry}
+use Rattle.nj_manifest.specs.Dyndeps.{EntryModel, version_next, next_entry}
 use Rattle.nj_scope.specs.Readings.{Reading, reading_of, paths_of}
 use Rattle.nj_scope.specs.Sources.{SourceState}
 use Rattle.nj_scope.specs.ReadingList.{ReadStatement}
@@ -15,32 +15,32 @@ use Rattle.nj_faults.specs.Faults.{fault_in}
 use Rattle.nj_statements.specs.EdgeList.{Pending, edges_read, pending_read}
 use Rattle.nj_statements.specs.Joining.{entry_fault, with_entry, lacking_fault, dyndep_files}
 use Rattle.nj_graph.specs.Parsed.{Parsed, none_parsed, parsed_in}
-use Rattle.nj_graph.specs.Reading.{End, Whole, ReadingText, and_then, end_by, stopped, outcome_read, with_all_new}
-use Rattle.nj_graph.specs.Runs.{ReachedText}
-use Rattle.nj_graph.specs.Loads.{LoadedText, LoadsAfter}
+use Rattle.nj_graph.specs.Reading.{End, Whole, ReadingModel, and_then, end_by, stopped, outcome_read, with_all_new}
+use Rattle.nj_graph.specs.Runs.{ReachedModel}
+use Rattle.nj_graph.specs.Loads.{LoadedModel, LoadsAfter}
 
 -- ---- the entries of a text
 
-abbrev pub after_version : (most : ℕ) → Result (List Line) Fault → Parsed EntryText
+abbrev pub after_version : (most : ℕ) → Result (List Line) Fault → Parsed EntryModel
 after_version most (Ok lines) = parsed_in next_entry most lines
 after_version most (Err fault) = none_parsed (Some fault)
 
 -- First the version. An entry has a byte at least.
-unfoldable pub entries_of : (text : List ℕ) → Parsed EntryText
+unfoldable pub entries_of : (text : List ℕ) → Parsed EntryModel
 entries_of text = after_version (suc (length text)) (version_next (text_lines text))
 
 -- ---- one file
 
 -- Its entries, one after the other: the statements as they were read, and as they are with what was joined so far.
-unfoldable pub entries_joined : (file : List ℕ) → (stated : List ReadStatement) → List EntryText → Option Fault → (joined : List ReadStatement)
-    → ReadingText
+unfoldable pub entries_joined : (file : List ℕ) → (stated : List ReadStatement) → List EntryModel → Option Fault → (joined : List ReadStatement)
+    → ReadingModel
 entries_joined file stated [] fault joined =
     record { entries = joined; end = end_by (option_or (option_map (fault_in file) fault) (lacking_fault file joined)) }
 entries_joined file stated (entry ∷ others) fault joined =
     and_then (record { entries = joined; end = end_by (entry_fault file stated joined entry) })
     (λ _. entries_joined file stated others fault (with_entry stated joined entry))
 
-abbrev pub text_joined : (file : List ℕ) → (stated : List ReadStatement) → (text : List ℕ) → (joined : List ReadStatement) → ReadingText
+abbrev pub text_joined : (file : List ℕ) → (stated : List ReadStatement) → (text : List ℕ) → (joined : List ReadStatement) → ReadingModel
 text_joined file stated text joined = entries_joined file stated (entries_of text).items (entries_of text).fault joined
 
 -- the place of the build statement of an edge; past the last edge there is none
@@ -50,7 +50,7 @@ statement_place stated edge =
     slice_index_or places edge (record { file = []; spot = record { line = 0; column = 0 } })
 
 -- where there is no file, or none that can be read, the first edge that is bound to it is to blame
-unfoldable pub file_joined : (files : List Reading) → (stated : List ReadStatement) → Pending → (joined : List ReadStatement) → ReadingText
+unfoldable pub file_joined : (files : List Reading) → (stated : List ReadStatement) → Pending → (joined : List ReadStatement) → ReadingModel
 file_joined files stated p joined =
     let place = statement_place stated p.edge in
     if is_utf8 p.file then outcome_read p.file place joined (λ text. text_joined p.file stated text joined) (reading_of files p.file)
@@ -62,11 +62,11 @@ file_joined files stated p joined =
 abbrev pub path_asked : Pending → List (List ℕ)
 path_asked p = if is_utf8 p.file then p.file ∷ [] else []
 
-abbrev pub continued : End → Pending → List ReadStatement → (List ReadStatement → ReachedText) → ReachedText
+abbrev pub continued : End → Pending → List ReadStatement → (List ReadStatement → ReachedModel) → ReachedModel
 continued Whole p joined others = record { read = (others joined).read; paths = path_asked p ++ (others joined).paths }
 continued end p joined others = record { read = record { entries = joined; end = end }; paths = path_asked p }
 
-unfoldable pub files_joined : (files : List Reading) → (stated : List ReadStatement) → List Pending → (joined : List ReadStatement) → ReachedText
+unfoldable pub files_joined : (files : List Reading) → (stated : List ReadStatement) → List Pending → (joined : List ReadStatement) → ReachedModel
 files_joined files stated [] joined = record { read = record { entries = joined; end = Whole }; paths = [] }
 files_joined files stated (p ∷ others) joined =
     let file = file_joined files stated p joined in
@@ -74,27 +74,27 @@ files_joined files stated (p ∷ others) joined =
 
 -- The dyndep files on which edges are pending, each once, in the order of their first edges: the whole file is joined before the
 -- next one is opened.
-unfoldable pub all_joined : (files : List Reading) → (stated : List ReadStatement) → ReachedText
+unfoldable pub all_joined : (files : List Reading) → (stated : List ReadStatement) → ReachedModel
 all_joined files stated = files_joined files stated (dyndep_files (pending_read stated)) stated
 
 -- ---- what joining returns
 
 -- what joining reads and reaches after these paths
-abbrev pub reached_after : (before : List (List ℕ)) → ReachedText → ReachedText
+abbrev pub reached_after : (before : List (List ℕ)) → ReachedModel → ReachedModel
 reached_after before joined = record { read = joined.read; paths = with_all_new before joined.paths }
 
 -- the reading of dyndep files after the old files
-abbrev pub joined_after : (old : List Reading) → (stated : List ReadStatement) → (files : List Reading) → ReachedText
+abbrev pub joined_after : (old : List Reading) → (stated : List ReadStatement) → (files : List Reading) → ReachedModel
 joined_after old stated files = reached_after (paths_of old) (all_joined files stated)
 
 -- Dyndep files are joined to the statements of a run that has read the old files; what was read before is not read again.
-abbrev pub Joins : (stated : List ReadStatement) → (old : List Reading) → (before after : SourceState) → Result LoadedText GraphFault → Type 0
+abbrev pub Joins : (stated : List ReadStatement) → (old : List Reading) → (before after : SourceState) → Result LoadedModel GraphFault → Type 0
 Joins stated old before after result = LoadsAfter old before after (joined_after old stated) result
 
 -- ---- laws
 
 -- What was joined stays joined: joining again changes no statement, and reaches no file.
 abbrev pub JoinedStaysJoined : Type 0
-JoinedStaysJoined = (files others : List Reading) (stated : List ReadStatement) (joined : ReachedText)
+JoinedStaysJoined = (files others : List Reading) (stated : List ReadStatement) (joined : ReachedModel)
     → all_joined files stated ≡ joined → joined.read.end ≡ Whole
     → all_joined others joined.read.entries ≡ record { read = joined.read; paths = [] }

@@ -7,17 +7,17 @@ use Rattle.std.specs.Ordering.{nat_cmp}
 use Rattle.nj_scope.specs.Readings.{Reading, IsPrefix}
 use Rattle.nj_text.specs.Lines.{Line, text_lines}
 use Rattle.nj_text.specs.Paths.{clean_path_of}
-use Rattle.nj_text.specs.Words.{WordText}
+use Rattle.nj_text.specs.Words.{WordModel}
 use Rattle.nj_manifest.specs.Dyndeps.{version_next, next_entry}
 use Rattle.nj_manifest.specs.Faults.{Fault}
 use Rattle.nj_manifest.specs.Openings.{Parse}
-use Rattle.nj_manifest.specs.Statements.{BindingText, next_statement}
+use Rattle.nj_manifest.specs.Statements.{BindingModel, next_statement}
 use Rattle.nj_scope.specs.ReadingList.{ReadStatement, scope_of, rules_read, files_opened}
 use Rattle.nj_edges.specs.Edges.{EdgePaths, first_output, outputs_of, inputs_of}
 use Rattle.nj_faults.specs.declared.fault.GraphFault.{GraphFault}
 use Rattle.nj_faults.specs.declared.fault.Cause.TheVariants.{EmptyPath, UnknownTarget, NoOutEdge}
 use Rattle.nj_faults.specs.Faults.{unplaced}
-use Rattle.nj_statements.specs.EdgeList.{EdgeText, edges_read, names_of_edge}
+use Rattle.nj_statements.specs.EdgeList.{EdgeModel, edges_read, names_of_edge}
 use Rattle.nj_graph.specs.Graph.{main_rules_of}
 use Rattle.nj_graph.specs.Joining.{entries_of}
 use Rattle.nj_graph.specs.Parsed.{parsed}
@@ -58,14 +58,14 @@ OthersAreNotRead = (files all : List Reading) (main : List ℕ) → IsPrefix fil
 
 -- What a file binds after the statement of an edge, in the same scope, affects the values of the edge's variables.
 abbrev pub LaterBindingsCount : Type 0
-LaterBindingsCount = (e : ReadStatement) (before : List ReadStatement) (edge : EdgeText) (name : List ℕ) (word : WordText)
-    → e.item ≡ BindingText name word → e.number ≡ edge.number
+LaterBindingsCount = (e : ReadStatement) (before : List ReadStatement) (edge : EdgeModel) (name : List ℕ) (word : WordModel)
+    → e.item ≡ BindingModel name word → e.number ≡ edge.number
     → (names_of_edge (e ∷ before) edge).file name ≡ expanded_in (scope_of e) before word
 
 -- It changes no edge: neither its paths, nor what its block binds, nor its rule.
 abbrev pub LaterBindingsChangeNoEdge : Type 0
-LaterBindingsChangeNoEdge = (e : ReadStatement) (before : List ReadStatement) (name : List ℕ) (word : WordText)
-    → e.item ≡ BindingText name word → edges_read (e ∷ before) ≡ edges_read before
+LaterBindingsChangeNoEdge = (e : ReadStatement) (before : List ReadStatement) (name : List ℕ) (word : WordModel)
+    → e.item ≡ BindingModel name word → edges_read (e ∷ before) ≡ edges_read before
 
 -- ---- what is parsed of a text
 

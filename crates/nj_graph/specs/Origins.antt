@@ -1,8 +1,8 @@
 -- Where rules and pools are declared, and which statements open which files.
 use Rattle.std.specs.Prelude.{ℕ, ◌-◌, Option, Some, None, option_map, option_and_then, unwrap_or, List, [], ◌∷◌, length, slice_get, slice_index_or}
 use Rattle.nj_text.specs.Numbers.{leading_number_of}
-use Rattle.nj_text.specs.Words.{WordText}
-use Rattle.nj_manifest.specs.Statements.{LineText, StatementText, RuleText, PoolText, IncludeText, SubninjaText}
+use Rattle.nj_text.specs.Words.{WordModel}
+use Rattle.nj_manifest.specs.Statements.{LineModel, StatementModel, RuleModel, PoolModel, IncludeModel, SubninjaModel}
 use Rattle.nj_scope.specs.ReadingList.{ReadStatement, scope_of, expanded_in, gathered, scopes_opened}
 use Rattle.nj_faults.specs.declared.fault.Place.{Place}
 use Rattle.nj_faults.specs.declared.fault.PlaceRef.{PlaceRef}
@@ -19,8 +19,8 @@ place_text p = record { file = p.file.now; spot = p.spot }
 
 -- ---- rules
 
-abbrev pub rule_place_given : ReadStatement → (before : List ReadStatement) → StatementText → Option (Option Place)
-rule_place_given e before (RuleText name lines) = Some (Some (place_of e))
+abbrev pub rule_place_given : ReadStatement → (before : List ReadStatement) → StatementModel → Option (Option Place)
+rule_place_given e before (RuleModel name lines) = Some (Some (place_of e))
 rule_place_given e before item = None
 
 -- the place of the statement that declares each rule, by number; no statement declares `phony`
@@ -40,12 +40,12 @@ pub record PoolDetail : Type 0 where
 
 -- The depth of a pool: the number at the front of the last value in its block. Each line there is a `depth` line, and a pool has
 -- one at least.
-abbrev pub depth_of : (scope : List ℕ) → (before : List ReadStatement) → List LineText → ℕ
+abbrev pub depth_of : (scope : List ℕ) → (before : List ReadStatement) → List LineModel → ℕ
 depth_of scope before lines =
     unwrap_or (option_and_then (λ l. leading_number_of (expanded_in scope before l.value)) (slice_get lines (length lines - 1))) 0
 
-abbrev pub pool_detail_given : ReadStatement → (before : List ReadStatement) → StatementText → Option PoolDetail
-pool_detail_given e before (PoolText name lines) = Some (record { place = place_of e; depth = depth_of (scope_of e) before lines })
+abbrev pub pool_detail_given : ReadStatement → (before : List ReadStatement) → StatementModel → Option PoolDetail
+pool_detail_given e before (PoolModel name lines) = Some (record { place = place_of e; depth = depth_of (scope_of e) before lines })
 pool_detail_given e before item = None
 
 -- the details of the pools in the order in which they were declared
@@ -55,7 +55,7 @@ pool_details entries = gathered pool_detail_given entries
 -- ---- openings
 
 -- A file that was opened.
-pub record OpeningText : Type 0 where
+pub record OpeningModel : Type 0 where
   -- the path as it was opened
   pub path : List ℕ
   -- the place of the statement that names it; no statement names the main file
@@ -64,40 +64,40 @@ pub record OpeningText : Type 0 where
   pub scope : ℕ
 
 -- an opening whose strings are lent
-abbrev pub opening_text : Opening → OpeningText
-opening_text o = record { path = o.path.now; named_at = option_map place_text o.named_at; scope = o.scope }
+abbrev pub opening_model : Opening → OpeningModel
+opening_model o = record { path = o.path.now; named_at = option_map place_text o.named_at; scope = o.scope }
 
-abbrev pub opening_by : ReadStatement → (before : List ReadStatement) → WordText → (scope : ℕ) → OpeningText
+abbrev pub opening_by : ReadStatement → (before : List ReadStatement) → WordModel → (scope : ℕ) → OpeningModel
 opening_by e before word scope = record { path = expanded_in (scope_of e) before word; named_at = Some (place_of e); scope = scope }
 
-abbrev pub opening_given : ReadStatement → (before : List ReadStatement) → StatementText → Option OpeningText
-opening_given e before (IncludeText word) = Some (opening_by e before word e.number)
-opening_given e before (SubninjaText word) = Some (opening_by e before word (scopes_opened before))
+abbrev pub opening_given : ReadStatement → (before : List ReadStatement) → StatementModel → Option OpeningModel
+opening_given e before (IncludeModel word) = Some (opening_by e before word e.number)
+opening_given e before (SubninjaModel word) = Some (opening_by e before word (scopes_opened before))
 opening_given e before item = None
 
-abbrev pub main_opening : (main : List ℕ) → OpeningText
+abbrev pub main_opening : (main : List ℕ) → OpeningModel
 main_opening main = record { path = main; named_at = None; scope = 0 }
 
 -- the main file, and each file that a statement opens, in reading order; a file that is opened again is there again
-abbrev pub openings_read : (main : List ℕ) → List ReadStatement → List OpeningText
+abbrev pub openings_read : (main : List ℕ) → List ReadStatement → List OpeningModel
 openings_read main entries = main_opening main ∷ gathered opening_given entries
 
 -- ---- all of them
 
-pub record OriginsText : Type 0 where
+pub record OriginsModel : Type 0 where
   pub rules : List (Option Place)
   pub pools : List PoolDetail
-  pub openings : List OpeningText
+  pub openings : List OpeningModel
 
-abbrev pub origins_read : (main : List ℕ) → List ReadStatement → OriginsText
+abbrev pub origins_read : (main : List ℕ) → List ReadStatement → OriginsModel
 origins_read main entries =
     record { rules = rule_places entries; pools = pool_details entries; openings = openings_read main entries }
 
 -- the path of an opening, if there is one
-abbrev pub path_opened : Option OpeningText → List ℕ
+abbrev pub path_opened : Option OpeningModel → List ℕ
 path_opened (Some opening) = opening.path
 path_opened None = []
 
 -- the main file: the one that is opened first
-abbrev pub main_of : OriginsText → List ℕ
+abbrev pub main_of : OriginsModel → List ℕ
 main_of origins = path_opened (slice_get origins.openings 0)

@@ -3,7 +3,7 @@ use Rattle.std.specs.Prelude.{ℕ, zero, suc, Option, Some, None, Ok, Err, List,
 use Rattle.nj_text.specs.Lines.{Line, text_lines}
 use Rattle.nj_manifest.specs.Faults.{Fault}
 use Rattle.nj_manifest.specs.Openings.{Parse}
-use Rattle.nj_manifest.specs.Statements.{PlacedText, next_statement}
+use Rattle.nj_manifest.specs.Statements.{PlacedModel, next_statement}
 
 -- the items up to the end, or up to the first that has a fault of syntax
 pub record Parsed (A : Type 0) : Type 0 where
@@ -27,5 +27,5 @@ parsed_in next zero lines = none_parsed None
 parsed_in next (suc most) lines = parsed_by (next lines) (parsed_in next most)
 
 -- A statement has a byte at least.
-abbrev pub parsed : (text : List ℕ) → Parsed PlacedText
+abbrev pub parsed : (text : List ℕ) → Parsed PlacedModel
 parsed text = parsed_in next_statement (suc (length text)) (text_lines text)

@@ -5,12 +5,12 @@ use Rattle.std.specs.Option.{option_or, option_map_or}
 use Rattle.std.specs.Prelude.{◌∷◌, ◌++◌, find, filter, codes, bytes_eq}
 use Rattle.std.specs.Str.{is_utf8}
 use Rattle.nj_text.specs.declared.spot.Spot.{Spot}
-use Rattle.nj_text.specs.Words.{WordText}
+use Rattle.nj_text.specs.Words.{WordModel}
 use Rattle.nj_text.specs.Calls.{is_empty}
 use Rattle.nj_manifest.specs.Faults.{Fault}
-use Rattle.nj_manifest.specs.LineSteps.{NameText}
-use Rattle.nj_manifest.specs.Statements.{LineText, StatementText, BindingText, RuleText, PoolText, BuildText, DefaultText, IncludeText}
-use Rattle.nj_manifest.specs.Statements.{SubninjaText, PlacedText}
+use Rattle.nj_manifest.specs.LineSteps.{NameModel}
+use Rattle.nj_manifest.specs.Statements.{LineModel, StatementModel, BindingModel, RuleModel, PoolModel, BuildModel, DefaultModel, IncludeModel}
+use Rattle.nj_manifest.specs.Statements.{SubninjaModel, PlacedModel}
 use Rattle.nj_scope.specs.Readings as table
 use Rattle.nj_scope.specs.Readings.{reading_of}
 use Rattle.nj_scope.specs.Limits.{is_depth}
@@ -40,7 +40,7 @@ pub record Site : Type 0 where
   pub number : ℕ
   pub around : List ℕ
 
-abbrev pub entry_at : Site → PlacedText → ReadStatement
+abbrev pub entry_at : Site → PlacedModel → ReadStatement
 entry_at site s = record {
   file = site.file;
   spot = s.spot;
@@ -57,16 +57,16 @@ abbrev pub binding_fault : (file : List ℕ) → Spot → (name value : List ℕ
 binding_fault file spot name value =
     then_some (bytes_eq name (codes "ninja_required_version") && is_newer value) (fault_at file spot (VersionTooNew value))
 
-abbrev pub rule_fault : (file : List ℕ) → (number : ℕ) → (before : List ReadStatement) → NameText → Option GraphFault
+abbrev pub rule_fault : (file : List ℕ) → (number : ℕ) → (before : List ReadStatement) → NameModel → Option GraphFault
 rule_fault file number before name =
     then_some (is_declared (rules before number name.name) name.name) (fault_at file name.spot (DuplicateRule name.name))
 
 -- each depth of a pool's block counts, also one that a later line overrides
-abbrev pub depth_fault : (file scope : List ℕ) → (before : List ReadStatement) → List LineText → Option GraphFault
+abbrev pub depth_fault : (file scope : List ℕ) → (before : List ReadStatement) → List LineModel → Option GraphFault
 depth_fault file scope before lines =
     option_map (λ l. fault_at file l.spot BadDepth) (find (λ l. not (is_depth (expanded_in scope before l.value))) lines)
 
-abbrev pub pool_fault : (file scope : List ℕ) → (before : List ReadStatement) → NameText → List LineText → Option GraphFault
+abbrev pub pool_fault : (file scope : List ℕ) → (before : List ReadStatement) → NameModel → List LineModel → Option GraphFault
 pool_fault file scope before name lines =
     option_or (then_some (is_pool (pools before) name.name) (fault_at file name.spot (DuplicatePool name.name)))
     (depth_fault file scope before lines)
@@ -75,14 +75,14 @@ abbrev pub path_fault : (file : List ℕ) → Spot → (path : List ℕ) → Opt
 path_fault file spot path =
     option_or (then_some (is_empty path) (fault_at file spot EmptyPath)) (then_some (not (is_utf8 path)) (fault_at file spot PathNotText))
 
-abbrev pub item_fault : ReadStatement → (before : List ReadStatement) → StatementText → Option GraphFault
-item_fault e before (BindingText name value) = binding_fault e.file e.spot name (expanded_in (scope_of e) before value)
-item_fault e before (RuleText name lines) = rule_fault e.file e.number before name
-item_fault e before (PoolText name lines) = pool_fault e.file (scope_of e) before name lines
-item_fault e before (BuildText outputs rule inputs lines) = build_fault e before outputs rule inputs lines
-item_fault e before (DefaultText words) = default_fault e before words
-item_fault e before (IncludeText word) = path_fault e.file word.spot (expanded_in (scope_of e) before word)
-item_fault e before (SubninjaText word) = path_fault e.file word.spot (expanded_in (scope_of e) before word)
+abbrev pub item_fault : ReadStatement → (before : List ReadStatement) → StatementModel → Option GraphFault
+item_fault e before (BindingModel name value) = binding_fault e.file e.spot name (expanded_in (scope_of e) before value)
+item_fault e before (RuleModel name lines) = rule_fault e.file e.number before name
+item_fault e before (PoolModel name lines) = pool_fault e.file (scope_of e) before name lines
+item_fault e before (BuildModel outputs rule inputs lines) = build_fault e before outputs rule inputs lines
+item_fault e before (DefaultModel words) = default_fault e before words
+item_fault e before (IncludeModel word) = path_fault e.file word.spot (expanded_in (scope_of e) before word)
+item_fault e before (SubninjaModel word) = path_fault e.file word.spot (expanded_in (scope_of e) before word)
 
 -- the first fault of a statement, except the faults of its syntax and of the file that it names
 abbrev pub own_fault : ReadStatement → (before : List ReadStatement) → Option GraphFault
@@ -100,30 +100,30 @@ pub data End : Type 0 where
   Lacking : (path : List ℕ) (place : Place) → End
 
 -- the statements that were read, the last one first
-pub record ReadingText : Type 0 where
+pub record ReadingModel : Type 0 where
   pub entries : List ReadStatement
   pub end : End
 
 -- nothing more is read after the end
-abbrev pub continued : End → List ReadStatement → (List ReadStatement → ReadingText) → ReadingText
+abbrev pub continued : End → List ReadStatement → (List ReadStatement → ReadingModel) → ReadingModel
 continued Whole entries others = others entries
 continued end entries others = record { entries = entries; end = end }
 
 -- one reading, and where all of it was read another one
-abbrev pub and_then : ReadingText → (List ReadStatement → ReadingText) → ReadingText
+abbrev pub and_then : ReadingModel → (List ReadStatement → ReadingModel) → ReadingModel
 and_then r others = continued r.end r.entries others
 
 -- What is read of the file that a statement names: where its own statements are, the place of its name, the statement
 -- itself, and the statements before it.
 abbrev pub Opens : Type 0
-Opens = Site → Place → ReadStatement → (before : List ReadStatement) → ReadingText
+Opens = Site → Place → ReadStatement → (before : List ReadStatement) → ReadingModel
 
 abbrev pub place_at : ReadStatement → Spot → Place
 place_at e spot = record { file = e.file; spot = spot }
 
 -- The statements of a file that a statement names are in the scope of this number, within these: those of a file that is included in
 -- the scope of the `include`, those of a file after `subninja` in a new one within the scope of the statement.
-abbrev pub opened_site : ReadStatement → (before : List ReadStatement) → WordText → (number : ℕ) → (around : List ℕ) → Site
+abbrev pub opened_site : ReadStatement → (before : List ReadStatement) → WordModel → (number : ℕ) → (around : List ℕ) → Site
 opened_site e before word number around = record {
   file = expanded_in (scope_of e) before word;
   depth = suc e.depth;
@@ -131,40 +131,40 @@ opened_site e before word number around = record {
   around = around;
 }
 
-abbrev pub item_read : Opens → ReadStatement → (before : List ReadStatement) → StatementText → ReadingText
-item_read opens e before (IncludeText word) = opens (opened_site e before word e.number e.around) (place_at e word.spot) e before
-item_read opens e before (SubninjaText word) =
+abbrev pub item_read : Opens → ReadStatement → (before : List ReadStatement) → StatementModel → ReadingModel
+item_read opens e before (IncludeModel word) = opens (opened_site e before word e.number e.around) (place_at e word.spot) e before
+item_read opens e before (SubninjaModel word) =
     opens (opened_site e before word (scopes_opened before) (scope_of e)) (place_at e word.spot) e before
 item_read opens e before item = record { entries = e ∷ before; end = Whole }
 
 abbrev pub end_by : Option GraphFault → End
 end_by fault = option_map_or Refused fault Whole
 
-abbrev pub statement_read : Opens → ReadStatement → (before : List ReadStatement) → ReadingText
+abbrev pub statement_read : Opens → ReadStatement → (before : List ReadStatement) → ReadingModel
 statement_read opens e before = continued (end_by (own_fault e before)) before (λ _. item_read opens e before e.item)
 
 -- the statements of a file, one after the other
-unfoldable pub statements_read : Opens → Site → (statements : List PlacedText) → Option Fault → (before : List ReadStatement) → ReadingText
+unfoldable pub statements_read : Opens → Site → (statements : List PlacedModel) → Option Fault → (before : List ReadStatement) → ReadingModel
 statements_read opens site [] fault before = record { entries = before; end = end_by (option_map (fault_in site.file) fault) }
 statements_read opens site (s ∷ others) fault before =
     and_then (statement_read opens (entry_at site s) before) (λ entries. statements_read opens site others fault entries)
 
-abbrev pub text_read : Opens → Site → (text : List ℕ) → (before : List ReadStatement) → ReadingText
+abbrev pub text_read : Opens → Site → (text : List ℕ) → (before : List ReadStatement) → ReadingModel
 text_read opens site text before = statements_read opens site (parsed text).items (parsed text).fault before
 
-abbrev pub stopped : List ReadStatement → Place → Cause → ReadingText
+abbrev pub stopped : List ReadStatement → Place → Cause → ReadingModel
 stopped before place cause = record { entries = before; end = Refused (record { place = Some place; cause = cause }) }
 
 -- by what was found at a path that the statement at this place names
-abbrev pub found_read : (path : List ℕ) → Place → (before : List ReadStatement) → (List ℕ → ReadingText) → Option (List ℕ) → ReadingText
+abbrev pub found_read : (path : List ℕ) → Place → (before : List ReadStatement) → (List ℕ → ReadingModel) → Option (List ℕ) → ReadingModel
 found_read path place before reads text = option_map_or reads text (stopped before place (Missing path))
 
 -- by what the table returns for that path
-abbrev pub outcome_read : (path : List ℕ) → Place → (before : List ReadStatement) → (List ℕ → ReadingText) → Option table.Reading → ReadingText
+abbrev pub outcome_read : (path : List ℕ) → Place → (before : List ReadStatement) → (List ℕ → ReadingModel) → Option table.Reading → ReadingModel
 outcome_read path place before reads found =
     option_map_or (λ r. found_read path place before reads r.bytes) found (record { entries = before; end = Lacking path place })
 
-abbrev pub if_capacity : Bool → (within : Opens) → (files : List table.Reading) → Site → Place → ReadStatement → (before : List ReadStatement) → ReadingText
+abbrev pub if_capacity : Bool → (within : Opens) → (files : List table.Reading) → Site → Place → ReadStatement → (before : List ReadStatement) → ReadingModel
 if_capacity false within files site place e before = stopped before place TooManyOpenings
 if_capacity true within files site place e before =
     outcome_read site.file place before (λ text. text_read within site text (e ∷ before)) (reading_of files site.file)
@@ -184,7 +184,7 @@ abbrev pub main_place : (main : List ℕ) → Place
 main_place main = record { file = main; spot = record { line = 1; column = 1 } }
 
 -- the main file, and all that it includes
-unfoldable pub main_read : (files : List table.Reading) → (main : List ℕ) → ReadingText
+unfoldable pub main_read : (files : List table.Reading) → (main : List ℕ) → ReadingModel
 main_read files main =
     outcome_read main (main_place main) [] (λ text. text_read (opened_in files most_within) (main_site main) text []) (reading_of files main)
 
@@ -206,5 +206,5 @@ path_at_end (Lacking path place) = path ∷ []
 
 -- All paths that the reading reaches, each at its first occurrence: the main file, those that the statements name, and the one
 -- at its end.
-abbrev pub paths_come_to : (main : List ℕ) → ReadingText → List (List ℕ)
+abbrev pub paths_come_to : (main : List ℕ) → ReadingModel → List (List ℕ)
 paths_come_to main r = each_once bytes_eq (main ∷ gathered path_named r.entries ++ path_at_end r.end)

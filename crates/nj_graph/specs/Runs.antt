@@ -5,7 +5,7 @@ use Rattle.nj_scope.specs.Sources.{SourceState, HasRead, Rises}
 use Rattle.nj_faults.specs.declared.fault.GraphFault.{GraphFault}
 use Rattle.nj_faults.specs.declared.fault.Cause.TheVariants.{Io}
 use Rattle.nj_faults.specs.Faults.{no_memory}
-use Rattle.nj_graph.specs.Reading.{End, Whole, Refused, Lacking, ReadingText}
+use Rattle.nj_graph.specs.Reading.{End, Whole, Refused, Lacking, ReadingModel}
 
 -- What was read from the source is appended to the earlier files, each path once.
 pub record IsRead (before after : SourceState) (old files : List Reading) : Type 0 where
@@ -36,24 +36,24 @@ paths_with (Refused fault) files = paths_of files
 paths_with (Lacking path place) files = paths_of files ++ path ∷ []
 
 -- What is read by some files: the statements, and how that ends; and the paths that it reaches, the one at its end among them.
-pub record ReachedText : Type 0 where
-  pub read : ReadingText
+pub record ReachedModel : Type 0 where
+  pub read : ReadingModel
   pub paths : List (List ℕ)
 
 -- By these files the reading ends as reported, whatever other files contain; and all paths that it reaches were read.
-pub record EndsSo (before after : SourceState) (files : List Reading) (reading : List Reading → ReachedText) (fault : GraphFault)
+pub record EndsSo (before after : SourceState) (files : List Reading) (reading : List Reading → ReachedModel) (fault : GraphFault)
     : Type 0 where
-  pub reached : ReachedText
+  pub reached : ReachedModel
   pub answered : IsEnd before after reached.read.end fault
   pub read : (all : List Reading) → IsPrefix files all → IsLacking reached.read.end all → reading all ≡ reached
   pub came_to : reached.paths ≡ paths_with reached.read.end files
 
 -- Out of memory. The paths that were read are those that the reading reaches first, and the source did not fail.
-pub record LacksMemory (before after : SourceState) (files : List Reading) (reading : List Reading → ReachedText) (fault : GraphFault)
+pub record LacksMemory (before after : SourceState) (files : List Reading) (reading : List Reading → ReachedModel) (fault : GraphFault)
     : Type 0 where
   pub answered : fault ≡ no_memory
   pub failures : after.failures ≡ before.failures
   pub came_to : (all : List Reading) → IsPrefix files all → IsPrefix (paths_of files) (reading all).paths
 
-abbrev pub Stops : (before after : SourceState) → (files : List Reading) → (reading : List Reading → ReachedText) → GraphFault → Type 0
+abbrev pub Stops : (before after : SourceState) → (files : List Reading) → (reading : List Reading → ReachedModel) → GraphFault → Type 0
 Stops before after files reading fault = LacksMemory before after files reading fault ⊎ EndsSo before after files reading fault

@@ -1,9 +1,9 @@
 //! The statements that declare something: bindings, rules and pools.
 
 ghost use Rattle.std.specs.Prelude.{◌≡◌, ◌<◌, length, IfOk, OnOk};
-ghost use Rattle.nj_text.specs.Words.{word_text};
-ghost use Rattle.nj_manifest.specs.Statements.{BindingText};
-ghost use Rattle.nj_manifest.specs.Contents.{rule_text, pool_text, lines_text};
+ghost use Rattle.nj_text.specs.Words.{word_model};
+ghost use Rattle.nj_manifest.specs.Statements.{BindingModel};
+ghost use Rattle.nj_manifest.specs.Contents.{rule_model, pool_model, lines_model};
 ghost use Rattle.nj_graph.specs.Reading.{entry_at, depth_fault};
 ghost use Rattle.nj_graph.specs.Origins.{depth_of};
 ghost use Rattle.nj_graph.specs.Inside.ReaderContracts.{InFile, InScope, ScopesGrow, Checks, Declares};
@@ -27,7 +27,7 @@ impl Reader {
     ) -> Result<(), GraphFault>
         requires { file.scope < length self.old.declarations.scopes }
         ensures declares { InFile self.old file.entry (λ main site entries.
-            let item = BindingText name.now (word_text value.now) in
+            let item = BindingModel name.now (word_model value.now) in
             let e = entry_at site (record { spot = spot; item = item }) in
             Declares main self.new e entries result) }
         ensures files { self.new.files ≡ self.old.files }
@@ -54,7 +54,7 @@ impl Reader {
     ) -> Result<(), GraphFault>
         requires { file.scope < length self.old.declarations.scopes }
         ensures declares { InFile self.old file.entry (λ main site entries.
-            let e = entry_at site (record { spot = spot; item = rule_text rule.now }) in
+            let e = entry_at site (record { spot = spot; item = rule_model rule.now }) in
             Declares main self.new e entries result) }
         ensures files { self.new.files ≡ self.old.files }
         ensures grows { OnOk result (ScopesGrow self.old self.new) }
@@ -80,7 +80,7 @@ impl Reader {
     ) -> Result<(), GraphFault>
         requires { file.scope < length self.old.declarations.scopes }
         ensures declares { InFile self.old file.entry (λ main site entries.
-            let e = entry_at site (record { spot = spot; item = pool_text pool.now }) in
+            let e = entry_at site (record { spot = spot; item = pool_model pool.now }) in
             Declares main self.new e entries result) }
         ensures files { self.new.files ≡ self.old.files }
         ensures grows { OnOk result (ScopesGrow self.old self.new) }
@@ -104,7 +104,7 @@ impl Reader {
     ) -> Result<(), GraphFault>
         requires { file.scope < length self.now.declarations.scopes }
         ensures { InScope self.now file.entry (λ scope entries.
-            Checks (depth_fault file.entry.name.now scope entries (lines_text lines.now)) result) }
+            Checks (depth_fault file.entry.name.now scope entries (lines_model lines.now)) result) }
     {
         'lines: for line in lines {
             let depth = self.declarations.expand(alloc, file.scope, &line.value)?;
@@ -124,7 +124,7 @@ impl Reader {
     ) -> Result<u64, AllocError>
         requires { file.scope < length self.now.declarations.scopes }
         ensures { InScope self.now file.entry (λ scope entries.
-            IfOk result (λ depth. depth ≡ depth_of scope entries (lines_text lines.now))) }
+            IfOk result (λ depth. depth ≡ depth_of scope entries (lines_model lines.now))) }
     {
         let Some(line) = lines.last() else {
             return Ok(0);

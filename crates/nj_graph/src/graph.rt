@@ -24,10 +24,10 @@ pub struct Graph {
 }
 
 impl Model for Graph {
-    ghost use Rattle.nj_graph.specs.Graph.{GraphText};
+    ghost use Rattle.nj_graph.specs.Graph.{GraphModel};
     ghost use Rattle.nj_graph.specs.Inside.GraphHeld.{IsGraph};
 
-    ghost Value = { GraphText };
+    ghost Value = { GraphModel };
 
     ghost view = { λ g. record {
       declarations = g.declarations;

@@ -1,30 +1,30 @@
 //! The graph of a run's build statements, from the files that it reads.
 #![tactic(auto)]
 
-mod assigned;
-mod bindings;
-mod building;
+mod block_bindings;
+mod build_statements;
 mod declaring;
-mod edges;
+mod dyndep_files;
+mod edge_assignments;
+mod edge_values;
 mod error;
+mod file_statements;
 mod graph;
-mod joining;
-mod late;
+mod graph_edges;
 mod laws;
 mod loading;
 mod opened_files;
-mod opening;
 mod origins;
 mod pools;
 mod reader;
-mod response;
+mod response_files;
 mod rules;
 mod scopes;
 mod targets;
 
+pub use dyndep_files::join_dyndeps;
 pub use error::Error;
 pub use graph::{Graph, rules_by_name};
-pub use joining::join_dyndeps;
 pub use laws::{
     bindings_after_an_edge, items_are_found_in_turn, joined_dyndeps_stay_joined,
     origins_by_reading_order, sign_before_the_first_name, statements_up_to_the_first_fault,

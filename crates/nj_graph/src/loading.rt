@@ -19,9 +19,9 @@ pub struct Loaded {
 }
 
 impl Model for Loaded {
-    ghost use Rattle.nj_graph.specs.Loads.{LoadedText};
+    ghost use Rattle.nj_graph.specs.Loads.{LoadedModel};
 
-    ghost Value = { LoadedText };
+    ghost Value = { LoadedModel };
 
     ghost view = { λ l. record { files = l.files; graph = l.graph } };
 

@@ -2,7 +2,7 @@
 
 ghost use Rattle.std.specs.Prelude.{◌≡◌, List, length, option_map, slice_get};
 ghost use Rattle.nj_scope.specs.ReadingList.{ReadStatement, files_opened};
-ghost use Rattle.nj_graph.specs.Origins.{main_of, opening_text, openings_read};
+ghost use Rattle.nj_graph.specs.Origins.{main_of, opening_model, openings_read};
 ghost use Rattle.nj_graph.specs.Graph.{IsGraphOf};
 
 use crate::graph::Graph;
@@ -22,9 +22,9 @@ impl Graph {
     /// The file that was opened at this index, in reading order; the main file is the first one.
     /// `None` past the last one.
     pub fn opening(&self, index: usize) -> Option<Opening<'_>>
-        ensures held { option_map opening_text result ≡ slice_get self.now.origins.openings index }
+        ensures held { option_map opening_model result ≡ slice_get self.now.origins.openings index }
         ensures stated { (entries : List ReadStatement) → IsGraphOf self.now entries
-            → option_map opening_text result
+            → option_map opening_model result
             ≡ slice_get (openings_read (main_of self.now.origins) entries) index }
     {
         self.origins.opening(index)

@@ -2,7 +2,7 @@
 
 ghost use Rattle.std.specs.Prelude.{◌≡◌, ◌<◌, [], ◌∷◌, ◌++◌, Some, None, length, option_map, slice_get, IfOk, OnOk};
 ghost use Rattle.nj_scope.specs.Readings.{IsPrefix};
-ghost use Rattle.nj_graph.specs.Origins.{place_text, rule_place_at, opening_text, origins_read};
+ghost use Rattle.nj_graph.specs.Origins.{place_text, rule_place_at, opening_model, origins_read};
 ghost use Rattle.nj_graph.specs.Inside.OriginsHeld.{place_held};
 
 use nj_faults::PlaceRef;
@@ -59,10 +59,10 @@ pub(crate) struct Origins {
 }
 
 impl Model for Origins {
-    ghost use Rattle.nj_graph.specs.Origins.{OriginsText};
+    ghost use Rattle.nj_graph.specs.Origins.{OriginsModel};
     ghost use Rattle.nj_graph.specs.Inside.OriginsHeld.{origins_held, AreNamed};
 
-    ghost Value = { OriginsText };
+    ghost Value = { OriginsModel };
 
     ghost view = { λ o. origins_held o.names o.rules.items o.pools.items o.openings.items };
 
@@ -171,7 +171,7 @@ impl Origins {
 
     /// The file that was opened at this index.
     pub(crate) fn opening(&self, index: usize) -> Option<Opening<'_>>
-        ensures { option_map opening_text result ≡ slice_get self.now.openings index }
+        ensures { option_map opening_model result ≡ slice_get self.now.openings index }
     {
         let opening = self.openings.get(index)?;
         Some(Opening {

@@ -1,13 +1,13 @@
 //! The reading of a run's files: texts, and their statements one after another.
 
 ghost use Rattle.std.specs.Prelude.{◌≡◌, ◌<◌, Some, None, length, IfOk, OnOk, IfSome};
-ghost use Rattle.nj_manifest.specs.Contents.{placed_text};
+ghost use Rattle.nj_manifest.specs.Contents.{placed_model};
 ghost use Rattle.nj_scope.specs.Scopes.{parent_at};
 ghost use Rattle.nj_faults.specs.Faults.{IsFault, fault_at};
 ghost use Rattle.nj_graph.specs.Reading.{entry_at, opened_in, text_read, statement_read, main_read};
 ghost use Rattle.nj_graph.specs.Inside.ReaderContracts.{IsNew, InFile, ScopesGrow, ReadsItem, ReadsOrStops, NextIs};
 
-use crate::opening::{Naming, text_at};
+use crate::file_statements::{Naming, text_at};
 use crate::origins::Origins;
 use nj_faults::{Cause, GraphFault, MOST_OPEN, PlaceRef};
 use nj_manifest::{Parser, Placed, Spot, Statement};
@@ -137,7 +137,7 @@ impl Reader {
         ensures reads { InFile self.old file.entry (λ main site entries.
             ReadsOrStops main (S.state source.old) (S.state source.new) self.old self.new
             (λ files. statement_read (opened_in files file.entry.left)
-            (entry_at site (placed_text statement.now)) entries) result) }
+            (entry_at site (placed_model statement.now)) entries) result) }
         ensures grows { OnOk result (ScopesGrow self.old self.new) }
     {
         match self.read_item(alloc, source, file, statement)? {
@@ -164,7 +164,7 @@ impl Reader {
         requires { file.scope < length self.old.declarations.scopes }
         ensures reads { InFile self.old file.entry (λ main site entries.
             ReadsItem main (S.state source.old) (S.state source.new) self.old self.new
-            file.entry.left (entry_at site (placed_text statement.now)) entries result) }
+            file.entry.left (entry_at site (placed_model statement.now)) entries result) }
         ensures left { IfOk result (λ named. IfSome named (λ o. 0 < file.entry.left)) }
         ensures there { IfOk result (λ named.
             IfSome named (λ o. o.scope < length self.new.declarations.scopes)) }

@@ -13,13 +13,13 @@ use Rattle.nj_text.specs.Units.{TextUnit}
 use Rattle.nj_text.specs.Lines.{Line, with_units, lines_after, Kind, CommentLine, TabLine, BlankLine, IndentedLine, PlainLine, kind_of, is_space_unit, kind_after_spaces, begins_with_space}
 use Rattle.nj_text.specs.Inside.States.{reply}
 use Rattle.nj_text.specs.Calls.{State, Between, Inside, Failed, Answers, start_line_of, begun, begun_by, is_comment, is_empty, without_comments, Reply}
-use Rattle.nj_manifest.specs.declared.block.Keys.{Keys}
-use Rattle.nj_manifest.specs.declared.fault.ParseFault.{ParseFault}
-use Rattle.nj_manifest.specs.declared.fault.ParseFault.TheVariants as fault
+use Rattle.nj_manifest.specs.declared.block_lines.Keys.{Keys}
+use Rattle.nj_manifest.specs.declared.parse_fault.ParseFault.{ParseFault}
+use Rattle.nj_manifest.specs.declared.parse_fault.ParseFault.TheVariants as fault
 use Rattle.nj_manifest.specs.Faults.{Fault, Bad}
 use Rattle.nj_manifest.specs.LineSteps.{Step, ◌>>=◌}
 use Rattle.nj_manifest.specs.Parsers.{Fails}
-use Rattle.nj_manifest.specs.Statements.{LineText, line_next, lines_from, block_by, block}
+use Rattle.nj_manifest.specs.Statements.{LineModel, line_next, lines_from, block_by, block}
 use Rattle.nj_manifest.specs.Inside.ParserContracts.{IsBetweenStatements, ParsesFrom}
 use Rattle.nj_manifest.specs.Openings.{Parse, or_last, without_spaces}
 use Rattle.nj_manifest.proofs.Choices.{no_lines}
@@ -50,13 +50,13 @@ weight-after l ls = by_last l.is_last refl
 -- ---- the start of a line
 
 -- The lexer is at the first line of the block that is left.
-abbrev pub BeginsLine : Keys → ℕ → Parse (List LineText) → State → Type 0
+abbrev pub BeginsLine : Keys → ℕ → Parse (List LineModel) → State → Type 0
 BeginsLine allowed limit whole s =
     (l : Line) × (ls : List Line) × (s ≡ Inside (without_spaces l) ls) × (whole ≡ block_by allowed IndentedLine l ls (block allowed ls)) × (lines_weight ls < limit)
 
 -- What the start of a line tells about the block, and where the lexer is then. The limit is the weight of the lines
 -- that were left.
-abbrev pub Begins : Keys → (limit : ℕ) → Parse (List LineText) → Reply LineStart → Type 0
+abbrev pub Begins : Keys → (limit : ℕ) → Parse (List LineModel) → Reply LineStart → Type 0
 Begins allowed limit whole (Ok (start.Indented, s)) = BeginsLine allowed limit whole s
 Begins allowed limit whole (Ok (start.Middle, s)) = ⊥
 Begins allowed limit whole (Ok (other, s)) = (whole ≡ no_lines (lines_from s)) × IsBetweenStatements s
@@ -99,7 +99,7 @@ begun-kind allowed limit IndentedLine l ls e h g = let w = indented-weight l e i
 begun-kind allowed limit PlainLine l ls e h g = (refl, e)
 
 -- a comment gives nothing
-block-comment : (allowed : Keys) (k : Kind) (l : Line) (ls : List Line) (others : Parse (List LineText)) → is_comment k ≡ true → block_by allowed k l ls others ≡ or_last l (no_lines (lines_after l (without_comments ls))) others
+block-comment : (allowed : Keys) (k : Kind) (l : Line) (ls : List Line) (others : Parse (List LineModel)) → is_comment k ≡ true → block_by allowed k l ls others ≡ or_last l (no_lines (lines_after l (without_comments ls))) others
 block-comment allowed CommentLine l ls others h = refl
 block-comment allowed (TabLine tab) l ls others h = absurd cc
 block-comment allowed BlankLine l ls others h = absurd cc
@@ -120,7 +120,7 @@ begun-begins allowed limit (l ∷ ls) h = by_comment (is_comment (kind_of l)) re
         → Begins allowed limit (block_by allowed (kind_of l) l ls (block allowed ls)) (begun (cond t (lines_after l (without_comments ls)) (l ∷ ls)))
     by_comment false e rest = begun-kind allowed limit (kind_of l) l ls refl e h
     by_comment true e rest =
-        subst (λ (whole : Parse (List LineText)). Begins allowed limit whole (begun (lines_after l (without_comments ls)))) (sym (block-comment allowed (kind_of l) l ls (block allowed ls) e)) (by_last l.is_last refl rest)
+        subst (λ (whole : Parse (List LineModel)). Begins allowed limit whole (begun (lines_after l (without_comments ls)))) (sym (block-comment allowed (kind_of l) l ls (block allowed ls) e)) (by_last l.is_last refl rest)
 
 -- what the lexer returns at the start of a line
 pub start-begins : (allowed : Keys) (ls : List Line) (r : Reply LineStart) → start_line_of (Between ls) ≡ r → Begins allowed (lines_weight ls) (block allowed ls) r
@@ -138,18 +138,18 @@ block-after allowed l ls = by_last l.is_last refl
 -- ---- the turns of the loop
 
 -- what is read before is put in front
-abbrev pub in_front : List LineText → Parse (List LineText) → Parse (List LineText)
+abbrev pub in_front : List LineModel → Parse (List LineModel) → Parse (List LineModel)
 in_front front others = others >>= λ o. Ok (front ++ o.0, o.1)
 
 -- What was read in front of what is still to be read is the whole.
-abbrev pub StillReads : Keys → (front : List LineText) → (before now : State) → Type 0
+abbrev pub StillReads : Keys → (front : List LineModel) → (before now : State) → Type 0
 StillReads allowed front (Between ls) now = (ms : List Line) × (now ≡ Between ms) × (in_front front (block allowed ms) ≡ block allowed ls)
 StillReads allowed front other now = Unit {0}
 
 pub still-begins : (allowed : Keys) (before : State) → StillReads allowed [] before before
 still-begins allowed (Between ls) = (ls, refl, nothing-in_front (block allowed ls))
   where
-    nothing-in_front : (others : Parse (List LineText)) → in_front [] others ≡ others
+    nothing-in_front : (others : Parse (List LineModel)) → in_front [] others ≡ others
     nothing-in_front (Ok o) = refl
     nothing-in_front (Err f) = refl
 still-begins allowed (Inside l ls) = tt
@@ -170,11 +170,11 @@ started-indented allowed (Inside l ls) middle h = absurd (false≢true (ap begin
 started-indented allowed (Failed f) middle h = absurd (false≢true (ap begins_indented h))
 
 -- where a line that was read leaves the lexer
-line-after : (allowed : Keys) (l : Line) (ls : List Line) (middle : State) (line : LineText) (after : State) → middle ≡ Inside (without_spaces l) ls → line_next allowed middle ≡ Ok (line, after) → after ≡ Between (lines_after l ls)
+line-after : (allowed : Keys) (l : Line) (ls : List Line) (middle : State) (line : LineModel) (after : State) → middle ≡ Inside (without_spaces l) ls → line_next allowed middle ≡ Ok (line, after) → after ≡ Between (lines_after l ls)
 line-after allowed l ls middle line after i h = line-inside allowed (without_spaces l) ls line after (ap (line_next allowed) (sym i) ∙ h)
 
 -- Behind a line fewer lines are left.
-pub lines_left-line : (allowed : Keys) (s middle : State) (line : LineText) (after : State) → Started start.Indented s middle → line_next allowed middle ≡ Ok (line, after) → lines_left after < lines_left s
+pub lines_left-line : (allowed : Keys) (s middle : State) (line : LineModel) (after : State) → Started start.Indented s middle → line_next allowed middle ≡ Ok (line, after) → lines_left after < lines_left s
 lines_left-line allowed s middle line after h e =
     let b = started-indented allowed s middle h in
     let here : lines_left s ≡ lines_weight b.0 = ap lines_left b.1 in
@@ -183,22 +183,22 @@ lines_left-line allowed s middle line after h e =
     let remainder = weight-after b.2.0 b.2.1 in
     omega arith
 
-in_front-more : (front : List LineText) (line : LineText) (after : State) (l : Line) (last others : Parse (List LineText)) (x : Step LineText) → x ≡ Ok (line, after)
+in_front-more : (front : List LineModel) (line : LineModel) (after : State) (l : Line) (last others : Parse (List LineModel)) (x : Step LineModel) → x ≡ Ok (line, after)
     → in_front front (x >>= λ line. (or_last l last others >>= λ more. Ok (line.0 ∷ more.0, more.1))) ≡ in_front (front ++ line ∷ []) (or_last l last others)
 in_front-more front line after l last others x h = rw h (with_more (or_last l last others))
   where
-    with_more : (more : Parse (List LineText)) → in_front front (more >>= λ more. Ok (line ∷ more.0, more.1)) ≡ in_front (front ++ line ∷ []) more
+    with_more : (more : Parse (List LineModel)) → in_front front (more >>= λ more. Ok (line ∷ more.0, more.1)) ≡ in_front (front ++ line ∷ []) more
     with_more (Err f) = refl
-    with_more (Ok o) = ap (λ (x : List LineText). Ok (x, o.1)) (sym (append_assoc front (line ∷ []) o.0))
+    with_more (Ok o) = ap (λ (x : List LineModel). Ok (x, o.1)) (sym (append_assoc front (line ∷ []) o.0))
 
 -- the block after a line
-after-turn : (allowed : Keys) (front : List LineText) (l : Line) (ms : List Line) (middle : State) (line : LineText) (after : State) (left whole : Parse (List LineText)) → middle ≡ Inside (without_spaces l) ms
+after-turn : (allowed : Keys) (front : List LineModel) (l : Line) (ms : List Line) (middle : State) (line : LineModel) (after : State) (left whole : Parse (List LineModel)) → middle ≡ Inside (without_spaces l) ms
     → left ≡ block_by allowed IndentedLine l ms (block allowed ms) → in_front front left ≡ whole → line_next allowed middle ≡ Ok (line, after) → in_front (front ++ line ∷ []) (block allowed (lines_after l ms)) ≡ whole
 after-turn allowed front l ms middle line after left whole i b w e =
     let more = in_front-more front line after l (no_lines (lines_after l ms)) (block allowed ms) (line_next allowed (Inside (without_spaces l) ms)) (ap (line_next allowed) (sym i) ∙ e) in
     ap (in_front (front ++ line ∷ [])) (block-after allowed l ms) ∙ sym more ∙ sym (ap (in_front front) b) ∙ w
 
-pub block-turn : (allowed : Keys) (front : List LineText) (before s middle : State) (line : LineText) (after : State) → StillReads allowed front before s → Started start.Indented s middle → line_next allowed middle ≡ Ok (line, after)
+pub block-turn : (allowed : Keys) (front : List LineModel) (before s middle : State) (line : LineModel) (after : State) → StillReads allowed front before s → Started start.Indented s middle → line_next allowed middle ≡ Ok (line, after)
     → StillReads allowed (front ++ line ∷ []) before after
 block-turn allowed front (Between ls) s middle line after still h e =
     let b = start-begins allowed still.0 (Ok (start.Indented, middle)) (ap start_line_of (sym still.1) ∙ h) in
@@ -207,18 +207,18 @@ block-turn allowed front (Inside l ls) s middle line after still h e = tt
 block-turn allowed front (Failed f) s middle line after still h e = tt
 
 -- a line of another kind ends the block
-ends-block : (allowed : Keys) (limit : ℕ) (whole : Parse (List LineText)) (x : LineStart) (s : State) → (x ≡ start.Indented → ⊥) → Begins allowed limit whole (Ok (x, s)) → (whole ≡ no_lines (lines_from s)) × IsBetweenStatements s
+ends-block : (allowed : Keys) (limit : ℕ) (whole : Parse (List LineModel)) (x : LineStart) (s : State) → (x ≡ start.Indented → ⊥) → Begins allowed limit whole (Ok (x, s)) → (whole ≡ no_lines (lines_from s)) × IsBetweenStatements s
 ends-block allowed limit whole start.Indented s other h = absurd (other refl)
 ends-block allowed limit whole start.Middle s other h = absurd h
 ends-block allowed limit whole start.End s other h = h
 ends-block allowed limit whole start.Blank s other h = h
 ends-block allowed limit whole start.Plain s other h = h
 
-pub block-end : {X : Type 0} (view : X → List LineText) (allowed : Keys) (before s after : State) (x : LineStart) (lines : X) → StillReads allowed (view lines) before s → (x ≡ start.Indented → ⊥) → Started x s after
+pub block-end : {X : Type 0} (view : X → List LineModel) (allowed : Keys) (before s after : State) (x : LineStart) (lines : X) → StillReads allowed (view lines) before s → (x ≡ start.Indented → ⊥) → Started x s after
     → ParsesFrom view before after (block allowed) (Ok lines)
 block-end view allowed (Between ls) s after x lines still other h =
     let e = ends-block allowed (lines_weight still.0) (block allowed still.0) x after other (start-begins allowed still.0 (Ok (x, after)) (ap start_line_of (sym still.1) ∙ h)) in
-    (sym still.2 ∙ ap (in_front (view lines)) e.0 ∙ ap (λ (front : List LineText). Ok (front, lines_from after)) (append-nil (view lines)), e.1)
+    (sym still.2 ∙ ap (in_front (view lines)) e.0 ∙ ap (λ (front : List LineModel). Ok (front, lines_from after)) (append-nil (view lines)), e.1)
 block-end view allowed (Inside l ls) s after x lines still other h = tt
 block-end view allowed (Failed f) s after x lines still other h = tt
 
@@ -238,18 +238,18 @@ fails-so (fault.DyndepVersion spot) x y so h = so _ h
 fails-so (fault.DyndepShape spot) x y so h = so _ h
 
 -- a whole that fails, as it is answered
-abbrev pub FailsFrom : State → (List Line → Parse (List LineText)) → ParseFault → Type 0
+abbrev pub FailsFrom : State → (List Line → Parse (List LineModel)) → ParseFault → Type 0
 FailsFrom (Between ls) reading f = Fails f (reading ls)
 FailsFrom other reading f = Unit {0}
 
-pub fails-from : {X : Type 0} (view : X → List LineText) (before after : State) (reading : List Line → Parse (List LineText)) (r : Result X ParseFault) (f : ParseFault) → IsErr r × IsErrAnd r (λ e. e ≡ f) → FailsFrom before reading f
+pub fails-from : {X : Type 0} (view : X → List LineModel) (before after : State) (reading : List Line → Parse (List LineModel)) (r : Result X ParseFault) (f : ParseFault) → IsErr r × IsErrAnd r (λ e. e ≡ f) → FailsFrom before reading f
     → ParsesFrom view before after reading r
 fails-from view before after reading (Ok x) f h so = absurd cc
 fails-from view (Between ls) after reading (Err e) f h so = rw h.1 so
 fails-from view (Inside l ls) after reading (Err e) f h so = tt
 fails-from view (Failed g) after reading (Err e) f h so = tt
 
-pub block-start-fails : (allowed : Keys) (front : List LineText) (before s after : State) (f : LexFault) → StillReads allowed front before s → Answers {X = LineStart} (λ s. s) (Err f) after (start_line_of s) → FailsFrom before (block allowed) (fault.Lex f)
+pub block-start-fails : (allowed : Keys) (front : List LineModel) (before s after : State) (f : LexFault) → StillReads allowed front before s → Answers {X = LineStart} (λ s. s) (Err f) after (start_line_of s) → FailsFrom before (block allowed) (fault.Lex f)
 block-start-fails allowed front (Between ls) s after lex.OutOfMemory still h = tt
 block-start-fails allowed front (Between ls) s after (lex.BadByte spot) still h =
     let e = start-begins allowed still.0 (Err (unit_fault.BadByte spot)) (ap start_line_of (sym still.1) ∙ h.0) in
@@ -263,7 +263,7 @@ block-start-fails allowed front (Between ls) s after (lex.BadEscape spot) still 
 block-start-fails allowed front (Inside l ls) s after f still h = tt
 block-start-fails allowed front (Failed g) s after f still h = tt
 
-pub block-line-fails : (allowed : Keys) (front : List LineText) (before s middle : State) (f : ParseFault) → StillReads allowed front before s → Started start.Indented s middle → Fails f (line_next allowed middle) → FailsFrom before (block allowed) f
+pub block-line-fails : (allowed : Keys) (front : List LineModel) (before s middle : State) (f : ParseFault) → StillReads allowed front before s → Started start.Indented s middle → Fails f (line_next allowed middle) → FailsFrom before (block allowed) f
 block-line-fails allowed front (Between ls) s middle f still h fails =
     let b = start-begins allowed still.0 (Ok (start.Indented, middle)) (ap start_line_of (sym still.1) ∙ h) in
     fails-so f (line_next allowed middle) (block allowed ls) (λ e failed. sym still.2 ∙ ap (in_front front) b.3 ∙ failed-line b.0 b.1 e (ap (line_next allowed) (sym b.2) ∙ failed)) fails

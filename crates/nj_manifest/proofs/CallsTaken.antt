@@ -6,8 +6,8 @@ use Rattle.nj_text.specs.declared.fault.UnitFault.TheVariants as unit_fault
 use Rattle.nj_text.specs.declared.fault.LexFault.{LexFault}
 use Rattle.nj_text.specs.declared.fault.LexFault.TheVariants as lex
 use Rattle.nj_text.specs.Calls.{State, Reply, FailsOrLacksMemory, unit_of}
-use Rattle.nj_manifest.specs.declared.fault.ParseFault.{ParseFault}
-use Rattle.nj_manifest.specs.declared.fault.ParseFault.TheVariants as fault
+use Rattle.nj_manifest.specs.declared.parse_fault.ParseFault.{ParseFault}
+use Rattle.nj_manifest.specs.declared.parse_fault.ParseFault.TheVariants as fault
 use Rattle.nj_manifest.specs.Faults.{Fault, Bad, fault_text}
 use Rattle.nj_manifest.specs.LineSteps.{Step, called}
 use Rattle.nj_manifest.specs.Parsers.{Fails}

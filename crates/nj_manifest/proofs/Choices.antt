@@ -4,25 +4,25 @@ use Rattle.std.specs.Prelude.{ok_or}
 use Rattle.std.specs.Option.{option_map_or}
 use Rattle.nj_text.specs.declared.spot.Spot.{Spot}
 use Rattle.nj_text.specs.Lines.{Line}
-use Rattle.nj_text.specs.Words.{WordText}
+use Rattle.nj_text.specs.Words.{WordModel}
 use Rattle.nj_text.specs.Calls.{State, Between, Inside, Failed, spot_of}
 use Rattle.nj_manifest.specs.declared.cause.Wanted.{Wanted}
 use Rattle.nj_manifest.specs.declared.cause.Wanted.TheVariants as wanted
 use Rattle.nj_manifest.specs.Faults.{Fault, Expected, UnknownKey}
-use Rattle.nj_manifest.specs.LineSteps.{Step, ◌>>=◌, NameText, words_within, words_next}
+use Rattle.nj_manifest.specs.LineSteps.{Step, ◌>>=◌, NameModel, words_within, words_next}
 use Rattle.nj_manifest.specs.Openings.{Parse}
-use Rattle.nj_manifest.specs.Statements.{LineText}
+use Rattle.nj_manifest.specs.Statements.{LineModel}
 
 -- ---- along a line
 
-abbrev pub named : Wanted → Spot → Option (List ℕ) → State → Step NameText
+abbrev pub named : Wanted → Spot → Option (List ℕ) → State → Step NameModel
 named wanted spot found after = ok_or found (Expected spot wanted) >>= λ name. Ok (record { spot = spot; name = name }, after)
 
 abbrev pub if_there : Wanted → Bool → State → Result State Fault
 if_there wanted there after = cond there (Ok after) (Err (Expected (spot_of after) wanted))
 
 -- a word before those that follow it; none ends them
-abbrev pub words_from : Option WordText → State → Step (List WordText) → Step (List WordText)
+abbrev pub words_from : Option WordModel → State → Step (List WordModel) → Step (List WordModel)
 words_from word after others = option_map_or (λ first. others >>= λ more. Ok (first ∷ more.0, more.1)) word (Ok ([], after))
 
 -- Each word has a unit at least.
@@ -37,26 +37,26 @@ words_next-is (Between ls) = refl
 words_next-is (Inside l ls) = refl
 words_next-is (Failed f) = refl
 
-abbrev pub words_if : Bool → State → Step (List WordText)
+abbrev pub words_if : Bool → State → Step (List WordModel)
 words_if there after = cond there (words_next after) (Ok ([], after))
 
 -- ---- in statements
 
 -- no lines of a block, and the lines after it
-abbrev pub no_lines : List Line → Parse (List LineText)
+abbrev pub no_lines : List Line → Parse (List LineModel)
 no_lines rest = Ok ([], rest)
 
 -- no statement is left
 abbrev pub ended : List Line → Parse (Option Line)
 ended rest = Ok (None, rest)
 
-abbrev pub if_allowed : {A : Type 0} → Bool → NameText → Result A Fault → Result A Fault
+abbrev pub if_allowed : {A : Type 0} → Bool → NameModel → Result A Fault → Result A Fault
 if_allowed allowed key others = cond allowed others (Err (UnknownKey key.spot key.name))
 
 abbrev pub unless_none : {A : Type 0} → (none : Bool) → Wanted → State → Result A Fault → Result A Fault
 unless_none none want s others = cond none (Err (Expected (spot_of s) want)) others
 
-abbrev pub path_there : Option WordText → State → Step WordText
+abbrev pub path_there : Option WordModel → State → Step WordModel
 path_there found after = ok_or found (Expected (spot_of after) wanted.Path) >>= λ word. Ok (word, after)
 
 abbrev pub unless_missing : {A : Type 0} → (there : Bool) → Fault → Result A Fault → Result A Fault

@@ -5,12 +5,12 @@ use Rattle.nj_text.specs.Bytes.{drop_while}
 use Rattle.nj_text.specs.Units.{TextUnit, Position, found_at, position_after, spot_after, cut}
 use Rattle.nj_text.specs.Lines.{Line, ending_of, lines_before, lines_of, text_lines, line_spot, with_units, lines_after, Kind, CommentLine, TabLine, BlankLine, IndentedLine, PlainLine, kind_after_spaces, begins_with_space, is_space_unit, kind_of}
 use Rattle.nj_text.specs.Calls.{Inside, is_empty, without_comments}
-use Rattle.nj_manifest.specs.declared.block.Keys.{Keys}
-use Rattle.nj_manifest.specs.declared.block.Keys.TheVariants as keys
+use Rattle.nj_manifest.specs.declared.block_lines.Keys.{Keys}
+use Rattle.nj_manifest.specs.declared.block_lines.Keys.TheVariants as keys
 use Rattle.nj_manifest.specs.Faults.{Fault}
 use Rattle.nj_manifest.specs.LineSteps.{◌>>=◌}
-use Rattle.nj_manifest.specs.Statements.{LineText, lines_from, line_next, block_by, block, PlacedText, RuleText, PoolText, next_statement}
-use Rattle.nj_manifest.specs.Grammar.{HeadText, Alone, RuleHead, PoolHead, BuildHead}
+use Rattle.nj_manifest.specs.Statements.{LineModel, lines_from, line_next, block_by, block, PlacedModel, RuleModel, PoolModel, next_statement}
+use Rattle.nj_manifest.specs.Grammar.{HeadModel, Alone, RuleHead, PoolHead, BuildHead}
 use Rattle.nj_manifest.specs.Openings.{Parse, or_last, without_spaces}
 use Rattle.nj_manifest.specs.Inside.Heads.{head_next, whole_rule, whole_pool, with_block, statement_here}
 use Rattle.nj_manifest.proofs.Choices.{no_lines}
@@ -31,10 +31,10 @@ rest-is {A} x y r rest h = ap (λ p. p.1) (read-is (x, r) (y, rest) h)
     read-is p q e = cc
 
 -- the end of the lines is not a statement
-no_statement : {A : Type 0} (ended : List Line) (s : PlacedText) (rest : List Line) → nothing_more ended ≡ Ok (Some s, rest) → A
-no_statement ended s rest h = absurd (apart (ap (λ (r : Parse (Option PlacedText)). found r) h))
+no_statement : {A : Type 0} (ended : List Line) (s : PlacedModel) (rest : List Line) → nothing_more ended ≡ Ok (Some s, rest) → A
+no_statement ended s rest h = absurd (apart (ap (λ (r : Parse (Option PlacedModel)). found r) h))
   where
-    found : Parse (Option PlacedText) → Option PlacedText
+    found : Parse (Option PlacedModel) → Option PlacedModel
     found (Ok p) = p.0
     found (Err f) = None
 
@@ -102,21 +102,21 @@ block-within allowed (l ∷ ls) = block-kind allowed (kind_of l) l ls (block-wit
 
 -- ---- a statement
 
-block-then : {B C : Type 0} (allowed : Keys) (ls : List Line) (check : List LineText → Result B Fault) (made : B → C) → Within ls (block allowed ls >>= λ lines. (check lines.0 >>= λ whole. Ok (made whole, lines.1)))
+block-then : {B C : Type 0} (allowed : Keys) (ls : List Line) (check : List LineModel → Result B Fault) (made : B → C) → Within ls (block allowed ls >>= λ lines. (check lines.0 >>= λ whole. Ok (made whole, lines.1)))
 block-then allowed ls check made = λ x rest h.
     let lines = bind-ok (block allowed ls) _ (x, rest) h in
     let whole = bind-ok (check lines.0.0) _ (x, rest) lines.2 in
     subst (λ r. ahead r ≤ ahead ls) (rest-is _ x lines.0.1 rest whole.2) (block-within allowed ls lines.0.0 lines.0.1 lines.1)
 
-with_block-within : (spot : Spot) (head : HeadText) (ls : List Line) → Within ls (with_block spot head ls)
+with_block-within : (spot : Spot) (head : HeadModel) (ls : List Line) → Within ls (with_block spot head ls)
 with_block-within spot (Alone item) ls = λ x rest h. rw (sym (rest-is item x ls rest h)) (omega arith)
-with_block-within spot (RuleHead name) ls = block-then keys.OfRule ls (whole_rule spot) (RuleText name)
-with_block-within spot (PoolHead name) ls = block-then keys.OfPool ls (whole_pool spot) (PoolText name)
+with_block-within spot (RuleHead name) ls = block-then keys.OfRule ls (whole_rule spot) (RuleModel name)
+with_block-within spot (PoolHead name) ls = block-then keys.OfPool ls (whole_pool spot) (PoolModel name)
 with_block-within spot (BuildHead outputs rule inputs) ls = λ x rest h.
     let lines = bind-ok (block keys.All ls) _ (x, rest) h in
     subst (λ r. ahead r ≤ ahead ls) (rest-is _ x lines.0.1 rest lines.2) (block-within keys.All ls lines.0.0 lines.0.1 lines.1)
 
-statement-takes : (l : Line) (ls : List Line) (s : PlacedText) (rest : List Line) → kind_of l ≡ PlainLine → statement_here l ls ≡ Ok (Some s, rest) → ahead rest < ahead (l ∷ ls)
+statement-takes : (l : Line) (ls : List Line) (s : PlacedModel) (rest : List Line) → kind_of l ≡ PlainLine → statement_here l ls ≡ Ok (Some s, rest) → ahead rest < ahead (l ∷ ls)
 unfolding statement_here
 statement-takes l ls s rest e h =
     let head = bind-ok (head_next (Inside l ls)) _ (Some s, rest) h in
@@ -129,13 +129,13 @@ statement-takes l ls s rest e h =
     omega arith
 
 -- what is not read is not a statement
-abbrev Takes : List Line → Parse (Option PlacedText) → Type 0
-Takes ls reading = (s : PlacedText) (rest : List Line) → reading ≡ Ok (Some s, rest) → ahead rest < ahead ls
+abbrev Takes : List Line → Parse (Option PlacedModel) → Type 0
+Takes ls reading = (s : PlacedModel) (rest : List Line) → reading ≡ Ok (Some s, rest) → ahead rest < ahead ls
 
-last-takes : (l : Line) (ls : List Line) (rest : List Line) (others : Parse (Option PlacedText)) → Takes ls others → Takes (l ∷ ls) (or_last l (nothing_more rest) others)
+last-takes : (l : Line) (ls : List Line) (rest : List Line) (others : Parse (Option PlacedModel)) → Takes ls others → Takes (l ∷ ls) (or_last l (nothing_more rest) others)
 last-takes l ls rest others ih = by_last l.is_last
   where
-    by_last : (t : Bool) (s : PlacedText) (r : List Line) → cond t (nothing_more rest) others ≡ Ok (Some s, r) → ahead r < cond t (cond (is_empty l.units) 0 1) (suc (ahead ls))
+    by_last : (t : Bool) (s : PlacedModel) (r : List Line) → cond t (nothing_more rest) others ≡ Ok (Some s, r) → ahead r < cond t (cond (is_empty l.units) 0 1) (suc (ahead ls))
     by_last true s r h = no_statement rest s r h
     by_last false s r h = let i = ih s r h in omega arith
 
@@ -147,7 +147,7 @@ kind-takes BlankLine l ls e ih = last-takes l ls (lines_after l ls) (next_statem
 kind-takes PlainLine l ls e ih = λ s rest h. statement-takes l ls s rest e h
 
 -- A statement takes a line at least.
-pub statement_takes : (ls : List Line) (s : PlacedText) (rest : List Line) → next_statement ls ≡ Ok (Some s, rest) → ahead rest < ahead ls
+pub statement_takes : (ls : List Line) (s : PlacedModel) (rest : List Line) → next_statement ls ≡ Ok (Some s, rest) → ahead rest < ahead ls
 statement_takes [] = λ s rest h. no_statement [] s rest (sym next-nothing ∙ h)
 statement_takes (l ∷ ls) = λ s rest h. kind-takes (kind_of l) l ls refl (statement_takes ls) s rest (sym (next-line l ls) ∙ h)
 

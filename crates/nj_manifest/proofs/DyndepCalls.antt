@@ -3,7 +3,7 @@ use Rattle.std.proofs.Common.{◌≡◌, true, false, Some, option_map, Result, 
 use Rattle.nj_text.specs.declared.spot.Spot.{Spot}
 use Rattle.nj_text.specs.Lines.{Line, lines_after}
 use Rattle.nj_text.specs.Calls.{State, Between, Inside, Failed, spot_of}
-use Rattle.nj_manifest.specs.declared.fault.ParseFault.{ParseFault}
+use Rattle.nj_manifest.specs.declared.parse_fault.ParseFault.{ParseFault}
 use Rattle.nj_manifest.specs.declared.entries.Entry.{Entry}
 use Rattle.nj_manifest.specs.Faults.{DyndepVersion}
 use Rattle.nj_manifest.specs.LineSteps.{◌>>=◌}
@@ -12,7 +12,7 @@ use Rattle.nj_manifest.specs.Openings.{opening}
 use Rattle.nj_manifest.specs.Parsers.{Fails}
 use Rattle.nj_manifest.specs.Inside.ParserContracts.{LeadsTo, IsBetweenStatements, ParsesAt, FindsOpening, entry_here}
 use Rattle.nj_manifest.specs.Dyndeps.{version_line, version_from, version_next, entry_line, restat_block, entry_from, next_entry}
-use Rattle.nj_manifest.specs.DyndepParsers.{entry_text}
+use Rattle.nj_manifest.specs.DyndepParsers.{entry_model}
 use Rattle.nj_manifest.specs.Inside.ParserContracts.{ReadsVersion}
 use Rattle.nj_manifest.proofs.Heres.{fails-on}
 use Rattle.nj_manifest.proofs.DyndepEnds.{entry-ends, version-ends, block-ends}
@@ -55,22 +55,22 @@ entry-is ls = refl
 at-is : (l : Line) (ls : List Line) → entry_here l ls ≡ (entry_line (Inside l ls) >>= λ entry. restat_block entry.1 >>= λ end. Ok (Some entry.0, lines_from end))
 at-is l ls = refl
 
-pub entry-no_line : (before after : State) (f : ParseFault) → Fails f (entry_line before) → ParsesAt (option_map entry_text) before after entry_here (Err f)
+pub entry-no_line : (before after : State) (f : ParseFault) → Fails f (entry_line before) → ParsesAt (option_map entry_model) before after entry_here (Err f)
 entry-no_line (Between ls) after f h = tt
 entry-no_line (Failed g) after f h = tt
 entry-no_line (Inside l ls) after f h = subst (Fails f) (sym (at-is l ls)) (fails-on f (entry_line (Inside l ls)) _ h)
 
-pub entry-no_block : (before middle after : State) (e : Entry) (f : ParseFault) → entry_line before ≡ Ok (entry_text e, middle) → Fails f (restat_block middle) → ParsesAt (option_map entry_text) before after entry_here (Err f)
+pub entry-no_block : (before middle after : State) (e : Entry) (f : ParseFault) → entry_line before ≡ Ok (entry_model e, middle) → Fails f (restat_block middle) → ParsesAt (option_map entry_model) before after entry_here (Err f)
 entry-no_block (Between ls) middle after e f h p = tt
 entry-no_block (Failed g) middle after e f h p = tt
 entry-no_block (Inside l ls) middle after e f h p =
     let whole = at-is l ls ∙ ap (λ r. r >>= λ entry. restat_block entry.1 >>= λ end. Ok (Some entry.0, lines_from end)) h in
-    subst (Fails f) (sym whole) (fails-on f (restat_block middle) (λ end. Ok (Some (entry_text e), lines_from end)) p)
+    subst (Fails f) (sym whole) (fails-on f (restat_block middle) (λ end. Ok (Some (entry_model e), lines_from end)) p)
 
-pub entry-read : (before middle after : State) (e : Entry) → entry_line before ≡ Ok (entry_text e, middle) → restat_block middle ≡ Ok after → ParsesAt (option_map entry_text) before after entry_here (Ok (Some e))
+pub entry-read : (before middle after : State) (e : Entry) → entry_line before ≡ Ok (entry_model e, middle) → restat_block middle ≡ Ok after → ParsesAt (option_map entry_model) before after entry_here (Ok (Some e))
 entry-read (Between ls) middle after e h p = tt
 entry-read (Failed g) middle after e h p = tt
 entry-read (Inside l ls) middle after e h p =
     let whole = at-is l ls ∙ ap (λ r. r >>= λ entry. restat_block entry.1 >>= λ end. Ok (Some entry.0, lines_from end)) h in
-    let ends = entry-ends l ls (entry_text e, middle) h in
-    (whole ∙ ap (λ r. r >>= λ end. Ok (Some (entry_text e), lines_from end)) p, block-ends (lines_after l ls) after (ap restat_block (sym ends) ∙ p))
+    let ends = entry-ends l ls (entry_model e, middle) h in
+    (whole ∙ ap (λ r. r >>= λ end. Ok (Some (entry_model e), lines_from end)) p, block-ends (lines_after l ls) after (ap restat_block (sym ends) ∙ p))

@@ -7,15 +7,15 @@ use Rattle.nj_text.specs.declared.line_start.LineStart.TheVariants as start
 use Rattle.nj_text.specs.declared.spot.Spot.{Spot}
 use Rattle.nj_text.specs.Bytes.{drop_while}
 use Rattle.nj_text.specs.Lines.{Line, lines_after}
-use Rattle.nj_text.specs.Words.{WordText, is_blank}
+use Rattle.nj_text.specs.Words.{WordModel, is_blank}
 use Rattle.nj_text.specs.Calls.{State, Between, Inside, start_line_of, skip_blanks_of, sign_of, path_word_of, spot_of, fault_spot, Reply}
-use Rattle.nj_manifest.specs.declared.block.Keys.TheVariants as keys
+use Rattle.nj_manifest.specs.declared.block_lines.Keys.TheVariants as keys
 use Rattle.nj_manifest.specs.declared.cause.Wanted.{Wanted}
 use Rattle.nj_manifest.specs.declared.cause.Wanted.TheVariants as wanted
 use Rattle.nj_manifest.specs.Faults.{Fault, Bad, Expected, DyndepShape}
 use Rattle.nj_manifest.specs.LineSteps.{Step, ◌>>=◌, called, name_next, expect_sign, section_next}
 use Rattle.nj_manifest.specs.Statements.{equals_value, block}
-use Rattle.nj_manifest.specs.Dyndeps.{is_same_spot, version_line, word_of_form, no_path_by, no_path, no_section, output_next, added_inputs, EntryText, entry_line, if_indented, restat_block}
+use Rattle.nj_manifest.specs.Dyndeps.{is_same_spot, version_line, word_of_form, no_path_by, no_path, no_section, output_next, added_inputs, EntryModel, entry_line, if_indented, restat_block}
 use Rattle.nj_manifest.specs.Inside.ParserContracts.{IsBetweenStatements}
 use Rattle.nj_manifest.specs.Openings.{without_spaces}
 use Rattle.nj_manifest.proofs.Choices.{unless_missing}
@@ -53,12 +53,12 @@ module _ (l : Line) (ls : List Line) where
       let k = unless_missing-ok _ _ (Ok n.0.1) s' n.2 in
       subst (On l ls) (oks k.1) (name-inside want l ls s n.0 o n.1)
 
-  pub no_path-called : (spot : Spot) (r : Reply (Option WordText)) (s' : State) → no_path_by spot r ≡ Ok s' → called r ≡ Ok (None, s')
+  pub no_path-called : (spot : Spot) (r : Reply (Option WordModel)) (s' : State) → no_path_by spot r ≡ Ok s' → called r ≡ Ok (None, s')
   no_path-called spot (Ok (None, after)) s' h = ap (λ (s : State). Ok (None, s)) (oks h)
   no_path-called spot (Ok (Some word, after)) s' h = no_ok h
   no_path-called spot (Err unit) s' h = by_test (is_same_spot (fault_spot unit) spot) h
     where
-      by_test : (t : Bool) → ◌≡◌ {A = Result State Fault} (unless_missing t (DyndepShape spot) (Err (Bad unit))) (Ok s') → ◌≡◌ {A = Step (Option WordText)} (Err (Bad unit)) (Ok (None, s'))
+      by_test : (t : Bool) → ◌≡◌ {A = Result State Fault} (unless_missing t (DyndepShape spot) (Err (Bad unit))) (Ok s') → ◌≡◌ {A = Step (Option WordModel)} (Err (Bad unit)) (Ok (None, s'))
       by_test true g = no_ok g
       by_test false g = no_ok g
 
@@ -75,13 +75,13 @@ module _ (l : Line) (ls : List Line) where
       let k = unless_missing-ok _ _ (Ok there.0.1) s' there.2 in
       subst (On l ls) (oks k.1) (sign-inside want l ls (skip_blanks_of s) there.0 i (skip-inside s o) there.1)
 
-  pub first_output-after : (found : Option WordText) (after : State) (y : WordText × State) → first_output found after ≡ Ok y → after ≡ y.1
+  pub first_output-after : (found : Option WordModel) (after : State) (y : WordModel × State) → first_output found after ≡ Ok y → after ≡ y.1
   first_output-after (Some word) after y h = after-is word after y h
   first_output-after None after y h =
       let pipe = bind-ok (called (sign_of sign.Pipe after)) _ y h in
       no_ok (unless_missing-ok _ _ (Err (Expected (spot_of after) wanted.Path)) y pipe.2).1
 
-  output_next-inside : (s : State) (y : WordText × State) → On l ls s → output_next s ≡ Ok y → On l ls y.1
+  output_next-inside : (s : State) (y : WordModel × State) → On l ls s → output_next s ≡ Ok y → On l ls y.1
   output_next-inside s y o h =
       let found = bind-ok (called (path_word_of s)) _ y (sym (output-steps s) ∙ h) in
       let out = bind-ok (first_output found.0.0 found.0.1) _ y found.2 in
@@ -90,7 +90,7 @@ module _ (l : Line) (ls : List Line) where
       let at_out = subst (On l ls) (first_output-after found.0.0 found.0.1 out.0 out.1) at_word in
       subst (On l ls) (after-is out.0.0 end.0 y end.2) (no_path-inside out.0.1 end.0 at_out end.1)
 
-  added_inputs-inside : (s : State) (y : List WordText × State) → On l ls s → added_inputs s ≡ Ok y → framing.Ended l ls y.1
+  added_inputs-inside : (s : State) (y : List WordModel × State) → On l ls s → added_inputs s ≡ Ok y → framing.Ended l ls y.1
   unfolding added_inputs
   added_inputs-inside s y o h =
       let alone = bind-ok (no_path s) _ y h in
@@ -101,7 +101,7 @@ module _ (l : Line) (ls : List Line) where
       let at_end = no_section-inside sign.PipeAt order_only.0 validations.0 pipe_at_in_line (no_section-inside sign.Pipe2 ins.0.1 order_only.0 pipe2_in_line at_ins order_only.1) validations.1 in
       ends-line l ls ins.0.0 validations.0 y at_end validations.2
 
-  entry_line-inside : (s : State) (y : EntryText × State) → On l ls s → entry_line s ≡ Ok y → framing.Ended l ls y.1
+  entry_line-inside : (s : State) (y : EntryModel × State) → On l ls s → entry_line s ≡ Ok y → framing.Ended l ls y.1
   unfolding entry_line
   entry_line-inside s y o h =
       let build = bind-ok (word_of_form (codes "build") wanted.Statement s) _ y h in
@@ -134,7 +134,7 @@ module _ (l : Line) (ls : List Line) where
 
 -- ---- whole lines
 
-pub entry-ends : (l : Line) (ls : List Line) (y : EntryText × State) → entry_line (Inside l ls) ≡ Ok y → y.1 ≡ Between (lines_after l ls)
+pub entry-ends : (l : Line) (ls : List Line) (y : EntryModel × State) → entry_line (Inside l ls) ≡ Ok y → y.1 ≡ Between (lines_after l ls)
 entry-ends l ls y h = entry_line-inside l ls (Inside l ls) y (l.units, refl) h
 
 pub version-ends : (l : Line) (ls : List Line) (s : State) → version_line (Inside l ls) ≡ Ok s → s ≡ Between (lines_after l ls)

@@ -5,7 +5,7 @@ use Rattle.nj_text.specs.declared.sign.Sign.{Sign}
 use Rattle.nj_text.specs.declared.sign.Sign.TheVariants as sign
 use Rattle.nj_text.specs.Units.{TextUnit}
 use Rattle.nj_text.specs.Lines.{Line, with_units, lines_after}
-use Rattle.nj_text.specs.Words.{WordText, is_blank, next_fault}
+use Rattle.nj_text.specs.Words.{WordModel, is_blank, next_fault}
 use Rattle.nj_text.specs.Calls.{State, Between, Inside, Failed, is_sign, begins_word, skip_blanks_of, sign_of, path_word_of, word_at, spot_of}
 use Rattle.nj_text.specs.Inside.States.{unless_bad}
 use Rattle.nj_manifest.specs.declared.cause.Wanted.{Wanted}
@@ -13,7 +13,7 @@ use Rattle.nj_manifest.specs.declared.cause.Wanted.TheVariants as wanted
 use Rattle.nj_manifest.specs.Faults.{Expected}
 use Rattle.nj_manifest.specs.LineSteps.{Step, called, name_next, expect_sign, words_next, section_next}
 use Rattle.nj_manifest.specs.Grammar.{AreBlanks, KeywordForm, WordForm, WordsForm, SectionForm}
-use Rattle.nj_manifest.specs.Dyndeps.{EntryText, word_of_form, no_path_by, no_path, no_section, output_next, added_inputs, entry_line}
+use Rattle.nj_manifest.specs.Dyndeps.{EntryModel, word_of_form, no_path_by, no_path, no_section, output_next, added_inputs, entry_line}
 use Rattle.nj_manifest.specs.DyndepForms.{EntryForm, EntriesAreTheForms}
 use Rattle.nj_manifest.proofs.Framing.{bind-ok}
 use Rattle.nj_manifest.proofs.WordLimits.{words_next-ends}
@@ -43,7 +43,7 @@ no_path-words l ls s s' h =
     let here = skip_blanks_of s in
     words_next-ends s s' (ap called (sym (path-skips s)) ∙ no_path-called l ls (spot_of here) (path_word_of here) s' h)
 
-no_words : (us rest : List TextUnit) (words : List WordText) → words ≡ [] → WordsForm us words rest → rest ≡ us
+no_words : (us rest : List TextUnit) (words : List WordModel) → words ≡ [] → WordsForm us words rest → rest ≡ us
 no_words us rest words e WordsForm.none = refl
 no_words us rest words e (WordsForm.more f fs) = absurd cc
 
@@ -101,31 +101,31 @@ no_section-read want l ls us n i =
 
 -- ---- an entry's line
 
-some_output : (found : Option WordText) (after : State) (y : WordText × State) → first_output found after ≡ Ok y → found ≡ Some y.0
-some_output (Some word) after y h = ap Some (ap (λ (r : WordText × State). r.0) (oks h))
+some_output : (found : Option WordModel) (after : State) (y : WordModel × State) → first_output found after ≡ Ok y → found ≡ Some y.0
+some_output (Some word) after y h = ap Some (ap (λ (r : WordModel × State). r.0) (oks h))
 some_output None after y h =
     let pipe = bind-ok (called (sign_of sign.Pipe after)) _ y h in
     absurd (no_err (unless_missing-ok _ _ (Err (Expected (spot_of after) wanted.Path)) y pipe.2).1)
   where
-    no_err : ◌≡◌ {A = Step WordText} (Err (Expected (spot_of after) wanted.Path)) (Ok y) → ⊥
+    no_err : ◌≡◌ {A = Step WordModel} (Err (Expected (spot_of after) wanted.Path)) (Ok y) → ⊥
     no_err e = absurd cc
 
-output-form : (l : Line) (ls : List Line) (us : List TextUnit) (s : State) (y : WordText × State) → s ≡ within l ls us → output_next s ≡ Ok y → (rest : List TextUnit) × WordForm us y.0 rest × (y.1 ≡ within l ls (skip rest))
+output-form : (l : Line) (ls : List Line) (us : List TextUnit) (s : State) (y : WordModel × State) → s ≡ within l ls us → output_next s ≡ Ok y → (rest : List TextUnit) × WordForm us y.0 rest × (y.1 ≡ within l ls (skip rest))
 output-form l ls us s y e h =
     let found = bind-ok (called (path_word_of s)) _ y (sym (output-steps s) ∙ h) in
     let first = bind-ok (first_output found.0.0 found.0.1) _ y found.2 in
     let alone = bind-ok (no_path first.0.1) (λ end. Ok (first.0.0, end)) y first.2 in
     output_from found.0 first.0 alone.0 (ap (λ (t : State). called (path_word_of t)) (sym e) ∙ found.1) first.1 alone.1 (oks alone.2)
   where
-    output_from : (found : Option WordText × State) (first : WordText × State) (end : State) → called (path_word_of (within l ls us)) ≡ Ok found → first_output found.0 found.1 ≡ Ok first → no_path first.1 ≡ Ok end → ◌≡◌ {A = WordText × State} (first.0, end) y
+    output_from : (found : Option WordModel × State) (first : WordModel × State) (end : State) → called (path_word_of (within l ls us)) ≡ Ok found → first_output found.0 found.1 ≡ Ok first → no_path first.1 ≡ Ok end → ◌≡◌ {A = WordModel × State} (first.0, end) y
         → (rest : List TextUnit) × WordForm us y.0 rest × (y.1 ≡ within l ls (skip rest))
     output_from found first end a b c d =
-        let word : called (path_word_of (within l ls us)) ≡ Ok (Some first.0, found.1) = a ∙ ap (λ (w : Option WordText). Ok (w, found.1)) (some_output found.0 found.1 first b) in
+        let word : called (path_word_of (within l ls us)) ≡ Ok (Some first.0, found.1) = a ∙ ap (λ (w : Option WordModel). Ok (w, found.1)) (some_output found.0 found.1 first b) in
         let it = word-form l ls us first.0 found.1 word in
         let at_end = no_path-form l ls it.0 first.1 end (sym (first_output-after l ls found.0 found.1 first b) ∙ it.2) c in
-        (it.0, subst (λ (r : WordText × State). WordForm us r.0 it.0) d it.1, sym (ap (λ (r : WordText × State). r.1) d) ∙ at_end)
+        (it.0, subst (λ (r : WordModel × State). WordForm us r.0 it.0) d it.1, sym (ap (λ (r : WordModel × State). r.1) d) ∙ at_end)
 
-inputs-form : (l : Line) (ls : List Line) (us : List TextUnit) (s : State) (y : List WordText × State) → s ≡ within l ls us → added_inputs s ≡ Ok y → (rest : List TextUnit) × SectionForm sign.Pipe us y.0 rest × AreBlanks rest × (y.1 ≡ Between (lines_after l ls))
+inputs-form : (l : Line) (ls : List Line) (us : List TextUnit) (s : State) (y : List WordModel × State) → s ≡ within l ls us → added_inputs s ≡ Ok y → (rest : List TextUnit) × SectionForm sign.Pipe us y.0 rest × AreBlanks rest × (y.1 ≡ Between (lines_after l ls))
 unfolding added_inputs
 inputs-form l ls us s y e h =
     let bare = bind-ok (no_path s) _ y h in
@@ -135,16 +135,16 @@ inputs-form l ls us s y e h =
     let end = bind-ok (expect_sign sign.LineEnd wanted.Newline validations.0) (λ end. Ok (implicit.0.0, end)) y validations.2 in
     inputs_from bare.0 implicit.0 order_only.0 validations.0 end.0 bare.1 implicit.1 order_only.1 validations.1 end.1 (oks end.2)
   where
-    inputs_from : (bare : State) (implicit : List WordText × State) (order_only validations end : State) → no_path s ≡ Ok bare → section_next sign.Pipe bare ≡ Ok implicit → no_section sign.Pipe2 implicit.1 ≡ Ok order_only → no_section sign.PipeAt order_only ≡ Ok validations
-        → expect_sign sign.LineEnd wanted.Newline validations ≡ Ok end → ◌≡◌ {A = List WordText × State} (implicit.0, end) y → (rest : List TextUnit) × SectionForm sign.Pipe us y.0 rest × AreBlanks rest × (y.1 ≡ Between (lines_after l ls))
+    inputs_from : (bare : State) (implicit : List WordModel × State) (order_only validations end : State) → no_path s ≡ Ok bare → section_next sign.Pipe bare ≡ Ok implicit → no_section sign.Pipe2 implicit.1 ≡ Ok order_only → no_section sign.PipeAt order_only ≡ Ok validations
+        → expect_sign sign.LineEnd wanted.Newline validations ≡ Ok end → ◌≡◌ {A = List WordModel × State} (implicit.0, end) y → (rest : List TextUnit) × SectionForm sign.Pipe us y.0 rest × AreBlanks rest × (y.1 ≡ Between (lines_after l ls))
     inputs_from bare implicit order_only validations end a b c d f g =
         let six = section_after-form sign.Pipe l ls us bare implicit.1 implicit.0 pipe_is_not_end (no_path-form l ls us s bare e a) b in
         let seven = no_section-form sign.Pipe2 l ls six.0 implicit.1 order_only six.2 c in
         let eight = no_section-form sign.PipeAt l ls six.0 order_only validations seven d in
         let nine = end_after_at-form l ls six.0 validations end eight f in
-        (six.0, subst (λ (r : List WordText × State). SectionForm sign.Pipe us r.0 six.0) g six.1, nine.0, sym (ap (λ (r : List WordText × State). r.1) g) ∙ nine.1)
+        (six.0, subst (λ (r : List WordModel × State). SectionForm sign.Pipe us r.0 six.0) g six.1, nine.0, sym (ap (λ (r : List WordModel × State). r.1) g) ∙ nine.1)
 
-entry-form : (l : Line) (ls : List Line) (us : List TextUnit) (entry : EntryText) (s : State) → entry_line (within l ls us) ≡ Ok (entry, s) → EntryForm us entry × (s ≡ Between (lines_after l ls))
+entry-form : (l : Line) (ls : List Line) (us : List TextUnit) (entry : EntryModel) (s : State) → entry_line (within l ls us) ≡ Ok (entry, s) → EntryForm us entry × (s ≡ Between (lines_after l ls))
 unfolding entry_line
 entry-form l ls us entry s h =
     let build = bind-ok (word_of_form (codes "build") wanted.Statement (within l ls us)) _ (entry, s) h in
@@ -155,8 +155,8 @@ entry-form l ls us entry s h =
     let ins = bind-ok (added_inputs rule.0) (λ ins. Ok (record { out = out.0.0; outs = outs.0.0; ins = ins.0 }, ins.1)) (entry, s) rule.2 in
     entry_from build.0 out.0 outs.0 colon.0 rule.0 ins.0 build.1 out.1 outs.1 colon.1 rule.1 ins.1 (oks ins.2)
   where
-    entry_from : (build : State) (out : WordText × State) (outs : List WordText × State) (colon rule : State) (ins : List WordText × State) → word_of_form (codes "build") wanted.Statement (within l ls us) ≡ Ok build → output_next build ≡ Ok out → section_next sign.Pipe out.1 ≡ Ok outs
-        → expect_sign sign.Colon wanted.Colon outs.1 ≡ Ok colon → word_of_form (codes "dyndep") wanted.CommandName colon ≡ Ok rule → added_inputs rule ≡ Ok ins → ◌≡◌ {A = EntryText × State} (record { out = out.0; outs = outs.0; ins = ins.0 }, ins.1) (entry, s) → EntryForm us entry × (s ≡ Between (lines_after l ls))
+    entry_from : (build : State) (out : WordModel × State) (outs : List WordModel × State) (colon rule : State) (ins : List WordModel × State) → word_of_form (codes "build") wanted.Statement (within l ls us) ≡ Ok build → output_next build ≡ Ok out → section_next sign.Pipe out.1 ≡ Ok outs
+        → expect_sign sign.Colon wanted.Colon outs.1 ≡ Ok colon → word_of_form (codes "dyndep") wanted.CommandName colon ≡ Ok rule → added_inputs rule ≡ Ok ins → ◌≡◌ {A = EntryModel × State} (record { out = out.0; outs = outs.0; ins = ins.0 }, ins.1) (entry, s) → EntryForm us entry × (s ≡ Between (lines_after l ls))
     entry_from build out outs colon rule ins a b c d e f g =
         let one = word_of_form-form (codes "build") wanted.Statement l ls us (within l ls us) build refl a in
         let two = output-form l ls one.0 build out one.2 b in
@@ -166,9 +166,9 @@ entry-form l ls us entry s h =
         let six = inputs-form l ls five.0 rule ins five.2 f in
         let form : EntryForm us (record { out = out.0; outs = outs.0; ins = ins.0 }) =
         record { after_build = one.0; after_out = two.0; after_outs = three.0; after_colon = four.0; after_rule = five.0; after_ins = six.0; keyword = one.1; out = two.1; outs = three.1; colon = four.1; rule = five.1; ins = six.1; end = six.2 } in
-        (subst (λ (r : EntryText × State). EntryForm us r.0) g form, sym (ap (λ (r : EntryText × State). r.1) g) ∙ six.3)
+        (subst (λ (r : EntryModel × State). EntryForm us r.0) g form, sym (ap (λ (r : EntryModel × State). r.1) g) ∙ six.3)
 
-entry-read : (l : Line) (ls : List Line) (us : List TextUnit) (entry : EntryText) → EntryForm us entry → entry_line (within l ls us) ≡ Ok (entry, Between (lines_after l ls))
+entry-read : (l : Line) (ls : List Line) (us : List TextUnit) (entry : EntryModel) → EntryForm us entry → entry_line (within l ls us) ≡ Ok (entry, Between (lines_after l ls))
 unfolding entry_line output_next added_inputs
 entry-read l ls us entry f =
     let outs = colon_stops f.after_outs f.after_colon f.colon in

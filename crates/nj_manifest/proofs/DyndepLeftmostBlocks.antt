@@ -15,7 +15,7 @@ use Rattle.nj_text.specs.Calls.{State, Between, Reply, start_line_of, begun, beg
 use Rattle.nj_text.proofs.Lists.{AllIn}
 use Rattle.nj_manifest.specs.declared.cause.Wanted.TheVariants as wanted
 use Rattle.nj_manifest.specs.Faults.{Fault, Bad, Expected, UnexpectedIndent, MissingCommand, RspPair, UnknownKey, MissingDepth, DyndepVersion, DyndepShape, OutOfMemory}
-use Rattle.nj_manifest.specs.LineSteps.{Step, ◌>>=◌, called, NameText, name_next, expect_sign}
+use Rattle.nj_manifest.specs.LineSteps.{Step, ◌>>=◌, called, NameModel, name_next, expect_sign}
 use Rattle.nj_manifest.specs.Statements.{equals_value}
 use Rattle.nj_manifest.specs.Leftmost.{continues, element, written, are_plain, NamesThePlaceOf, met_before, offers}
 use Rattle.nj_manifest.specs.Dyndeps.{word_of_form, if_indented, restat_block}
@@ -231,11 +231,11 @@ many_here l ls fault h place refuses =
       on = with_end sp gap refl (all_pass is_space_unit sp (spaces_pass l.units)) (all_pass is_blank gap (gap_passes (after_spaces l.units))) ends.0 ends.1;
     }
 
-many_reads : (s t : State) (name : NameText) → name_next wanted.VariableName s ≡ Ok (name, t) → line_too_many s ≡ Err (DyndepShape name.spot)
-many_reads s t name h = ap (λ (r : Step NameText). r >>= λ key. Err (DyndepShape key.0.spot)) h
+many_reads : (s t : State) (name : NameModel) → name_next wanted.VariableName s ≡ Ok (name, t) → line_too_many s ≡ Err (DyndepShape name.spot)
+many_reads s t name h = ap (λ (r : Step NameModel). r >>= λ key. Err (DyndepShape key.0.spot)) h
 
 many_fails : (s : State) (f : Fault) → name_next wanted.VariableName s ≡ Err f → line_too_many s ≡ Err f
-many_fails s f h = ap (λ (r : Step NameText). r >>= λ key. Err (DyndepShape key.0.spot)) h
+many_fails s f h = ap (λ (r : Step NameModel). r >>= λ key. Err (DyndepShape key.0.spot)) h
 
 many_stuck : (l : Line) (ls : List Line) (fault : Fault) → kind_of l ≡ IndentedLine → line_too_many (at (after_spaces l.units) l ls) ≡ Err fault → LinesStuck line_too_many (l ∷ ls) fault
 many_stuck l ls fault h failed = by_name (name_seen wanted.VariableName starts us l)

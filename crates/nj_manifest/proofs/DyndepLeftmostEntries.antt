@@ -12,7 +12,7 @@ use Rattle.nj_manifest.specs.LineSteps.{Step, ◌>>=◌, name_next, expect_sign,
 use Rattle.nj_manifest.specs.Statements.{lines_from}
 use Rattle.nj_manifest.specs.Openings.{Parse, opening_by, opening, front_of}
 use Rattle.nj_manifest.specs.Leftmost.{continues, element, written, met_before, offers}
-use Rattle.nj_manifest.specs.Dyndeps.{EntryText, word_of_form, no_path, no_section, output_next, added_inputs, entry_line, restat_block, entry_from, next_entry}
+use Rattle.nj_manifest.specs.Dyndeps.{EntryModel, word_of_form, no_path, no_section, output_next, added_inputs, entry_line, restat_block, entry_from, next_entry}
 use Rattle.nj_manifest.specs.DyndepLeftmost.{are_apart, NamesPlaceInEntry, SomeEntry, LineTooMany, EntryComesLeftmost, DyndepFaultsAreLeftmost}
 use Rattle.nj_manifest.specs.Inside.ParserContracts.{entry_here}
 use Rattle.nj_manifest.proofs.Choices.{ended}
@@ -39,7 +39,7 @@ unfolding next_entry opening
 nothing_next = refl
 
 -- the entry after its line
-abbrev entry_then : EntryText × State → Parse (Option EntryText)
+abbrev entry_then : EntryModel × State → Parse (Option EntryModel)
 entry_then entry = restat_block entry.1 >>= λ end. Ok (Some entry.0, lines_from end)
 
 at_is : (l : Line) (ls : List Line) → entry_here l ls ≡ (entry_line (Inside l ls) >>= entry_then)
@@ -49,24 +49,24 @@ plain_is : (l : Line) (ms : List Line) → kind_of l ≡ PlainLine → next_entr
 plain_is l ms h = by_kind_entry l ms PlainLine h ∙ at_is l ms
 
 plain_bad : (l : Line) (ms : List Line) (f : Fault) → kind_of l ≡ PlainLine → entry_line (Inside l ms) ≡ Err f → next_entry (l ∷ ms) ≡ Err f
-plain_bad l ms f h r = plain_is l ms h ∙ ap (λ (y : Step EntryText). y >>= entry_then) r
+plain_bad l ms f h r = plain_is l ms h ∙ ap (λ (y : Step EntryModel). y >>= entry_then) r
 
-abbrev block_then : EntryText → List Line → Parse (Option EntryText)
+abbrev block_then : EntryModel → List Line → Parse (Option EntryModel)
 block_then entry ls = in_lines first_line ls >>= λ end. Ok (Some entry, lines_from end)
 
-plain_read : (l : Line) (ms : List Line) (v : EntryText) (ls : List Line) → kind_of l ≡ PlainLine → entry_line (Inside l ms) ≡ Ok (v, Between ls) → next_entry (l ∷ ms) ≡ block_then v ls
-plain_read l ms v ls h r = plain_is l ms h ∙ (ap (λ (y : Step EntryText). y >>= entry_then) r ∙ ap (λ (y : Result State Fault). y >>= λ end. Ok (Some v, lines_from end)) (block_is ls))
+plain_read : (l : Line) (ms : List Line) (v : EntryModel) (ls : List Line) → kind_of l ≡ PlainLine → entry_line (Inside l ms) ≡ Ok (v, Between ls) → next_entry (l ∷ ms) ≡ block_then v ls
+plain_read l ms v ls h r = plain_is l ms h ∙ (ap (λ (y : Step EntryModel). y >>= entry_then) r ∙ ap (λ (y : Result State Fault). y >>= λ end. Ok (Some v, lines_from end)) (block_is ls))
 
-block_read : (v : EntryText) (ls : List Line) (end : State) → in_lines first_line ls ≡ Ok end → block_then v ls ≡ Ok (Some v, lines_from end)
+block_read : (v : EntryModel) (ls : List Line) (end : State) → in_lines first_line ls ≡ Ok end → block_then v ls ≡ Ok (Some v, lines_from end)
 block_read v ls end h = ap (λ (y : Result State Fault). y >>= λ end. Ok (Some v, lines_from end)) h
 
-block_bad : (v : EntryText) (ls : List Line) (f : Fault) → in_lines first_line ls ≡ Err f → block_then v ls ≡ Err f
+block_bad : (v : EntryModel) (ls : List Line) (f : Fault) → in_lines first_line ls ≡ Err f → block_then v ls ≡ Err f
 block_bad v ls f h = ap (λ (y : Result State Fault). y >>= λ end. Ok (Some v, lines_from end)) h
 
-block_fault : (v : EntryText) (ls : List Line) (f : Fault) → block_then v ls ≡ Err f → in_lines first_line ls ≡ Err f
+block_fault : (v : EntryModel) (ls : List Line) (f : Fault) → block_then v ls ≡ Err f → in_lines first_line ls ≡ Err f
 block_fault v ls f h = by_block (in_lines first_line ls) h
   where
-    by_block : (r : Result State Fault) → ◌≡◌ {A = Parse (Option EntryText)} (r >>= λ end. Ok (Some v, lines_from end)) (Err f) → r ≡ Err f
+    by_block : (r : Result State Fault) → ◌≡◌ {A = Parse (Option EntryModel)} (r >>= λ end. Ok (Some v, lines_from end)) (Err f) → r ≡ Err f
     by_block (Ok end) g = absurd cc
     by_block (Err e) g = ap Err (errs g)
 
@@ -94,7 +94,7 @@ stuck_first l ls f s =
 
 -- ---- the fault is in the block
 
-goes_in_block : (l : Line) (v : EntryText) (before : List Line) (begun : List TextUnit) (fault : Fault) → ((ms : List Line) → next_entry (l ∷ ms) ≡ block_then v ms) → BlockContinues first_line before begun fault → SomeEntry (l ∷ before) begun fault ⊎ LineTooMany (l ∷ before) begun
+goes_in_block : (l : Line) (v : EntryModel) (before : List Line) (begun : List TextUnit) (fault : Fault) → ((ms : List Line) → next_entry (l ∷ ms) ≡ block_then v ms) → BlockContinues first_line before begun fault → SomeEntry (l ∷ before) begun fault ⊎ LineTooMany (l ∷ before) begun
 goes_in_block l v before begun fault reads (with_text bytes plain offered end some) =
     let xs = continues before begun (written bytes) [] in
     inl (record { bytes = bytes; lines = []; plain_bytes = plain; offered = offered; plain_lines = refl; entry = v; rest = lines_from end; reads = reads xs ∙ block_read v xs end some })
@@ -102,7 +102,7 @@ goes_in_block l v before begun fault reads (with_end spaces gap cut of_spaces of
     let xs = continues before spaces (written []) [] in
     inr (record { spaces = spaces; gap = gap; cut = cut; of_spaces = of_spaces; of_blanks = of_blanks; entry = v; rest = lines_from end; reads = reads xs ∙ block_read v xs end some })
 
-stuck_in_block : (l : Line) (ls : List Line) (fault : Fault) (v : EntryText) → ((ms : List Line) → next_entry (l ∷ ms) ≡ block_then v ms) → LinesStuck first_line ls fault → EntryComesLeftmost (l ∷ ls) fault
+stuck_in_block : (l : Line) (ls : List Line) (fault : Fault) (v : EntryModel) → ((ms : List Line) → next_entry (l ∷ ms) ≡ block_then v ms) → LinesStuck first_line ls fault → EntryComesLeftmost (l ∷ ls) fault
 stuck_in_block l ls fault v reads s = record {
   before = l ∷ s.before;
   begun = s.begun;
@@ -119,7 +119,7 @@ stuck_in_block l ls fault v reads s = record {
 plain_leftmost : (l : Line) (ls : List Line) (fault : Fault) → are_apart l.units ≡ true → kind_of l ≡ PlainLine → next_entry (l ∷ ls) ≡ Err fault → EntryComesLeftmost (l ∷ ls) fault
 plain_leftmost l ls fault apart k h = by_line (entry_outcome l k)
   where
-    by_last : (v : EntryText) (t : Bool) → l.is_last ≡ t → ((ms : List Line) → next_entry (l ∷ ms) ≡ block_then v (lines_after l ms)) → in_lines first_line (cond t (with_units [] l ∷ ls) ls) ≡ Err fault → EntryComesLeftmost (l ∷ ls) fault
+    by_last : (v : EntryModel) (t : Bool) → l.is_last ≡ t → ((ms : List Line) → next_entry (l ∷ ms) ≡ block_then v (lines_after l ms)) → in_lines first_line (cond t (with_units [] l ∷ ls) ls) ≡ Err fault → EntryComesLeftmost (l ∷ ls) fault
     by_last v true last reads b = let r = in_blank first_line (with_units [] l) ls refl in no_fault (in_lines first_line (with_units [] l ∷ ls)) r.0 fault r.1 b
     by_last v false last reads b = stuck_in_block l ls fault v (λ ms. reads ms ∙ ap (λ (t : Bool). block_then v (cond t (with_units [] l ∷ ms) ms)) last) (block_stuck ls fault b)
 
@@ -131,7 +131,7 @@ plain_leftmost l ls fault apart k h = by_line (entry_outcome l k)
 
 -- ---- lines before an entry
 
-some_entry : (s : EntryText) × (rest : List Line) × (next_entry (written (codes "build x:dyndep") ∷ []) ≡ Ok (Some s, rest))
+some_entry : (s : EntryModel) × (rest : List Line) × (next_entry (written (codes "build x:dyndep") ∷ []) ≡ Ok (Some s, rest))
 unfolding next_entry opening entry_line restat_block name_next section_next expect_sign word_of_form output_next no_path no_section added_inputs
 some_entry = (_, _, refl)
 
@@ -159,7 +159,7 @@ tab_leftmost l ls tab k =
     (λ m ms same. (by_kind_entry (with_units (spaces_of l.units ++ m.units) m) ms (TabLine tab) (kind_replaced l.units m.units (element-front m.units (after_spaces l.units) same) ∙ k)))
 
 -- an indented line whose units after its spaces these are
-abbrev unexpected_at : Line → Parse (Option EntryText)
+abbrev unexpected_at : Line → Parse (Option EntryModel)
 unexpected_at l = Err (UnexpectedIndent (record { line = (line_spot l).line; column = 1 }))
 
 indented_leftmost : (l : Line) (ls : List Line) → kind_of l ≡ IndentedLine → EntryComesLeftmost (l ∷ ls) (UnexpectedIndent (front_of l))

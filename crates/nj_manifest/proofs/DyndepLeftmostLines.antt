@@ -3,12 +3,12 @@ use Rattle.std.proofs.Common.{◌≡◌, Bool, true, Ok, Err, inl, inr, List, []
 use Rattle.nj_text.specs.declared.sign.Sign.TheVariants as sign
 use Rattle.nj_text.specs.Units.{TextUnit}
 use Rattle.nj_text.specs.Lines.{Line, PlainLine, kind_of}
-use Rattle.nj_text.specs.Words.{WordText}
+use Rattle.nj_text.specs.Words.{WordModel}
 use Rattle.nj_text.specs.Calls.{State}
 use Rattle.nj_manifest.specs.declared.cause.Wanted.TheVariants as wanted
 use Rattle.nj_manifest.specs.LineSteps.{Step, ◌>>=◌, name_next, expect_sign, section_next}
 use Rattle.nj_manifest.specs.Leftmost.{written}
-use Rattle.nj_manifest.specs.Dyndeps.{EntryText, entry_line}
+use Rattle.nj_manifest.specs.Dyndeps.{EntryModel, entry_line}
 use Rattle.nj_manifest.specs.DyndepLeftmost.{are_apart}
 use Rattle.nj_manifest.proofs.LeftmostRuns.{skip}
 use Rattle.nj_manifest.proofs.LeftmostSteps.{at, text, Fits, after_name, after_words, Claim, Along, begin, Outcome, stuck, stick, pass}
@@ -24,24 +24,24 @@ use Rattle.nj_manifest.proofs.DyndepLeftmostOutputs.{OutputSeen, reads_on, ends_
 use Rattle.nj_manifest.proofs.DyndepLeftmostPaths.{apart_after, clear_step, path_is_clear, path_is_passed, clear_turn, bar_turn, word_turn}
 
 -- what is required of a line so that reading it reads an entry: if it fails, its units are apart
-abbrev pub Seen : Step EntryText → List TextUnit → Type 0
+abbrev pub Seen : Step EntryModel → List TextUnit → Type 0
 Seen (Ok y) us = Unit {0}
 Seen (Err f) us = are_apart us ≡ true
 
 -- the property of the line of an entry
-abbrev pub EntryPlain : Claim EntryText
+abbrev pub EntryPlain : Claim EntryModel
 EntryPlain x e ms r = (kind_units x ≡ PlainLine) × (Seen r x → entry_line (at x e ms) ≡ reported r)
 
 -- There is no path here, whatever becomes of one that is.
-module _ (k : State → Step EntryText) (g : Bool × State → Step EntryText) (so : (s : State) → k s ≡ (path_step s >>= g)) (begun x : List TextUnit) (d : Line) (ms : List Line) (meant : EntryPlain (begun ++ x) d ms (k (at x d ms))) where
+module _ (k : State → Step EntryModel) (g : Bool × State → Step EntryModel) (so : (s : State) → k s ≡ (path_step s >>= g)) (begun x : List TextUnit) (d : Line) (ms : List Line) (meant : EntryPlain (begun ++ x) d ms (k (at x d ms))) where
   given_as : (c : Step Bool) → path_step (at x d ms) ≡ c → EntryPlain (begun ++ x) d ms (c >>= g)
-  given_as c h = subst (λ (r : Step EntryText). EntryPlain (begun ++ x) d ms r) (so (at x d ms) ∙ ap (λ (r : Step Bool). r >>= g) h) meant
+  given_as c h = subst (λ (r : Step EntryModel). EntryPlain (begun ++ x) d ms r) (so (at x d ms) ∙ ap (λ (r : Step Bool). r >>= g) h) meant
 
   by_clear : (c : Step Bool) → clear_step (at x d ms) ≡ c → EntryPlain (begun ++ x) d ms (c >>= g)
   by_clear (Ok y) h = given_as (Ok y) (path_is_passed x d ms y h)
   by_clear (Err f) h = (meant.0, λ apart. (given_as (Err f) (path_is_clear x d ms (apart_after begun x apart) ∙ h)).1 apart)
 
-along-clear : {whole : List TextUnit} {t : List TextUnit → Bool} {us : List TextUnit} (k : State → Step EntryText) (g : Bool × State → Step EntryText) → ((s : State) → k s ≡ (path_step s >>= g)) → Along EntryPlain whole k t us → Along EntryPlain whole (λ s. clear_step s >>= g) t us
+along-clear : {whole : List TextUnit} {t : List TextUnit → Bool} {us : List TextUnit} (k : State → Step EntryModel) (g : Bool × State → Step EntryModel) → ((s : State) → k s ≡ (path_step s >>= g)) → Along EntryPlain whole k t us → Along EntryPlain whole (λ s. clear_step s >>= g) t us
 along-clear k g so a = record { begun = a.begun; cut = a.cut; goes = λ x d ms fit. by_clear k g so a.begun x d ms (a.goes x d ms fit) (clear_step (at x d ms)) refl }
 
 -- ---- strings that complete what is begun
@@ -49,41 +49,41 @@ along-clear k g so a = record { begun = a.begun; cut = a.cut; goes = λ x d ms f
 abbrev nowhere : List Line → State
 nowhere ms = at [] (written []) ms
 
-ends_second_bar : (entry : EntryText) → ReadTo (λ ms. bar_step sign.PipeAt (nowhere ms) >>= λ b. at_end entry b.1)
+ends_second_bar : (entry : EntryModel) → ReadTo (λ ms. bar_step sign.PipeAt (nowhere ms) >>= λ b. at_end entry b.1)
 unfolding expect_sign
 ends_second_bar entry = (entry, λ ms. refl)
 
-ends_first_bar : (entry : EntryText) → ReadTo (λ ms. bar_step sign.Pipe2 (nowhere ms) >>= λ b. at_second_bar entry b.1)
+ends_first_bar : (entry : EntryModel) → ReadTo (λ ms. bar_step sign.Pipe2 (nowhere ms) >>= λ b. at_second_bar entry b.1)
 unfolding expect_sign
 ends_first_bar entry = (entry, λ ms. refl)
 
-ends_ins : (out : WordText) (outs : List WordText) (w : WordText) (ws : List WordText) → ReadTo (λ ms. with_ins out outs (w ∷ ws, nowhere ms))
+ends_ins : (out : WordModel) (outs : List WordModel) (w : WordModel) (ws : List WordModel) → ReadTo (λ ms. with_ins out outs (w ∷ ws, nowhere ms))
 unfolding expect_sign
 ends_ins out outs w ws = (entry_of out outs (w ∷ ws), λ ms. refl)
 
-ends_inputs : (out : WordText) (outs : List WordText) → ReadTo (λ ms. clear_step (nowhere ms) >>= λ c. at_ins out outs c.1)
+ends_inputs : (out : WordModel) (outs : List WordModel) → ReadTo (λ ms. clear_step (nowhere ms) >>= λ c. at_ins out outs c.1)
 unfolding section_next expect_sign
 ends_inputs out outs = (entry_of out outs [], λ ms. refl)
 
 -- ` dyndep`
-ends_rule : (out : WordText) (outs : List WordText) → ReadTo (λ ms. name_next wanted.CommandName (at (text (codes " dyndep")) (written []) ms) >>= this_word (codes "dyndep") (at_inputs out outs))
+ends_rule : (out : WordModel) (outs : List WordModel) → ReadTo (λ ms. name_next wanted.CommandName (at (text (codes " dyndep")) (written []) ms) >>= this_word (codes "dyndep") (at_inputs out outs))
 unfolding name_next section_next expect_sign
 ends_rule out outs = (entry_of out outs [], λ ms. refl)
 
 -- `:dyndep`
-ends_colon : (out : WordText) (outs : List WordText) → ReadTo (λ ms. sign_step sign.Colon wanted.Colon (at (text after_output) (written []) ms) >>= λ c. at_rule out outs c.1)
+ends_colon : (out : WordModel) (outs : List WordModel) → ReadTo (λ ms. sign_step sign.Colon wanted.Colon (at (text after_output) (written []) ms) >>= λ c. at_rule out outs c.1)
 unfolding name_next section_next expect_sign
 ends_colon out outs = (entry_of out outs [], λ ms. refl)
 
-ends_outs : (out : WordText) (w : WordText) (ws : List WordText) → ReadTo (λ ms. with_outs out (w ∷ ws, at (text after_output) (written []) ms))
+ends_outs : (out : WordModel) (w : WordModel) (ws : List WordModel) → ReadTo (λ ms. with_outs out (w ∷ ws, at (text after_output) (written []) ms))
 unfolding name_next section_next expect_sign
 ends_outs out w ws = (entry_of out (w ∷ ws) [], λ ms. refl)
 
-ends_output : (out : WordText) → ReadTo (λ ms. clear_step (at (text after_output) (written []) ms) >>= λ c. at_outs out c.1)
+ends_output : (out : WordModel) → ReadTo (λ ms. clear_step (at (text after_output) (written []) ms) >>= λ c. at_outs out c.1)
 unfolding name_next section_next expect_sign
 ends_output out = (entry_of out [] [], λ ms. refl)
 
-ends_word : (out : WordText) → ReadTo (λ ms. with_output (out, at (text after_output) (written []) ms))
+ends_word : (out : WordModel) → ReadTo (λ ms. with_output (out, at (text after_output) (written []) ms))
 unfolding name_next section_next expect_sign
 ends_word out = (entry_of out [] [], λ ms. refl)
 
@@ -95,11 +95,11 @@ ends_entry = (_, λ ms. refl)
 -- ---- along the line
 
 module _ {whole : List TextUnit} (e : Line) where
-  inputs_turn : (out : WordText) (outs : List WordText) (us : List TextUnit) → Along EntryPlain whole (at_inputs out outs) after_name us → Outcome EntryPlain whole e
+  inputs_turn : (out : WordModel) (outs : List WordModel) (us : List TextUnit) → Along EntryPlain whole (at_inputs out outs) after_name us → Outcome EntryPlain whole e
   inputs_turn out outs us a =
       clear_turn e (λ s. clear_step s >>= λ c. at_ins out outs c.1) (λ c. at_ins out outs c.1) (λ s. refl) (along-clear (at_inputs out outs) (λ c. at_ins out outs c.1) (λ s. refl) a) words_after_name [] refl refl (ends_inputs out outs) (λ h b. with_section (skip us) h b)
     where
-      bars : (entry : EntryText) (left : List TextUnit) → settled left ≡ true → Along EntryPlain whole (at_first_bar entry) after_words left → Outcome EntryPlain whole e
+      bars : (entry : EntryModel) (left : List TextUnit) → settled left ≡ true → Along EntryPlain whole (at_first_bar entry) after_words left → Outcome EntryPlain whole e
       bars entry left h b =
           bar_turn e sign.Pipe2 is_pipe2 refl (at_first_bar entry) (λ c. at_second_bar entry c.1) (λ s. refl) b h (ends_first_bar entry) (λ c.
           bar_turn e sign.PipeAt is_pipe_at refl (at_second_bar entry) (λ c. at_end entry c.1) (λ s. refl) c h (ends_second_bar entry) (λ d.
@@ -110,19 +110,19 @@ module _ {whole : List TextUnit} (e : Line) where
           section_turn e sign.Pipe is_pipe (at_ins out outs) (with_ins out outs) (λ s. refl) b h [] refl refl (ends_ins out outs)
           (λ none c. bars (entry_of out outs []) left h c) (λ run n c. bars (entry_of out outs n.value) run.left n.stops c)
 
-  colon_turn : (out : WordText) (outs : List WordText) (us : List TextUnit) → Along EntryPlain whole (λ s. with_outs out (outs, s)) after_words us → Outcome EntryPlain whole e
+  colon_turn : (out : WordModel) (outs : List WordModel) (us : List TextUnit) → Along EntryPlain whole (λ s. with_outs out (outs, s)) after_words us → Outcome EntryPlain whole e
   colon_turn out outs us a =
       sign_turn e sign.Colon wanted.Colon after_name colon_single (λ s. with_outs out (outs, s)) (λ c. at_rule out outs c.1) (λ s. refl) a after_output refl refl refl (ends_colon out outs) (λ p b.
       word_turn e (codes "dyndep") wanted.CommandName (at_rule out outs) (at_inputs out outs) (λ s. refl) b (codes " dyndep") refl refl refl (ends_rule out outs) (λ n c. inputs_turn out outs n.passes.left c))
 
-  outs_turn : (out : WordText) (us : List TextUnit) → settled us ≡ true → Along EntryPlain whole (at_outs out) after_words us → Outcome EntryPlain whole e
+  outs_turn : (out : WordModel) (us : List TextUnit) → settled us ≡ true → Along EntryPlain whole (at_outs out) after_words us → Outcome EntryPlain whole e
   outs_turn out us h a =
       section_turn e sign.Pipe is_pipe (at_outs out) (with_outs out) (λ s. refl) a h after_output refl refl (ends_outs out) (λ none b. colon_turn out [] us b) (λ run n b. colon_turn out n.value run.left b)
 
   output_turn : (us : List TextUnit) → Along EntryPlain whole at_output after_name us → Outcome EntryPlain whole e
   output_turn us a = by_output (output_seen us e)
     where
-      remainder : (out : WordText) (left : List TextUnit) → Along EntryPlain whole (λ s. with_output (out, s)) after_words left → Outcome EntryPlain whole e
+      remainder : (out : WordModel) (left : List TextUnit) → Along EntryPlain whole (λ s. with_output (out, s)) after_words left → Outcome EntryPlain whole e
       remainder out left b =
           clear_turn e (λ s. clear_step s >>= λ c. at_outs out c.1) (λ c. at_outs out c.1) (λ s. refl) (along-clear (λ s. with_output (out, s)) (λ c. at_outs out c.1) (λ s. refl) b) (λ x h. h) after_output refl refl (ends_output out) (λ h c. outs_turn out (skip left) h c)
 

@@ -7,7 +7,7 @@ use Rattle.nj_text.specs.declared.spot.Spot.{Spot}
 use Rattle.nj_text.specs.Bytes.{drop_while}
 use Rattle.nj_text.specs.Units.{TextUnit}
 use Rattle.nj_text.specs.Lines.{Line, with_units, spot_of_first}
-use Rattle.nj_text.specs.Words.{is_blank, opens_word, in_word, next_fault, WordText}
+use Rattle.nj_text.specs.Words.{is_blank, opens_word, in_word, next_fault, WordModel}
 use Rattle.nj_text.specs.Calls.{State, unless_fault, is_empty, is_sign, state_after_sign}
 use Rattle.nj_text.specs.Inside.States.{reply}
 use Rattle.nj_text.proofs.Lists.{AllIn, AllIn-take_while, take_while-cons_yes}
@@ -36,7 +36,7 @@ pub record OutputStuck (us : List TextUnit) (e : Line) (fault : Fault) : Type 0 
   pub bytes : List ℕ
   pub plain : are_plain bytes ≡ true
   pub offered : offers fault bytes ≡ true
-  pub word : WordText
+  pub word : WordModel
   pub fits : Fits after_name us (used ++ text bytes)
   pub reads : (d : Line) (ms : List Line) → output_word (at (used ++ text bytes) d ms) ≡ Ok (word, at (text after_output) d ms)
 
@@ -58,7 +58,7 @@ spot-same x y d e h n = by_units x y (same-head x y h) n
 -- ---- no word
 
 -- by the fault there, and whether `|` is there
-abbrev missing_by : Option UnitFault → Bool → (there other : State) → Spot → Step WordText
+abbrev missing_by : Option UnitFault → Bool → (there other : State) → Spot → Step WordModel
 missing_by f t there other spot = called (unless_fault f (cond t (reply true there) (reply false other))) >>= λ pipe. unless_missing (not pipe.0) (marked spot) (Err (Expected spot wanted.Path))
 
 missing_is : (f : Option UnitFault) (t u : Bool) (there other : State) (spot : Spot) → f ≡ None → t ≡ u → missing_by f t there other spot ≡ Err (cond u (marked spot) (Expected spot wanted.Path))
@@ -70,13 +70,13 @@ output_missing x d ms u h g =
     ap (λ (y : List TextUnit). missing_by (next_fault y) (is_sign sign.Pipe y) (state_after_sign sign.Pipe (with_units y d) ms) (at y d ms) (spot_of_first x d.end)) (none_passed is_blank x (settled_blank x h))
     ∙ missing_is _ _ u _ _ _ (settled_fault x h) g
 
-found_some : (r : Step (Option WordText)) (w : WordText) (s : State) → r ≡ Ok (Some w, s) → (r >>= λ found. output_there found.0 found.1) ≡ Ok (w, s)
+found_some : (r : Step (Option WordModel)) (w : WordModel) (s : State) → r ≡ Ok (Some w, s) → (r >>= λ found. output_there found.0 found.1) ≡ Ok (w, s)
 found_some r w s h = rw h refl
 
-found_none : (r : Step (Option WordText)) (s : State) → r ≡ Ok (None, s) → (r >>= λ found. output_there found.0 found.1) ≡ output_there None s
+found_none : (r : Step (Option WordModel)) (s : State) → r ≡ Ok (None, s) → (r >>= λ found. output_there found.0 found.1) ≡ output_there None s
 found_none r s h = rw h refl
 
-found_bad : (r : Step (Option WordText)) (f : Fault) → r ≡ Err f → (r >>= λ found. output_there found.0 found.1) ≡ Err f
+found_bad : (r : Step (Option WordModel)) (f : Fault) → r ≡ Err f → (r >>= λ found. output_there found.0 found.1) ≡ Err f
 found_bad r f h = rw h refl
 
 -- ` x` is written before anything is read

@@ -9,7 +9,7 @@ use Rattle.nj_text.specs.declared.spot.Spot.{Spot}
 use Rattle.nj_text.specs.Bytes.{drop_while, is_space}
 use Rattle.nj_text.specs.Units.{TextUnit}
 use Rattle.nj_text.specs.Lines.{Line, with_units, spot_of_first}
-use Rattle.nj_text.specs.Words.{is_blank, opens_word, in_word, next_fault, parts_of, WordText}
+use Rattle.nj_text.specs.Words.{is_blank, opens_word, in_word, next_fault, parts_of, WordModel}
 use Rattle.nj_text.specs.Calls.{State, Between, Inside, Failed, Reply, unless_fault, begins_word, fault_spot, is_empty, is_sign, state_after_sign}
 use Rattle.nj_text.specs.Inside.States.{reply}
 use Rattle.nj_text.proofs.Lists.{AllIn}
@@ -82,7 +82,7 @@ fault_there [] bad h = absurd cc
 fault_there (u ∷ us) bad h = refl
 
 -- by the fault there, whether a word opens there, and the fault after it
-abbrev word_by : Option UnitFault → Bool → Option UnitFault → (there other : Reply (Option WordText)) → Reply (Option WordText)
+abbrev word_by : Option UnitFault → Bool → Option UnitFault → (there other : Reply (Option WordModel)) → Reply (Option WordModel)
 word_by f t g there other = unless_fault f (cond t (unless_fault g there) other)
 
 abbrev path_here : List TextUnit → Line → List Line → Step Bool

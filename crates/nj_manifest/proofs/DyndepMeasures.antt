@@ -4,11 +4,11 @@ use Rattle.nj_text.specs.Bytes.{drop_while}
 use Rattle.nj_text.specs.Units.{TextUnit}
 use Rattle.nj_text.specs.Lines.{Line, text_lines, with_units, lines_after, Kind, CommentLine, TabLine, BlankLine, IndentedLine, PlainLine, begins_with_space, kind_after_spaces, is_space_unit, kind_of}
 use Rattle.nj_text.specs.Calls.{State, Inside, is_empty, without_comments}
-use Rattle.nj_manifest.specs.declared.block.Keys.{Keys}
-use Rattle.nj_manifest.specs.Statements.{LineText, lines_from}
+use Rattle.nj_manifest.specs.declared.block_lines.Keys.{Keys}
+use Rattle.nj_manifest.specs.Statements.{LineModel, lines_from}
 use Rattle.nj_manifest.specs.Openings.{Parse, opening_by, opening, or_last}
 use Rattle.nj_manifest.specs.Grammar.{BlockForm}
-use Rattle.nj_manifest.specs.Dyndeps.{EntryText, version_line, version_from, version_next, next_entry, left_entry}
+use Rattle.nj_manifest.specs.Dyndeps.{EntryModel, version_line, version_from, version_next, next_entry, left_entry}
 use Rattle.nj_manifest.specs.DyndepForms.{NextEntryForm}
 use Rattle.nj_manifest.proofs.Choices.{ended}
 use Rattle.nj_manifest.proofs.Framing.{bind-ok}
@@ -43,7 +43,7 @@ one_more l ls e = ap (λ (t : Bool). cond t (cond (is_empty l.units) 0 1) (suc (
 
 -- ---- entries
 
-block-within : {allowed : Keys} {ls rest : List Line} {lines : List LineText} → BlockForm allowed ls lines rest → ahead rest ≤ ahead ls
+block-within : {allowed : Keys} {ls rest : List Line} {lines : List LineModel} → BlockForm allowed ls lines rest → ahead rest ≤ ahead ls
 block-within (BlockForm.line {l = l} {ls = ls} f others) = let after = no_fewer l ls in let more = block-within others in omega (arith, after, more)
 block-within (BlockForm.comment {l = l} {ls = ls} k e others) = let one = one_more l ls e in let more = block-within others in omega (arith, one, more)
 block-within (BlockForm.last_comment {l = l} {ls = ls} k e) = rw e (omega arith)
@@ -51,13 +51,13 @@ block-within (BlockForm.blank {l = l} {ls = ls} k) = no_fewer l ls
 block-within (BlockForm.plain k) = omega arith
 block-within BlockForm.nothing = omega arith
 
-form-takes : {ls rest : List Line} {entry : EntryText} → NextEntryForm ls (Some entry) rest → ahead rest < ahead ls
+form-takes : {ls rest : List Line} {entry : EntryModel} → NextEntryForm ls (Some entry) rest → ahead rest < ahead ls
 form-takes (NextEntryForm.statement {l = l} {ls = ls} k f b) = let one = fewer l ls k in let more = block-within b.block in omega (arith, one, more)
 form-takes (NextEntryForm.blank {l = l} {ls = ls} k e others) = let one = one_more l ls e in let more = form-takes others in omega (arith, one, more)
 form-takes (NextEntryForm.comment {l = l} {ls = ls} k e others) = let one = one_more l ls e in let more = form-takes others in omega (arith, one, more)
 
 -- An entry takes a line at least.
-pub entry-takes : (ls : List Line) (entry : EntryText) (rest : List Line) → next_entry ls ≡ Ok (Some entry, rest) → ahead rest < ahead ls
+pub entry-takes : (ls : List Line) (entry : EntryModel) (rest : List Line) → next_entry ls ≡ Ok (Some entry, rest) → ahead rest < ahead ls
 entry-takes ls entry rest h = form-takes ((next_entries_are ls (Some entry) rest).0 h)
 
 -- ---- the version
@@ -132,7 +132,7 @@ version-takes ls rest h =
         omega (arith, after, one, no_more)
 
 -- So does what a parser of these reads next, if it is an entry.
-pub left_entry-takes : (version_read : Bool) (ls : List Line) (entry : EntryText) (rest : List Line) → left_entry version_read ls ≡ Ok (Some entry, rest) → ahead rest < ahead ls
+pub left_entry-takes : (version_read : Bool) (ls : List Line) (entry : EntryModel) (rest : List Line) → left_entry version_read ls ≡ Ok (Some entry, rest) → ahead rest < ahead ls
 left_entry-takes true ls entry rest h = entry-takes ls entry rest h
 left_entry-takes false ls entry rest h =
     let version = bind-ok (version_next ls) next_entry (Some entry, rest) h in

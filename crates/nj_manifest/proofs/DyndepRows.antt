@@ -4,13 +4,13 @@ use Rattle.std.specs.Prelude.{⊤, codes}
 use Rattle.nj_text.specs.declared.fault.UnitFault.TheVariants as unit_fault
 use Rattle.nj_text.specs.Units.{cut}
 use Rattle.nj_text.specs.Lines.{text_lines}
-use Rattle.nj_text.specs.Words.{WordText, Text, Name}
+use Rattle.nj_text.specs.Words.{WordModel, Text, Name}
 use Rattle.nj_manifest.specs.declared.cause.Wanted.TheVariants as wanted
 use Rattle.nj_manifest.specs.Faults.{Fault, Bad, Expected, UnexpectedIndent, DyndepVersion, DyndepShape}
 use Rattle.nj_manifest.specs.LineSteps.{name_next, expect_sign, words_within, words_next, section_next}
 use Rattle.nj_manifest.specs.Statements.{equals_value}
 use Rattle.nj_manifest.specs.Openings.{Parse, opening}
-use Rattle.nj_manifest.specs.Dyndeps.{EntryText, version_line, version_next, word_of_form, no_path, no_section, output_next, added_inputs, entry_line, restat_block, next_entry, WholeFile, entry_of}
+use Rattle.nj_manifest.specs.Dyndeps.{EntryModel, version_line, version_next, word_of_form, no_path, no_section, output_next, added_inputs, entry_line, restat_block, next_entry, WholeFile, entry_of}
 use Rattle.nj_manifest.proofs.StatementRows.{at}
 
 -- what a row unfolds to compute on its text
@@ -21,29 +21,29 @@ on_dyndeps = tt
 -- ---- what a row shows
 
 -- the first result, without the lines after it
-abbrev outcome_of : Parse (Option EntryText) → Result (Option EntryText) Fault
+abbrev outcome_of : Parse (Option EntryModel) → Result (Option EntryModel) Fault
 outcome_of (Ok r) = Ok r.0
 outcome_of (Err f) = Err f
 
-abbrev first_of : List ℕ → Result (Option EntryText) Fault
+abbrev first_of : List ℕ → Result (Option EntryModel) Fault
 first_of text = outcome_of (entry_of (WholeFile (text_lines text)))
 
 -- the first result after a version
-abbrev entry_in : List ℕ → Result (Option EntryText) Fault
+abbrev entry_in : List ℕ → Result (Option EntryModel) Fault
 entry_in text = outcome_of (next_entry (text_lines text))
 
 -- the second result
-abbrev second_by : Parse (Option EntryText) → Result (Option EntryText) Fault
+abbrev second_by : Parse (Option EntryModel) → Result (Option EntryModel) Fault
 second_by (Ok r) = outcome_of (next_entry r.1)
 second_by (Err f) = Err f
 
-abbrev second_of : List ℕ → Result (Option EntryText) Fault
+abbrev second_of : List ℕ → Result (Option EntryModel) Fault
 second_of text = second_by (entry_of (WholeFile (text_lines text)))
 
-abbrev word : (line column : ℕ) → List ℕ → WordText
+abbrev word : (line column : ℕ) → List ℕ → WordModel
 word line column bytes = record { spot = at line column; parts = Text bytes ∷ [] }
 
-abbrev entry : WordText → (outs ins : List WordText) → Result (Option EntryText) Fault
+abbrev entry : WordModel → (outs ins : List WordModel) → Result (Option EntryModel) Fault
 entry out outs ins = Ok (Some (record { out = out; outs = outs; ins = ins }))
 
 -- ---- entries

@@ -7,10 +7,10 @@ use Rattle.nj_text.specs.Bytes.{is_line_feed}
 use Rattle.nj_text.specs.Units.{TextUnit, Position, AtStart, first_spot, found_at, position_after, spot_after, cut}
 use Rattle.nj_text.specs.Lines.{Line, ending_of, lines_before, lines_of, text_lines, with_units, lines_after, kind_of}
 use Rattle.nj_text.specs.Calls.{is_comment, without_comments}
-use Rattle.nj_manifest.specs.declared.block.Keys.{Keys}
-use Rattle.nj_manifest.specs.Statements.{LineText}
+use Rattle.nj_manifest.specs.declared.block_lines.Keys.{Keys}
+use Rattle.nj_manifest.specs.Statements.{LineModel}
 use Rattle.nj_manifest.specs.Grammar.{BlockForm}
-use Rattle.nj_manifest.specs.Dyndeps.{EntryText, is_same_spot}
+use Rattle.nj_manifest.specs.Dyndeps.{EntryModel, is_same_spot}
 use Rattle.nj_manifest.specs.DyndepForms.{NextEntryForm}
 use Rattle.nj_manifest.specs.DyndepVersions.{VersionForm}
 use Rattle.nj_manifest.specs.DyndepLeftmost.{are_apart, AreApart, UnitsOfStringsAreApart}
@@ -107,7 +107,7 @@ comments-apart (l ∷ ls) h = by_comment (is_comment (kind_of l)) (comments-apar
     by_comment true g = empty-apart l.is_last l (without_comments ls) g
     by_comment false g = h
 
-block-apart : {allowed : Keys} {ls rest : List Line} {lines : List LineText} → BlockForm allowed ls lines rest → AreApart ls → AreApart rest
+block-apart : {allowed : Keys} {ls rest : List Line} {lines : List LineModel} → BlockForm allowed ls lines rest → AreApart ls → AreApart rest
 block-apart (BlockForm.line {l = l} {ls = ls} f others) h = block-apart others (after-apart l ls h)
 block-apart (BlockForm.comment {l = l} {ls = ls} k e others) h = block-apart others (tail-apart l ls h)
 block-apart (BlockForm.last_comment {l = l} {ls = ls} k e) h = empty-apart l.is_last l (without_comments ls) (comments-apart ls (tail-apart l ls h))
@@ -115,7 +115,7 @@ block-apart (BlockForm.blank {l = l} {ls = ls} k) h = after-apart l ls h
 block-apart (BlockForm.plain k) h = h
 block-apart BlockForm.nothing h = h
 
-entry-apart : {ls rest : List Line} {found : Option EntryText} → NextEntryForm ls found rest → AreApart ls → AreApart rest
+entry-apart : {ls rest : List Line} {found : Option EntryModel} → NextEntryForm ls found rest → AreApart ls → AreApart rest
 entry-apart (NextEntryForm.statement {l = l} {ls = ls} k f b) h = block-apart b.block (after-apart l ls h)
 entry-apart (NextEntryForm.blank {l = l} {ls = ls} k e others) h = entry-apart others (tail-apart l ls h)
 entry-apart (NextEntryForm.comment {l = l} {ls = ls} k e others) h = entry-apart others (tail-apart l ls h)

@@ -4,7 +4,7 @@ use Rattle.std.specs.Option.{option_map_or}
 use Rattle.nj_text.specs.declared.sign.Sign.TheVariants as sign
 use Rattle.nj_text.specs.declared.line_start.LineStart.{LineStart}
 use Rattle.nj_text.specs.declared.line_start.LineStart.TheVariants as start
-use Rattle.nj_text.specs.Words.{WordText}
+use Rattle.nj_text.specs.Words.{WordModel}
 use Rattle.nj_text.specs.Calls.{State, start_line_of, sign_of, path_word_of, spot_of}
 use Rattle.nj_manifest.specs.declared.cause.Wanted.TheVariants as wanted
 use Rattle.nj_manifest.specs.Faults.{Fault, Expected, DyndepShape}
@@ -15,7 +15,7 @@ use Rattle.nj_manifest.proofs.Choices.{unless_missing}
 
 -- ---- the output
 
-abbrev pub first_output : Option WordText → State → Step WordText
+abbrev pub first_output : Option WordModel → State → Step WordModel
 first_output (Some word) after = Ok (word, after)
 first_output None after = called (sign_of sign.Pipe after) >>= λ pipe. unless_missing (not pipe.0) (DyndepShape (spot_of after)) (Err (Expected (spot_of after) wanted.Path))
 
@@ -23,23 +23,23 @@ pub output-steps : (s : State) → output_next s ≡ (called (path_word_of s) >>
 unfolding output_next
 output-steps s = by_found (called (path_word_of s))
   where
-    none : State → Step Bool → Result WordText Fault
+    none : State → Step Bool → Result WordModel Fault
     none after r = r >>= λ pipe. Err (cond pipe.0 (DyndepShape (spot_of after)) (Expected (spot_of after) wanted.Path))
 
     by_pipe : (after : State) (r : Step Bool)
-        → ◌≡◌ {A = Step WordText} (none after r >>= λ out. no_path after >>= λ end. Ok (out, end))
-        (◌>>=◌ {A = WordText × State} (r >>= λ pipe. unless_missing (not pipe.0) (DyndepShape (spot_of after)) (Err (Expected (spot_of after) wanted.Path))) (λ out. no_path out.1 >>= λ end. Ok (out.0, end)))
+        → ◌≡◌ {A = Step WordModel} (none after r >>= λ out. no_path after >>= λ end. Ok (out, end))
+        (◌>>=◌ {A = WordModel × State} (r >>= λ pipe. unless_missing (not pipe.0) (DyndepShape (spot_of after)) (Err (Expected (spot_of after) wanted.Path))) (λ out. no_path out.1 >>= λ end. Ok (out.0, end)))
     by_pipe after (Ok (true, there)) = refl
     by_pipe after (Ok (false, there)) = refl
     by_pipe after (Err f) = refl
 
-    by_word : (found : Option WordText) (after : State)
-        → ◌≡◌ {A = Step WordText} (option_map_or Ok found (none after (called (sign_of sign.Pipe after))) >>= λ out. no_path after >>= λ end. Ok (out, end)) (first_output found after >>= λ out. no_path out.1 >>= λ end. Ok (out.0, end))
+    by_word : (found : Option WordModel) (after : State)
+        → ◌≡◌ {A = Step WordModel} (option_map_or Ok found (none after (called (sign_of sign.Pipe after))) >>= λ out. no_path after >>= λ end. Ok (out, end)) (first_output found after >>= λ out. no_path out.1 >>= λ end. Ok (out.0, end))
     by_word (Some word) after = refl
     by_word None after = by_pipe after (called (sign_of sign.Pipe after))
 
-    by_found : (r : Step (Option WordText))
-        → ◌≡◌ {A = Step WordText} (r >>= λ found. option_map_or Ok found.0 (none found.1 (called (sign_of sign.Pipe found.1))) >>= λ out. no_path found.1 >>= λ end. Ok (out, end))
+    by_found : (r : Step (Option WordModel))
+        → ◌≡◌ {A = Step WordModel} (r >>= λ found. option_map_or Ok found.0 (none found.1 (called (sign_of sign.Pipe found.1))) >>= λ out. no_path found.1 >>= λ end. Ok (out, end))
         (r >>= λ found. first_output found.0 found.1 >>= λ out. no_path out.1 >>= λ end. Ok (out.0, end))
     by_found (Ok found) = by_word found.0 found.1
     by_found (Err f) = refl
@@ -65,7 +65,7 @@ pub block-lines : (s : State) → restat_block s ≡ (called (start_line_of s) >
 unfolding restat_block restat_line
 block-lines s = by_start (called (start_line_of s))
   where
-    by_value : (r : Step WordText) → (r >>= λ value. in_block value.1 line_too_many) ≡ ((r >>= λ value. Ok value.1) >>= λ restat. in_block restat line_too_many)
+    by_value : (r : Step WordModel) → (r >>= λ value. in_block value.1 line_too_many) ≡ ((r >>= λ value. Ok value.1) >>= λ restat. in_block restat line_too_many)
     by_value (Ok value) = refl
     by_value (Err f) = refl
 

@@ -7,8 +7,8 @@ use Rattle.nj_text.specs.Lines.{Line, text_lines}
 use Rattle.nj_text.specs.Words.{Text}
 use Rattle.nj_text.proofs.Cuts.{plain_units}
 use Rattle.nj_manifest.specs.Faults.{Fault}
-use Rattle.nj_manifest.specs.LineSteps.{NameText}
-use Rattle.nj_manifest.specs.Statements.{OutputsText, InputsText, PlacedText, BuildText}
+use Rattle.nj_manifest.specs.LineSteps.{NameModel}
+use Rattle.nj_manifest.specs.Statements.{OutputsModel, InputsModel, PlacedModel, BuildModel}
 use Rattle.nj_manifest.specs.Grammar.{IdentifierForm, KeywordForm, WordForm, WordsForm, SignForm, SectionForm, BuildForm, HeadForm, BlockForm, StatementForm, NextForm}
 use Rattle.nj_manifest.proofs.StatementRows.{on_strings, first_of, item_of, at}
 use Rattle.nj_manifest.proofs.FormsStatements.{next-read}
@@ -21,13 +21,13 @@ units_at column bytes = plain_units (at 1 column) bytes
 abbrev unit_at : (column : ℕ) → ℕ → TextUnit
 unit_at column byte = record { spot = at 1 column; bytes = byte ∷ []; means = Ordinary byte }
 
-abbrev outputs : OutputsText
+abbrev outputs : OutputsModel
 outputs = record { explicit = record { spot = at 1 7; parts = Text (codes "a") ∷ [] } ∷ []; implicit = [] }
 
-abbrev rule : NameText
+abbrev rule : NameModel
 rule = record { spot = at 1 10; name = codes "r" }
 
-abbrev inputs : InputsText
+abbrev inputs : InputsModel
 inputs = record { explicit = []; implicit = []; order_only = []; validations = [] }
 
 keyword_row : KeywordForm (codes "build") (units_at 1 (codes "build a: r |")) (units_at 6 (codes " a: r |"))
@@ -76,20 +76,20 @@ build_row =
 abbrev end_of : (column : ℕ) → Line
 end_of column = record { units = []; end = at 1 column; is_last = true }
 
-statement_row : NextForm (text_lines (codes "build a: r |")) (Some (record { spot = at 1 1; item = BuildText outputs rule inputs [] })) (end_of 13 ∷ [])
+statement_row : NextForm (text_lines (codes "build a: r |")) (Some (record { spot = at 1 1; item = BuildModel outputs rule inputs [] })) (end_of 13 ∷ [])
 unfolding on_strings
 statement_row = NextForm.statement refl (HeadForm.build build_row) (StatementForm.build (BlockForm.blank refl))
 
 -- ---- files that no form matches
 
 abbrev HasNoForm : List ℕ → Type 0
-HasNoForm text = (found : Option PlacedText) (rest : List Line) → NextForm (text_lines text) found rest → ⊥
+HasNoForm text = (found : Option PlacedModel) (rest : List Line) → NextForm (text_lines text) found rest → ⊥
 
 -- the fault that is read of it
 refused : (text : List ℕ) (fault : Fault) → first_of text ≡ Err fault → HasNoForm text
 refused text fault h found rest f = absurd (ok_is_err (sym (ap item_of (next-read f)) ∙ h))
   where
-    ok_is_err : ◌≡◌ {A = Result (Option PlacedText) Fault} (Ok found) (Err fault) → ⊥
+    ok_is_err : ◌≡◌ {A = Result (Option PlacedModel) Fault} (Ok found) (Err fault) → ⊥
     ok_is_err e = absurd cc
 
 -- the sections come in their order

@@ -7,10 +7,10 @@ use Rattle.nj_text.specs.Inside.Meanings.{is_blank_meaning}
 use Rattle.nj_text.specs.Calls.{State, Between, without_comments}
 use Rattle.nj_manifest.specs.declared.cause.Wanted.{Wanted}
 use Rattle.nj_manifest.specs.declared.cause.Wanted.TheVariants as wanted
-use Rattle.nj_manifest.specs.declared.block.Keys.{Keys}
+use Rattle.nj_manifest.specs.declared.block_lines.Keys.{Keys}
 use Rattle.nj_manifest.specs.Faults.{Fault}
-use Rattle.nj_manifest.specs.LineSteps.{Step, ◌>>=◌, NameText, name_next}
-use Rattle.nj_manifest.specs.Statements.{LineText, allows, equals_value, line_next, block_by, block}
+use Rattle.nj_manifest.specs.LineSteps.{Step, ◌>>=◌, NameModel, name_next}
+use Rattle.nj_manifest.specs.Statements.{LineModel, allows, equals_value, line_next, block_by, block}
 use Rattle.nj_manifest.specs.Grammar.{BindingForm, BlockForm}
 use Rattle.nj_manifest.specs.Openings.{Parse, or_last}
 use Rattle.nj_manifest.proofs.Choices.{if_allowed, no_lines}
@@ -52,22 +52,22 @@ name_after_spaces want l ls us =
 -- ---- a line
 
 -- a line after its name
-abbrev line_after : Keys → NameText × State → Step LineText
+abbrev line_after : Keys → NameModel × State → Step LineModel
 line_after allowed key = if_allowed (allows allowed key.0.name) key.0 (equals_value key.1) >>= λ value. Ok (record { spot = key.0.spot; name = key.0.name; value = value.0 }, value.1)
 
 line_after_spaces : (allowed : Keys) (l : Line) (ls : List Line) (us : List TextUnit) → line_next allowed (within l ls (drop_while is_space_unit us)) ≡ line_next allowed (within l ls us)
 unfolding line_next
-line_after_spaces allowed l ls us = ap (λ (r : Step NameText). r >>= line_after allowed) (name_after_spaces wanted.VariableName l ls us)
+line_after_spaces allowed l ls us = ap (λ (r : Step NameModel). r >>= line_after allowed) (name_after_spaces wanted.VariableName l ls us)
 
-if_allowed-ok : {A : Type 0} (t : Bool) (key : NameText) (others : Result A Fault) (y : A) → if_allowed t key others ≡ Ok y → (t ≡ true) × (others ≡ Ok y)
+if_allowed-ok : {A : Type 0} (t : Bool) (key : NameModel) (others : Result A Fault) (y : A) → if_allowed t key others ≡ Ok y → (t ≡ true) × (others ≡ Ok y)
 if_allowed-ok true key others y h = (refl, h)
 if_allowed-ok false key others y h = absurd cc
 
 -- what a line gives
-abbrev LineIs : Keys → Line → List TextUnit → LineText → Type 0
+abbrev LineIs : Keys → Line → List TextUnit → LineModel → Type 0
 LineIs allowed l us line = BindingForm us l.end (record { spot = line.spot; name = line.name }) line.value × (allows allowed line.name ≡ true)
 
-line-form : (allowed : Keys) (l : Line) (ls : List Line) (us : List TextUnit) (line : LineText) (s : State) → line_next allowed (within l ls us) ≡ Ok (line, s) → LineIs allowed l us line × (s ≡ Between (lines_after l ls))
+line-form : (allowed : Keys) (l : Line) (ls : List Line) (us : List TextUnit) (line : LineModel) (s : State) → line_next allowed (within l ls us) ≡ Ok (line, s) → LineIs allowed l us line × (s ≡ Between (lines_after l ls))
 unfolding line_next
 line-form allowed l ls us line s h =
     let key = bind-ok (name_next wanted.VariableName (within l ls us)) (line_after allowed) (line, s) h in
@@ -78,7 +78,7 @@ line-form allowed l ls us line s h =
     let same = gives-it (record { spot = key.0.0.spot; name = key.0.0.name; value = value.0.0 }) value.0.1 line s value.2 in
     (subst (LineIs allowed l us) same.0 (record { after_name = name.0; after_sign = read.0; of_name = name.1; equals = read.1; of_value = read.2 }, ok.0), sym same.1 ∙ read.3)
 
-line-read : (allowed : Keys) (l : Line) (ls : List Line) (us : List TextUnit) (line : LineText) → LineIs allowed l us line → line_next allowed (within l ls us) ≡ Ok (line, Between (lines_after l ls))
+line-read : (allowed : Keys) (l : Line) (ls : List Line) (us : List TextUnit) (line : LineModel) → LineIs allowed l us line → line_next allowed (within l ls us) ≡ Ok (line, Between (lines_after l ls))
 unfolding line_next
 line-read allowed l ls us line f =
     rw (name-read wanted.VariableName l ls us f.0.after_name (record { spot = line.spot; name = line.name }) f.0.of_name, f.1, equals_value-read l ls f.0.after_name f.0.after_sign line.value f.0.equals f.0.of_value) refl
@@ -92,13 +92,13 @@ reads-it {A} x ls y rest e =
     (ap (λ (r : A × List Line). r.0) same, ap (λ (r : A × List Line). r.1) same)
 
 -- a block without lines
-no_lines-are : (allowed : Keys) (ls remainder rest : List Line) (lines : List LineText) → no_lines remainder ≡ Ok (lines, rest) → BlockForm allowed ls [] remainder → BlockForm allowed ls lines rest
+no_lines-are : (allowed : Keys) (ls remainder rest : List Line) (lines : List LineModel) → no_lines remainder ≡ Ok (lines, rest) → BlockForm allowed ls [] remainder → BlockForm allowed ls lines rest
 no_lines-are allowed ls remainder rest lines h f =
     let same = reads-it [] remainder lines rest h in
-    subst (λ (ms : List LineText). BlockForm allowed ls ms rest) same.0 (subst (BlockForm allowed ls []) same.1 f)
+    subst (λ (ms : List LineModel). BlockForm allowed ls ms rest) same.0 (subst (BlockForm allowed ls []) same.1 f)
 
 -- the block after a line, which may be the last
-block_after-form : (allowed : Keys) (l : Line) (ls rest : List Line) (lines : List LineText) → (block allowed ls ≡ Ok (lines, rest) → BlockForm allowed ls lines rest) → or_last l (no_lines (lines_after l ls)) (block allowed ls) ≡ Ok (lines, rest)
+block_after-form : (allowed : Keys) (l : Line) (ls rest : List Line) (lines : List LineModel) → (block allowed ls ≡ Ok (lines, rest) → BlockForm allowed ls lines rest) → or_last l (no_lines (lines_after l ls)) (block allowed ls) ≡ Ok (lines, rest)
     → BlockForm allowed (lines_after l ls) lines rest
 block_after-form allowed l ls rest lines others h = by_last l.is_last refl h
   where
@@ -110,7 +110,7 @@ block_after-form allowed l ls rest lines others h = by_last l.is_last refl h
     by_last false e g = others g
 
 -- A block that is read is one.
-pub block-form : (allowed : Keys) (ls : List Line) (lines : List LineText) (rest : List Line) → block allowed ls ≡ Ok (lines, rest) → BlockForm allowed ls lines rest
+pub block-form : (allowed : Keys) (ls : List Line) (lines : List LineModel) (rest : List Line) → block allowed ls ≡ Ok (lines, rest) → BlockForm allowed ls lines rest
 unfolding block
 block-form allowed [] lines rest h = no_lines-are allowed [] [] rest lines h BlockForm.nothing
 block-form allowed (l ∷ ls) lines rest h = by_kind (kind_of l) refl h (λ ms e. block-form allowed ls ms rest e)
@@ -119,7 +119,7 @@ block-form allowed (l ∷ ls) lines rest h = by_kind (kind_of l) refl h (λ ms e
     by_last true e k others g = no_lines-are allowed (l ∷ ls) (lines_after l (without_comments ls)) rest lines g (BlockForm.last_comment k e)
     by_last false e k others g = BlockForm.comment k e (others g)
 
-    by_kind : (k : Kind) → kind_of l ≡ k → block_by allowed k l ls (block allowed ls) ≡ Ok (lines, rest) → ((ms : List LineText) → block allowed ls ≡ Ok (ms, rest) → BlockForm allowed ls ms rest) → BlockForm allowed (l ∷ ls) lines rest
+    by_kind : (k : Kind) → kind_of l ≡ k → block_by allowed k l ls (block allowed ls) ≡ Ok (lines, rest) → ((ms : List LineModel) → block allowed ls ≡ Ok (ms, rest) → BlockForm allowed ls ms rest) → BlockForm allowed (l ∷ ls) lines rest
     by_kind CommentLine k g others = by_last l.is_last refl k (others lines) g
     by_kind (TabLine tab) k g others = absurd cc
     by_kind IndentedLine k g others =
@@ -128,13 +128,13 @@ block-form allowed (l ∷ ls) lines rest h = by_kind (kind_of l) refl h (λ ms e
         let same = reads-it (line.0.0 ∷ more.0.0) more.0.1 lines rest more.2 in
         let it = line-form allowed l ls l.units line.0.0 line.0.1 (sym (line_after_spaces allowed l ls l.units) ∙ line.1) in
         let read = more.1 ∙ ap (λ (ms : List Line). Ok (more.0.0, ms)) same.1 in
-        subst (λ (ms : List LineText). BlockForm allowed (l ∷ ls) ms rest) same.0
+        subst (λ (ms : List LineModel). BlockForm allowed (l ∷ ls) ms rest) same.0
         (BlockForm.line (record { indented = k; binding = it.0.0; key = it.0.1 }) (block_after-form allowed l ls rest more.0.0 (others more.0.0) read))
     by_kind BlankLine k g others = no_lines-are allowed (l ∷ ls) (lines_after l ls) rest lines g (BlockForm.blank k)
     by_kind PlainLine k g others = no_lines-are allowed (l ∷ ls) (l ∷ ls) rest lines g (BlockForm.plain k)
 
 -- A block that is there is read.
-pub block-read : {allowed : Keys} {ls rest : List Line} {lines : List LineText} → BlockForm allowed ls lines rest → block allowed ls ≡ Ok (lines, rest)
+pub block-read : {allowed : Keys} {ls rest : List Line} {lines : List LineModel} → BlockForm allowed ls lines rest → block allowed ls ≡ Ok (lines, rest)
 unfolding block
 block-read {allowed = allowed} (BlockForm.line {l = l} {ls = ls} {first = first} f more) =
     rw (f.indented, line_after_spaces allowed l ls l.units, line-read allowed l ls l.units first (f.binding, f.key), ← block-after allowed l ls, block-read more) refl

@@ -9,7 +9,7 @@ use Rattle.std.proofs.lemmas.Slice.Eq.{bytes_eq-Decides}
 use Rattle.nj_text.specs.declared.spot.Spot.{Spot}
 use Rattle.nj_text.specs.Calls.{is_empty}
 use Rattle.nj_manifest.specs.Faults.{Fault}
-use Rattle.nj_manifest.specs.Statements.{LineText, gives}
+use Rattle.nj_manifest.specs.Statements.{LineModel, gives}
 use Rattle.nj_manifest.specs.Grammar.{Gives}
 use Rattle.nj_manifest.specs.Inside.Heads.{whole_rule, whole_pool, names}
 use Rattle.nj_manifest.proofs.Choices.{unless_missing}
@@ -22,17 +22,17 @@ key_is_here name key e = (bytes_eq-Decides name key).1 e
 -- ---- a key that is given
 
 -- whether one of the lines has the key
-abbrev any_of : (key : List ℕ) → List LineText → Bool
-any_of key lines = list_any (λ (l : LineText). bytes_eq l.name key) lines
+abbrev any_of : (key : List ℕ) → List LineModel → Bool
+any_of key lines = list_any (λ (l : LineModel). bytes_eq l.name key) lines
 
-gives_after : (key : List ℕ) (l : LineText) (lines : List LineText) → Gives key lines → Gives key (l ∷ lines)
+gives_after : (key : List ℕ) (l : LineModel) (lines : List LineModel) → Gives key lines → Gives key (l ∷ lines)
 gives_after key l lines g =
-    record { before = l ∷ g.before; line = g.line; after = g.after; cut = ap (λ (ls : List LineText). l ∷ ls) g.cut; of_key = g.of_key; is_last = g.is_last; some_part = g.some_part }
+    record { before = l ∷ g.before; line = g.line; after = g.after; cut = ap (λ (ls : List LineModel). l ∷ ls) g.cut; of_key = g.of_key; is_last = g.is_last; some_part = g.some_part }
 
-gives_first : (key : List ℕ) (l : LineText) (lines : List LineText) → bytes_eq l.name key ≡ true → any_of key lines ≡ false → not (is_empty l.value.parts) ≡ true → Gives key (l ∷ lines)
+gives_first : (key : List ℕ) (l : LineModel) (lines : List LineModel) → bytes_eq l.name key ≡ true → any_of key lines ≡ false → not (is_empty l.value.parts) ≡ true → Gives key (l ∷ lines)
 gives_first key l lines e n p = record { before = []; line = l; after = lines; cut = refl; of_key = same_bytes l.name key e; is_last = n; some_part = not-true (is_empty l.value.parts) p }
 
-pub gives-form : (key : List ℕ) (lines : List LineText) → gives key lines ≡ true → Gives key lines
+pub gives-form : (key : List ℕ) (lines : List LineModel) → gives key lines ≡ true → Gives key lines
 gives-form key [] h = absurd cc
 gives-form key (l ∷ lines) h = by_tests (bytes_eq l.name key) (any_of key lines) refl refl (sym (gives-cons key l lines) ∙ h) (gives-form key lines)
   where
@@ -41,11 +41,11 @@ gives-form key (l ∷ lines) h = by_tests (bytes_eq l.name key) (any_of key line
     by_tests true true e n g others = gives_after key l lines (others g)
     by_tests false a e n g others = gives_after key l lines (others g)
 
-has_key : (key : List ℕ) (before after : List LineText) (l : LineText) → bytes_eq l.name key ≡ true → any_of key (before ++ (l ∷ after)) ≡ true
+has_key : (key : List ℕ) (before after : List LineModel) (l : LineModel) → bytes_eq l.name key ≡ true → any_of key (before ++ (l ∷ after)) ≡ true
 has_key key [] after l e = or_left (bytes_eq l.name key) (any_of key after) e
 has_key key (m ∷ before) after l e = or_right (bytes_eq m.name key) (any_of key (before ++ (l ∷ after))) (has_key key before after l e)
 
-gives_at : (key : List ℕ) (before after : List LineText) (l : LineText) → bytes_eq l.name key ≡ true → any_of key after ≡ false → is_empty l.value.parts ≡ false → gives key (before ++ (l ∷ after)) ≡ true
+gives_at : (key : List ℕ) (before after : List LineModel) (l : LineModel) → bytes_eq l.name key ≡ true → any_of key after ≡ false → is_empty l.value.parts ≡ false → gives key (before ++ (l ∷ after)) ≡ true
 gives_at key [] after l e n p = gives-cons key l after ∙ rw (e, n, p) refl
 gives_at key (m ∷ before) after l e n p = gives-cons key m (before ++ (l ∷ after)) ∙ rw (has_key key before after l e) (by_test (bytes_eq m.name key) (gives_at key before after l e n p))
   where
@@ -53,7 +53,7 @@ gives_at key (m ∷ before) after l e n p = gives-cons key m (before ++ (l ∷ a
     by_test true h = h
     by_test false h = h
 
-pub gives-read : (key : List ℕ) (lines : List LineText) → Gives key lines → gives key lines ≡ true
+pub gives-read : (key : List ℕ) (lines : List LineModel) → Gives key lines → gives key lines ≡ true
 gives-read key lines g = ap (gives key) g.cut ∙ gives_at key g.before g.after g.line (key_is_here g.line.name key g.of_key) g.is_last g.some_part
 
 -- ---- whole blocks
@@ -84,7 +84,7 @@ rsp = codes "rspfile"
 abbrev rsp_content : List ℕ
 rsp_content = codes "rspfile_content"
 
-pub rule-form : (spot : Spot) (lines whole : List LineText) → whole_rule spot lines ≡ Ok whole → (lines ≡ whole) × Gives (codes "command") lines × (Gives (codes "rspfile") lines ↔ Gives (codes "rspfile_content") lines)
+pub rule-form : (spot : Spot) (lines whole : List LineModel) → whole_rule spot lines ≡ Ok whole → (lines ≡ whole) × Gives (codes "command") lines × (Gives (codes "rspfile") lines ↔ Gives (codes "rspfile_content") lines)
 unfolding whole_rule
 rule-form spot lines whole h =
     let pair = unless_missing-ok (beq (gives rsp lines) (gives rsp_content lines)) _ _ whole h in
@@ -95,10 +95,10 @@ rule-form spot lines whole h =
       (λ g. gives-form rsp_content lines (both.0 (gives-read rsp lines g)), λ g. gives-form rsp lines (both.1 (gives-read rsp_content lines g))),
     )
   where
-    ok_is : ◌≡◌ {A = Result (List LineText) Fault} (Ok lines) (Ok whole) → lines ≡ whole
+    ok_is : ◌≡◌ {A = Result (List LineModel) Fault} (Ok lines) (Ok whole) → lines ≡ whole
     ok_is e = cc
 
-pub rule-read : (spot : Spot) (lines : List LineText) → Gives (codes "command") lines → (Gives (codes "rspfile") lines ↔ Gives (codes "rspfile_content") lines) → whole_rule spot lines ≡ Ok lines
+pub rule-read : (spot : Spot) (lines : List LineModel) → Gives (codes "command") lines → (Gives (codes "rspfile") lines ↔ Gives (codes "rspfile_content") lines) → whole_rule spot lines ≡ Ok lines
 unfolding whole_rule
 rule-read spot lines command pair =
     rw (
@@ -106,15 +106,15 @@ rule-read spot lines command pair =
       gives-read (codes "command") lines command,
     ) refl
 
-pub pool-form : (spot : Spot) (lines whole : List LineText) → whole_pool spot lines ≡ Ok whole → (lines ≡ whole) × (list_any (λ (l : LineText). bytes_eq l.name (codes "depth")) lines ≡ true)
+pub pool-form : (spot : Spot) (lines whole : List LineModel) → whole_pool spot lines ≡ Ok whole → (lines ≡ whole) × (list_any (λ (l : LineModel). bytes_eq l.name (codes "depth")) lines ≡ true)
 unfolding whole_pool
 pool-form spot lines whole h =
     let depth = unless_missing-ok (names (codes "depth") lines) _ (Ok lines) whole h in
     (ok_is depth.1, depth.0)
   where
-    ok_is : ◌≡◌ {A = Result (List LineText) Fault} (Ok lines) (Ok whole) → lines ≡ whole
+    ok_is : ◌≡◌ {A = Result (List LineModel) Fault} (Ok lines) (Ok whole) → lines ≡ whole
     ok_is e = cc
 
-pub pool-read : (spot : Spot) (lines : List LineText) → list_any (λ (l : LineText). bytes_eq l.name (codes "depth")) lines ≡ true → whole_pool spot lines ≡ Ok lines
+pub pool-read : (spot : Spot) (lines : List LineModel) → list_any (λ (l : LineModel). bytes_eq l.name (codes "depth")) lines ≡ true → whole_pool spot lines ≡ Ok lines
 unfolding whole_pool
 pool-read spot lines h = rw h refl

@@ -8,12 +8,12 @@ use Rattle.nj_text.specs.declared.fault.UnitFault.TheVariants as lex
 use Rattle.nj_text.specs.declared.spot.Spot.{Spot}
 use Rattle.nj_text.specs.Lines.{Line, line_spot, lines_after, Kind, CommentLine, TabLine, BlankLine, IndentedLine, PlainLine, kind_of}
 use Rattle.nj_text.specs.Calls.{Between, without_comments}
-use Rattle.nj_manifest.specs.declared.block.Keys.{Keys}
-use Rattle.nj_manifest.specs.declared.block.Keys.TheVariants as keys
+use Rattle.nj_manifest.specs.declared.block_lines.Keys.{Keys}
+use Rattle.nj_manifest.specs.declared.block_lines.Keys.TheVariants as keys
 use Rattle.nj_manifest.specs.Faults.{Fault, Bad, Expected, UnexpectedIndent, MissingCommand, RspPair, UnknownKey, MissingDepth, DyndepVersion, DyndepShape, OutOfMemory, is_syntax}
-use Rattle.nj_manifest.specs.LineSteps.{◌>>=◌, NameText}
-use Rattle.nj_manifest.specs.Statements.{LineText, StatementText, RuleText, PoolText, BuildText, gives, block, next_statement}
-use Rattle.nj_manifest.specs.Grammar.{BlockForm, Gives, LackForm, NextLacks, HeadText, Alone, RuleHead, PoolHead, BuildHead}
+use Rattle.nj_manifest.specs.LineSteps.{◌>>=◌, NameModel}
+use Rattle.nj_manifest.specs.Statements.{LineModel, StatementModel, RuleModel, PoolModel, BuildModel, gives, block, next_statement}
+use Rattle.nj_manifest.specs.Grammar.{BlockForm, Gives, LackForm, NextLacks, HeadModel, Alone, RuleHead, PoolHead, BuildHead}
 use Rattle.nj_manifest.specs.Laws.{MissingLinesAreLacking}
 use Rattle.nj_manifest.specs.Leftmost.{NamesThePlaceOf}
 use Rattle.nj_manifest.specs.Openings.{Parse, front_of}
@@ -54,10 +54,10 @@ block_syntax allowed ls f h n =
 
 -- ---- a block that lacks a line
 
-abbrev rsp_agree : List LineText → Bool
+abbrev rsp_agree : List LineModel → Bool
 rsp_agree lines = beq (gives (codes "rspfile") lines) (gives (codes "rspfile_content") lines)
 
-abbrev Pair : List LineText → Type 0
+abbrev Pair : List LineModel → Type 0
 Pair lines = Gives (codes "rspfile") lines ↔ Gives (codes "rspfile_content") lines
 
 false_is_true : {P : Type 0} (t : Bool) → t ≡ false → t ≡ true → P
@@ -66,12 +66,12 @@ false_is_true t f h = absurd (apart (sym f ∙ h))
     apart : false ≡ true → ⊥
     apart e = absurd cc
 
-pair_agrees : (lines : List LineText) → Pair lines → rsp_agree lines ≡ true
+pair_agrees : (lines : List LineModel) → Pair lines → rsp_agree lines ≡ true
 pair_agrees lines p =
     forms-agree (gives (codes "rspfile") lines) (gives (codes "rspfile_content") lines)
     (λ e. gives-read (codes "rspfile_content") lines (p.0 (gives-form (codes "rspfile") lines e)), λ e. gives-read (codes "rspfile") lines (p.1 (gives-form (codes "rspfile_content") lines e)))
 
-agrees_pair : (lines : List LineText) → rsp_agree lines ≡ true → Pair lines
+agrees_pair : (lines : List LineModel) → rsp_agree lines ≡ true → Pair lines
 agrees_pair lines h =
     let both = agree-forms (gives (codes "rspfile") lines) (gives (codes "rspfile_content") lines) h in
     (λ g. gives-form (codes "rspfile_content") lines (both.0 (gives-read (codes "rspfile") lines g)), λ g. gives-form (codes "rspfile") lines (both.1 (gives-read (codes "rspfile_content") lines g)))
@@ -82,13 +82,13 @@ errs e = cc
 no_err : {A P : Type 0} {x : A} {f : Fault} → ◌≡◌ {A = Result A Fault} (Ok x) (Err f) → P
 no_err e = absurd cc
 
-rule-lacks : (spot : Spot) (name : NameText) (ls rest : List Line) (lines : List LineText) (f : Fault) → BlockForm keys.OfRule ls lines rest → ◌≡◌ {A = Parse StatementText} (whole_rule spot lines >>= λ whole. Ok (RuleText name whole, rest)) (Err f)
+rule-lacks : (spot : Spot) (name : NameModel) (ls rest : List Line) (lines : List LineModel) (f : Fault) → BlockForm keys.OfRule ls lines rest → ◌≡◌ {A = Parse StatementModel} (whole_rule spot lines >>= λ whole. Ok (RuleModel name whole, rest)) (Err f)
     → LackForm spot (RuleHead name) ls f
 unfolding whole_rule
 rule-lacks spot name ls rest lines f b h = by_pair (rsp_agree lines) refl h
   where
-    then : Result (List LineText) Fault → Parse StatementText
-    then r = r >>= λ whole. Ok (RuleText name whole, rest)
+    then : Result (List LineModel) Fault → Parse StatementModel
+    then r = r >>= λ whole. Ok (RuleModel name whole, rest)
 
     by_command : (t : Bool) → gives (codes "command") lines ≡ t → rsp_agree lines ≡ true → then (unless_missing t (MissingCommand spot) (Ok lines)) ≡ Err f → LackForm spot (RuleHead name) ls f
     by_command true c p g = no_err g
@@ -98,46 +98,46 @@ rule-lacks spot name ls rest lines f b h = by_pair (rsp_agree lines) refl h
     by_pair true p g = by_command (gives (codes "command") lines) refl p g
     by_pair false p g = subst (λ (x : Fault). LackForm spot (RuleHead name) ls x) (errs g) (LackForm.pair b (λ both. false_is_true _ p (pair_agrees lines both)))
 
-pool-lacks : (spot : Spot) (name : NameText) (ls rest : List Line) (lines : List LineText) (f : Fault) → BlockForm keys.OfPool ls lines rest → ◌≡◌ {A = Parse StatementText} (whole_pool spot lines >>= λ whole. Ok (PoolText name whole, rest)) (Err f)
+pool-lacks : (spot : Spot) (name : NameModel) (ls rest : List Line) (lines : List LineModel) (f : Fault) → BlockForm keys.OfPool ls lines rest → ◌≡◌ {A = Parse StatementModel} (whole_pool spot lines >>= λ whole. Ok (PoolModel name whole, rest)) (Err f)
     → LackForm spot (PoolHead name) ls f
 unfolding whole_pool
 pool-lacks spot name ls rest lines f b h = by_depth (names (codes "depth") lines) refl h
   where
-    by_depth : (t : Bool) → names (codes "depth") lines ≡ t → ◌≡◌ {A = Parse StatementText} (unless_missing t (MissingDepth spot) (Ok lines) >>= λ whole. Ok (PoolText name whole, rest)) (Err f) → LackForm spot (PoolHead name) ls f
+    by_depth : (t : Bool) → names (codes "depth") lines ≡ t → ◌≡◌ {A = Parse StatementModel} (unless_missing t (MissingDepth spot) (Ok lines) >>= λ whole. Ok (PoolModel name whole, rest)) (Err f) → LackForm spot (PoolHead name) ls f
     by_depth true d g = no_err g
     by_depth false d g = subst (λ (x : Fault). LackForm spot (PoolHead name) ls x) (errs g) (LackForm.depth b d)
 
 -- what was read of a block, or its fault
-with_lines : {A P : Type 0} (allowed : Keys) (ls : List Line) (k : List LineText × List Line → Result A Fault) (f : Fault) → is_syntax f ≡ false → (block allowed ls >>= k) ≡ Err f → ((lines : List LineText) (rest : List Line) → BlockForm allowed ls lines rest → k (lines, rest) ≡ Err f → P) → P
+with_lines : {A P : Type 0} (allowed : Keys) (ls : List Line) (k : List LineModel × List Line → Result A Fault) (f : Fault) → is_syntax f ≡ false → (block allowed ls >>= k) ≡ Err f → ((lines : List LineModel) (rest : List Line) → BlockForm allowed ls lines rest → k (lines, rest) ≡ Err f → P) → P
 with_lines {A = A} {P = P} allowed ls k f n h go = by_block (block allowed ls) refl h
   where
-    by_block : (r : Parse (List LineText)) → block allowed ls ≡ r → (r >>= k) ≡ Err f → P
+    by_block : (r : Parse (List LineModel)) → block allowed ls ≡ r → (r >>= k) ≡ Err f → P
     by_block (Ok x) e g = go x.0 x.1 (block-form allowed ls x.0 x.1 e) g
     by_block (Err y) e g = block_syntax allowed ls f (e ∙ ap Err (errs g)) n
 
-with_block-lacks : (spot : Spot) (head : HeadText) (ls : List Line) (f : Fault) → is_syntax f ≡ false → with_block spot head ls ≡ Err f → LackForm spot head ls f
+with_block-lacks : (spot : Spot) (head : HeadModel) (ls : List Line) (f : Fault) → is_syntax f ≡ false → with_block spot head ls ≡ Err f → LackForm spot head ls f
 with_block-lacks spot (Alone one) ls f n h = no_err h
-with_block-lacks spot (RuleHead name) ls f n h = with_lines keys.OfRule ls (λ lines. whole_rule spot lines.0 >>= λ whole. Ok (RuleText name whole, lines.1)) f n h (λ lines rest b g. rule-lacks spot name ls rest lines f b g)
-with_block-lacks spot (PoolHead name) ls f n h = with_lines keys.OfPool ls (λ lines. whole_pool spot lines.0 >>= λ whole. Ok (PoolText name whole, lines.1)) f n h (λ lines rest b g. pool-lacks spot name ls rest lines f b g)
-with_block-lacks spot (BuildHead outputs rule inputs) ls f n h = with_lines keys.All ls (λ lines. Ok (BuildText outputs rule inputs lines.0, lines.1)) f n h (λ lines rest b g. no_err g)
+with_block-lacks spot (RuleHead name) ls f n h = with_lines keys.OfRule ls (λ lines. whole_rule spot lines.0 >>= λ whole. Ok (RuleModel name whole, lines.1)) f n h (λ lines rest b g. rule-lacks spot name ls rest lines f b g)
+with_block-lacks spot (PoolHead name) ls f n h = with_lines keys.OfPool ls (λ lines. whole_pool spot lines.0 >>= λ whole. Ok (PoolModel name whole, lines.1)) f n h (λ lines rest b g. pool-lacks spot name ls rest lines f b g)
+with_block-lacks spot (BuildHead outputs rule inputs) ls f n h = with_lines keys.All ls (λ lines. Ok (BuildModel outputs rule inputs lines.0, lines.1)) f n h (λ lines rest b g. no_err g)
 
 not_so : (t : Bool) → (t ≡ true → ⊥) → t ≡ false
 not_so true h = absurd (h refl)
 not_so false h = refl
 
-pair-refuses : (spot : Spot) (lines : List LineText) → (Pair lines → ⊥) → whole_rule spot lines ≡ Err (RspPair spot)
+pair-refuses : (spot : Spot) (lines : List LineModel) → (Pair lines → ⊥) → whole_rule spot lines ≡ Err (RspPair spot)
 unfolding whole_rule
 pair-refuses spot lines n = rw (not_so (rsp_agree lines) (λ h. n (agrees_pair lines h))) refl
 
-command-refuses : (spot : Spot) (lines : List LineText) → Pair lines → (Gives (codes "command") lines → ⊥) → whole_rule spot lines ≡ Err (MissingCommand spot)
+command-refuses : (spot : Spot) (lines : List LineModel) → Pair lines → (Gives (codes "command") lines → ⊥) → whole_rule spot lines ≡ Err (MissingCommand spot)
 unfolding whole_rule
 command-refuses spot lines p n = rw (pair_agrees lines p, not_so (gives (codes "command") lines) (λ h. n (gives-form (codes "command") lines h))) refl
 
-depth-refuses : (spot : Spot) (lines : List LineText) → list_any (λ (l : LineText). bytes_eq l.name (codes "depth")) lines ≡ false → whole_pool spot lines ≡ Err (MissingDepth spot)
+depth-refuses : (spot : Spot) (lines : List LineModel) → list_any (λ (l : LineModel). bytes_eq l.name (codes "depth")) lines ≡ false → whole_pool spot lines ≡ Err (MissingDepth spot)
 unfolding whole_pool
 depth-refuses spot lines h = rw h refl
 
-lack-refuses : {spot : Spot} {head : HeadText} {ls : List Line} {f : Fault} → LackForm spot head ls f → (with_block spot head ls ≡ Err f) × (is_syntax f ≡ false)
+lack-refuses : {spot : Spot} {head : HeadModel} {ls : List Line} {f : Fault} → LackForm spot head ls f → (with_block spot head ls ≡ Err f) × (is_syntax f ≡ false)
 lack-refuses {spot = spot} (LackForm.pair {lines = lines} b n) = (rw (block-read b, pair-refuses spot lines n) refl, refl)
 lack-refuses {spot = spot} (LackForm.command {lines = lines} b p n) = (rw (block-read b, command-refuses spot lines p n) refl, refl)
 lack-refuses {spot = spot} (LackForm.depth {lines = lines} b n) = (rw (block-read b, depth-refuses spot lines n) refl, refl)

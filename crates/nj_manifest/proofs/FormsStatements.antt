@@ -3,10 +3,10 @@ use Rattle.std.proofs.Common.{◌≡◌, Bool, true, false, cond, Option, Some, 
 use Rattle.nj_text.specs.declared.spot.Spot.{Spot}
 use Rattle.nj_text.specs.Lines.{Line, line_spot, lines_after, Kind, CommentLine, TabLine, BlankLine, IndentedLine, PlainLine, kind_of}
 use Rattle.nj_text.specs.Calls.{State, Between, Inside, without_comments}
-use Rattle.nj_manifest.specs.declared.block.Keys.TheVariants as keys
+use Rattle.nj_manifest.specs.declared.block_lines.Keys.TheVariants as keys
 use Rattle.nj_manifest.specs.Openings.{Parse}
-use Rattle.nj_manifest.specs.Statements.{StatementText, RuleText, PoolText, BuildText, PlacedText, lines_from, block, next_statement}
-use Rattle.nj_manifest.specs.Grammar.{BlockForm, StatementForm, NextForm, HeadText, Alone, RuleHead, PoolHead, BuildHead}
+use Rattle.nj_manifest.specs.Statements.{StatementModel, RuleModel, PoolModel, BuildModel, PlacedModel, lines_from, block, next_statement}
+use Rattle.nj_manifest.specs.Grammar.{BlockForm, StatementForm, NextForm, HeadModel, Alone, RuleHead, PoolHead, BuildHead}
 use Rattle.nj_manifest.specs.Laws.{StatementsAreTheForms}
 use Rattle.nj_manifest.specs.Inside.Heads.{whole_rule, whole_pool, head_next, with_block, statement_here}
 use Rattle.nj_manifest.proofs.NextTurns.{nothing_more, next_by, next-nothing, next-line, next-kind}
@@ -18,32 +18,32 @@ use Rattle.nj_manifest.proofs.FormsKeys.{rule-form, rule-read, pool-form, pool-r
 -- ---- a statement with its block
 
 -- A statement that is read with its block is one.
-with_block-form : (spot : Spot) (head : HeadText) (ls : List Line) (item : StatementText) (rest : List Line) → with_block spot head ls ≡ Ok (item, rest) → StatementForm head ls item rest
+with_block-form : (spot : Spot) (head : HeadModel) (ls : List Line) (item : StatementModel) (rest : List Line) → with_block spot head ls ≡ Ok (item, rest) → StatementForm head ls item rest
 with_block-form spot (Alone one) ls item rest h =
     let same = reads-it one ls item rest h in
-    subst (λ (i : StatementText). StatementForm (Alone one) ls i rest) same.0 (subst (StatementForm (Alone one) ls one) same.1 StatementForm.alone)
+    subst (λ (i : StatementModel). StatementForm (Alone one) ls i rest) same.0 (subst (StatementForm (Alone one) ls one) same.1 StatementForm.alone)
 with_block-form spot (RuleHead name) ls item rest h =
     let lines = bind-ok (block keys.OfRule ls) _ (item, rest) h in
-    let whole = bind-ok (whole_rule spot lines.0.0) (λ whole. Ok (RuleText name whole, lines.0.1)) (item, rest) lines.2 in
-    let same = reads-it (RuleText name whole.0) lines.0.1 item rest whole.2 in
+    let whole = bind-ok (whole_rule spot lines.0.0) (λ whole. Ok (RuleModel name whole, lines.0.1)) (item, rest) lines.2 in
+    let same = reads-it (RuleModel name whole.0) lines.0.1 item rest whole.2 in
     let is = rule-form spot lines.0.0 whole.0 whole.1 in
-    subst (λ (i : StatementText). StatementForm (RuleHead name) ls i rest) (ap (RuleText name) is.0 ∙ same.0)
+    subst (λ (i : StatementModel). StatementForm (RuleHead name) ls i rest) (ap (RuleModel name) is.0 ∙ same.0)
     (StatementForm.rule (subst (λ (ms : List Line). BlockForm keys.OfRule ls lines.0.0 ms) same.1 (block-form keys.OfRule ls lines.0.0 lines.0.1 lines.1)) is.1 is.2)
 with_block-form spot (PoolHead name) ls item rest h =
     let lines = bind-ok (block keys.OfPool ls) _ (item, rest) h in
-    let whole = bind-ok (whole_pool spot lines.0.0) (λ whole. Ok (PoolText name whole, lines.0.1)) (item, rest) lines.2 in
-    let same = reads-it (PoolText name whole.0) lines.0.1 item rest whole.2 in
+    let whole = bind-ok (whole_pool spot lines.0.0) (λ whole. Ok (PoolModel name whole, lines.0.1)) (item, rest) lines.2 in
+    let same = reads-it (PoolModel name whole.0) lines.0.1 item rest whole.2 in
     let is = pool-form spot lines.0.0 whole.0 whole.1 in
-    subst (λ (i : StatementText). StatementForm (PoolHead name) ls i rest) (ap (PoolText name) is.0 ∙ same.0)
+    subst (λ (i : StatementModel). StatementForm (PoolHead name) ls i rest) (ap (PoolModel name) is.0 ∙ same.0)
     (StatementForm.pool (subst (λ (ms : List Line). BlockForm keys.OfPool ls lines.0.0 ms) same.1 (block-form keys.OfPool ls lines.0.0 lines.0.1 lines.1)) is.1)
 with_block-form spot (BuildHead outputs rule inputs) ls item rest h =
-    let lines = bind-ok (block keys.All ls) (λ lines. Ok (BuildText outputs rule inputs lines.0, lines.1)) (item, rest) h in
-    let same = reads-it (BuildText outputs rule inputs lines.0.0) lines.0.1 item rest lines.2 in
-    subst (λ (i : StatementText). StatementForm (BuildHead outputs rule inputs) ls i rest) same.0
+    let lines = bind-ok (block keys.All ls) (λ lines. Ok (BuildModel outputs rule inputs lines.0, lines.1)) (item, rest) h in
+    let same = reads-it (BuildModel outputs rule inputs lines.0.0) lines.0.1 item rest lines.2 in
+    subst (λ (i : StatementModel). StatementForm (BuildHead outputs rule inputs) ls i rest) same.0
     (StatementForm.build (subst (λ (ms : List Line). BlockForm keys.All ls lines.0.0 ms) same.1 (block-form keys.All ls lines.0.0 lines.0.1 lines.1)))
 
 -- A statement that is there is read with its block.
-with_block-read : (spot : Spot) {head : HeadText} {ls rest : List Line} {item : StatementText} → StatementForm head ls item rest → with_block spot head ls ≡ Ok (item, rest)
+with_block-read : (spot : Spot) {head : HeadModel} {ls rest : List Line} {item : StatementModel} → StatementForm head ls item rest → with_block spot head ls ≡ Ok (item, rest)
 with_block-read spot StatementForm.alone = refl
 with_block-read spot (StatementForm.rule {lines = lines} f command pair) = rw (block-read f, rule-read spot lines command pair) refl
 with_block-read spot (StatementForm.pool {lines = lines} f depth) = rw (block-read f, pool-read spot lines depth) refl
@@ -51,12 +51,12 @@ with_block-read spot (StatementForm.build f) = rw (block-read f) refl
 
 -- ---- the next statement
 
-next-is : (ls ms rest : List Line) (one found : Option PlacedText) → ◌≡◌ {A = Parse (Option PlacedText)} (Ok (one, ms)) (Ok (found, rest)) → NextForm ls one ms → NextForm ls found rest
+next-is : (ls ms rest : List Line) (one found : Option PlacedModel) → ◌≡◌ {A = Parse (Option PlacedModel)} (Ok (one, ms)) (Ok (found, rest)) → NextForm ls one ms → NextForm ls found rest
 next-is ls ms rest one found h f =
     let same = reads-it one ms found rest h in
-    subst (λ (o : Option PlacedText). NextForm ls o rest) same.0 (subst (NextForm ls one) same.1 f)
+    subst (λ (o : Option PlacedModel). NextForm ls o rest) same.0 (subst (NextForm ls one) same.1 f)
 
-statement-form : (l : Line) (ls : List Line) (found : Option PlacedText) (rest : List Line) → kind_of l ≡ PlainLine → statement_here l ls ≡ Ok (found, rest) → NextForm (l ∷ ls) found rest
+statement-form : (l : Line) (ls : List Line) (found : Option PlacedModel) (rest : List Line) → kind_of l ≡ PlainLine → statement_here l ls ≡ Ok (found, rest) → NextForm (l ∷ ls) found rest
 unfolding statement_here
 statement-form l ls found rest k h =
     let head = bind-ok (head_next (Inside l ls)) _ (found, rest) h in
@@ -66,13 +66,13 @@ statement-form l ls found rest k h =
     next-is (l ∷ ls) item.0.1 rest (Some (record { spot = line_spot l; item = item.0.0 })) found item.2
     (NextForm.statement k first.0 (with_block-form (line_spot l) head.0.0 (lines_after l ls) item.0.0 item.0.1 read))
 
-statement-read : (l : Line) (ls rest : List Line) (head : HeadText) (item : StatementText) → head_next (Inside l ls) ≡ Ok (head, Between (lines_after l ls)) → with_block (line_spot l) head (lines_after l ls) ≡ Ok (item, rest)
+statement-read : (l : Line) (ls rest : List Line) (head : HeadModel) (item : StatementModel) → head_next (Inside l ls) ≡ Ok (head, Between (lines_after l ls)) → with_block (line_spot l) head (lines_after l ls) ≡ Ok (item, rest)
     → statement_here l ls ≡ Ok (Some (record { spot = line_spot l; item = item }), rest)
 unfolding statement_here
 statement-read l ls rest head item h w = rw (h, w) refl
 
 -- What is read next of lines is so.
-pub next-form : (ls : List Line) (found : Option PlacedText) (rest : List Line) → next_statement ls ≡ Ok (found, rest) → NextForm ls found rest
+pub next-form : (ls : List Line) (found : Option PlacedModel) (rest : List Line) → next_statement ls ≡ Ok (found, rest) → NextForm ls found rest
 next-form [] found rest h = next-is [] [] rest None found (sym next-nothing ∙ h) NextForm.nothing
 next-form (l ∷ ls) found rest h = by_kind (kind_of l) refl (sym (next-line l ls) ∙ h) (next-form ls found rest)
   where
@@ -92,7 +92,7 @@ next-form (l ∷ ls) found rest h = by_kind (kind_of l) refl (sym (next-line l l
     by_kind PlainLine k g others = statement-form l ls found rest k g
 
 -- What is there next is read.
-pub next-read : {ls rest : List Line} {found : Option PlacedText} → NextForm ls found rest → next_statement ls ≡ Ok (found, rest)
+pub next-read : {ls rest : List Line} {found : Option PlacedModel} → NextForm ls found rest → next_statement ls ≡ Ok (found, rest)
 next-read (NextForm.statement {l = l} {ls = ls} {rest = rest} {head = head} {item = item} k f s) = next-kind l ls PlainLine k ∙ statement-read l ls rest head item (head-read l ls head f) (with_block-read (line_spot l) s)
 next-read (NextForm.blank {l = l} {ls = ls} k e others) = next-kind l ls BlankLine k ∙ (ap (λ (t : Bool). cond t (nothing_more (lines_after l ls)) (next_statement ls)) e ∙ next-read others)
 next-read (NextForm.comment {l = l} {ls = ls} k e others) = next-kind l ls CommentLine k ∙ (ap (λ (t : Bool). cond t (nothing_more (lines_after l (without_comments ls))) (next_statement ls)) e ∙ next-read others)

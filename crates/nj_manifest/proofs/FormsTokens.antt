@@ -15,7 +15,7 @@ use Rattle.nj_text.specs.Calls as calls
 use Rattle.nj_text.specs.Inside.States.{reply, unless_bad}
 use Rattle.nj_text.specs.Calls.{State, Between, Inside, Reply, bytes_of, some_bytes, is_empty, begins_word, is_sign, state_after_sign, sign_of}
 use Rattle.nj_manifest.specs.declared.cause.Wanted.{Wanted}
-use Rattle.nj_manifest.specs.LineSteps.{Step, ◌>>=◌, called, NameText, name_next, expect_sign}
+use Rattle.nj_manifest.specs.LineSteps.{Step, ◌>>=◌, called, NameModel, name_next, expect_sign}
 use Rattle.nj_manifest.specs.Grammar.{begins, AreBlanks, IdentifierForm, SignForm}
 use Rattle.nj_manifest.proofs.Choices.{named, if_there}
 use Rattle.nj_manifest.proofs.Framing.{bind-ok, called-fault, after-is, value-is}
@@ -82,11 +82,11 @@ identifier_no_blank u h = ordinary_no_blank is_identifier_byte refl u.means h
 -- ---- names
 
 -- what is read of a run of units that may be none
-abbrev name_of : Wanted → Option UnitFault → Spot → (run : List TextUnit) → State → Step NameText
+abbrev name_of : Wanted → Option UnitFault → Spot → (run : List TextUnit) → State → Step NameModel
 name_of want f spot run s = called (calls.unless_fault f (reply (some_bytes (bytes_of run)) s)) >>= λ n. named want spot n.0 n.1
 
 -- the same after the blanks
-abbrev name_here : Wanted → Line → List Line → List TextUnit → Step NameText
+abbrev name_here : Wanted → Line → List Line → List TextUnit → Step NameModel
 name_here want l ls us = name_of want (next_fault us) (spot_of_first us l.end) (take_while in_identifier us) (within l ls (drop_while in_identifier us))
 
 name_is_here : (want : Wanted) (l : Line) (ls : List Line) (us : List TextUnit) → name_next want (within l ls us) ≡ name_here want l ls (skip us)
@@ -99,7 +99,7 @@ pub name_skips : (want : Wanted) (l : Line) (ls : List Line) (us : List TextUnit
 name_skips want l ls us = name_is_here want l ls (skip us) ∙ ap (name_here want l ls) (skip_again us) ∙ sym (name_is_here want l ls us)
 
 -- where bytes are wanted, there are some
-some-bytes : (want : Wanted) (spot : Spot) (bs : List ℕ) (s : State) (y : NameText × State) → named want spot (some_bytes bs) s ≡ Ok y → (is_empty bs ≡ false) × (y.0 ≡ record { spot = spot; name = bs }) × (s ≡ y.1)
+some-bytes : (want : Wanted) (spot : Spot) (bs : List ℕ) (s : State) (y : NameModel × State) → named want spot (some_bytes bs) s ≡ Ok y → (is_empty bs ≡ false) × (y.0 ≡ record { spot = spot; name = bs }) × (s ≡ y.1)
 some-bytes want spot [] s y h = absurd cc
 some-bytes want spot (b ∷ bs) s y h = (refl, sym (value-is (record { spot = spot; name = b ∷ bs }) s y h), after-is (record { spot = spot; name = b ∷ bs }) s y h)
 
@@ -108,12 +108,12 @@ bytes-some [] h = absurd cc
 bytes-some (b ∷ bs) h = refl
 
 -- a run that was read
-name_of-read : (want : Wanted) (f : Option UnitFault) (spot : Spot) (run : List TextUnit) (s : State) (y : NameText × State) → name_of want f spot run s ≡ Ok y
+name_of-read : (want : Wanted) (f : Option UnitFault) (spot : Spot) (run : List TextUnit) (s : State) (y : NameModel × State) → name_of want f spot run s ≡ Ok y
     → (is_empty (bytes_of run) ≡ false) × (y.0 ≡ record { spot = spot; name = bytes_of run }) × (s ≡ y.1)
 name_of-read want (Some f) spot run s y h = absurd cc
 name_of-read want None spot run s y h = some-bytes want spot (bytes_of run) s y h
 
-form_of_run : (us run rest : List TextUnit) (end : Spot) (name : NameText) → skip us ≡ run ++ rest → list_all in_identifier run ≡ true → begins in_identifier rest ≡ false → is_empty (bytes_of run) ≡ false
+form_of_run : (us run rest : List TextUnit) (end : Spot) (name : NameModel) → skip us ≡ run ++ rest → list_all in_identifier run ≡ true → begins in_identifier rest ≡ false → is_empty (bytes_of run) ≡ false
     → name ≡ record { spot = spot_of_first (skip us) end; name = bytes_of run } → IdentifierForm us name rest
 form_of_run us [] rest end name e all n some is = absurd cc
 form_of_run us (u ∷ run) rest end name e all n some is =
@@ -125,37 +125,37 @@ form_of_run us (u ∷ run) rest end name e all n some is =
       blanks = gap_passes us;
       of_name = all;
       longest = n;
-      place = ap (λ (m : NameText). m.spot) is ∙ ap (λ (vs : List TextUnit). spot_of_first vs end) e;
-      bytes = ap (λ (m : NameText). m.name) is;
-      some_byte = ap (λ (m : NameText). is_empty m.name) is ∙ some;
+      place = ap (λ (m : NameModel). m.spot) is ∙ ap (λ (vs : List TextUnit). spot_of_first vs end) e;
+      bytes = ap (λ (m : NameModel). m.name) is;
+      some_byte = ap (λ (m : NameModel). is_empty m.name) is ∙ some;
     }
 
 -- A name that is read is an identifier.
-pub name-form : (want : Wanted) (l : Line) (ls : List Line) (us : List TextUnit) (y : NameText × State) → name_next want (within l ls us) ≡ Ok y → (rest : List TextUnit) × IdentifierForm us y.0 rest × (y.1 ≡ within l ls rest)
+pub name-form : (want : Wanted) (l : Line) (ls : List Line) (us : List TextUnit) (y : NameModel × State) → name_next want (within l ls us) ≡ Ok y → (rest : List TextUnit) × IdentifierForm us y.0 rest × (y.1 ≡ within l ls rest)
 name-form want l ls us y h =
     let run = take_while in_identifier (skip us) in
     let rest = drop_while in_identifier (skip us) in
     let read = name_of-read want (next_fault (skip us)) (spot_of_first (skip us) l.end) run (within l ls rest) y (sym (name_is_here want l ls us) ∙ h) in
     (rest, form_of_run us run rest l.end y.0 (both_parts in_identifier (skip us)) (front_passes in_identifier (skip us)) (after_stops in_identifier (skip us)) read.0 read.1, sym read.2)
 
-same_name : (name : NameText) (spot : Spot) (bs : List ℕ) → name.spot ≡ spot → name.name ≡ bs → record { spot = spot; name = bs } ≡ name
+same_name : (name : NameModel) (spot : Spot) (bs : List ℕ) → name.spot ≡ spot → name.name ≡ bs → record { spot = spot; name = bs } ≡ name
 same_name name spot bs s b = rw (← s, ← b) refl
 
-name_of-gives : (want : Wanted) (f : Option UnitFault) (run taken : List TextUnit) (spot : Spot) (s t : State) (name : NameText) → f ≡ None → taken ≡ run → s ≡ t → name.spot ≡ spot → name.name ≡ bytes_of run → is_empty name.name ≡ false
+name_of-gives : (want : Wanted) (f : Option UnitFault) (run taken : List TextUnit) (spot : Spot) (s t : State) (name : NameModel) → f ≡ None → taken ≡ run → s ≡ t → name.spot ≡ spot → name.name ≡ bytes_of run → is_empty name.name ≡ false
     → name_of want f spot taken s ≡ Ok (name, t)
 name_of-gives want f run taken spot s t name e r h p b some =
     ap (λ (f : Option UnitFault). name_of want f spot taken s) e
     ∙ ap (λ (run : List TextUnit). name_of want None spot run s) r
     ∙ ap (λ (o : Option (List ℕ)). named want spot o s) (bytes-some (bytes_of run) (ap is_empty (sym b) ∙ some))
-    ∙ ap (λ (n : NameText). Ok (n, s)) (same_name name spot (bytes_of run) p b)
+    ∙ ap (λ (n : NameModel). Ok (n, s)) (same_name name spot (bytes_of run) p b)
     ∙ ap (λ (s : State). Ok (name, s)) h
 
 -- what is after the blanks before an identifier
-identifier_next : {us rest : List TextUnit} {name : NameText} → (f : IdentifierForm us name rest) → skip us ≡ (f.first ∷ f.others) ++ rest
+identifier_next : {us rest : List TextUnit} {name : NameModel} → (f : IdentifierForm us name rest) → skip us ≡ (f.first ∷ f.others) ++ rest
 identifier_next {us} {rest} f = skip_gap us f.gap ((f.first ∷ f.others) ++ rest) (f.cut ∙ append_assoc f.gap (f.first ∷ f.others) rest) f.blanks (identifier_no_blank f.first (and_parts (in_identifier f.first) (list_all in_identifier f.others) f.of_name).0)
 
 -- An identifier is read as a name.
-pub name-read : (want : Wanted) (l : Line) (ls : List Line) (us rest : List TextUnit) (name : NameText) → IdentifierForm us name rest → name_next want (within l ls us) ≡ Ok (name, within l ls rest)
+pub name-read : (want : Wanted) (l : Line) (ls : List Line) (us rest : List TextUnit) (name : NameModel) → IdentifierForm us name rest → name_next want (within l ls us) ≡ Ok (name, within l ls rest)
 name-read want l ls us rest name f =
     let run = f.first ∷ f.others in
     let next = identifier_next f in

@@ -6,7 +6,7 @@ use Rattle.nj_text.specs.declared.sign.Sign.TheVariants as sign
 use Rattle.nj_text.specs.declared.spot.Spot.{Spot}
 use Rattle.nj_text.specs.Units.{TextUnit}
 use Rattle.nj_text.specs.Lines.{Line, spot_of_first, lines_after}
-use Rattle.nj_text.specs.Words.{WordText, opens_line, after_opening, first_fault, parts_of}
+use Rattle.nj_text.specs.Words.{WordModel, opens_line, after_opening, first_fault, parts_of}
 use Rattle.nj_text.specs.Calls as calls
 use Rattle.nj_text.specs.Inside.States.{reply}
 use Rattle.nj_text.specs.Calls.{State, Between, value_of}
@@ -50,15 +50,15 @@ opening_passed us (u ∷ v ∷ ws) others o = absurd (false≢true o.opens)
 -- ---- values
 
 -- what a call gives, of its parts
-abbrev value_by : Line → List Line → Option UnitFault → List TextUnit → Step WordText
+abbrev value_by : Line → List Line → Option UnitFault → List TextUnit → Step WordModel
 value_by l ls f us = called (calls.unless_fault f (reply (record { spot = spot_of_first us l.end; parts = parts_of us }) (within l ls [])))
 
-value_by-read : (l : Line) (ls : List Line) (f : Option UnitFault) (us : List TextUnit) (value : WordText) (s : State) → value_by l ls f us ≡ Ok (value, s) → (f ≡ None) × (value ≡ record { spot = spot_of_first us l.end; parts = parts_of us }) × (s ≡ within l ls [])
+value_by-read : (l : Line) (ls : List Line) (f : Option UnitFault) (us : List TextUnit) (value : WordModel) (s : State) → value_by l ls f us ≡ Ok (value, s) → (f ≡ None) × (value ≡ record { spot = spot_of_first us l.end; parts = parts_of us }) × (s ≡ within l ls [])
 value_by-read l ls (Some f) us value s h = absurd cc
 value_by-read l ls None us value s h = (refl, sym (value-is (record { spot = spot_of_first us l.end; parts = parts_of us }) (within l ls []) (value, s) h), sym (after-is (record { spot = spot_of_first us l.end; parts = parts_of us }) (within l ls []) (value, s) h))
 
 -- A value that is read is one.
-pub value-form : (l : Line) (ls : List Line) (us : List TextUnit) (value : WordText) (s : State) → called (value_of (within l ls us)) ≡ Ok (value, s) → ValueForm us l.end value × (s ≡ within l ls [])
+pub value-form : (l : Line) (ls : List Line) (us : List TextUnit) (value : WordModel) (s : State) → called (value_of (within l ls us)) ≡ Ok (value, s) → ValueForm us l.end value × (s ≡ within l ls [])
 value-form l ls us value s h =
     let vs = after_opening us in
     let opening = opening_here us in
@@ -73,30 +73,30 @@ value-form l ls us value s h =
         blanks = gap_passes vs;
         longest = skip_stops vs;
         good = read.0;
-        place = ap (λ (w : WordText). w.spot) read.1;
-        parts = ap (λ (w : WordText). w.parts) read.1;
+        place = ap (λ (w : WordModel). w.spot) read.1;
+        parts = ap (λ (w : WordModel). w.parts) read.1;
       },
       read.2,
     )
 
-same_value : (value : WordText) (spot : Spot) (run : List TextUnit) → value.spot ≡ spot → value.parts ≡ parts_of run → record { spot = spot; parts = parts_of run } ≡ value
+same_value : (value : WordModel) (spot : Spot) (run : List TextUnit) → value.spot ≡ spot → value.parts ≡ parts_of run → record { spot = spot; parts = parts_of run } ≡ value
 same_value value spot run s p = rw (← s, ← p) refl
 
 -- A value that is there is read.
-pub value-read : (l : Line) (ls : List Line) (us : List TextUnit) (value : WordText) → ValueForm us l.end value → called (value_of (within l ls us)) ≡ Ok (value, within l ls [])
+pub value-read : (l : Line) (ls : List Line) (us : List TextUnit) (value : WordModel) → ValueForm us l.end value → called (value_of (within l ls us)) ≡ Ok (value, within l ls [])
 value-read l ls us value f =
     let remainder = opening_passed us f.opening (f.gap ++ f.run) (record { cut = f.cut ∙ append_assoc f.opening f.gap f.run; opens = f.opens; longest = f.longest_opening }) in
     let next = skip_gap (after_opening us) f.gap f.run remainder f.blanks f.longest in
     ap (λ (vs : List TextUnit). value_by l ls (first_fault vs) vs) next
     ∙ ap (λ (g : Option UnitFault). value_by l ls g f.run) f.good
-    ∙ ap (λ (w : WordText). Ok (w, within l ls [])) (same_value value (spot_of_first f.run l.end) f.run f.place f.parts)
+    ∙ ap (λ (w : WordModel). Ok (w, within l ls [])) (same_value value (spot_of_first f.run l.end) f.run f.place f.parts)
 
 -- ---- `= VALUE`
 
 equals_ends : sign.Equals ≡ sign.LineEnd → ⊥
 equals_ends e = absurd cc
 
-pub equals_value-form : (l : Line) (ls : List Line) (us : List TextUnit) (value : WordText) (s : State) → equals_value (within l ls us) ≡ Ok (value, s)
+pub equals_value-form : (l : Line) (ls : List Line) (us : List TextUnit) (value : WordModel) (s : State) → equals_value (within l ls us) ≡ Ok (value, s)
     → (rest : List TextUnit) × SignForm sign.Equals us rest × ValueForm rest l.end value × (s ≡ Between (lines_after l ls))
 unfolding equals_value
 equals_value-form l ls us value s h =
@@ -107,9 +107,9 @@ equals_value-form l ls us value s h =
     let same = value-is read.0.0 end.0 (value, s) end.2 in
     let there = value-form l ls it.0 read.0.0 read.0.1 (ap (λ (t : State). called (value_of t)) (sym it.2) ∙ read.1) in
     let ended = end-form wanted.Newline l ls [] end.0 (ap (expect_sign sign.LineEnd wanted.Newline) (sym there.1) ∙ end.1) in
-    (it.0, it.1, subst (λ (v : WordText). ValueForm it.0 l.end v) same there.0, sym (after-is read.0.0 end.0 (value, s) end.2) ∙ ended.1)
+    (it.0, it.1, subst (λ (v : WordModel). ValueForm it.0 l.end v) same there.0, sym (after-is read.0.0 end.0 (value, s) end.2) ∙ ended.1)
 
-pub equals_value-read : (l : Line) (ls : List Line) (us rest : List TextUnit) (value : WordText) → SignForm sign.Equals us rest → ValueForm rest l.end value → equals_value (within l ls us) ≡ Ok (value, Between (lines_after l ls))
+pub equals_value-read : (l : Line) (ls : List Line) (us rest : List TextUnit) (value : WordModel) → SignForm sign.Equals us rest → ValueForm rest l.end value → equals_value (within l ls us) ≡ Ok (value, Between (lines_after l ls))
 unfolding equals_value
 equals_value-read l ls us rest value e f =
     rw (after-read sign.Equals wanted.Equals l ls us rest equals_ends e, value-read l ls rest value f, end-read wanted.Newline l ls [] refl) refl

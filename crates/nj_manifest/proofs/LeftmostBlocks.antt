@@ -7,10 +7,10 @@ use Rattle.nj_text.specs.Lines.{Line, with_units, lines_after, Kind, CommentLine
 use Rattle.nj_text.specs.Inside.Meanings.{text_kind}
 use Rattle.nj_text.specs.Calls.{State, Between, without_comments}
 use Rattle.nj_text.proofs.Lists.{AllIn}
-use Rattle.nj_manifest.specs.declared.block.Keys.{Keys}
+use Rattle.nj_manifest.specs.declared.block_lines.Keys.{Keys}
 use Rattle.nj_manifest.specs.Faults.{Fault, Bad}
 use Rattle.nj_manifest.specs.LineSteps.{Step, ◌>>=◌}
-use Rattle.nj_manifest.specs.Statements.{LineText, line_next, block_by, block}
+use Rattle.nj_manifest.specs.Statements.{LineModel, line_next, block_by, block}
 use Rattle.nj_manifest.specs.Leftmost.{continues, element, written_unit, written, are_plain, NamesThePlaceOf, met_before, offers}
 use Rattle.nj_manifest.specs.Openings.{Parse, or_last}
 use Rattle.nj_manifest.proofs.Choices.{no_lines}
@@ -33,13 +33,13 @@ pub record BlockStuck (allowed : Keys) (ls : List Line) (fault : Fault) : Type 0
   pub bytes : List ℕ
   pub plain : are_plain bytes ≡ true
   pub offered : offers fault bytes ≡ true
-  pub read : List LineText
+  pub read : List LineModel
   pub some : (ms : List Line) → block allowed (continues before begun (written bytes) ms) ≡ in_front read (block allowed ms)
 
 -- ---- one line
 
 -- the property of an indented line, by the units after its spaces
-abbrev Spaced : Keys → (spaces : List TextUnit) → Claim LineText
+abbrev Spaced : Keys → (spaces : List TextUnit) → Claim LineModel
 Spaced allowed sp x e ms r = (kind_units (sp ++ x) ≡ IndentedLine) × (after_spaces (sp ++ x) ≡ x) × (line_next allowed (at x e ms) ≡ r)
 
 line_outcome : (allowed : Keys) (l : Line) → kind_of l ≡ IndentedLine → Outcome (Spaced allowed (spaces_of l.units)) (after_spaces l.units) l
@@ -51,7 +51,7 @@ line_outcome allowed l h = line_turn l allowed (after_spaces l.units) (begin (Sp
     by_fit x e ms (inr f) = (kind_replaced l.units x f ∙ h, unspaced (spaces_of l.units) x (spaces_pass l.units) (no_space_same l.units x f), refl)
 
 -- what an indented line adds to a block
-abbrev block_line : Keys → (us : List TextUnit) → Line → List Line → (others : Parse (List LineText)) → Parse (List LineText)
+abbrev block_line : Keys → (us : List TextUnit) → Line → List Line → (others : Parse (List LineModel)) → Parse (List LineModel)
 block_line allowed us e ms others =
     line_next allowed (at (after_spaces us) e ms) >>= λ line. or_last e (no_lines (lines_after e ms)) others >>= λ more. Ok (line.0 ∷ more.0, more.1)
 
@@ -59,28 +59,28 @@ indented_block : (allowed : Keys) (l : Line) (ms : List Line) → kind_of l ≡ 
 unfolding block
 indented_block allowed l ms h = ap (λ (k : Kind). block_by allowed k l ms (block allowed ms)) h
 
-abbrev line_then : (others : Parse (List LineText)) → LineText × State → Parse (List LineText)
+abbrev line_then : (others : Parse (List LineModel)) → LineModel × State → Parse (List LineModel)
 line_then others line = others >>= λ more. Ok (line.0 ∷ more.0, more.1)
 
 -- a line that is read, and is not the last
-read_block : (allowed : Keys) (l : Line) (ms : List Line) (v : LineText) (s : State) → kind_of l ≡ IndentedLine → l.is_last ≡ false → line_next allowed (at (after_spaces l.units) l ms) ≡ Ok (v, s) → block allowed (l ∷ ms) ≡ line_then (block allowed ms) (v, s)
+read_block : (allowed : Keys) (l : Line) (ms : List Line) (v : LineModel) (s : State) → kind_of l ≡ IndentedLine → l.is_last ≡ false → line_next allowed (at (after_spaces l.units) l ms) ≡ Ok (v, s) → block allowed (l ∷ ms) ≡ line_then (block allowed ms) (v, s)
 read_block allowed l ms v s h last r =
-    indented_block allowed l ms h ∙ (ap (λ (y : Step LineText). y >>= λ line. or_last l (no_lines (lines_after l ms)) (block allowed ms) >>= λ more. Ok (line.0 ∷ more.0, more.1)) r
+    indented_block allowed l ms h ∙ (ap (λ (y : Step LineModel). y >>= λ line. or_last l (no_lines (lines_after l ms)) (block allowed ms) >>= λ more. Ok (line.0 ∷ more.0, more.1)) r
     ∙ ap (λ (t : Bool). line_then (cond t (no_lines (lines_after l ms)) (block allowed ms)) (v, s)) last)
 
 bad_block : (allowed : Keys) (l : Line) (ms : List Line) (f : Fault) → kind_of l ≡ IndentedLine → line_next allowed (at (after_spaces l.units) l ms) ≡ Err f → block allowed (l ∷ ms) ≡ Err f
 bad_block allowed l ms f h r =
-    indented_block allowed l ms h ∙ ap (λ (y : Step LineText). y >>= λ line. or_last l (no_lines (lines_after l ms)) (block allowed ms) >>= λ more. Ok (line.0 ∷ more.0, more.1)) r
+    indented_block allowed l ms h ∙ ap (λ (y : Step LineModel). y >>= λ line. or_last l (no_lines (lines_after l ms)) (block allowed ms) >>= λ more. Ok (line.0 ∷ more.0, more.1)) r
 
-one_in_front : (v : LineText) (s : State) (others : Parse (List LineText)) → line_then others (v, s) ≡ in_front (v ∷ []) others
+one_in_front : (v : LineModel) (s : State) (others : Parse (List LineModel)) → line_then others (v, s) ≡ in_front (v ∷ []) others
 one_in_front v s (Ok o) = refl
 one_in_front v s (Err f) = refl
 
-more_in_front : (v : LineText) (s : State) (front : List LineText) (others : Parse (List LineText)) → line_then (in_front front others) (v, s) ≡ in_front (v ∷ front) others
+more_in_front : (v : LineModel) (s : State) (front : List LineModel) (others : Parse (List LineModel)) → line_then (in_front front others) (v, s) ≡ in_front (v ∷ front) others
 more_in_front v s front (Ok o) = refl
 more_in_front v s front (Err f) = refl
 
-bad_then : (others : Parse (List LineText)) (line : LineText × State) (f : Fault) → others ≡ Err f → line_then others line ≡ Err f
+bad_then : (others : Parse (List LineModel)) (line : LineModel × State) (f : Fault) → others ≡ Err f → line_then others line ≡ Err f
 bad_then others line f h = rw h refl
 
 same_fault : {A : Type 0} (r : Result A Fault) (f g : Fault) → r ≡ Err f → r ≡ Err g → g ≡ f
@@ -181,7 +181,7 @@ stuck_after_comment allowed l ls fault same r = record {
 }
 
 -- after a line that is read, and is not the last
-stuck_after_line : (allowed : Keys) (l : Line) (ls : List Line) (fault : Fault) (v : LineText) → ((ms : List Line) → block allowed (l ∷ ms) ≡ line_then (block allowed ms) (v, Between (lines_after l ms))) → BlockStuck allowed ls fault → BlockStuck allowed (l ∷ ls) fault
+stuck_after_line : (allowed : Keys) (l : Line) (ls : List Line) (fault : Fault) (v : LineModel) → ((ms : List Line) → block allowed (l ∷ ms) ≡ line_then (block allowed ms) (v, Between (lines_after l ms))) → BlockStuck allowed ls fault → BlockStuck allowed (l ∷ ls) fault
 stuck_after_line allowed l ls fault v reads r = record {
   before = l ∷ r.before;
   begun = r.begun;
@@ -196,14 +196,14 @@ stuck_after_line allowed l ls fault v reads r = record {
   read = v ∷ r.read;
   some = λ ms.
       let xs = continues r.before r.begun (written r.bytes) ms in
-      reads xs ∙ (ap (λ (y : Parse (List LineText)). line_then y (v, Between (lines_after l xs))) (r.some ms) ∙ more_in_front v (Between (lines_after l xs)) r.read (block allowed ms));
+      reads xs ∙ (ap (λ (y : Parse (List LineModel)). line_then y (v, Between (lines_after l xs))) (r.some ms) ∙ more_in_front v (Between (lines_after l xs)) r.read (block allowed ms));
 }
 
-not_last : (t : Bool) (a : List LineText × List Line) (others : Parse (List LineText)) (f : Fault) → cond t (Ok a) others ≡ Err f → (t ≡ false) × (others ≡ Err f)
+not_last : (t : Bool) (a : List LineModel × List Line) (others : Parse (List LineModel)) (f : Fault) → cond t (Ok a) others ≡ Err f → (t ≡ false) × (others ≡ Err f)
 not_last true a others f h = absurd cc
 not_last false a others f h = (refl, h)
 
-then_fault : (others : Parse (List LineText)) (line : LineText × State) (f : Fault) → line_then others line ≡ Err f → others ≡ Err f
+then_fault : (others : Parse (List LineModel)) (line : LineModel × State) (f : Fault) → line_then others line ≡ Err f → others ≡ Err f
 then_fault (Ok o) line f h = absurd cc
 then_fault (Err g) line f h = ap Err (errs h)
   where
@@ -245,7 +245,7 @@ block_stuck allowed (l ∷ ls) fault h = by_kind (kind_of l) refl (block_stuck a
     by_line : kind_of l ≡ IndentedLine → Outcome (Spaced allowed (spaces_of l.units)) (after_spaces l.units) l → (block allowed ls ≡ Err fault → BlockStuck allowed ls fault) → BlockStuck allowed (l ∷ ls) fault
     by_line k (stuck f s) rest = as_fault allowed (l ∷ ls) fault f (same_fault (block allowed (l ∷ ls)) fault f h (bad_block allowed l ls f k (s.fails ls).2)) (stuck_here allowed l ls f k s)
     by_line k (through v so) rest =
-        let whole = indented_block allowed l ls k ∙ ap (λ (y : Step LineText). y >>= λ line. or_last l (no_lines (lines_after l ls)) (block allowed ls) >>= λ more. Ok (line.0 ∷ more.0, more.1)) (so ls).2 in
+        let whole = indented_block allowed l ls k ∙ ap (λ (y : Step LineModel). y >>= λ line. or_last l (no_lines (lines_after l ls)) (block allowed ls) >>= λ more. Ok (line.0 ∷ more.0, more.1)) (so ls).2 in
         let failed = then_fault (or_last l (no_lines (lines_after l ls)) (block allowed ls)) (v, Between (lines_after l ls)) fault (sym whole ∙ h) in
         let last = not_last l.is_last ([], lines_after l ls) (block allowed ls) fault failed in
         stuck_after_line allowed l ls fault v (λ ms. read_block allowed l ms v (Between (lines_after l ms)) k last.0 (so ms).2) (rest last.1)

@@ -5,7 +5,7 @@ use Rattle.nj_text.specs.declared.fault.UnitFault.{UnitFault}
 use Rattle.nj_text.specs.Bytes.{drop_while}
 use Rattle.nj_text.specs.Units.{TextUnit}
 use Rattle.nj_text.specs.Lines.{Line, spot_of_first}
-use Rattle.nj_text.specs.Words.{opens_word, in_word, next_fault, WordText}
+use Rattle.nj_text.specs.Words.{opens_word, in_word, next_fault, WordModel}
 use Rattle.nj_text.specs.Calls.{State}
 use Rattle.nj_text.proofs.Lists.{AllIn, AllIn-take_while, take_while-cons_yes}
 use Rattle.nj_manifest.specs.declared.cause.Wanted.TheVariants as wanted
@@ -21,7 +21,7 @@ use Rattle.nj_manifest.proofs.LeftmostWords.{settled, settled_so, settled_same, 
 use Rattle.nj_manifest.proofs.LeftmostSections.{colon_settled}
 
 -- a word that has to be there
-abbrev pub file_word : State → Step WordText
+abbrev pub file_word : State → Step WordModel
 file_word s = word_call s >>= λ found. path_there found.0 found.1
 
 -- where it is missing or broken, and what may be written there
@@ -32,7 +32,7 @@ pub record FileStuck (us : List TextUnit) (e : Line) (fault : Fault) : Type 0 wh
   pub bytes : List ℕ
   pub plain : are_plain bytes ≡ true
   pub offered : offers fault bytes ≡ true
-  pub word : WordText
+  pub word : WordModel
   pub fits : Fits after_name us (used ++ text bytes)
   pub reads : (d : Line) (ms : List Line) → file_word (at (used ++ text bytes) d ms) ≡ Ok (word, at [] d ms)
 
@@ -40,13 +40,13 @@ pub data FileSeen (us : List TextUnit) (e : Line) : Type 0 where
   reads_on : (passes : Passes file_word after_name after_words us) → FileSeen us e
   ends_here : (fault : Fault) (so : FileStuck us e fault) → FileSeen us e
 
-found_some : (r : Step (Option WordText)) (w : WordText) (s : State) → r ≡ Ok (Some w, s) → (r >>= λ found. path_there found.0 found.1) ≡ Ok (w, s)
+found_some : (r : Step (Option WordModel)) (w : WordModel) (s : State) → r ≡ Ok (Some w, s) → (r >>= λ found. path_there found.0 found.1) ≡ Ok (w, s)
 found_some r w s h = rw h refl
 
-found_none : (r : Step (Option WordText)) (us : List TextUnit) (e : Line) (ms : List Line) → r ≡ Ok (None, at us e ms) → (r >>= λ found. path_there found.0 found.1) ≡ Err (Expected (spot_of_first us e.end) wanted.Path)
+found_none : (r : Step (Option WordModel)) (us : List TextUnit) (e : Line) (ms : List Line) → r ≡ Ok (None, at us e ms) → (r >>= λ found. path_there found.0 found.1) ≡ Err (Expected (spot_of_first us e.end) wanted.Path)
 found_none r us e ms h = rw h refl
 
-found_bad : (r : Step (Option WordText)) (f : Fault) → r ≡ Err f → (r >>= λ found. path_there found.0 found.1) ≡ Err f
+found_bad : (r : Step (Option WordModel)) (f : Fault) → r ≡ Err f → (r >>= λ found. path_there found.0 found.1) ≡ Err f
 found_bad r f h = rw h refl
 
 -- ` x` is written before anything is read

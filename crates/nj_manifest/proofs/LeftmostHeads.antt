@@ -5,15 +5,15 @@ use Rattle.std.specs.Str.{bytes_eq}
 use Rattle.nj_text.specs.declared.sign.Sign.TheVariants as sign
 use Rattle.nj_text.specs.Units.{TextUnit, first_spot}
 use Rattle.nj_text.specs.Lines.{Line, spot_of_first}
-use Rattle.nj_text.specs.Words.{in_identifier, WordText}
+use Rattle.nj_text.specs.Words.{in_identifier, WordModel}
 use Rattle.nj_text.specs.Calls.{State, is_empty, spot_of}
 use Rattle.nj_manifest.specs.declared.cause.Wanted.{Wanted}
 use Rattle.nj_manifest.specs.declared.cause.Wanted.TheVariants as wanted
 use Rattle.nj_manifest.specs.Faults.{Fault, Expected}
-use Rattle.nj_manifest.specs.LineSteps.{Step, ◌>>=◌, NameText, name_next, expect_sign, words_next}
-use Rattle.nj_manifest.specs.Statements.{BindingText, DefaultText, IncludeText, SubninjaText, equals_value, targets_next, file_next}
+use Rattle.nj_manifest.specs.LineSteps.{Step, ◌>>=◌, NameModel, name_next, expect_sign, words_next}
+use Rattle.nj_manifest.specs.Statements.{BindingModel, DefaultModel, IncludeModel, SubninjaModel, equals_value, targets_next, file_next}
 use Rattle.nj_manifest.specs.Leftmost.{written, offers_next}
-use Rattle.nj_manifest.specs.Grammar.{HeadText, Alone, RuleHead, PoolHead}
+use Rattle.nj_manifest.specs.Grammar.{HeadModel, Alone, RuleHead, PoolHead}
 use Rattle.nj_manifest.specs.Inside.Heads.{build_head, as_head, head_after, head_next, name_alone}
 use Rattle.nj_manifest.proofs.Choices.{unless_none, path_there}
 use Rattle.nj_manifest.proofs.LeftmostRuns.{begins}
@@ -31,65 +31,65 @@ use Rattle.nj_manifest.proofs.LeftmostFiles.{file_word, FileSeen, reads_on, ends
 abbrev line_end : State → Result State Fault
 line_end s = expect_sign sign.LineEnd wanted.Newline s
 
-end_is : {A : Type 0} (head : A → HeadText) (x : A) (r : Result State Fault) → as_head head (ending x r) ≡ ending (head x) r
+end_is : {A : Type 0} (head : A → HeadModel) (x : A) (r : Result State Fault) → as_head head (ending x r) ≡ ending (head x) r
 end_is head x (Ok s) = refl
 end_is head x (Err f) = refl
 
-abbrev named_end : (NameText → HeadText) → NameText × State → Step HeadText
+abbrev named_end : (NameModel → HeadModel) → NameModel × State → Step HeadModel
 named_end head n = ending (head n.0) (line_end n.1)
 
-named_is : (head : NameText → HeadText) (r : Step NameText) → as_head head (r >>= λ name. ending name.0 (line_end name.1)) ≡ (r >>= named_end head)
+named_is : (head : NameModel → HeadModel) (r : Step NameModel) → as_head head (r >>= λ name. ending name.0 (line_end name.1)) ≡ (r >>= named_end head)
 named_is head (Ok n) = end_is head n.0 (line_end n.1)
 named_is head (Err f) = refl
 
-alone_is : (want : Wanted) (head : NameText → HeadText) (s : State) → as_head head (name_alone want s) ≡ (name_next want s >>= named_end head)
+alone_is : (want : Wanted) (head : NameModel → HeadModel) (s : State) → as_head head (name_alone want s) ≡ (name_next want s >>= named_end head)
 unfolding name_alone
 alone_is want head s = named_is head (name_next want s)
 
-abbrev targets_end : (List WordText → HeadText) → List WordText × State → Step HeadText
+abbrev targets_end : (List WordModel → HeadModel) → List WordModel × State → Step HeadModel
 targets_end head w = ending (head w.0) (unless_none (is_empty w.0) wanted.TargetName w.1 (line_end w.1))
 
-targets_by : (head : List WordText → HeadText) (r : Step (List WordText)) → as_head head (r >>= λ w. ending w.0 (unless_none (is_empty w.0) wanted.TargetName w.1 (line_end w.1))) ≡ (r >>= targets_end head)
+targets_by : (head : List WordModel → HeadModel) (r : Step (List WordModel)) → as_head head (r >>= λ w. ending w.0 (unless_none (is_empty w.0) wanted.TargetName w.1 (line_end w.1))) ≡ (r >>= targets_end head)
 targets_by head (Ok w) = end_is head w.0 (unless_none (is_empty w.0) wanted.TargetName w.1 (line_end w.1))
 targets_by head (Err f) = refl
 
-targets_is : (head : List WordText → HeadText) (s : State) → as_head head (targets_next s) ≡ (words_next s >>= targets_end head)
+targets_is : (head : List WordModel → HeadModel) (s : State) → as_head head (targets_next s) ≡ (words_next s >>= targets_end head)
 unfolding targets_next
 targets_is head s = targets_by head (words_next s)
 
-abbrev file_end : (WordText → HeadText) → WordText × State → Step HeadText
+abbrev file_end : (WordModel → HeadModel) → WordModel × State → Step HeadModel
 file_end head w = ending (head w.0) (line_end w.1)
 
-file_by : (head : WordText → HeadText) (r : Step WordText) → as_head head (r >>= λ w. ending w.0 (line_end w.1)) ≡ (r >>= file_end head)
+file_by : (head : WordModel → HeadModel) (r : Step WordModel) → as_head head (r >>= λ w. ending w.0 (line_end w.1)) ≡ (r >>= file_end head)
 file_by head (Ok w) = end_is head w.0 (line_end w.1)
 file_by head (Err f) = refl
 
-file_led : (s : State) → ◌≡◌ {A = Step WordText} (file_next s) (file_word s >>= λ w. ending w.0 (line_end w.1))
+file_led : (s : State) → ◌≡◌ {A = Step WordModel} (file_next s) (file_word s >>= λ w. ending w.0 (line_end w.1))
 unfolding file_next
 file_led s = by_found (word_call s)
   where
-    by_word : (found : Option WordText) (after : State) → ◌≡◌ {A = Step WordText} (ok_or found (Expected (spot_of after) wanted.Path) >>= λ w. ending w (line_end after)) (path_there found after >>= λ w. ending w.0 (line_end w.1))
+    by_word : (found : Option WordModel) (after : State) → ◌≡◌ {A = Step WordModel} (ok_or found (Expected (spot_of after) wanted.Path) >>= λ w. ending w (line_end after)) (path_there found after >>= λ w. ending w.0 (line_end w.1))
     by_word None after = refl
     by_word (Some w) after = refl
 
-    by_found : (r : Step (Option WordText)) → ◌≡◌ {A = Step WordText} (r >>= λ found. ok_or found.0 (Expected (spot_of found.1) wanted.Path) >>= λ w. ending w (line_end found.1)) ((r >>= λ found. path_there found.0 found.1) >>= λ w. ending w.0 (line_end w.1))
+    by_found : (r : Step (Option WordModel)) → ◌≡◌ {A = Step WordModel} (r >>= λ found. ok_or found.0 (Expected (spot_of found.1) wanted.Path) >>= λ w. ending w (line_end found.1)) ((r >>= λ found. path_there found.0 found.1) >>= λ w. ending w.0 (line_end w.1))
     by_found (Ok x) = by_word x.0 x.1
     by_found (Err f) = refl
 
-file_is : (head : WordText → HeadText) (s : State) → as_head head (file_next s) ≡ (file_word s >>= file_end head)
+file_is : (head : WordModel → HeadModel) (s : State) → as_head head (file_next s) ≡ (file_word s >>= file_end head)
 file_is head s = ap (as_head head) (file_led s) ∙ file_by head (file_word s)
 
 -- ---- strings that complete what is begun
 
-ends_name : (want : Wanted) (head : NameText → HeadText) → ReadTo (λ ms. name_next want (at (text (32 ∷ 114 ∷ [])) (written []) ms) >>= named_end head)
+ends_name : (want : Wanted) (head : NameModel → HeadModel) → ReadTo (λ ms. name_next want (at (text (32 ∷ 114 ∷ [])) (written []) ms) >>= named_end head)
 unfolding name_next expect_sign
 ends_name want head = (head (record { spot = first_spot; name = 114 ∷ [] }), λ ms. refl)
 
-ends_targets : (head : List WordText → HeadText) (w : WordText) (ws : List WordText) → ReadTo (λ ms. targets_end head (w ∷ ws, at [] (written []) ms))
+ends_targets : (head : List WordModel → HeadModel) (w : WordModel) (ws : List WordModel) → ReadTo (λ ms. targets_end head (w ∷ ws, at [] (written []) ms))
 unfolding expect_sign
 ends_targets head w ws = (head (w ∷ ws), λ ms. refl)
 
-ends_file : (head : WordText → HeadText) (w : WordText) → ReadTo (λ ms. file_end head (w, at [] (written []) ms))
+ends_file : (head : WordModel → HeadModel) (w : WordModel) → ReadTo (λ ms. file_end head (w, at [] (written []) ms))
 unfolding expect_sign
 ends_file head w = (head w, λ ms. refl)
 
@@ -101,7 +101,7 @@ ends_binding = (_, λ ms. refl)
 -- ---- along the line
 
 -- no word after `default`
-no_target : (head : List WordText → HeadText) (e : Line) (us : List TextUnit) (n : WordsPass us) → is_empty n.value ≡ true
+no_target : (head : List WordModel → HeadModel) (e : Line) (us : List TextUnit) (n : WordsPass us) → is_empty n.value ≡ true
     → FailsAt (λ s. words_next s >>= targets_end head) us e (Expected (spot_of_first n.run.left e.end) wanted.TargetName) n.run.used n.run.left
 no_target head e us n empty = record {
   cut = n.run.cut;
@@ -118,13 +118,13 @@ no_target head e us n empty = record {
 abbrev pub starts : List TextUnit → Bool
 starts us = begins in_identifier us
 
-module _ {P : Claim HeadText} {whole : List TextUnit} (e : Line) where
-  alone_turn : (want : Wanted) (head : NameText → HeadText) (us : List TextUnit) → offers_next want (114 ∷ []) ≡ true → Along P whole (λ s. as_head head (name_alone want s)) after_name us → Outcome P whole e
+module _ {P : Claim HeadModel} {whole : List TextUnit} (e : Line) where
+  alone_turn : (want : Wanted) (head : NameModel → HeadModel) (us : List TextUnit) → offers_next want (114 ∷ []) ≡ true → Along P whole (λ s. as_head head (name_alone want s)) after_name us → Outcome P whole e
   alone_turn want head us offered a =
       name_turn e want (λ s. as_head head (name_alone want s)) (named_end head) (alone_is want head) a (32 ∷ 114 ∷ []) refl offered refl (ends_name want head)
       (λ n b. finish (λ s. named_end head (n.passes.value, s)) (head n.passes.value) e (λ s. refl) b refl)
 
-  targets_turn : (head : List WordText → HeadText) (us : List TextUnit) → Along P whole (λ s. as_head head (targets_next s)) after_name us → Outcome P whole e
+  targets_turn : (head : List WordModel → HeadModel) (us : List TextUnit) → Along P whole (λ s. as_head head (targets_next s)) after_name us → Outcome P whole e
   targets_turn head us a =
       words_turn e (λ s. as_head head (targets_next s)) (targets_end head) (targets_is head) a words_after_name [] refl refl refl (ends_targets head) (λ n b. by_empty n (is_empty n.value) refl b)
     where
@@ -136,7 +136,7 @@ module _ {P : Claim HeadText} {whole : List TextUnit} (e : Line) where
           (n.run.fits after_name (one_more []) refl)
           (λ ms. targets_is head (at (n.run.used ++ one_more []) (written []) ms) ∙ (ap (λ r. r >>= targets_end head) (n.run.more [] (written []) ms refl) ∙ d.1 ms)))
 
-  file_turn : (head : WordText → HeadText) (us : List TextUnit) → Along P whole (λ s. as_head head (file_next s)) after_name us → Outcome P whole e
+  file_turn : (head : WordModel → HeadModel) (us : List TextUnit) → Along P whole (λ s. as_head head (file_next s)) after_name us → Outcome P whole e
   file_turn head us a = by_file (file_seen us e)
     where
       by_file : FileSeen us e → Outcome P whole e
@@ -152,16 +152,16 @@ module _ {P : Claim HeadText} {whole : List TextUnit} (e : Line) where
       by_word (bytes_eq word (codes "build")) (bytes_eq word (codes "rule")) (bytes_eq word (codes "pool")) (bytes_eq word (codes "default")) (bytes_eq word (codes "include")) (bytes_eq word (codes "subninja")) a
     where
       by_word : (b r p d i u : Bool)
-          → Along P whole (λ s. cond b (build_head s) (cond r (as_head RuleHead (name_alone wanted.RuleName s)) (cond p (as_head PoolHead (name_alone wanted.PoolName s)) (cond d (as_head (λ words. Alone (DefaultText words)) (targets_next s))
-          (cond i (as_head (λ word. Alone (IncludeText word)) (file_next s)) (cond u (as_head (λ word. Alone (SubninjaText word)) (file_next s)) (as_head (λ value. Alone (BindingText word value)) (equals_value s)))))))) after_name us
+          → Along P whole (λ s. cond b (build_head s) (cond r (as_head RuleHead (name_alone wanted.RuleName s)) (cond p (as_head PoolHead (name_alone wanted.PoolName s)) (cond d (as_head (λ words. Alone (DefaultModel words)) (targets_next s))
+          (cond i (as_head (λ word. Alone (IncludeModel word)) (file_next s)) (cond u (as_head (λ word. Alone (SubninjaModel word)) (file_next s)) (as_head (λ value. Alone (BindingModel word value)) (equals_value s)))))))) after_name us
           → Outcome P whole e
       by_word true r p d i u a = build_turn e us a
       by_word false true p d i u a = alone_turn wanted.RuleName RuleHead us refl a
       by_word false false true d i u a = alone_turn wanted.PoolName PoolHead us refl a
-      by_word false false false true i u a = targets_turn (λ words. Alone (DefaultText words)) us a
-      by_word false false false false true u a = file_turn (λ word. Alone (IncludeText word)) us a
-      by_word false false false false false true a = file_turn (λ word. Alone (SubninjaText word)) us a
-      by_word false false false false false false a = value_turn e (λ value. Alone (BindingText word value)) (λ s. as_head (λ value. Alone (BindingText word value)) (equals_value s)) (λ s. refl) a
+      by_word false false false true i u a = targets_turn (λ words. Alone (DefaultModel words)) us a
+      by_word false false false false true u a = file_turn (λ word. Alone (IncludeModel word)) us a
+      by_word false false false false false true a = file_turn (λ word. Alone (SubninjaModel word)) us a
+      by_word false false false false false false a = value_turn e (λ value. Alone (BindingModel word value)) (λ s. as_head (λ value. Alone (BindingModel word value)) (equals_value s)) (λ s. refl) a
 
   pub head_turn : (us : List TextUnit) → Along P whole head_next starts us → Outcome P whole e
   unfolding head_next

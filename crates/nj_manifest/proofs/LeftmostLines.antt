@@ -2,14 +2,14 @@
 use Rattle.std.proofs.Common.{◌≡◌, ℕ, Bool, true, false, Ok, Err, List, [], ◌++◌, refl, ap, ◌∙◌, codes}
 use Rattle.nj_text.specs.Units.{TextUnit}
 use Rattle.nj_text.specs.Lines.{Line}
-use Rattle.nj_text.specs.Words.{WordText}
+use Rattle.nj_text.specs.Words.{WordModel}
 use Rattle.nj_text.specs.Calls.{State}
 use Rattle.nj_manifest.specs.declared.cause.Wanted.TheVariants as wanted
-use Rattle.nj_manifest.specs.declared.block.Keys.{Keys}
-use Rattle.nj_manifest.specs.declared.block.Keys.TheVariants as keys
+use Rattle.nj_manifest.specs.declared.block_lines.Keys.{Keys}
+use Rattle.nj_manifest.specs.declared.block_lines.Keys.TheVariants as keys
 use Rattle.nj_manifest.specs.Faults.{UnknownKey}
-use Rattle.nj_manifest.specs.LineSteps.{Step, ◌>>=◌, NameText, name_next, expect_sign}
-use Rattle.nj_manifest.specs.Statements.{LineText, allows, equals_value, line_next}
+use Rattle.nj_manifest.specs.LineSteps.{Step, ◌>>=◌, NameModel, name_next, expect_sign}
+use Rattle.nj_manifest.specs.Statements.{LineModel, allows, equals_value, line_next}
 use Rattle.nj_manifest.specs.Leftmost.{written, are_plain, offers_next}
 use Rattle.nj_manifest.proofs.Choices.{if_allowed}
 use Rattle.nj_manifest.proofs.LeftmostRuns.{skip, gap_of, gap_passes, gap_cut}
@@ -21,13 +21,13 @@ use Rattle.nj_manifest.proofs.LeftmostBuilds.{itself}
 use Rattle.nj_manifest.proofs.LeftmostHeads.{starts}
 use Rattle.nj_text.specs.Bytes.{is_space, drop_while}
 
-abbrev line_of : NameText → WordText → LineText
+abbrev line_of : NameModel → WordModel → LineModel
 line_of key value = record { spot = key.spot; name = key.name; value = value }
 
-abbrev valued : NameText → WordText × State → Step LineText
+abbrev valued : NameModel → WordModel × State → Step LineModel
 valued key v = Ok (line_of key v.0, v.1)
 
-abbrev keyed : Keys → NameText × State → Step LineText
+abbrev keyed : Keys → NameModel × State → Step LineModel
 keyed allowed key = if_allowed (allows allowed key.0.name) key.0 (equals_value key.1) >>= valued key.0
 
 line_is : (allowed : Keys) (s : State) → line_next allowed s ≡ (name_next wanted.VariableName s >>= keyed allowed)
@@ -82,7 +82,7 @@ module _ (allowed : Keys) (us : List TextUnit) (e : Line) (n : NamePasses wanted
         (unknown_reads (gap_of us ++ x) d ms h a.0 a.1);
   }
 
-pub line_turn : {P : Claim LineText} {whole : List TextUnit} (e : Line) (allowed : Keys) (us : List TextUnit) → Along P whole (line_next allowed) starts us → Outcome P whole e
+pub line_turn : {P : Claim LineModel} {whole : List TextUnit} (e : Line) (allowed : Keys) (us : List TextUnit) → Along P whole (line_next allowed) starts us → Outcome P whole e
 line_turn {P = P} {whole = whole} e allowed us a =
     name_turn e wanted.VariableName (line_next allowed) (keyed allowed) (line_is allowed) a (key_bytes allowed) (key_plain allowed) (key_offers allowed) (key_starts allowed) (reads_key allowed) (λ n b. by_allowed n (allows allowed n.passes.value.name) refl b)
   where

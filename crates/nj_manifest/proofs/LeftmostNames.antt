@@ -13,7 +13,7 @@ use Rattle.nj_text.specs.Inside.States.{reply}
 use Rattle.nj_text.proofs.Lists.{AllIn, AllIn-take_while, take_while-cons_yes, take_while-cons_no}
 use Rattle.nj_manifest.specs.declared.cause.Wanted.{Wanted}
 use Rattle.nj_manifest.specs.Faults.{Fault, Bad, Expected}
-use Rattle.nj_manifest.specs.LineSteps.{Step, ◌>>=◌, called, NameText, name_next}
+use Rattle.nj_manifest.specs.LineSteps.{Step, ◌>>=◌, called, NameModel, name_next}
 use Rattle.nj_manifest.specs.Leftmost.{element}
 use Rattle.nj_manifest.proofs.Choices.{named}
 use Rattle.nj_manifest.proofs.LeftmostRuns.{begins, both_parts, after_stops, none_passed, none_taken, run_passed, run_taken, skip, skip_again, skip_stops, skip_gap, gap_of, gap_passes, gap_cut, no_other, not_byte}
@@ -29,10 +29,10 @@ identifier_no_fault u h = ordinary_no_fault is_identifier_byte u.means u.spot h
 -- ---- what is read after the blanks
 
 -- by the fault there, the identifier, its place, and what is after it
-abbrev named_by : Wanted → Option UnitFault → List TextUnit → Spot → State → Step NameText
+abbrev named_by : Wanted → Option UnitFault → List TextUnit → Spot → State → Step NameModel
 named_by want f run spot s = called (unless_fault f (reply (some_bytes (bytes_of run)) s)) >>= λ n. named want spot n.0 n.1
 
-abbrev name_here : Wanted → List TextUnit → Line → List Line → Step NameText
+abbrev name_here : Wanted → List TextUnit → Line → List Line → Step NameModel
 name_here want us e ms = named_by want (next_fault us) (take_while in_identifier us) (spot_of_first us e.end) (at (drop_while in_identifier us) e ms)
 
 name_is_here : (want : Wanted) (us : List TextUnit) (e : Line) (ms : List Line) → name_next want (at us e ms) ≡ name_here want (skip us) e ms

@@ -5,7 +5,7 @@ use Rattle.nj_text.specs.declared.sign.Sign.{Sign}
 use Rattle.nj_text.specs.declared.sign.Sign.TheVariants as sign
 use Rattle.nj_text.specs.Units.{Ordinary, TextUnit, is_ordinary_in}
 use Rattle.nj_text.specs.Lines.{Line, with_units}
-use Rattle.nj_text.specs.Words.{is_blank, begins_with_byte, next_fault, WordText}
+use Rattle.nj_text.specs.Words.{is_blank, begins_with_byte, next_fault, WordModel}
 use Rattle.nj_text.specs.Inside.Meanings.{is_blank_meaning, opens_word_meaning}
 use Rattle.nj_text.specs.Calls.{State, unless_fault, is_sign, state_after_sign}
 use Rattle.nj_text.specs.Inside.States.{reply}
@@ -45,7 +45,7 @@ no_and t s h = rw h refl
 
 -- ---- a sign before a section
 
-abbrev section_by : Option UnitFault → Bool → (on other : State) → Step (List WordText)
+abbrev section_by : Option UnitFault → Bool → (on other : State) → Step (List WordModel)
 section_by f t on other = called (unless_fault f (cond t (reply true on) (reply false other))) >>= λ so. words_if so.0 so.1
 
 section_is : (want : Sign) (us : List TextUnit) (e : Line) (ms : List Line) → settled us ≡ true → section_next want (at us e ms) ≡ section_by (next_fault us) (is_sign want us) (state_after_sign want (with_units us e) ms) (at us e ms)
@@ -179,12 +179,12 @@ pub record SectionRun (want : Sign) (us : List TextUnit) : Type 0 where
   pub left : List TextUnit
   pub cut : us ≡ used ++ left
   pub fits : (z : List TextUnit) → Fits after_words us (used ++ one_more z)
-  pub word : WordText
-  pub words : List WordText
+  pub word : WordModel
+  pub words : List WordModel
   pub more : (z : List TextUnit) (e : Line) (ms : List Line) → settled z ≡ true → section_next want (at (used ++ one_more z) e ms) ≡ Ok (word ∷ words, at z e ms)
 
 pub record SectionPass (want : Sign) (us : List TextUnit) (run : SectionRun want us) : Type 0 where
-  pub value : List WordText
+  pub value : List WordModel
   pub stops : settled run.left ≡ true
   pub goes : (x : List TextUnit) (e : Line) (ms : List Line) → Fits after_words run.left x → section_next want (at (run.used ++ x) e ms) ≡ Ok (value, at x e ms)
   pub settles : (x : List TextUnit) → Fits after_words run.left x → Fits after_words us (run.used ++ x)

@@ -6,12 +6,12 @@ use Rattle.nj_text.specs.Units.{TextUnit}
 use Rattle.nj_text.specs.Lines.{Line, line_spot, with_units, lines_after, Kind, CommentLine, TabLine, BlankLine, IndentedLine, PlainLine, kind_of, is_space_unit}
 use Rattle.nj_text.specs.Calls.{State, Between, Inside, without_comments}
 use Rattle.nj_text.proofs.Lists.{AllIn}
-use Rattle.nj_manifest.specs.declared.block.Keys.{Keys}
+use Rattle.nj_manifest.specs.declared.block_lines.Keys.{Keys}
 use Rattle.nj_manifest.specs.Faults.{Fault, Bad, UnexpectedIndent, is_syntax}
 use Rattle.nj_manifest.specs.LineSteps.{Step, ◌>>=◌, name_next, expect_sign}
-use Rattle.nj_manifest.specs.Statements.{LineText, PlacedText, StatementText, lines_from, equals_value, block, statement_after, next_statement}
+use Rattle.nj_manifest.specs.Statements.{LineModel, PlacedModel, StatementModel, lines_from, equals_value, block, statement_after, next_statement}
 use Rattle.nj_manifest.specs.Leftmost.{continues, element, written, NamesThePlaceOf, met_before, offers, ComesLeftmost}
-use Rattle.nj_manifest.specs.Grammar.{Alone, HeadText}
+use Rattle.nj_manifest.specs.Grammar.{Alone, HeadModel}
 use Rattle.nj_manifest.specs.Openings.{Parse, front_of, opening}
 use Rattle.nj_manifest.specs.Inside.Heads.{head_next, with_block, statement_here}
 use Rattle.nj_manifest.proofs.NextTurns.{nothing_more, next-nothing, next-kind}
@@ -25,7 +25,7 @@ use Rattle.nj_manifest.proofs.LeftmostKinds.{kind_units, spaces_of, after_spaces
 
 -- ---- a line with which a statement begins
 
-abbrev pub Plain : Claim HeadText
+abbrev pub Plain : Claim HeadModel
 Plain x e ms r = (kind_units x ≡ PlainLine) × (head_next (at x e ms) ≡ r)
 
 pub head_outcome : (l : Line) → kind_of l ≡ PlainLine → Outcome Plain l.units l
@@ -36,7 +36,7 @@ head_outcome l h = head_turn l l.units (begin Plain head_next starts l.units by_
     by_fit x e ms (inr f) = (plain_same l.units x h f, refl)
 
 -- the statement after its first line
-abbrev placed_then : Spot → HeadText × State → Parse (Option PlacedText)
+abbrev placed_then : Spot → HeadModel × State → Parse (Option PlacedModel)
 placed_then spot head = with_block spot head.0 (lines_from head.1) >>= λ item. Ok (Some (record { spot = spot; item = item.0 }), item.1)
 
 plain_next : (l : Line) (ms : List Line) → kind_of l ≡ PlainLine → next_statement (l ∷ ms) ≡ (head_next (Inside l ms) >>= placed_then (line_spot l))
@@ -44,29 +44,29 @@ unfolding statement_here
 plain_next l ms h = next-kind l ms PlainLine h
 
 pub plain_bad : (l : Line) (ms : List Line) (f : Fault) → kind_of l ≡ PlainLine → head_next (Inside l ms) ≡ Err f → next_statement (l ∷ ms) ≡ Err f
-plain_bad l ms f h r = plain_next l ms h ∙ ap (λ (y : Step HeadText). y >>= placed_then (line_spot l)) r
+plain_bad l ms f h r = plain_next l ms h ∙ ap (λ (y : Step HeadModel). y >>= placed_then (line_spot l)) r
 
-pub plain_read : (l : Line) (ms : List Line) (v : HeadText) (s : State) → kind_of l ≡ PlainLine → head_next (Inside l ms) ≡ Ok (v, s) → next_statement (l ∷ ms) ≡ placed_then (line_spot l) (v, s)
-plain_read l ms v s h r = plain_next l ms h ∙ ap (λ (y : Step HeadText). y >>= placed_then (line_spot l)) r
+pub plain_read : (l : Line) (ms : List Line) (v : HeadModel) (s : State) → kind_of l ≡ PlainLine → head_next (Inside l ms) ≡ Ok (v, s) → next_statement (l ∷ ms) ≡ placed_then (line_spot l) (v, s)
+plain_read l ms v s h r = plain_next l ms h ∙ ap (λ (y : Step HeadModel). y >>= placed_then (line_spot l)) r
 
-placed_some : (spot : Spot) (r : Parse StatementText) (item : StatementText) (rest : List Line) → r ≡ Ok (item, rest) → ◌≡◌ {A = Parse (Option PlacedText)} (r >>= λ item. Ok (Some (record { spot = spot; item = item.0 }), item.1)) (Ok (Some (record { spot = spot; item = item }), rest))
+placed_some : (spot : Spot) (r : Parse StatementModel) (item : StatementModel) (rest : List Line) → r ≡ Ok (item, rest) → ◌≡◌ {A = Parse (Option PlacedModel)} (r >>= λ item. Ok (Some (record { spot = spot; item = item.0 }), item.1)) (Ok (Some (record { spot = spot; item = item }), rest))
 placed_some spot r item rest h = rw h refl
 
-pub placed_bad : (spot : Spot) (r : Parse StatementText) (f : Fault) → r ≡ Err f → ◌≡◌ {A = Parse (Option PlacedText)} (r >>= λ item. Ok (Some (record { spot = spot; item = item.0 }), item.1)) (Err f)
+pub placed_bad : (spot : Spot) (r : Parse StatementModel) (f : Fault) → r ≡ Err f → ◌≡◌ {A = Parse (Option PlacedModel)} (r >>= λ item. Ok (Some (record { spot = spot; item = item.0 }), item.1)) (Err f)
 placed_bad spot r f h = rw h refl
 
 pub errs : {A : Type 0} {x y : Fault} → ◌≡◌ {A = Result A Fault} (Err x) (Err y) → x ≡ y
 errs e = cc
 
-pub placed_fault : (spot : Spot) (r : Parse StatementText) (f : Fault) → ◌≡◌ {A = Parse (Option PlacedText)} (r >>= λ item. Ok (Some (record { spot = spot; item = item.0 }), item.1)) (Err f) → r ≡ Err f
+pub placed_fault : (spot : Spot) (r : Parse StatementModel) (f : Fault) → ◌≡◌ {A = Parse (Option PlacedModel)} (r >>= λ item. Ok (Some (record { spot = spot; item = item.0 }), item.1)) (Err f) → r ≡ Err f
 placed_fault spot (Ok x) f h = absurd cc
 placed_fault spot (Err g) f h = ap Err (errs h)
 
 -- some statement, where some reading ends so
 abbrev SomeOf : List Line → Type 0
-SomeOf ls = (placed : PlacedText) × (rest : List Line) × (next_statement ls ≡ Ok (Some placed, rest))
+SomeOf ls = (placed : PlacedModel) × (rest : List Line) × (next_statement ls ≡ Ok (Some placed, rest))
 
-some_closed : (l : Line) (ms : List Line) (v : HeadText) (s : State) (read : List LineText) → kind_of l ≡ PlainLine → head_next (Inside l ms) ≡ Ok (v, s)
+some_closed : (l : Line) (ms : List Line) (v : HeadModel) (s : State) (read : List LineModel) → kind_of l ≡ PlainLine → head_next (Inside l ms) ≡ Ok (v, s)
     → block (keys_of v) (lines_from s) ≡ in_front read (block (keys_of v) (map written (closing v))) → SomeOf (l ∷ ms)
 some_closed l ms v s read h r b =
     let c = closed (line_spot l) v (lines_from s) read b in
@@ -100,7 +100,7 @@ after_more : (l : Line) (ms : List Line) → l.is_last ≡ false → lines_after
 after_more l ms h = ap (λ (t : Bool). cond t (with_units [] l ∷ ms) ms) h
 
 -- the fault is in the block
-stuck_in_block : (l : Line) (ls : List Line) (fault : Fault) (v : HeadText) → kind_of l ≡ PlainLine → l.is_last ≡ false → ((ms : List Line) → head_next (Inside l ms) ≡ Ok (v, Between (lines_after l ms))) → ((item : StatementText) → v ≡ Alone item → ⊥)
+stuck_in_block : (l : Line) (ls : List Line) (fault : Fault) (v : HeadModel) → kind_of l ≡ PlainLine → l.is_last ≡ false → ((ms : List Line) → head_next (Inside l ms) ≡ Ok (v, Between (lines_after l ms))) → ((item : StatementModel) → v ≡ Alone item → ⊥)
     → BlockStuck (keys_of v) ls fault → ComesLeftmost (l ∷ ls) fault
 stuck_in_block l ls fault v k last reads all s =
     let lines = map written (closing v) in
@@ -136,7 +136,7 @@ as_fault ls f g e s = subst (λ (h : Fault). ComesLeftmost ls h) e s
 plain_leftmost : (l : Line) (ls : List Line) (fault : Fault) → kind_of l ≡ PlainLine → next_statement (l ∷ ls) ≡ Err fault → is_syntax fault ≡ true → ComesLeftmost (l ∷ ls) fault
 plain_leftmost l ls fault k h syntax = by_head (head_outcome l k)
   where
-    by_last : (v : HeadText) (t : Bool) → l.is_last ≡ t → ((ms : List Line) → head_next (Inside l ms) ≡ Ok (v, Between (lines_after l ms))) → ((item : StatementText) → v ≡ Alone item → ⊥) → block (keys_of v) (cond t (with_units [] l ∷ ls) ls) ≡ Err fault → ComesLeftmost (l ∷ ls) fault
+    by_last : (v : HeadModel) (t : Bool) → l.is_last ≡ t → ((ms : List Line) → head_next (Inside l ms) ≡ Ok (v, Between (lines_after l ms))) → ((item : StatementModel) → v ≡ Alone item → ⊥) → block (keys_of v) (cond t (with_units [] l ∷ ls) ls) ≡ Err fault → ComesLeftmost (l ∷ ls) fault
     by_last v true last reads all b = absurd (no_block_fault (keys_of v) l ls fault b)
     by_last v false last reads all b = stuck_in_block l ls fault v k last reads all (block_stuck (keys_of v) ls fault b)
 
@@ -179,7 +179,7 @@ tab_leftmost l ls tab k =
     (λ m ms same. (next-kind (with_units (spaces_of l.units ++ m.units) m) ms (TabLine tab) (kind_replaced l.units m.units (element-front m.units (after_spaces l.units) same) ∙ k)))
 
 -- an indented line whose units after its spaces these are
-abbrev unexpected_at : Line → Parse (Option PlacedText)
+abbrev unexpected_at : Line → Parse (Option PlacedModel)
 unexpected_at l = Err (UnexpectedIndent (record { line = (line_spot l).line; column = 1 }))
 
 indented_leftmost : (l : Line) (ls : List Line) → kind_of l ≡ IndentedLine → ComesLeftmost (l ∷ ls) (UnexpectedIndent (front_of l))
@@ -203,7 +203,7 @@ leftmost_after l ls fault same r = record {
   refuses = λ m ms e. same (continues r.before r.begun m ms) ∙ r.refuses m ms e;
 }
 
-pub not_last : (t : Bool) (rest : List Line) (others : Parse (Option PlacedText)) (f : Fault) → cond t (nothing_more rest) others ≡ Err f → (t ≡ false) × (others ≡ Err f)
+pub not_last : (t : Bool) (rest : List Line) (others : Parse (Option PlacedModel)) (f : Fault) → cond t (nothing_more rest) others ≡ Err f → (t ≡ false) × (others ≡ Err f)
 not_last true rest others f h = absurd cc
 not_last false rest others f h = (refl, h)
 

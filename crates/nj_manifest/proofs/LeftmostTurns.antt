@@ -3,10 +3,10 @@ use Rattle.std.proofs.Common.{◌≡◌, ℕ, Bool, true, false, Ok, List, [], �
 use Rattle.nj_text.specs.declared.sign.Sign.{Sign}
 use Rattle.nj_text.specs.Units.{TextUnit}
 use Rattle.nj_text.specs.Lines.{Line}
-use Rattle.nj_text.specs.Words.{WordText}
+use Rattle.nj_text.specs.Words.{WordModel}
 use Rattle.nj_text.specs.Calls.{State, Between, is_sign}
 use Rattle.nj_manifest.specs.declared.cause.Wanted.{Wanted}
-use Rattle.nj_manifest.specs.LineSteps.{Step, ◌>>=◌, NameText, name_next, words_next, section_next}
+use Rattle.nj_manifest.specs.LineSteps.{Step, ◌>>=◌, NameModel, name_next, words_next, section_next}
 use Rattle.nj_manifest.specs.Leftmost.{written, are_plain, offers_next}
 use Rattle.nj_manifest.proofs.LeftmostRuns.{gap_of, gap_passes}
 use Rattle.nj_manifest.proofs.LeftmostSteps.{at, text, fits-gap, after_name, after_words, Passes, Claim, Along, Outcome, stuck, stick, pass}
@@ -24,7 +24,7 @@ abbrev pub ReadTo : {B : Type 0} → (List Line → Step B) → Type 0
 ReadTo {B = B} reading = (value : B) × ((ms : List Line) → reading ms ≡ Ok (value, Between ms))
 
 module _ {B : Type 0} {P : Claim B} {whole : List TextUnit} (e : Line) where
-  pub name_turn : {t : List TextUnit → Bool} {us : List TextUnit} (want : Wanted) (k : State → Step B) (g : NameText × State → Step B) → ((s : State) → k s ≡ (name_next want s >>= g)) → Along P whole k t us → (tail : List ℕ) → are_plain tail ≡ true → offers_next want (drop_while is_space tail) ≡ true → t (text tail) ≡ true
+  pub name_turn : {t : List TextUnit → Bool} {us : List TextUnit} (want : Wanted) (k : State → Step B) (g : NameModel × State → Step B) → ((s : State) → k s ≡ (name_next want s >>= g)) → Along P whole k t us → (tail : List ℕ) → are_plain tail ≡ true → offers_next want (drop_while is_space tail) ≡ true → t (text tail) ≡ true
       → ReadTo (λ ms. name_next want (at (text tail) (written []) ms) >>= g) → ((n : NamePasses want t us e) → Along P whole (λ s. g (n.passes.value, s)) after_name n.passes.left → Outcome P whole e) → Outcome P whole e
   name_turn {t = t} {us = us} want k g so a tail plain offered fit done next = by_name (name_seen want t us e)
     where
@@ -42,8 +42,8 @@ module _ {B : Type 0} {P : Claim B} {whole : List TextUnit} (e : Line) where
       by_sign (signs.missing fault of n) = stuck fault (stick k (sign_step want miss) g so a n tail plain (of tail offered) done.0 (fits-gap t us (text tail) fit)
           (λ ms. so (at (gap_of us ++ text tail) (written []) ms) ∙ (ap (λ r. led_on r >>= g) (sign_skips want miss (gap_of us) (text tail) (written []) ms (gap_passes us)) ∙ done.1 ms)))
 
-  pub words_turn : {t : List TextUnit → Bool} {us : List TextUnit} (k : State → Step B) (g : List WordText × State → Step B) → ((s : State) → k s ≡ (words_next s >>= g)) → Along P whole k t us → ((x : List TextUnit) → after_words x ≡ true → t x ≡ true)
-      → (tail : List ℕ) → are_plain tail ≡ true → settled (text tail) ≡ true → t (one_more (text tail)) ≡ true → ((w : WordText) (ws : List WordText) → ReadTo (λ ms. g (w ∷ ws, at (text tail) (written []) ms)))
+  pub words_turn : {t : List TextUnit → Bool} {us : List TextUnit} (k : State → Step B) (g : List WordModel × State → Step B) → ((s : State) → k s ≡ (words_next s >>= g)) → Along P whole k t us → ((x : List TextUnit) → after_words x ≡ true → t x ≡ true)
+      → (tail : List ℕ) → are_plain tail ≡ true → settled (text tail) ≡ true → t (one_more (text tail)) ≡ true → ((w : WordModel) (ws : List WordModel) → ReadTo (λ ms. g (w ∷ ws, at (text tail) (written []) ms)))
       → ((n : WordsPass us) → Along P whole (λ s. g (n.value, s)) after_words n.run.left → Outcome P whole e) → Outcome P whole e
   words_turn {t = t} {us = us} k g so a more tail plain ends fit done next = by_words (words_seen us e)
     where
@@ -54,8 +54,8 @@ module _ {B : Type 0} {P : Claim B} {whole : List TextUnit} (e : Line) where
           stuck fault (stick k words_next g so a n (32 ∷ 120 ∷ tail) plain (of (32 ∷ 120 ∷ tail)) d.0 (run.fits t (one_more (text tail)) fit)
           (λ ms. so (at (run.used ++ one_more (text tail)) (written []) ms) ∙ (ap (λ r. r >>= g) (run.more (text tail) (written []) ms ends) ∙ d.1 ms)))
 
-  pub section_turn : {us : List TextUnit} (want : Sign) → IsMark want → (k : State → Step B) (g : List WordText × State → Step B) → ((s : State) → k s ≡ (section_next want s >>= g)) → Along P whole k after_words us → settled us ≡ true
-      → (tail : List ℕ) → are_plain tail ≡ true → settled (text tail) ≡ true → ((w : WordText) (ws : List WordText) → ReadTo (λ ms. g (w ∷ ws, at (text tail) (written []) ms)))
+  pub section_turn : {us : List TextUnit} (want : Sign) → IsMark want → (k : State → Step B) (g : List WordModel × State → Step B) → ((s : State) → k s ≡ (section_next want s >>= g)) → Along P whole k after_words us → settled us ≡ true
+      → (tail : List ℕ) → are_plain tail ≡ true → settled (text tail) ≡ true → ((w : WordModel) (ws : List WordModel) → ReadTo (λ ms. g (w ∷ ws, at (text tail) (written []) ms)))
       → (is_sign want us ≡ false → Along P whole (λ s. g ([], s)) after_words us → Outcome P whole e)
       → ((run : SectionRun want us) (n : SectionPass want us run) → Along P whole (λ s. g (n.value, s)) after_words run.left → Outcome P whole e) → Outcome P whole e
   section_turn {us = us} want is k g so a here tail plain ends done without with = by_section (section_seen want us e is here)

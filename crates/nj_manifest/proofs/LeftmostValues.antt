@@ -6,7 +6,7 @@ use Rattle.nj_text.specs.declared.sign.Sign.TheVariants as sign
 use Rattle.nj_text.specs.declared.spot.Spot.{Spot}
 use Rattle.nj_text.specs.Units.{Meaning, Ordinary, Join, OpeningJoin, TextUnit}
 use Rattle.nj_text.specs.Lines.{Line, lines_after, spot_of_first}
-use Rattle.nj_text.specs.Words.{is_blank, after_opening, fault_of, next_fault, first_fault, parts_of, WordText}
+use Rattle.nj_text.specs.Words.{is_blank, after_opening, fault_of, next_fault, first_fault, parts_of, WordModel}
 use Rattle.nj_text.specs.Inside.Meanings.{is_blank_meaning, opens_line_meaning}
 use Rattle.nj_text.specs.Calls.{State, Between, unless_fault, value_of}
 use Rattle.nj_text.specs.Inside.States.{reply}
@@ -83,30 +83,30 @@ before_bad (u ∷ us) bad h = by_unit (fault_of u.means u.spot) refl h (before_b
 
 -- ---- the value
 
-abbrev value_call : State → Step WordText
+abbrev value_call : State → Step WordModel
 value_call s = called (value_of s)
 
 -- where a value begins
 abbrev value_units : List TextUnit → List TextUnit
 value_units us = skip (after_opening us)
 
-abbrev value_text : List TextUnit → Line → WordText
-value_text us e = record { spot = spot_of_first (value_units us) e.end; parts = parts_of (value_units us) }
+abbrev value_model : List TextUnit → Line → WordModel
+value_model us e = record { spot = spot_of_first (value_units us) e.end; parts = parts_of (value_units us) }
 
-value_by : (f : Option UnitFault) (w : WordText) (s : State) → f ≡ None → called (unless_fault f (reply w s)) ≡ Ok (w, s)
+value_by : (f : Option UnitFault) (w : WordModel) (s : State) → f ≡ None → called (unless_fault f (reply w s)) ≡ Ok (w, s)
 value_by f w s h = rw h refl
 
-value_bad_by : (f : Option UnitFault) (w : WordText) (s : State) (bad : UnitFault) → f ≡ Some bad → called (unless_fault f (reply w s)) ≡ Err (Bad bad)
+value_bad_by : (f : Option UnitFault) (w : WordModel) (s : State) (bad : UnitFault) → f ≡ Some bad → called (unless_fault f (reply w s)) ≡ Err (Bad bad)
 value_bad_by f w s bad h = rw h refl
 
 first_of_value : (us : List TextUnit) → first_fault (value_units us) ≡ first_fault us
 first_of_value us = first_after_blanks (after_opening us) ∙ first_after_opening us
 
-value_ok : (us : List TextUnit) (e : Line) (ms : List Line) → first_fault us ≡ None → value_call (at us e ms) ≡ Ok (value_text us e, at [] e ms)
-value_ok us e ms h = value_by _ (value_text us e) (at [] e ms) (first_of_value us ∙ h)
+value_ok : (us : List TextUnit) (e : Line) (ms : List Line) → first_fault us ≡ None → value_call (at us e ms) ≡ Ok (value_model us e, at [] e ms)
+value_ok us e ms h = value_by _ (value_model us e) (at [] e ms) (first_of_value us ∙ h)
 
 value_bad : (us : List TextUnit) (e : Line) (ms : List Line) (bad : UnitFault) → first_fault us ≡ Some bad → value_call (at us e ms) ≡ Err (Bad bad)
-value_bad us e ms bad h = value_bad_by _ (value_text us e) (at [] e ms) bad (first_of_value us ∙ h)
+value_bad us e ms bad h = value_bad_by _ (value_model us e) (at [] e ms) bad (first_of_value us ∙ h)
 
 bad_value : (us : List TextUnit) (e : Line) (bad : UnitFault) → (s : Sound us bad) → FailsAt value_call us e (Bad bad) s.used s.left
 bad_value us e bad s = record {
@@ -118,40 +118,40 @@ bad_value us e bad s = record {
 }
 
 -- the value, and then the end of the line
-abbrev valued : {B : Type 0} → (WordText → B) → WordText × State → Step B
+abbrev valued : {B : Type 0} → (WordModel → B) → WordModel × State → Step B
 valued view v = ending (view v.0) (expect_sign sign.LineEnd wanted.Newline v.1)
 
-value_ended : {B : Type 0} (view : WordText → B) (us : List TextUnit) (e : Line) (ms : List Line) → first_fault us ≡ None → (value_call (at us e ms) >>= valued view) ≡ Ok (view (value_text us e), Between (lines_after e ms))
+value_ended : {B : Type 0} (view : WordModel → B) (us : List TextUnit) (e : Line) (ms : List Line) → first_fault us ≡ None → (value_call (at us e ms) >>= valued view) ≡ Ok (view (value_model us e), Between (lines_after e ms))
 unfolding expect_sign
 value_ended view us e ms h = ap (λ r. r >>= valued view) (value_ok us e ms h)
 
-value_is : {B : Type 0} (view : WordText → B) (w : WordText) (r : Result State Fault) → ◌≡◌ {A = Step B} (ending w r >>= λ v. Ok (view v.0, v.1)) (ending (view w) r)
+value_is : {B : Type 0} (view : WordModel → B) (w : WordModel) (r : Result State Fault) → ◌≡◌ {A = Step B} (ending w r >>= λ v. Ok (view v.0, v.1)) (ending (view w) r)
 value_is view w (Ok end) = refl
 value_is view w (Err f) = refl
 
-valued_is : {B : Type 0} (view : WordText → B) (r : Step WordText) → ◌≡◌ {A = Step B} ((r >>= λ value. ending value.0 (expect_sign sign.LineEnd wanted.Newline value.1)) >>= λ v. Ok (view v.0, v.1)) (r >>= valued view)
+valued_is : {B : Type 0} (view : WordModel → B) (r : Step WordModel) → ◌≡◌ {A = Step B} ((r >>= λ value. ending value.0 (expect_sign sign.LineEnd wanted.Newline value.1)) >>= λ v. Ok (view v.0, v.1)) (r >>= valued view)
 valued_is view (Ok v) = value_is view v.0 (expect_sign sign.LineEnd wanted.Newline v.1)
 valued_is view (Err f) = refl
 
-led_is : {B : Type 0} (view : WordText → B) (r : Result State Fault)
+led_is : {B : Type 0} (view : WordModel → B) (r : Result State Fault)
     → ◌≡◌ {A = Step B} ((r >>= λ equals. value_call equals >>= λ value. ending value.0 (expect_sign sign.LineEnd wanted.Newline value.1)) >>= λ v. Ok (view v.0, v.1)) (led_on r >>= λ c. value_call c.1 >>= valued view)
 led_is view (Ok equals) = valued_is view (value_call equals)
 led_is view (Err f) = refl
 
 -- `= VALUE`, in steps
-abbrev equals_then : {B : Type 0} → (WordText → B) → Bool × State → Step B
+abbrev equals_then : {B : Type 0} → (WordModel → B) → Bool × State → Step B
 equals_then view c = value_call c.1 >>= valued view
 
-equals_is : {B : Type 0} (view : WordText → B) (s : State) → ◌≡◌ {A = Step B} (◌>>=◌ {B = B × State} (equals_value s) (λ v. Ok (view v.0, v.1))) (sign_step sign.Equals wanted.Equals s >>= equals_then view)
+equals_is : {B : Type 0} (view : WordModel → B) (s : State) → ◌≡◌ {A = Step B} (◌>>=◌ {B = B × State} (equals_value s) (λ v. Ok (view v.0, v.1))) (sign_step sign.Equals wanted.Equals s >>= equals_then view)
 unfolding equals_value
 equals_is view s = led_is view (expect_sign sign.Equals wanted.Equals s)
 
-read_x : {B : Type 0} (view : WordText → B) → ReadTo (λ ms. sign_step sign.Equals wanted.Equals (at (text (61 ∷ 120 ∷ [])) (written []) ms) >>= equals_then view)
+read_x : {B : Type 0} (view : WordModel → B) → ReadTo (λ ms. sign_step sign.Equals wanted.Equals (at (text (61 ∷ 120 ∷ [])) (written []) ms) >>= equals_then view)
 unfolding expect_sign
-read_x view = (view (value_text (text (120 ∷ [])) (written [])), λ ms. refl)
+read_x view = (view (value_model (text (120 ∷ [])) (written [])), λ ms. refl)
 
 -- A line that ends with a value.
-pub value_turn : {B : Type 0} {P : Claim B} {whole us : List TextUnit} (e : Line) (view : WordText → B) (k : State → Step B) → ((s : State) → k s ≡ ◌>>=◌ {B = B × State} (equals_value s) (λ v. Ok (view v.0, v.1))) → Along P whole k after_name us → Outcome P whole e
+pub value_turn : {B : Type 0} {P : Claim B} {whole us : List TextUnit} (e : Line) (view : WordModel → B) (k : State → Step B) → ((s : State) → k s ≡ ◌>>=◌ {B = B × State} (equals_value s) (λ v. Ok (view v.0, v.1))) → Along P whole k after_name us → Outcome P whole e
 value_turn {B = B} {P = P} {whole = whole} e view k so a =
     sign_turn e sign.Equals wanted.Equals anything equals_single k (equals_then view) (λ s. so s ∙ equals_is view s) a (61 ∷ 120 ∷ []) refl refl refl (read_x view) (λ p b. at_value p.left b)
   where
@@ -159,9 +159,9 @@ value_turn {B = B} {P = P} {whole = whole} e view k so a =
     at_value left b = by_fault (first_fault left) refl
       where
         by_fault : (f : Option UnitFault) → first_fault left ≡ f → Outcome P whole e
-        by_fault None h = arrive e (λ s. value_call s >>= valued view) (view (value_text left e)) b (λ ms. value_ended view left e ms h)
+        by_fault None h = arrive e (λ s. value_call s >>= valued view) (view (value_model left e)) b (λ ms. value_ended view left e ms h)
         by_fault (Some bad) h =
             let s = before_bad left bad h in
             let sound = first_after_sound s.used [] s.sound in
-            stuck (Bad bad) (stick (λ s. value_call s >>= valued view) value_call (valued view) (λ s. refl) b (bad_value left e bad s) [] refl refl (view (value_text (s.used ++ []) (written []))) (inl refl)
+            stuck (Bad bad) (stick (λ s. value_call s >>= valued view) value_call (valued view) (λ s. refl) b (bad_value left e bad s) [] refl refl (view (value_model (s.used ++ []) (written []))) (inl refl)
             (λ ms. value_ended view (s.used ++ []) (written []) ms sound))

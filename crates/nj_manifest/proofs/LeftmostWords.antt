@@ -7,7 +7,7 @@ use Rattle.nj_text.specs.declared.spot.Spot.{Spot}
 use Rattle.nj_text.specs.Bytes.{drop_while, is_word_byte}
 use Rattle.nj_text.specs.Units.{Meaning, Ordinary, Escape, Reference, Join, LeadingTab, BadByte, BadEscape, TextUnit, is_ordinary_in}
 use Rattle.nj_text.specs.Lines.{Line, spot_of_first}
-use Rattle.nj_text.specs.Words.{is_blank, opens_word, in_word, fault_of, next_fault, parts_of, WordText}
+use Rattle.nj_text.specs.Words.{is_blank, opens_word, in_word, fault_of, next_fault, parts_of, WordModel}
 use Rattle.nj_text.specs.Inside.Meanings.{is_blank_meaning, opens_word_meaning, in_word_meaning}
 use Rattle.nj_text.specs.Calls.{State, unless_fault, begins_word, path_word_of}
 use Rattle.nj_text.specs.Inside.States.{reply}
@@ -123,14 +123,14 @@ begins_word-is (u ∷ us) = refl
 
 -- ---- one word
 
-abbrev pub word_call : State → Step (Option WordText)
+abbrev pub word_call : State → Step (Option WordModel)
 word_call s = called (path_word_of s)
 
 -- by the fault there, whether a word begins there, the fault after it, and the word
-abbrev word_by : Option UnitFault → Bool → Option UnitFault → WordText → (there other : State) → Step (Option WordText)
+abbrev word_by : Option UnitFault → Bool → Option UnitFault → WordModel → (there other : State) → Step (Option WordModel)
 word_by f t g w there other = called (unless_fault f (cond t (unless_fault g (reply (Some w) there)) (reply None other)))
 
-abbrev word_here : List TextUnit → Line → List Line → Step (Option WordText)
+abbrev word_here : List TextUnit → Line → List Line → Step (Option WordModel)
 word_here us e ms =
     word_by (next_fault us) (begins_word us) (next_fault (drop_while in_word us)) (record { spot = spot_of_first us e.end; parts = parts_of (take_while in_word us) }) (at (drop_while in_word us) e ms) (at us e ms)
 
@@ -140,19 +140,19 @@ word_is_here us e ms = refl
 word_at_units : (us x : List TextUnit) (e : Line) (ms : List Line) → skip us ≡ x → word_call (at us e ms) ≡ word_here x e ms
 word_at_units us x e ms h = ap (λ (y : List TextUnit). word_here y e ms) h
 
-abbrev pub word_of : TextUnit → List TextUnit → WordText
+abbrev pub word_of : TextUnit → List TextUnit → WordModel
 word_of u run = record { spot = u.spot; parts = parts_of (u ∷ run) }
 
-word_ok : (f : Option UnitFault) (t : Bool) (g : Option UnitFault) (w w' : WordText) (there there' other : State) → f ≡ None → t ≡ true → g ≡ None → w ≡ w' → there ≡ there' → word_by f t g w there other ≡ Ok (Some w', there')
+word_ok : (f : Option UnitFault) (t : Bool) (g : Option UnitFault) (w w' : WordModel) (there there' other : State) → f ≡ None → t ≡ true → g ≡ None → w ≡ w' → there ≡ there' → word_by f t g w there other ≡ Ok (Some w', there')
 word_ok f t g w w' there there' other h i j k l = rw (h, i, j, k, l) refl
 
-word_none : (f : Option UnitFault) (t : Bool) (g : Option UnitFault) (w : WordText) (there other : State) → f ≡ None → t ≡ false → word_by f t g w there other ≡ Ok (None, other)
+word_none : (f : Option UnitFault) (t : Bool) (g : Option UnitFault) (w : WordModel) (there other : State) → f ≡ None → t ≡ false → word_by f t g w there other ≡ Ok (None, other)
 word_none f t g w there other h i = rw (h, i) refl
 
-word_bad : (f : Option UnitFault) (t : Bool) (g : Option UnitFault) (w : WordText) (there other : State) (bad : UnitFault) → f ≡ Some bad → word_by f t g w there other ≡ Err (Bad bad)
+word_bad : (f : Option UnitFault) (t : Bool) (g : Option UnitFault) (w : WordModel) (there other : State) (bad : UnitFault) → f ≡ Some bad → word_by f t g w there other ≡ Err (Bad bad)
 word_bad f t g w there other bad h = rw h refl
 
-word_bad_after : (f : Option UnitFault) (t : Bool) (g : Option UnitFault) (w : WordText) (there other : State) (bad : UnitFault) → f ≡ None → t ≡ true → g ≡ Some bad → word_by f t g w there other ≡ Err (Bad bad)
+word_bad_after : (f : Option UnitFault) (t : Bool) (g : Option UnitFault) (w : WordModel) (there other : State) (bad : UnitFault) → f ≡ None → t ≡ true → g ≡ Some bad → word_by f t g w there other ≡ Err (Bad bad)
 word_bad_after f t g w there other bad h i j = rw (h, i, j) refl
 
 run_reads : (u : TextUnit) (run x : List TextUnit) (e : Line) (ms : List Line) → opens_word u ≡ true → AllIn in_word (u ∷ run) → ends_word x ≡ true → word_here ((u ∷ run) ++ x) e ms ≡ Ok (Some (word_of u run), at x e ms)
@@ -202,7 +202,7 @@ bad_word_reads gap x e ms bad g n h = word_at_units (gap ++ x) x e ms (skip_gap 
 abbrev pub one_more : List TextUnit → List TextUnit
 one_more z = written_unit 32 ∷ written_unit 120 ∷ z
 
-abbrev pub word_x : WordText
+abbrev pub word_x : WordModel
 word_x = word_of (written_unit 120) []
 
 pub one_more_reads : (gap z : List TextUnit) (e : Line) (ms : List Line) → AllIn is_blank gap → ends_word z ≡ true → word_call (at (gap ++ one_more z) e ms) ≡ Ok (Some word_x, at z e ms)
@@ -216,13 +216,13 @@ pub record WordsRun (us : List TextUnit) : Type 0 where
   pub left : List TextUnit
   pub cut : us ≡ used ++ left
   pub fits : (t : List TextUnit → Bool) (x : List TextUnit) → t x ≡ true → Fits t us (used ++ x)
-  pub word : WordText
-  pub words : List WordText
+  pub word : WordModel
+  pub words : List WordModel
   pub more : (z : List TextUnit) (e : Line) (ms : List Line) → settled z ≡ true → words_next (at (used ++ one_more z) e ms) ≡ Ok (word ∷ words, at z e ms)
 
 pub record WordsPass (us : List TextUnit) : Type 0 where
   pub run : WordsRun us
-  pub value : List WordText
+  pub value : List WordModel
   pub stops : settled run.left ≡ true
   pub goes : (x : List TextUnit) (e : Line) (ms : List Line) → settled x ≡ true → words_next (at (run.used ++ x) e ms) ≡ Ok (value, at x e ms)
 
@@ -275,10 +275,10 @@ fits-word t us [] u run left x g o c = fits-alone t us u run left x (opening_no_
 fits-word t us (v ∷ gap) u run left x g o c = fits-alone t us v (gap ++ u ∷ run) left x (blank_no_pipe v.means g.0) c
 
 -- what is read after a word that is not the last
-from_more : (w : WordText) (s : State) (others : Step (List WordText)) (ws : List WordText) (after : State) → others ≡ Ok (ws, after) → words_from (Some w) s others ≡ Ok (w ∷ ws, after)
+from_more : (w : WordModel) (s : State) (others : Step (List WordModel)) (ws : List WordModel) (after : State) → others ≡ Ok (ws, after) → words_from (Some w) s others ≡ Ok (w ∷ ws, after)
 from_more w s others ws after h = rw h refl
 
-from_bad : (w : WordText) (s : State) (others : Step (List WordText)) (f : Fault) → others ≡ Err f → words_from (Some w) s others ≡ Err f
+from_bad : (w : WordModel) (s : State) (others : Step (List WordModel)) (f : Fault) → others ≡ Err f → words_from (Some w) s others ≡ Err f
 from_bad w s others f h = rw h refl
 
 -- a word before other units

@@ -2,7 +2,7 @@
 use Rattle.std.proofs.Common.{◌≡◌, true, false, Option, Some, None, Result, Ok, Err, List, refl, sym, ap, subst, ◌∙◌}
 use Rattle.nj_text.specs.Lines.{Line}
 use Rattle.nj_text.specs.Calls.{State, Between, Inside, Failed}
-use Rattle.nj_manifest.specs.declared.fault.ParseFault.{ParseFault}
+use Rattle.nj_manifest.specs.declared.parse_fault.ParseFault.{ParseFault}
 use Rattle.nj_manifest.specs.LineSteps.{◌>>=◌}
 use Rattle.nj_manifest.specs.Statements.{lines_from, statement_from, next_statement}
 use Rattle.nj_manifest.specs.Openings.{Parse, opening}

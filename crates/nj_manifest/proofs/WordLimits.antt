@@ -5,7 +5,7 @@ use Rattle.nj_text.specs.declared.fault.UnitFault.{UnitFault}
 use Rattle.nj_text.specs.Bytes.{drop_while}
 use Rattle.nj_text.specs.Units.{Meaning, Ordinary, Escape, Reference, Join, OpeningJoin, Comment, LeadingTab, LineEnd, TextEnd, BadByte, BadEscape, TextUnit}
 use Rattle.nj_text.specs.Lines.{Line, with_units}
-use Rattle.nj_text.specs.Words.{is_blank, in_word, next_fault, WordText}
+use Rattle.nj_text.specs.Words.{is_blank, in_word, next_fault, WordModel}
 use Rattle.nj_text.specs.Inside.Meanings.{in_word_meaning, opens_word_meaning}
 use Rattle.nj_text.specs.Calls.{State, Between, Inside, Failed, unless_fault, after_blanks, begins_word, word_here, path_word_of}
 use Rattle.nj_text.specs.Inside.States.{reply}
@@ -47,12 +47,12 @@ ok_parts {A} x y s t e =
     let same : ◌≡◌ {A = A × State} (x, s) (y, t) = cc in
     (ap (λ (r : A × State). r.0) same, ap (λ (r : A × State). r.1) same)
 
-none_is_not_word : {w : WordText} → ◌≡◌ {A = Option WordText} None (Some w) → ⊥
+none_is_not_word : {w : WordModel} → ◌≡◌ {A = Option WordModel} None (Some w) → ⊥
 none_is_not_word e = absurd cc
 
 -- what a call that gives a word leaves
-word_left : (l : Line) (ls : List Line) (w : WordText) (after : State) (f g : Option UnitFault) (t : Bool) → begins_word l.units ≡ t
-    → ◌≡◌ {A = Step (Option WordText)} (called (unless_fault f (cond t (unless_fault g (reply (Some (word_here l)) (Inside (with_units (drop_while in_word l.units) l) ls))) (reply None (Inside l ls))))) (Ok (Some w, after))
+word_left : (l : Line) (ls : List Line) (w : WordModel) (after : State) (f g : Option UnitFault) (t : Bool) → begins_word l.units ≡ t
+    → ◌≡◌ {A = Step (Option WordModel)} (called (unless_fault f (cond t (unless_fault g (reply (Some (word_here l)) (Inside (with_units (drop_while in_word l.units) l) ls))) (reply None (Inside l ls))))) (Ok (Some w, after))
     → units_left after < length l.units
 word_left l ls w after (Some f) g t b e = absurd cc
 word_left l ls w after None g false b e = absurd (none_is_not_word (ok_parts None (Some w) (Inside l ls) after e).0)
@@ -63,7 +63,7 @@ word_left l ls w after None None true b e =
     omega arith
 
 -- Behind a word fewer units are left.
-pub units_left-word : (s : State) (w : WordText) (after : State) → called (path_word_of s) ≡ Ok (Some w, after) → units_left after < units_left s
+pub units_left-word : (s : State) (w : WordModel) (after : State) → called (path_word_of s) ≡ Ok (Some w, after) → units_left after < units_left s
 units_left-word (Between ls) w after h = absurd (none_is_not_word (ok_parts None (Some w) (Between ls) after h).0)
 units_left-word (Failed f) w after h = absurd cc
 units_left-word (Inside l ls) w after h =
@@ -78,7 +78,7 @@ words_within-limits zero n s h g = absurd (omega arith)
 words_within-limits (suc m) zero s h g = absurd (omega arith)
 words_within-limits (suc m) (suc n) s h g = by_word (called (path_word_of s)) refl (λ after low high. words_within-limits m n after low high)
   where
-    by_word : (x : Step (Option WordText)) → called (path_word_of s) ≡ x → ((after : State) → units_left after < m → units_left after < n → words_within m after ≡ words_within n after)
+    by_word : (x : Step (Option WordModel)) → called (path_word_of s) ≡ x → ((after : State) → units_left after < m → units_left after < n → words_within m after ≡ words_within n after)
         → (x >>= (λ word. words_from word.0 word.1 (words_within m word.1))) ≡ (x >>= (λ word. words_from word.0 word.1 (words_within n word.1)))
     by_word (Err f) e rest = refl
     by_word (Ok (None, after)) e rest = refl
@@ -94,7 +94,7 @@ pub words_next-ends : (s after : State) → called (path_word_of s) ≡ Ok (None
 unfolding words_within
 words_next-ends s after h = words_next-is s ∙ (let w : words_within (suc (units_left s)) s ≡ Ok ([], after) = rw h refl in w)
 
-pub words_next-more : (s : State) (w : WordText) (after : State) → called (path_word_of s) ≡ Ok (Some w, after) → words_next s ≡ words_from (Some w) after (words_next after)
+pub words_next-more : (s : State) (w : WordModel) (after : State) → called (path_word_of s) ≡ Ok (Some w, after) → words_next s ≡ words_from (Some w) after (words_next after)
 unfolding words_within
 words_next-more s w after h =
     let shorter = units_left-word s w after h in
@@ -104,18 +104,18 @@ words_next-more s w after h =
 -- ---- turns of a loop
 
 -- what is read before is put in front
-abbrev pub in_front : List WordText → Step (List WordText) → Step (List WordText)
+abbrev pub in_front : List WordModel → Step (List WordModel) → Step (List WordModel)
 in_front front others = others >>= λ o. Ok (front ++ o.0, o.1)
 
-in_front-more : (front : List WordText) (w : WordText) (after : State) (others : Step (List WordText)) → in_front front (words_from (Some w) after others) ≡ in_front (front ++ w ∷ []) others
+in_front-more : (front : List WordModel) (w : WordModel) (after : State) (others : Step (List WordModel)) → in_front front (words_from (Some w) after others) ≡ in_front (front ++ w ∷ []) others
 in_front-more front w after (Err f) = refl
-in_front-more front w after (Ok o) = ap (λ (x : List WordText). Ok (x, o.1)) (sym (append_assoc front (w ∷ []) o.0))
+in_front-more front w after (Ok o) = ap (λ (x : List WordModel). Ok (x, o.1)) (sym (append_assoc front (w ∷ []) o.0))
 
-pub words-turn : (whole : Step (List WordText)) (front : List WordText) (s : State) (w : WordText) (after : State) → in_front front (words_next s) ≡ whole → called (path_word_of s) ≡ Ok (Some w, after) → in_front (front ++ w ∷ []) (words_next after) ≡ whole
+pub words-turn : (whole : Step (List WordModel)) (front : List WordModel) (s : State) (w : WordModel) (after : State) → in_front front (words_next s) ≡ whole → called (path_word_of s) ≡ Ok (Some w, after) → in_front (front ++ w ∷ []) (words_next after) ≡ whole
 words-turn whole front s w after h e = sym (in_front-more front w after (words_next after)) ∙ sym (ap (in_front front) (words_next-more s w after e)) ∙ h
 
-pub words-end : (whole : Step (List WordText)) (front : List WordText) (s after : State) → in_front front (words_next s) ≡ whole → called (path_word_of s) ≡ Ok (None, after) → whole ≡ Ok (front, after)
-words-end whole front s after h e = sym h ∙ ap (in_front front) (words_next-ends s after e) ∙ ap (λ (x : List WordText). Ok (x, after)) (append-nil front)
+pub words-end : (whole : Step (List WordModel)) (front : List WordModel) (s after : State) → in_front front (words_next s) ≡ whole → called (path_word_of s) ≡ Ok (None, after) → whole ≡ Ok (front, after)
+words-end whole front s after h e = sym h ∙ ap (in_front front) (words_next-ends s after e) ∙ ap (λ (x : List WordModel). Ok (x, after)) (append-nil front)
 
-pub words-fail : (whole : Step (List WordText)) (front : List WordText) (s : State) (f : Fault) → in_front front (words_next s) ≡ whole → called (path_word_of s) ≡ Err f → whole ≡ Err f
+pub words-fail : (whole : Step (List WordModel)) (front : List WordModel) (s : State) (f : Fault) → in_front front (words_next s) ≡ whole → called (path_word_of s) ≡ Err f → whole ≡ Err f
 words-fail whole front s f h e = sym h ∙ ap (in_front front) (words_next-fails s f e)

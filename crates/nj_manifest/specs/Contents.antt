@@ -1,7 +1,7 @@
 -- Statements as they are in memory, without their addresses.
 use Rattle.std.specs.Prelude.{List, map}
 use Rattle.nj_text.specs.declared.word.Word.{Word}
-use Rattle.nj_text.specs.Words.{WordText, word_text}
+use Rattle.nj_text.specs.Words.{WordModel, word_model}
 use Rattle.nj_manifest.specs.declared.statement.Line.{Line}
 use Rattle.nj_manifest.specs.declared.statement.Rule.{Rule}
 use Rattle.nj_manifest.specs.declared.statement.Pool.{Pool}
@@ -9,57 +9,57 @@ use Rattle.nj_manifest.specs.declared.statement.Build.{Build}
 use Rattle.nj_manifest.specs.declared.statement.Placed.{Placed}
 use Rattle.nj_manifest.specs.declared.statement.Statement.{Statement}
 use Rattle.nj_manifest.specs.declared.statement.Statement.TheVariants as statement
-use Rattle.nj_manifest.specs.LineSteps.{NameText}
-use Rattle.nj_manifest.specs.Statements.{LineText, OutputsText, InputsText}
-use Rattle.nj_manifest.specs.Statements.{StatementText, BindingText, RuleText, PoolText, BuildText, DefaultText, IncludeText}
-use Rattle.nj_manifest.specs.Statements.{SubninjaText, PlacedText}
+use Rattle.nj_manifest.specs.LineSteps.{NameModel}
+use Rattle.nj_manifest.specs.Statements.{LineModel, OutputsModel, InputsModel}
+use Rattle.nj_manifest.specs.Statements.{StatementModel, BindingModel, RuleModel, PoolModel, BuildModel, DefaultModel, IncludeModel}
+use Rattle.nj_manifest.specs.Statements.{SubninjaModel, PlacedModel}
 
-abbrev pub line_text : Line → LineText
-line_text l = record { spot = l.spot; name = l.name.now; value = word_text l.value }
+abbrev pub line_model : Line → LineModel
+line_model l = record { spot = l.spot; name = l.name.now; value = word_model l.value }
 
-abbrev pub lines_text : List Line → List LineText
-lines_text ls = map line_text ls
+abbrev pub lines_model : List Line → List LineModel
+lines_model ls = map line_model ls
 
-abbrev pub words_text : List Word → List WordText
-words_text ws = map word_text ws
+abbrev pub words_model : List Word → List WordModel
+words_model ws = map word_model ws
 
-abbrev pub rule_text : Rule → StatementText
-rule_text r = RuleText (record { spot = r.name_spot; name = r.name.now }) (lines_text r.lines.items)
+abbrev pub rule_model : Rule → StatementModel
+rule_model r = RuleModel (record { spot = r.name_spot; name = r.name.now }) (lines_model r.lines.items)
 
-abbrev pub pool_text : Pool → StatementText
-pool_text p = PoolText (record { spot = p.name_spot; name = p.name.now }) (lines_text p.lines.items)
+abbrev pub pool_model : Pool → StatementModel
+pool_model p = PoolModel (record { spot = p.name_spot; name = p.name.now }) (lines_model p.lines.items)
 
 -- ---- build statements
 
-abbrev pub outputs_text : Build → OutputsText
-outputs_text b = record { explicit = words_text b.explicit_outs.items; implicit = words_text b.implicit_outs.items }
+abbrev pub outputs_model : Build → OutputsModel
+outputs_model b = record { explicit = words_model b.explicit_outs.items; implicit = words_model b.implicit_outs.items }
 
 -- the name of its rule
-abbrev pub used_rule : Build → NameText
+abbrev pub used_rule : Build → NameModel
 used_rule b = record { spot = b.rule_spot; name = b.rule.now }
 
-abbrev pub inputs_text : Build → InputsText
-inputs_text b =
+abbrev pub inputs_model : Build → InputsModel
+inputs_model b =
     record {
-      explicit = words_text b.explicit.items;
-      implicit = words_text b.implicit.items;
-      order_only = words_text b.order_only.items;
-      validations = words_text b.validations.items;
+      explicit = words_model b.explicit.items;
+      implicit = words_model b.implicit.items;
+      order_only = words_model b.order_only.items;
+      validations = words_model b.validations.items;
     }
 
-abbrev pub build_text : Build → StatementText
-build_text b = BuildText (outputs_text b) (used_rule b) (inputs_text b) (lines_text b.lines.items)
+abbrev pub build_model : Build → StatementModel
+build_model b = BuildModel (outputs_model b) (used_rule b) (inputs_model b) (lines_model b.lines.items)
 
 -- ---- statements
 
-abbrev pub statement_text : Statement → StatementText
-statement_text (statement.Binding name value) = BindingText name.now (word_text value)
-statement_text (statement.Rule r) = rule_text r
-statement_text (statement.Pool p) = pool_text p
-statement_text (statement.Build b) = build_text b
-statement_text (statement.Default words) = DefaultText (words_text words.items)
-statement_text (statement.Include word) = IncludeText (word_text word)
-statement_text (statement.Subninja word) = SubninjaText (word_text word)
+abbrev pub statement_model : Statement → StatementModel
+statement_model (statement.Binding name value) = BindingModel name.now (word_model value)
+statement_model (statement.Rule r) = rule_model r
+statement_model (statement.Pool p) = pool_model p
+statement_model (statement.Build b) = build_model b
+statement_model (statement.Default words) = DefaultModel (words_model words.items)
+statement_model (statement.Include word) = IncludeModel (word_model word)
+statement_model (statement.Subninja word) = SubninjaModel (word_model word)
 
-abbrev pub placed_text : Placed Statement → PlacedText
-placed_text p = record { spot = p.spot; item = statement_text p.item }
+abbrev pub placed_model : Placed Statement → PlacedModel
+placed_model p = record { spot = p.spot; item = statement_model p.item }

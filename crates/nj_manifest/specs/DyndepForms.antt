@@ -4,13 +4,13 @@ use Rattle.nj_text.specs.declared.sign.Sign.TheVariants as sign
 use Rattle.nj_text.specs.Units.{TextUnit}
 use Rattle.nj_text.specs.Lines.{Line, lines_after, CommentLine, BlankLine, PlainLine, kind_of}
 use Rattle.nj_text.specs.Calls.{State, Between, Inside, without_comments}
-use Rattle.nj_manifest.specs.declared.block.Keys.TheVariants as keys
-use Rattle.nj_manifest.specs.Statements.{LineText}
+use Rattle.nj_manifest.specs.declared.block_lines.Keys.TheVariants as keys
+use Rattle.nj_manifest.specs.Statements.{LineModel}
 use Rattle.nj_manifest.specs.Grammar.{AreBlanks, KeywordForm, WordForm, SignForm, SectionForm, BlockForm}
-use Rattle.nj_manifest.specs.Dyndeps.{EntryText, entry_line, next_entry}
+use Rattle.nj_manifest.specs.Dyndeps.{EntryModel, entry_line, next_entry}
 
 -- `build OUTPUT | OUTPUTS: dyndep | INPUTS`
-pub record EntryForm (us : List TextUnit) (entry : EntryText) : Type 0 where
+pub record EntryForm (us : List TextUnit) (entry : EntryModel) : Type 0 where
   pub after_build : List TextUnit
   pub after_out : List TextUnit
   pub after_outs : List TextUnit
@@ -28,22 +28,22 @@ pub record EntryForm (us : List TextUnit) (entry : EntryText) : Type 0 where
 -- A line is read as an entry exactly where it has the form, and then to its end.
 abbrev pub EntriesAreTheForms : Type 0
 EntriesAreTheForms =
-    (l : Line) (ls : List Line) (entry : EntryText) (s : State)
+    (l : Line) (ls : List Line) (entry : EntryModel) (s : State)
     → (entry_line (Inside l ls) ≡ Ok (entry, s)) ↔ (EntryForm l.units entry × (s ≡ Between (lines_after l ls)))
 
 -- a block with one line at most, `restat = VALUE`
 pub record RestatForm (ls : List Line) (rest : List Line) : Type 0 where
-  pub lines : List LineText
+  pub lines : List LineModel
   pub block : BlockForm keys.All ls lines rest
-  pub one_at_most : (lines ≡ []) ⊎ ((line : LineText) × (lines ≡ line ∷ []) × (line.name ≡ codes "restat"))
+  pub one_at_most : (lines ≡ []) ⊎ ((line : LineModel) × (lines ≡ line ∷ []) × (line.name ≡ codes "restat"))
 
 -- The next entry of some lines, and the lines after it; or none. Comments and blank lines are skipped.
-pub data NextEntryForm : List Line → Option EntryText → (rest : List Line) → Type 0 where
-  statement : {l : Line} {ls rest : List Line} {entry : EntryText} → kind_of l ≡ PlainLine → EntryForm l.units entry
+pub data NextEntryForm : List Line → Option EntryModel → (rest : List Line) → Type 0 where
+  statement : {l : Line} {ls rest : List Line} {entry : EntryModel} → kind_of l ≡ PlainLine → EntryForm l.units entry
       → RestatForm (lines_after l ls) rest → NextEntryForm (l ∷ ls) (Some entry) rest
-  blank : {l : Line} {ls rest : List Line} {found : Option EntryText} → kind_of l ≡ BlankLine → l.is_last ≡ false
+  blank : {l : Line} {ls rest : List Line} {found : Option EntryModel} → kind_of l ≡ BlankLine → l.is_last ≡ false
       → NextEntryForm ls found rest → NextEntryForm (l ∷ ls) found rest
-  comment : {l : Line} {ls rest : List Line} {found : Option EntryText} → kind_of l ≡ CommentLine → l.is_last ≡ false
+  comment : {l : Line} {ls rest : List Line} {found : Option EntryModel} → kind_of l ≡ CommentLine → l.is_last ≡ false
       → NextEntryForm ls found rest → NextEntryForm (l ∷ ls) found rest
   last_blank : {l : Line} {ls : List Line} → kind_of l ≡ BlankLine → l.is_last ≡ true → NextEntryForm (l ∷ ls) None (lines_after l ls)
   last_comment : {l : Line} {ls : List Line} → kind_of l ≡ CommentLine → l.is_last ≡ true
@@ -53,4 +53,4 @@ pub data NextEntryForm : List Line → Option EntryText → (rest : List Line) �
 -- An entry is read from lines, or none, exactly where the forms allow it.
 abbrev pub NextEntriesAreTheForms : Type 0
 NextEntriesAreTheForms =
-    (ls : List Line) (found : Option EntryText) (rest : List Line) → (next_entry ls ≡ Ok (found, rest)) ↔ NextEntryForm ls found rest
+    (ls : List Line) (found : Option EntryModel) (rest : List Line) → (next_entry ls ≡ Ok (found, rest)) ↔ NextEntryForm ls found rest

@@ -7,7 +7,7 @@ use Rattle.nj_text.specs.Lines.{Line, text_lines, line_spot, is_space_unit}
 use Rattle.nj_manifest.specs.Faults.{Fault, DyndepShape}
 use Rattle.nj_manifest.specs.Grammar.{AreBlanks}
 use Rattle.nj_manifest.specs.Leftmost.{continues, element, written, are_plain, NamesThePlaceOf, met_before, offers}
-use Rattle.nj_manifest.specs.Dyndeps.{EntryText, is_same_spot, version_next, next_entry}
+use Rattle.nj_manifest.specs.Dyndeps.{EntryModel, is_same_spot, version_next, next_entry}
 
 -- Units of which each has a place of its own, as the units of a text have.
 abbrev pub are_apart : List TextUnit → Bool
@@ -30,7 +30,7 @@ pub record SomeEntry (before : List Line) (begun : List TextUnit) (fault : Fault
   pub plain_bytes : are_plain bytes ≡ true
   pub offered : offers fault bytes ≡ true
   pub plain_lines : list_all are_plain lines ≡ true
-  pub entry : EntryText
+  pub entry : EntryModel
   pub rest : List Line
   pub reads : next_entry (continues before begun (written bytes) (map written lines)) ≡ Ok (Some entry, rest)
 
@@ -42,7 +42,7 @@ pub record LineTooMany (before : List Line) (begun : List TextUnit) : Type 0 whe
   pub cut : begun ≡ spaces ++ gap
   pub of_spaces : list_all is_space_unit spaces ≡ true
   pub of_blanks : AreBlanks gap
-  pub entry : EntryText
+  pub entry : EntryModel
   pub rest : List Line
   pub reads : next_entry (continues before spaces (written []) []) ≡ Ok (Some entry, rest)
 
@@ -75,4 +75,4 @@ abbrev pub UnitsOfStringsAreApart : Type 0
 UnitsOfStringsAreApart =
     ((text : List ℕ) → AreApart (text_lines text))
     × ((ls rest : List Line) → AreApart ls → version_next ls ≡ Ok rest → AreApart rest)
-    × ((ls : List Line) (found : Option EntryText) (rest : List Line) → AreApart ls → next_entry ls ≡ Ok (found, rest) → AreApart rest)
+    × ((ls : List Line) (found : Option EntryModel) (rest : List Line) → AreApart ls → next_entry ls ≡ Ok (found, rest) → AreApart rest)

@@ -1,22 +1,22 @@
 -- What a parser of dyndep files returns.
 use Rattle.std.specs.Prelude.{◌≡◌, Option, option_map, Result, Ok, Err, List}
 use Rattle.nj_text.specs.Lines as lines
-use Rattle.nj_text.specs.Words.{word_text}
-use Rattle.nj_manifest.specs.declared.fault.ParseFault.{ParseFault}
+use Rattle.nj_text.specs.Words.{word_model}
+use Rattle.nj_manifest.specs.declared.parse_fault.ParseFault.{ParseFault}
 use Rattle.nj_manifest.specs.declared.entries.Entry.{Entry}
 use Rattle.nj_manifest.specs.Faults.{Fault, fault_text}
 use Rattle.nj_manifest.specs.Parsers.{Fails}
-use Rattle.nj_manifest.specs.Contents.{words_text}
-use Rattle.nj_manifest.specs.Dyndeps.{EntryText, DyndepLeft, Entries, Refusing, entry_of}
+use Rattle.nj_manifest.specs.Contents.{words_model}
+use Rattle.nj_manifest.specs.Dyndeps.{EntryModel, DyndepLeft, Entries, Refusing, entry_of}
 use Rattle.nj_manifest.specs.Openings.{Parse}
 
-abbrev pub entry_text : Entry → EntryText
-entry_text e = record { out = word_text e.out; outs = words_text e.outs.items; ins = words_text e.ins.items }
+abbrev pub entry_model : Entry → EntryModel
+entry_model e = record { out = word_model e.out; outs = words_model e.outs.items; ins = words_model e.ins.items }
 
 -- what a parser returns if this is read from what is left
-abbrev pub ReturnsEntry : Parse (Option EntryText) → (after : DyndepLeft) → Result (Option Entry) ParseFault → Type 0
+abbrev pub ReturnsEntry : Parse (Option EntryModel) → (after : DyndepLeft) → Result (Option Entry) ParseFault → Type 0
 ReturnsEntry expected after (Ok found) =
-    (rest : List lines.Line) × (expected ≡ Ok (option_map entry_text found, rest)) × (after ≡ Entries rest)
+    (rest : List lines.Line) × (expected ≡ Ok (option_map entry_model found, rest)) × (after ≡ Entries rest)
 ReturnsEntry expected after (Err f) = Fails f expected × (after ≡ Refusing (fault_text f))
 
 abbrev pub RefusesAgain : Fault → Result (Option Entry) ParseFault → Type 0

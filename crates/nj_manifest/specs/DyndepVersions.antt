@@ -3,7 +3,7 @@ use Rattle.std.specs.Prelude.{◌≡◌, ℕ, false, Ok, List, ◌∷◌, codes,
 use Rattle.nj_text.specs.declared.spot.Spot.{Spot}
 use Rattle.nj_text.specs.Numbers.{version_pair_of}
 use Rattle.nj_text.specs.Lines.{Line, lines_after, CommentLine, BlankLine, PlainLine, kind_of}
-use Rattle.nj_text.specs.Words.{WordText}
+use Rattle.nj_text.specs.Words.{WordModel}
 use Rattle.nj_manifest.specs.Expansion.{expanded, no_values}
 use Rattle.nj_manifest.specs.Grammar.{BindingForm}
 use Rattle.nj_manifest.specs.Dyndeps.{version_next}
@@ -15,7 +15,7 @@ first_version = (1, 0)
 -- `ninja_dyndep_version = VALUE`, where the value begins with the first version
 pub record VersionLineForm (l : Line) : Type 0 where
   pub spot : Spot
-  pub value : WordText
+  pub value : WordModel
   pub binding : BindingForm l.units l.end (record { spot = spot; name = codes "ninja_dyndep_version" }) value
   pub version : version_pair_of (expanded no_values value.parts) ≡ first_version
 

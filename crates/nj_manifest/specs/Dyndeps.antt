@@ -9,7 +9,7 @@ use Rattle.nj_text.specs.declared.line_start.LineStart.TheVariants as start
 use Rattle.nj_text.specs.declared.spot.Spot.{Spot}
 use Rattle.nj_text.specs.Numbers.{version_pair_of}
 use Rattle.nj_text.specs.Lines.{Line}
-use Rattle.nj_text.specs.Words.{WordText}
+use Rattle.nj_text.specs.Words.{WordModel}
 use Rattle.nj_text.specs.Calls.{State, Reply, Inside, start_line_of, skip_blanks_of, sign_of, path_word_of, spot_of}
 use Rattle.nj_text.specs.Calls.{fault_spot, first_line_spot}
 use Rattle.nj_manifest.specs.declared.cause.Wanted.{Wanted}
@@ -44,10 +44,10 @@ version_next ls = opening ls >>= version_from
 -- ---- an entry
 
 -- the output that names a build statement, and the additional outputs and inputs of that statement
-pub record EntryText : Type 0 where
-  pub out : WordText
-  pub outs : List WordText
-  pub ins : List WordText
+pub record EntryModel : Type 0 where
+  pub out : WordModel
+  pub outs : List WordModel
+  pub ins : List WordModel
 
 -- this identifier; any other departs from the form
 unfoldable pub word_of_form : (word : List ℕ) → Wanted → State → Result State Fault
@@ -58,7 +58,7 @@ word_of_form word wanted s = do
 abbrev pub is_same_spot : Spot → Spot → Bool
 is_same_spot a b = a.line == b.line && a.column == b.column
 
-abbrev pub no_path_by : Spot → Reply (Option WordText) → Result State Fault
+abbrev pub no_path_by : Spot → Reply (Option WordModel) → Result State Fault
 no_path_by spot (Ok (None, after)) = Ok after
 no_path_by spot (Ok (Some word, after)) = Err (DyndepShape spot)
 no_path_by spot (Err unit) = if is_same_spot (fault_spot unit) spot then Err (Bad unit) else Err (DyndepShape spot)
@@ -74,7 +74,7 @@ no_section want s = do
   if not there.0 then Ok there.1 else Err (DyndepShape (spot_of (skip_blanks_of s)))
 
 -- After `build`: the one explicit output. Where there is none, implicit outputs depart from the form at their `|`.
-unfoldable pub output_next : State → Step WordText
+unfoldable pub output_next : State → Step WordModel
 output_next s = do
   found ← called (path_word_of s)
   out ← option_map_or Ok found.0 (called (sign_of sign.Pipe found.1) >>= λ pipe.
@@ -83,7 +83,7 @@ output_next s = do
   Ok (out, end)
 
 -- after the rule's name: no explicit inputs, and of the other sections only the implicit inputs
-unfoldable pub added_inputs : State → Step (List WordText)
+unfoldable pub added_inputs : State → Step (List WordModel)
 added_inputs s = do
   alone ← no_path s
   ins ← section_next sign.Pipe alone
@@ -92,7 +92,7 @@ added_inputs s = do
   whole_line (Ok (ins.0, validations))
 
 -- `build OUTPUT | OUTPUTS: dyndep | INPUTS`
-unfoldable pub entry_line : State → Step EntryText
+unfoldable pub entry_line : State → Step EntryModel
 entry_line s = do
   build ← word_of_form (codes "build") wanted.Statement s
   out ← output_next build
@@ -117,7 +117,7 @@ restat_block s = in_block s (λ line. do
   value ← equals_value key
   in_block value.1 (λ extra. name_next wanted.VariableName extra >>= λ name. Err (DyndepShape name.0.spot)))
 
-abbrev pub entry_from : Option Line × List Line → Parse (Option EntryText)
+abbrev pub entry_from : Option Line × List Line → Parse (Option EntryModel)
 entry_from (Some l, ls) = do
   entry ← entry_line (Inside l ls)
   end ← restat_block entry.1
@@ -125,7 +125,7 @@ entry_from (Some l, ls) = do
 entry_from (None, ls) = Ok (None, ls)
 
 -- the next entry of the lines, if there is one, and the lines after it
-unfoldable pub next_entry : List Line → Parse (Option EntryText)
+unfoldable pub next_entry : List Line → Parse (Option EntryModel)
 next_entry ls = opening ls >>= entry_from
 
 -- ---- a parser
@@ -138,12 +138,12 @@ pub data DyndepLeft : Type 0 where
   Refusing : (fault : Fault) → DyndepLeft
 
 -- the next entry, after the version if that was not read yet
-abbrev pub left_entry : (version_read : Bool) → List Line → Parse (Option EntryText)
+abbrev pub left_entry : (version_read : Bool) → List Line → Parse (Option EntryModel)
 left_entry true ls = next_entry ls
 left_entry false ls = version_next ls >>= next_entry
 
 -- what comes next of these
-abbrev pub entry_of : DyndepLeft → Parse (Option EntryText)
+abbrev pub entry_of : DyndepLeft → Parse (Option EntryModel)
 entry_of (WholeFile ls) = left_entry false ls
 entry_of (Entries ls) = left_entry true ls
 entry_of (Refusing fault) = Err fault

@@ -1,14 +1,14 @@
 -- What stands in the place of references.
 use Rattle.std.specs.Prelude.{ℕ, List, []}
 use Rattle.std.specs.List.{flat_map}
-use Rattle.nj_text.specs.Words.{PartText, Text, Name}
+use Rattle.nj_text.specs.Words.{PartModel, Text, Name}
 
 -- the value of parts, where names have these values
-abbrev pub part_expanded : (value : List ℕ → List ℕ) → PartText → List ℕ
+abbrev pub part_expanded : (value : List ℕ → List ℕ) → PartModel → List ℕ
 part_expanded value (Text bytes) = bytes
 part_expanded value (Name name) = value name
 
-abbrev pub expanded : (value : List ℕ → List ℕ) → List PartText → List ℕ
+abbrev pub expanded : (value : List ℕ → List ℕ) → List PartModel → List ℕ
 expanded value parts = flat_map (part_expanded value) parts
 
 -- a dyndep file binds no name, so that references in it are empty

@@ -12,8 +12,8 @@ use Rattle.nj_manifest.specs.declared.cause.SyntaxCause.{SyntaxCause}
 use Rattle.nj_manifest.specs.declared.cause.SyntaxCause.TheVariants as cause
 use Rattle.nj_manifest.specs.declared.cause.Wanted.{Wanted}
 use Rattle.nj_manifest.specs.declared.cause.Wanted.TheVariants as wanted
-use Rattle.nj_manifest.specs.declared.fault.ParseFault.{ParseFault}
-use Rattle.nj_manifest.specs.declared.fault.ParseFault.TheVariants as fault
+use Rattle.nj_manifest.specs.declared.parse_fault.ParseFault.{ParseFault}
+use Rattle.nj_manifest.specs.declared.parse_fault.ParseFault.TheVariants as fault
 
 -- a fault with its place and names
 pub data Fault : Type 0 where

@@ -8,15 +8,15 @@ use Rattle.nj_text.specs.declared.sign.Sign.TheVariants as sign
 use Rattle.nj_text.specs.declared.spot.Spot.{Spot}
 use Rattle.nj_text.specs.Units.{Ordinary, TextUnit}
 use Rattle.nj_text.specs.Lines.{Line, line_spot, lines_after, spot_of_first, CommentLine, BlankLine, IndentedLine, PlainLine, kind_of}
-use Rattle.nj_text.specs.Words.{WordText, is_blank, opens_line, in_identifier, opens_word, in_word, first_fault, parts_of}
+use Rattle.nj_text.specs.Words.{WordModel, is_blank, opens_line, in_identifier, opens_word, in_word, first_fault, parts_of}
 use Rattle.nj_text.specs.Words.{begins_with_byte}
 use Rattle.nj_text.specs.Calls.{bytes_of, is_empty, without_comments}
-use Rattle.nj_manifest.specs.declared.block.Keys.{Keys}
-use Rattle.nj_manifest.specs.declared.block.Keys.TheVariants as keys
+use Rattle.nj_manifest.specs.declared.block_lines.Keys.{Keys}
+use Rattle.nj_manifest.specs.declared.block_lines.Keys.TheVariants as keys
 use Rattle.nj_manifest.specs.Faults.{Fault, MissingCommand, RspPair, MissingDepth}
-use Rattle.nj_manifest.specs.LineSteps.{NameText}
-use Rattle.nj_manifest.specs.Statements.{LineText, allows, OutputsText, InputsText, StatementText, BindingText, RuleText}
-use Rattle.nj_manifest.specs.Statements.{PoolText, BuildText, DefaultText, IncludeText, SubninjaText, PlacedText}
+use Rattle.nj_manifest.specs.LineSteps.{NameModel}
+use Rattle.nj_manifest.specs.Statements.{LineModel, allows, OutputsModel, InputsModel, StatementModel, BindingModel, RuleModel}
+use Rattle.nj_manifest.specs.Statements.{PoolModel, BuildModel, DefaultModel, IncludeModel, SubninjaModel, PlacedModel}
 
 -- ---- parts of a line
 
@@ -30,7 +30,7 @@ abbrev pub AreBlanks : List TextUnit → Type 0
 AreBlanks us = list_all is_blank us ≡ true
 
 -- Units that are blanks, an identifier, and the rest. The identifier has a byte at least, and is as long as possible.
-pub record IdentifierForm (us : List TextUnit) (name : NameText) (rest : List TextUnit) : Type 0 where
+pub record IdentifierForm (us : List TextUnit) (name : NameModel) (rest : List TextUnit) : Type 0 where
   pub gap : List TextUnit
   pub first : TextUnit
   pub others : List TextUnit
@@ -52,7 +52,7 @@ abbrev pub keywords : List (List ℕ)
 keywords = codes "build" ∷ codes "rule" ∷ codes "pool" ∷ codes "default" ∷ codes "include" ∷ codes "subninja" ∷ []
 
 -- Blanks, a path, and the rest. The path is as long as possible.
-pub record WordForm (us : List TextUnit) (word : WordText) (rest : List TextUnit) : Type 0 where
+pub record WordForm (us : List TextUnit) (word : WordModel) (rest : List TextUnit) : Type 0 where
   pub gap : List TextUnit
   pub first : TextUnit
   pub others : List TextUnit
@@ -65,9 +65,9 @@ pub record WordForm (us : List TextUnit) (word : WordText) (rest : List TextUnit
   pub parts : word.parts ≡ parts_of (first ∷ others)
 
 -- paths, none or some, and the rest
-pub data WordsForm : (us : List TextUnit) → List WordText → (rest : List TextUnit) → Type 0 where
+pub data WordsForm : (us : List TextUnit) → List WordModel → (rest : List TextUnit) → Type 0 where
   none : {us : List TextUnit} → WordsForm us [] us
-  more : {us after rest : List TextUnit} {word : WordText} {words : List WordText}
+  more : {us after rest : List TextUnit} {word : WordModel} {words : List WordModel}
       → WordForm us word after → WordsForm after words rest → WordsForm us (word ∷ words) rest
 
 -- the bytes of a sign; the end of a line has none
@@ -94,9 +94,9 @@ pub record SignForm (want : Sign) (us : List TextUnit) (rest : List TextUnit) : 
   pub longest : is_longest want rest ≡ true
 
 -- a section that may be left out: its sign and its paths
-pub data SectionForm (want : Sign) : (us : List TextUnit) → List WordText → (rest : List TextUnit) → Type 0 where
+pub data SectionForm (want : Sign) : (us : List TextUnit) → List WordModel → (rest : List TextUnit) → Type 0 where
   left_out : {us : List TextUnit} → SectionForm want us [] us
-  there : {us after rest : List TextUnit} {words : List WordText}
+  there : {us after rest : List TextUnit} {words : List WordModel}
       → SignForm want us after → WordsForm after words rest → SectionForm want us words rest
 
 -- a join that opens its line, or nothing (in a text no such join follows a sign of the same line)
@@ -107,7 +107,7 @@ is_opening (u ∷ v ∷ us) = false
 
 -- Blanks, and after them all the others, among which there is no bad unit. A value without units is placed where its
 -- line ends.
-pub record ValueForm (us : List TextUnit) (end : Spot) (value : WordText) : Type 0 where
+pub record ValueForm (us : List TextUnit) (end : Spot) (value : WordModel) : Type 0 where
   pub opening : List TextUnit
   pub gap : List TextUnit
   pub run : List TextUnit
@@ -123,7 +123,7 @@ pub record ValueForm (us : List TextUnit) (end : Spot) (value : WordText) : Type
 -- ---- first lines
 
 -- `build OUTPUTS | IMPLICIT-OUTPUTS: RULE INPUTS | IMPLICIT || ORDER-ONLY |@ VALIDATIONS`, with an output at least
-pub record BuildForm (us : List TextUnit) (outputs : OutputsText) (rule : NameText) (inputs : InputsText) : Type 0 where
+pub record BuildForm (us : List TextUnit) (outputs : OutputsModel) (rule : NameModel) (inputs : InputsModel) : Type 0 where
   pub after_build : List TextUnit
   pub after_explicit : List TextUnit
   pub after_outputs : List TextUnit
@@ -146,7 +146,7 @@ pub record BuildForm (us : List TextUnit) (outputs : OutputsText) (rule : NameTe
   pub end : AreBlanks after_validations
 
 -- `NAME = VALUE`
-pub record BindingForm (us : List TextUnit) (end : Spot) (name : NameText) (value : WordText) : Type 0 where
+pub record BindingForm (us : List TextUnit) (end : Spot) (name : NameModel) (value : WordModel) : Type 0 where
   pub after_name : List TextUnit
   pub after_sign : List TextUnit
   pub of_name : IdentifierForm us name after_name
@@ -154,7 +154,7 @@ pub record BindingForm (us : List TextUnit) (end : Spot) (name : NameText) (valu
   pub of_value : ValueForm after_sign end value
 
 -- this keyword and a name
-pub record NamedForm (word : List ℕ) (us : List TextUnit) (name : NameText) : Type 0 where
+pub record NamedForm (word : List ℕ) (us : List TextUnit) (name : NameModel) : Type 0 where
   pub after_keyword : List TextUnit
   pub after_name : List TextUnit
   pub keyword : KeywordForm word us after_keyword
@@ -162,7 +162,7 @@ pub record NamedForm (word : List ℕ) (us : List TextUnit) (name : NameText) : 
   pub end : AreBlanks after_name
 
 -- this keyword and a path
-pub record FileForm (word : List ℕ) (us : List TextUnit) (file : WordText) : Type 0 where
+pub record FileForm (word : List ℕ) (us : List TextUnit) (file : WordModel) : Type 0 where
   pub after_keyword : List TextUnit
   pub after_file : List TextUnit
   pub keyword : KeywordForm word us after_keyword
@@ -170,7 +170,7 @@ pub record FileForm (word : List ℕ) (us : List TextUnit) (file : WordText) : T
   pub end : AreBlanks after_file
 
 -- `default` and paths, one at least
-pub record DefaultForm (us : List TextUnit) (targets : List WordText) : Type 0 where
+pub record DefaultForm (us : List TextUnit) (targets : List WordModel) : Type 0 where
   pub after_keyword : List TextUnit
   pub after_targets : List TextUnit
   pub keyword : KeywordForm (codes "default") us after_keyword
@@ -179,39 +179,39 @@ pub record DefaultForm (us : List TextUnit) (targets : List WordText) : Type 0 w
   pub end : AreBlanks after_targets
 
 -- what a statement gives on its first line
-pub data HeadText : Type 0 where
+pub data HeadModel : Type 0 where
   -- a statement without block
-  Alone : (item : StatementText) → HeadText
-  RuleHead : (name : NameText) → HeadText
-  PoolHead : (name : NameText) → HeadText
-  BuildHead : (outputs : OutputsText) (rule : NameText) (inputs : InputsText) → HeadText
+  Alone : (item : StatementModel) → HeadModel
+  RuleHead : (name : NameModel) → HeadModel
+  PoolHead : (name : NameModel) → HeadModel
+  BuildHead : (outputs : OutputsModel) (rule : NameModel) (inputs : InputsModel) → HeadModel
 
 -- the first line of a statement, by the manual's cases
-pub data HeadForm (l : Line) : HeadText → Type 0 where
-  binding : {name : NameText} {value : WordText} → BindingForm l.units l.end name value → list_any (bytes_eq name.name) keywords ≡ false
-      → HeadForm l (Alone (BindingText name.name value))
-  rule : {name : NameText} → NamedForm (codes "rule") l.units name → HeadForm l (RuleHead name)
-  pool : {name : NameText} → NamedForm (codes "pool") l.units name → HeadForm l (PoolHead name)
-  build : {outputs : OutputsText} {name : NameText} {inputs : InputsText} → BuildForm l.units outputs name inputs
+pub data HeadForm (l : Line) : HeadModel → Type 0 where
+  binding : {name : NameModel} {value : WordModel} → BindingForm l.units l.end name value → list_any (bytes_eq name.name) keywords ≡ false
+      → HeadForm l (Alone (BindingModel name.name value))
+  rule : {name : NameModel} → NamedForm (codes "rule") l.units name → HeadForm l (RuleHead name)
+  pool : {name : NameModel} → NamedForm (codes "pool") l.units name → HeadForm l (PoolHead name)
+  build : {outputs : OutputsModel} {name : NameModel} {inputs : InputsModel} → BuildForm l.units outputs name inputs
       → HeadForm l (BuildHead outputs name inputs)
-  default : {targets : List WordText} → DefaultForm l.units targets → HeadForm l (Alone (DefaultText targets))
-  include : {file : WordText} → FileForm (codes "include") l.units file → HeadForm l (Alone (IncludeText file))
-  subninja : {file : WordText} → FileForm (codes "subninja") l.units file → HeadForm l (Alone (SubninjaText file))
+  default : {targets : List WordModel} → DefaultForm l.units targets → HeadForm l (Alone (DefaultModel targets))
+  include : {file : WordModel} → FileForm (codes "include") l.units file → HeadForm l (Alone (IncludeModel file))
+  subninja : {file : WordModel} → FileForm (codes "subninja") l.units file → HeadForm l (Alone (SubninjaModel file))
 
 -- ---- blocks
 
 -- `NAME = VALUE`, indented, with a name that may occur in the block
-pub record BlockLineForm (allowed : Keys) (l : Line) (line : LineText) : Type 0 where
+pub record BlockLineForm (allowed : Keys) (l : Line) (line : LineModel) : Type 0 where
   pub indented : kind_of l ≡ IndentedLine
   pub binding : BindingForm l.units l.end (record { spot = line.spot; name = line.name }) line.value
   pub key : allows allowed line.name ≡ true
 
 -- The lines of a block, and the lines after it. Comments may be among them. The block ends before a line that is not
 -- indented, but after it if it is a blank one.
-pub data BlockForm (allowed : Keys) : List Line → List LineText → (rest : List Line) → Type 0 where
-  line : {l : Line} {ls rest : List Line} {first : LineText} {others : List LineText} → BlockLineForm allowed l first
+pub data BlockForm (allowed : Keys) : List Line → List LineModel → (rest : List Line) → Type 0 where
+  line : {l : Line} {ls rest : List Line} {first : LineModel} {others : List LineModel} → BlockLineForm allowed l first
       → BlockForm allowed (lines_after l ls) others rest → BlockForm allowed (l ∷ ls) (first ∷ others) rest
-  comment : {l : Line} {ls rest : List Line} {lines : List LineText} → kind_of l ≡ CommentLine → l.is_last ≡ false
+  comment : {l : Line} {ls rest : List Line} {lines : List LineModel} → kind_of l ≡ CommentLine → l.is_last ≡ false
       → BlockForm allowed ls lines rest → BlockForm allowed (l ∷ ls) lines rest
   -- (no line follows the last of a text)
   last_comment : {l : Line} {ls : List Line} → kind_of l ≡ CommentLine → l.is_last ≡ true
@@ -221,10 +221,10 @@ pub data BlockForm (allowed : Keys) : List Line → List LineText → (rest : Li
   nothing : BlockForm allowed [] [] []
 
 -- the last line of this key, and its value has a part
-pub record Gives (key : List ℕ) (lines : List LineText) : Type 0 where
-  pub before : List LineText
-  pub line : LineText
-  pub after : List LineText
+pub record Gives (key : List ℕ) (lines : List LineModel) : Type 0 where
+  pub before : List LineModel
+  pub line : LineModel
+  pub after : List LineModel
   pub cut : lines ≡ before ++ line ∷ after
   pub of_key : line.name ≡ key
   pub is_last : list_any (λ l. bytes_eq l.name key) after ≡ false
@@ -233,36 +233,36 @@ pub record Gives (key : List ℕ) (lines : List LineText) : Type 0 where
 -- ---- statements
 
 -- a first line's statement, with the block that the lines after it begin with
-pub data StatementForm : HeadText → List Line → StatementText → (rest : List Line) → Type 0 where
-  alone : {item : StatementText} {ls : List Line} → StatementForm (Alone item) ls item ls
+pub data StatementForm : HeadModel → List Line → StatementModel → (rest : List Line) → Type 0 where
+  alone : {item : StatementModel} {ls : List Line} → StatementForm (Alone item) ls item ls
   -- a rule gives its command, and of the two keys of a response file both or neither
-  rule : {name : NameText} {ls rest : List Line} {lines : List LineText} → BlockForm keys.OfRule ls lines rest
+  rule : {name : NameModel} {ls rest : List Line} {lines : List LineModel} → BlockForm keys.OfRule ls lines rest
       → Gives (codes "command") lines → (Gives (codes "rspfile") lines ↔ Gives (codes "rspfile_content") lines)
-      → StatementForm (RuleHead name) ls (RuleText name lines) rest
+      → StatementForm (RuleHead name) ls (RuleModel name lines) rest
   -- a pool names its depth
-  pool : {name : NameText} {ls rest : List Line} {lines : List LineText} → BlockForm keys.OfPool ls lines rest
-      → list_any (λ l. bytes_eq l.name (codes "depth")) lines ≡ true → StatementForm (PoolHead name) ls (PoolText name lines) rest
-  build : {outputs : OutputsText} {name : NameText} {inputs : InputsText} {ls rest : List Line} {lines : List LineText}
-      → BlockForm keys.All ls lines rest → StatementForm (BuildHead outputs name inputs) ls (BuildText outputs name inputs lines) rest
+  pool : {name : NameModel} {ls rest : List Line} {lines : List LineModel} → BlockForm keys.OfPool ls lines rest
+      → list_any (λ l. bytes_eq l.name (codes "depth")) lines ≡ true → StatementForm (PoolHead name) ls (PoolModel name lines) rest
+  build : {outputs : OutputsModel} {name : NameModel} {inputs : InputsModel} {ls rest : List Line} {lines : List LineModel}
+      → BlockForm keys.All ls lines rest → StatementForm (BuildHead outputs name inputs) ls (BuildModel outputs name inputs lines) rest
 
 -- What the block of a rule or a pool lacks, though each of its lines has its form.
-pub data LackForm (spot : Spot) : HeadText → List Line → Fault → Type 0 where
+pub data LackForm (spot : Spot) : HeadModel → List Line → Fault → Type 0 where
   -- only one of the two keys of a response file
-  pair : {name : NameText} {ls rest : List Line} {lines : List LineText} → BlockForm keys.OfRule ls lines rest
+  pair : {name : NameModel} {ls rest : List Line} {lines : List LineModel} → BlockForm keys.OfRule ls lines rest
       → ((Gives (codes "rspfile") lines ↔ Gives (codes "rspfile_content") lines) → ⊥) → LackForm spot (RuleHead name) ls (RspPair spot)
-  command : {name : NameText} {ls rest : List Line} {lines : List LineText} → BlockForm keys.OfRule ls lines rest
+  command : {name : NameModel} {ls rest : List Line} {lines : List LineModel} → BlockForm keys.OfRule ls lines rest
       → (Gives (codes "rspfile") lines ↔ Gives (codes "rspfile_content") lines) → (Gives (codes "command") lines → ⊥)
       → LackForm spot (RuleHead name) ls (MissingCommand spot)
-  depth : {name : NameText} {ls rest : List Line} {lines : List LineText} → BlockForm keys.OfPool ls lines rest
+  depth : {name : NameModel} {ls rest : List Line} {lines : List LineModel} → BlockForm keys.OfPool ls lines rest
       → list_any (λ l. bytes_eq l.name (codes "depth")) lines ≡ false → LackForm spot (PoolHead name) ls (MissingDepth spot)
 
 -- The next statement of some lines, and the lines after it; or none. Comments and blank lines are skipped.
-pub data NextForm : List Line → Option PlacedText → (rest : List Line) → Type 0 where
-  statement : {l : Line} {ls rest : List Line} {head : HeadText} {item : StatementText} → kind_of l ≡ PlainLine → HeadForm l head
+pub data NextForm : List Line → Option PlacedModel → (rest : List Line) → Type 0 where
+  statement : {l : Line} {ls rest : List Line} {head : HeadModel} {item : StatementModel} → kind_of l ≡ PlainLine → HeadForm l head
       → StatementForm head (lines_after l ls) item rest → NextForm (l ∷ ls) (Some (record { spot = line_spot l; item = item })) rest
-  blank : {l : Line} {ls rest : List Line} {found : Option PlacedText} → kind_of l ≡ BlankLine → l.is_last ≡ false
+  blank : {l : Line} {ls rest : List Line} {found : Option PlacedModel} → kind_of l ≡ BlankLine → l.is_last ≡ false
       → NextForm ls found rest → NextForm (l ∷ ls) found rest
-  comment : {l : Line} {ls rest : List Line} {found : Option PlacedText} → kind_of l ≡ CommentLine → l.is_last ≡ false
+  comment : {l : Line} {ls rest : List Line} {found : Option PlacedModel} → kind_of l ≡ CommentLine → l.is_last ≡ false
       → NextForm ls found rest → NextForm (l ∷ ls) found rest
   last_blank : {l : Line} {ls : List Line} → kind_of l ≡ BlankLine → l.is_last ≡ true → NextForm (l ∷ ls) None (lines_after l ls)
   last_comment : {l : Line} {ls : List Line} → kind_of l ≡ CommentLine → l.is_last ≡ true
@@ -272,7 +272,7 @@ pub data NextForm : List Line → Option PlacedText → (rest : List Line) → T
 -- The next statement of some lines has its first line, and lacks a line of its block. The fault is where the
 -- statement begins.
 pub data NextLacks : List Line → Fault → Type 0 where
-  statement : {l : Line} {ls : List Line} {head : HeadText} {fault : Fault} → kind_of l ≡ PlainLine → HeadForm l head
+  statement : {l : Line} {ls : List Line} {head : HeadModel} {fault : Fault} → kind_of l ≡ PlainLine → HeadForm l head
       → LackForm (line_spot l) head (lines_after l ls) fault → NextLacks (l ∷ ls) fault
   blank : {l : Line} {ls : List Line} {fault : Fault} → kind_of l ≡ BlankLine → l.is_last ≡ false → NextLacks ls fault
       → NextLacks (l ∷ ls) fault

@@ -11,7 +11,7 @@ use Rattle.nj_text.specs.Calls.{is_empty, is_sign, fault_spot}
 use Rattle.nj_manifest.specs.declared.cause.Wanted.{Wanted}
 use Rattle.nj_manifest.specs.declared.cause.Wanted.TheVariants as wanted
 use Rattle.nj_manifest.specs.Faults.{Fault, Bad, Expected, UnexpectedIndent, UnknownKey, is_syntax}
-use Rattle.nj_manifest.specs.Statements.{PlacedText, next_statement}
+use Rattle.nj_manifest.specs.Statements.{PlacedModel, next_statement}
 
 -- whole lines, the first units of one more, and from there on the rest of that line and the others
 abbrev pub continues : (before : List Line) → (begun : List TextUnit) → Line → List Line → List Line
@@ -91,7 +91,7 @@ pub record SomeStatement (before : List Line) (begun : List TextUnit) (fault : F
   pub plain_bytes : are_plain bytes ≡ true
   pub offered : offers fault bytes ≡ true
   pub plain_lines : list_all are_plain lines ≡ true
-  pub placed : PlacedText
+  pub placed : PlacedModel
   pub rest : List Line
   pub reads : next_statement (continues before begun (written bytes) (map written lines)) ≡ Ok (Some placed, rest)
 

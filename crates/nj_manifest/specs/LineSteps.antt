@@ -5,7 +5,7 @@ use Rattle.std.specs.Result.{result_map_both}
 use Rattle.nj_text.specs.declared.sign.Sign.{Sign}
 use Rattle.nj_text.specs.declared.sign.Sign.TheVariants as sign
 use Rattle.nj_text.specs.declared.spot.Spot.{Spot}
-use Rattle.nj_text.specs.Words.{WordText}
+use Rattle.nj_text.specs.Words.{WordModel}
 use Rattle.nj_text.specs.Calls.{State, Inside, Reply, skip_blanks_of, ident_of, sign_of, path_word_of, spot_of}
 use Rattle.nj_manifest.specs.declared.cause.Wanted.{Wanted}
 use Rattle.nj_manifest.specs.declared.cause.Wanted.TheVariants as wanted
@@ -25,12 +25,12 @@ abbrev pub called : {A : Type 0} → Reply A → Step A
 called r = result_map_both (λ x. x) (λ f. Bad f) r
 
 -- a name and the place of its first byte
-pub record NameText : Type 0 where
+pub record NameModel : Type 0 where
   pub spot : Spot
   pub name : List ℕ
 
 -- an identifier, which is wanted under this name
-unfoldable pub name_next : Wanted → State → Step NameText
+unfoldable pub name_next : Wanted → State → Step NameModel
 name_next wanted s = do
   found ← called (ident_of (skip_blanks_of s))
   name ← ok_or found.0 (Expected (spot_of (skip_blanks_of s)) wanted)
@@ -47,19 +47,19 @@ abbrev pub whole_line : {A : Type 0} → Step A → Step A
 whole_line step = step >>= λ x. expect_sign sign.LineEnd wanted.Newline x.1 >>= λ end. Ok (x.0, end)
 
 -- the words from here on, where the limit is above their number
-unfoldable pub words_within : (limit : ℕ) → State → Step (List WordText)
+unfoldable pub words_within : (limit : ℕ) → State → Step (List WordModel)
 words_within zero s = Ok ([], s)
 words_within (suc limit) s = do
   word ← called (path_word_of s)
   option_map_or (λ first. words_within limit word.1 >>= λ more. Ok (first ∷ more.0, more.1)) word.0 (Ok ([], word.1))
 
 -- the words from here on, up to what is not a word; each has a unit at least
-unfoldable pub words_next : State → Step (List WordText)
+unfoldable pub words_next : State → Step (List WordModel)
 words_next (Inside l ls) = words_within (suc (length l.units)) (Inside l ls)
 words_next s = words_within (suc zero) s
 
 -- the words of a section that begins with this sign, and none where the sign is not there
-unfoldable pub section_next : Sign → State → Step (List WordText)
+unfoldable pub section_next : Sign → State → Step (List WordModel)
 section_next want s = do
   there ← called (sign_of want s)
   if there.0 then words_next there.1 else Ok ([], there.1)

@@ -2,14 +2,14 @@
 use Rattle.std.specs.Prelude.{◌≡◌, Option, option_map, Result, Ok, Err, List}
 use Rattle.nj_text.specs.declared.fault.LexFault.TheVariants as lex
 use Rattle.nj_text.specs.Lines as lines
-use Rattle.nj_manifest.specs.declared.fault.ParseFault.{ParseFault}
-use Rattle.nj_manifest.specs.declared.fault.ParseFault.TheVariants as fault
+use Rattle.nj_manifest.specs.declared.parse_fault.ParseFault.{ParseFault}
+use Rattle.nj_manifest.specs.declared.parse_fault.ParseFault.TheVariants as fault
 use Rattle.nj_manifest.specs.declared.statement.Placed.{Placed}
 use Rattle.nj_manifest.specs.declared.statement.Statement.{Statement}
 use Rattle.nj_manifest.specs.Faults.{Fault, fault_text}
 use Rattle.nj_manifest.specs.Openings.{Parse}
-use Rattle.nj_manifest.specs.Statements.{PlacedText, next_statement, Left, Lines, Refused}
-use Rattle.nj_manifest.specs.Contents.{placed_text}
+use Rattle.nj_manifest.specs.Statements.{PlacedModel, next_statement, Left, Lines, Refused}
+use Rattle.nj_manifest.specs.Contents.{placed_model}
 
 -- the expected fault; or out of memory, which does not depend on the text
 abbrev pub Fails : {Y : Type 0} → ParseFault → Result Y Fault → Type 0
@@ -17,9 +17,9 @@ Fails (fault.Lex lex.OutOfMemory) expected = Unit {0}
 Fails f expected = expected ≡ Err (fault_text f)
 
 -- what a parser returns if this is read from the lines
-abbrev pub ReturnsNext : Parse (Option PlacedText) → (after : Left) → Result (Option (Placed Statement)) ParseFault → Type 0
+abbrev pub ReturnsNext : Parse (Option PlacedModel) → (after : Left) → Result (Option (Placed Statement)) ParseFault → Type 0
 ReturnsNext expected after (Ok found) =
-    (rest : List lines.Line) × (expected ≡ Ok (option_map placed_text found, rest)) × (after ≡ Lines rest)
+    (rest : List lines.Line) × (expected ≡ Ok (option_map placed_model found, rest)) × (after ≡ Lines rest)
 ReturnsNext expected after (Err f) = Fails f expected × (after ≡ Refused (fault_text f))
 
 -- the fault that was answered before

@@ -8,22 +8,22 @@ use Rattle.nj_text.specs.declared.sign.Sign.TheVariants as sign
 use Rattle.nj_text.specs.declared.spot.Spot.{Spot}
 use Rattle.nj_text.specs.Lines.{Line, line_spot, lines_after, Kind, CommentLine, TabLine, BlankLine, IndentedLine}
 use Rattle.nj_text.specs.Lines.{PlainLine, kind_of}
-use Rattle.nj_text.specs.Words.{WordText}
+use Rattle.nj_text.specs.Words.{WordModel}
 use Rattle.nj_text.specs.Calls.{State, Between, Inside, Failed, is_empty, path_word_of, value_of, spot_of, without_comments}
 use Rattle.nj_manifest.specs.declared.cause.Wanted.TheVariants as wanted
-use Rattle.nj_manifest.specs.declared.block.Keys.{Keys}
-use Rattle.nj_manifest.specs.declared.block.Keys.TheVariants as keys
+use Rattle.nj_manifest.specs.declared.block_lines.Keys.{Keys}
+use Rattle.nj_manifest.specs.declared.block_lines.Keys.TheVariants as keys
 use Rattle.nj_manifest.specs.Faults.{Fault, Bad, Expected, MissingCommand, RspPair, UnknownKey, MissingDepth}
 use Rattle.nj_manifest.specs.Openings.{Parse, or_last, without_spaces, opening}
-use Rattle.nj_manifest.specs.LineSteps.{Step, ◌>>=◌, called, NameText, name_next, expect_sign, whole_line, words_next, section_next}
+use Rattle.nj_manifest.specs.LineSteps.{Step, ◌>>=◌, called, NameModel, name_next, expect_sign, whole_line, words_next, section_next}
 
 -- ---- block lines
 
 -- `name = value`, at the place of the name
-pub record LineText : Type 0 where
+pub record LineModel : Type 0 where
   pub spot : Spot
   pub name : List ℕ
-  pub value : WordText
+  pub value : WordModel
 
 -- the keys of a rule
 abbrev pub rule_keys : List (List ℕ)
@@ -37,13 +37,13 @@ allows keys.OfPool key = bytes_eq key (codes "depth")
 allows keys.All key = true
 
 -- `= VALUE`, to the end of the line
-unfoldable pub equals_value : State → Step WordText
+unfoldable pub equals_value : State → Step WordModel
 equals_value s = do
   equals ← expect_sign sign.Equals wanted.Equals s
   whole_line (called (value_of equals))
 
 -- a line of a block, after its leading spaces
-unfoldable pub line_next : Keys → State → Step LineText
+unfoldable pub line_next : Keys → State → Step LineModel
 line_next allowed s = do
   key ← name_next wanted.VariableName s
   value ← if allows allowed key.0.name then equals_value key.1 else Err (UnknownKey key.0.spot key.0.name)
@@ -55,7 +55,7 @@ lines_from (Between ls) = ls
 lines_from (Inside l ls) = l ∷ ls
 lines_from (Failed f) = []
 
-abbrev pub block_by : Keys → Kind → Line → List Line → Parse (List LineText) → Parse (List LineText)
+abbrev pub block_by : Keys → Kind → Line → List Line → Parse (List LineModel) → Parse (List LineModel)
 block_by allowed CommentLine l ls others = or_last l (Ok ([], lines_after l (without_comments ls))) others
 block_by allowed (TabLine tab) l ls others = Err (Bad (lex.Tab tab))
 block_by allowed IndentedLine l ls others = do
@@ -67,38 +67,38 @@ block_by allowed PlainLine l ls others = Ok ([], l ∷ ls)
 
 -- The lines of a block: those that are indented, and comments among them, up to the first line of another kind. A
 -- blank line that ends them is skipped.
-unfoldable pub block : Keys → List Line → Parse (List LineText)
+unfoldable pub block : Keys → List Line → Parse (List LineModel)
 block allowed [] = Ok ([], [])
 block allowed (l ∷ ls) = block_by allowed (kind_of l) l ls (block allowed ls)
 
 -- ---- statements
 
-pub record OutputsText : Type 0 where
-  pub explicit : List WordText
-  pub implicit : List WordText
+pub record OutputsModel : Type 0 where
+  pub explicit : List WordModel
+  pub implicit : List WordModel
 
-pub record InputsText : Type 0 where
-  pub explicit : List WordText
-  pub implicit : List WordText
-  pub order_only : List WordText
-  pub validations : List WordText
+pub record InputsModel : Type 0 where
+  pub explicit : List WordModel
+  pub implicit : List WordModel
+  pub order_only : List WordModel
+  pub validations : List WordModel
 
-pub data StatementText : Type 0 where
-  BindingText : (name : List ℕ) (value : WordText) → StatementText
-  RuleText : (name : NameText) (lines : List LineText) → StatementText
-  PoolText : (name : NameText) (lines : List LineText) → StatementText
-  BuildText : (outputs : OutputsText) (rule : NameText) (inputs : InputsText) (lines : List LineText) → StatementText
-  DefaultText : (words : List WordText) → StatementText
-  IncludeText : (word : WordText) → StatementText
-  SubninjaText : (word : WordText) → StatementText
+pub data StatementModel : Type 0 where
+  BindingModel : (name : List ℕ) (value : WordModel) → StatementModel
+  RuleModel : (name : NameModel) (lines : List LineModel) → StatementModel
+  PoolModel : (name : NameModel) (lines : List LineModel) → StatementModel
+  BuildModel : (outputs : OutputsModel) (rule : NameModel) (inputs : InputsModel) (lines : List LineModel) → StatementModel
+  DefaultModel : (words : List WordModel) → StatementModel
+  IncludeModel : (word : WordModel) → StatementModel
+  SubninjaModel : (word : WordModel) → StatementModel
 
 -- a statement at the place of its first byte
-pub record PlacedText : Type 0 where
+pub record PlacedModel : Type 0 where
   pub spot : Spot
-  pub item : StatementText
+  pub item : StatementModel
 
 -- after `build`: `OUTPUTS | IMPLICIT-OUTPUTS`
-unfoldable pub outputs_next : State → Step OutputsText
+unfoldable pub outputs_next : State → Step OutputsModel
 outputs_next s = do
   explicit ← words_next s
   implicit ← section_next sign.Pipe explicit.1
@@ -107,7 +107,7 @@ outputs_next s = do
       else Ok (record { explicit = explicit.0; implicit = implicit.0 }, implicit.1)
 
 -- `INPUTS | IMPLICIT || ORDER-ONLY |@ VALIDATIONS`
-unfoldable pub inputs_next : State → Step InputsText
+unfoldable pub inputs_next : State → Step InputsModel
 inputs_next s = do
   explicit ← words_next s
   implicit ← section_next sign.Pipe explicit.1
@@ -116,14 +116,14 @@ inputs_next s = do
   Ok (record { explicit = explicit.0; implicit = implicit.0; order_only = order_only.0; validations = validations.0 }, validations.1)
 
 -- after `default`: the targets
-unfoldable pub targets_next : State → Step (List WordText)
+unfoldable pub targets_next : State → Step (List WordModel)
 targets_next s = do
   words ← words_next s
   end ← if is_empty words.0 then Err (Expected (spot_of words.1) wanted.TargetName) else expect_sign sign.LineEnd wanted.Newline words.1
   Ok (words.0, end)
 
 -- after `include` or `subninja`: the file
-unfoldable pub file_next : State → Step WordText
+unfoldable pub file_next : State → Step WordModel
 file_next s = do
   found ← called (path_word_of s)
   word ← ok_or found.0 (Expected (spot_of found.1) wanted.Path)
@@ -136,55 +136,55 @@ abbrev pub last_line : {X : Type 0} → (name_of : X → List ℕ) → List X �
 last_line name_of lines name = find (λ l. bytes_eq name (name_of l)) (reverse lines)
 
 -- whether the line of this key that counts has a value with a part at least
-abbrev pub gives : (key : List ℕ) → List LineText → Bool
+abbrev pub gives : (key : List ℕ) → List LineModel → Bool
 gives key lines = unwrap_or (option_map (λ l. not (is_empty l.value.parts)) (last_line (λ l. l.name) lines key)) false
 
 -- ---- statements with a block
 
 -- `rule NAME`, and its block: a rule needs its command, and of the two keys of a response file both or neither
-unfoldable pub rule_next : Spot → State → Parse StatementText
+unfoldable pub rule_next : Spot → State → Parse StatementModel
 rule_next spot s = do
   name ← whole_line (name_next wanted.RuleName s)
   lines ← block keys.OfRule (lines_from name.1)
   if beq (gives (codes "rspfile") lines.0) (gives (codes "rspfile_content") lines.0)
-      then (if gives (codes "command") lines.0 then Ok (RuleText name.0 lines.0, lines.1) else Err (MissingCommand spot))
+      then (if gives (codes "command") lines.0 then Ok (RuleModel name.0 lines.0, lines.1) else Err (MissingCommand spot))
       else Err (RspPair spot)
 
 -- `pool NAME`, and its block: a pool needs its depth
-unfoldable pub pool_next : Spot → State → Parse StatementText
+unfoldable pub pool_next : Spot → State → Parse StatementModel
 pool_next spot s = do
   name ← whole_line (name_next wanted.PoolName s)
   lines ← block keys.OfPool (lines_from name.1)
-  if list_any (λ l. bytes_eq l.name (codes "depth")) lines.0 then Ok (PoolText name.0 lines.0, lines.1) else Err (MissingDepth spot)
+  if list_any (λ l. bytes_eq l.name (codes "depth")) lines.0 then Ok (PoolModel name.0 lines.0, lines.1) else Err (MissingDepth spot)
 
 -- `build OUTPUTS : RULE INPUTS`, and its block
-unfoldable pub build_next : State → Parse StatementText
+unfoldable pub build_next : State → Parse StatementModel
 build_next s = do
   outputs ← outputs_next s
   colon ← expect_sign sign.Colon wanted.Colon outputs.1
   rule ← name_next wanted.CommandName colon
   inputs ← whole_line (inputs_next rule.1)
   lines ← block keys.All (lines_from inputs.1)
-  Ok (BuildText outputs.0 rule.0 inputs.0 lines.0, lines.1)
+  Ok (BuildModel outputs.0 rule.0 inputs.0 lines.0, lines.1)
 
 -- ---- the next statement
 
 -- a statement of one line
-abbrev pub alone : {A : Type 0} → (A → StatementText) → Step A → Parse StatementText
+abbrev pub alone : {A : Type 0} → (A → StatementModel) → Step A → Parse StatementModel
 alone item step = step >>= λ x. Ok (item x.0, lines_from x.1)
 
 -- what follows the identifier with which a statement begins; where its first line begins is the place of what it lacks
-unfoldable pub statement_after : (word : List ℕ) → Spot → State → Parse StatementText
+unfoldable pub statement_after : (word : List ℕ) → Spot → State → Parse StatementModel
 statement_after word spot s =
     if bytes_eq word (codes "build") then build_next s
     else (if bytes_eq word (codes "rule") then rule_next spot s
     else (if bytes_eq word (codes "pool") then pool_next spot s
-    else (if bytes_eq word (codes "default") then alone DefaultText (targets_next s)
-    else (if bytes_eq word (codes "include") then alone IncludeText (file_next s)
-    else (if bytes_eq word (codes "subninja") then alone SubninjaText (file_next s)
-    else alone (BindingText word) (equals_value s))))))
+    else (if bytes_eq word (codes "default") then alone DefaultModel (targets_next s)
+    else (if bytes_eq word (codes "include") then alone IncludeModel (file_next s)
+    else (if bytes_eq word (codes "subninja") then alone SubninjaModel (file_next s)
+    else alone (BindingModel word) (equals_value s))))))
 
-abbrev pub statement_from : Option Line × List Line → Parse (Option PlacedText)
+abbrev pub statement_from : Option Line × List Line → Parse (Option PlacedModel)
 statement_from (Some l, ls) = do
   word ← name_next wanted.Statement (Inside l ls)
   item ← statement_after word.0.name (line_spot l) word.1
@@ -192,7 +192,7 @@ statement_from (Some l, ls) = do
 statement_from (None, ls) = Ok (None, ls)
 
 -- the next statement of the lines, if there is one, and the lines after it
-unfoldable pub next_statement : List Line → Parse (Option PlacedText)
+unfoldable pub next_statement : List Line → Parse (Option PlacedModel)
 next_statement ls = opening ls >>= statement_from
 
 -- ---- a parser

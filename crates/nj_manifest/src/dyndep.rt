@@ -4,12 +4,12 @@ ghost use Rattle.std.specs.Prelude.{◌≡◌, true, option_map};
 ghost use Rattle.nj_text.specs.Lines.{text_lines};
 ghost use Rattle.nj_manifest.specs.Dyndeps.{next_entry, left_entry, WholeFile};
 ghost use Rattle.nj_manifest.specs.Inside.ParserContracts.{IsBetweenStatements, ParsesAt, ParsesNext, entry_here, is_between_unless};
-ghost use Rattle.nj_manifest.specs.DyndepParsers.{entry_text, IsNextEntry};
+ghost use Rattle.nj_manifest.specs.DyndepParsers.{entry_model, IsNextEntry};
 ghost use Rattle.nj_manifest.specs.Inside.ParserContracts.{ReadsVersion};
 
 use crate::entries::{Entry, entry_line, restat_block, version_line};
-use crate::fault::ParseFault;
-use crate::opening::find_statement;
+use crate::parse_fault::ParseFault;
+use crate::statement_start::find_statement;
 use nj_text::Lexer;
 use std::alloc::Global;
 use std::marker::Model;
@@ -27,7 +27,7 @@ fn read_version<'a>(alloc: Global, lexer: &mut Lexer<'a>) -> Result<(), ParseFau
 
 /// The entry that begins here, with its block.
 fn entry_at<'a>(alloc: Global, lexer: &mut Lexer<'a>) -> Result<Option<Entry<'a>>, ParseFault<'a>>
-    ensures { ParsesAt (option_map entry_text) lexer.old lexer.new entry_here result }
+    ensures { ParsesAt (option_map entry_model) lexer.old lexer.new entry_here result }
 {
     let entry = entry_line(alloc, lexer)?;
     restat_block(alloc, lexer)?;
@@ -37,7 +37,7 @@ fn entry_at<'a>(alloc: Global, lexer: &mut Lexer<'a>) -> Result<Option<Entry<'a>
 /// The next entry, from the start of a line on.
 fn next_entry<'a>(alloc: Global, lexer: &mut Lexer<'a>) -> Result<Option<Entry<'a>>, ParseFault<'a>>
     requires { IsBetweenStatements lexer.old }
-    ensures { ParsesNext (option_map entry_text) lexer.old lexer.new next_entry result }
+    ensures { ParsesNext (option_map entry_model) lexer.old lexer.new next_entry result }
 {
     if find_statement(lexer)? {
         return entry_at(alloc, lexer);
@@ -52,7 +52,7 @@ fn entry_after<'a>(
     version_read: bool,
 ) -> Result<Option<Entry<'a>>, ParseFault<'a>>
     requires { IsBetweenStatements lexer.old }
-    ensures { ParsesNext (option_map entry_text) lexer.old lexer.new (left_entry version_read)
+    ensures { ParsesNext (option_map entry_model) lexer.old lexer.new (left_entry version_read)
         result }
 {
     if !version_read {

@@ -1,16 +1,16 @@
 //! The lines of a dyndep file.
 
 ghost use Rattle.std.specs.Prelude.{◌≡◌, IfOk, map};
-ghost use Rattle.nj_text.specs.Words.{word_text, part_text};
-ghost use Rattle.nj_manifest.specs.Contents.{words_text};
+ghost use Rattle.nj_text.specs.Words.{word_model, part_model};
+ghost use Rattle.nj_manifest.specs.Contents.{words_model};
 ghost use Rattle.nj_manifest.specs.Expansion.{expanded, no_values};
 ghost use Rattle.nj_manifest.specs.Inside.ParserContracts.{TakesStep, LeadsTo};
 ghost use Rattle.nj_manifest.specs.Dyndeps.{version_line, word_of_form, no_path, no_section, output_next, added_inputs, entry_line, restat_block};
-ghost use Rattle.nj_manifest.specs.DyndepParsers.{entry_text};
+ghost use Rattle.nj_manifest.specs.DyndepParsers.{entry_model};
 
-use crate::block::equals_value;
+use crate::block_lines::equals_value;
 use crate::cause::Wanted;
-use crate::fault::ParseFault;
+use crate::parse_fault::ParseFault;
 use crate::steps::{expect_sign, name_next, section_next};
 use nj_text::{Lexer, LineStart, Part, Sign, Word, version_of};
 use std::alloc::{AllocError, Global};
@@ -28,7 +28,7 @@ pub struct Entry<'a> {
 
 /// The bytes of a value in which each reference is empty.
 fn value_bytes(alloc: Global, parts: &[Part]) -> Result<Vec<u8>, AllocError>
-    ensures { IfOk result (λ bytes. bytes.items ≡ expanded no_values (map part_text parts.now)) }
+    ensures { IfOk result (λ bytes. bytes.items ≡ expanded no_values (map part_model parts.now)) }
 {
     let mut bytes = Vec::new(alloc);
     'parts: for part in parts {
@@ -107,7 +107,7 @@ fn no_section<'a>(lexer: &mut Lexer<'a>, want: Sign) -> Result<(), ParseFault<'a
 /// After `build`: the one explicit output.
 #[tactic(auto, unfolding(crate::specs::Dyndeps::output_next))]
 fn output_next<'a>(alloc: Global, lexer: &mut Lexer<'a>) -> Result<Word<'a>, ParseFault<'a>>
-    ensures { TakesStep word_text result lexer.new (output_next lexer.old) }
+    ensures { TakesStep word_model result lexer.new (output_next lexer.old) }
 {
     match lexer.path_word(alloc)? {
         Some(out) => {
@@ -127,7 +127,7 @@ fn output_next<'a>(alloc: Global, lexer: &mut Lexer<'a>) -> Result<Word<'a>, Par
 /// After the rule's name: the implicit inputs, up to the end of the line.
 #[tactic(auto, unfolding(crate::specs::Dyndeps::added_inputs))]
 fn added_inputs<'a>(alloc: Global, lexer: &mut Lexer<'a>) -> Result<Vec<Word<'a>>, ParseFault<'a>>
-    ensures { TakesStep (λ words. words_text words.items) result lexer.new
+    ensures { TakesStep (λ words. words_model words.items) result lexer.new
         (added_inputs lexer.old) }
 {
     no_path(alloc, lexer)?;
@@ -141,7 +141,7 @@ fn added_inputs<'a>(alloc: Global, lexer: &mut Lexer<'a>) -> Result<Vec<Word<'a>
 /// `build OUT | OUTS: dyndep | INS`
 #[tactic(auto, unfolding(crate::specs::Dyndeps::entry_line))]
 pub fn entry_line<'a>(alloc: Global, lexer: &mut Lexer<'a>) -> Result<Entry<'a>, ParseFault<'a>>
-    ensures { TakesStep entry_text result lexer.new (entry_line lexer.old) }
+    ensures { TakesStep entry_model result lexer.new (entry_line lexer.old) }
 {
     word_of_form(lexer, b"build", Wanted::Statement)?;
     let out = output_next(alloc, lexer)?;

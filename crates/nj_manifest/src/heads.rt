@@ -1,18 +1,18 @@
 //! The first lines of statements.
 
 ghost use Rattle.std.specs.Prelude.{◌≡◌, map};
-ghost use Rattle.nj_text.specs.Words.{word_text};
-ghost use Rattle.nj_manifest.specs.Contents.{words_text};
+ghost use Rattle.nj_text.specs.Words.{word_model};
+ghost use Rattle.nj_manifest.specs.Contents.{words_model};
 ghost use Rattle.nj_manifest.specs.Statements.{outputs_next, targets_next, file_next};
 ghost use Rattle.nj_manifest.specs.Grammar.{RuleHead, PoolHead};
 ghost use Rattle.nj_manifest.specs.Inside.Heads.{name_alone, as_head, build_head, head_after, head_next};
-ghost use Rattle.nj_manifest.specs.Inside.ParserContracts.{TakesStep, name_text, outs_text, head_text};
+ghost use Rattle.nj_manifest.specs.Inside.ParserContracts.{TakesStep, name_model, outs_model, head_model};
 
-use crate::block::equals_value;
-use crate::buffers::Buffers;
+use crate::block_lines::equals_value;
 use crate::cause::Wanted;
-use crate::fault::ParseFault;
+use crate::parse_fault::ParseFault;
 use crate::statement::{Build, Pool, Rule, Statement};
+use crate::statement_buffers::Buffers;
 use crate::steps::{PlacedName, expect_sign, name_next, section_next, words_next};
 use nj_text::{Lexer, Sign, Word};
 use std::alloc::Global;
@@ -20,7 +20,7 @@ use std::alloc::Global;
 /// After `rule` or `pool`: a name and the end of the line.
 #[tactic(auto, unfolding(crate::specs::Inside::Heads::name_alone))]
 fn name_alone<'a>(lexer: &mut Lexer<'a>, wanted: Wanted) -> Result<PlacedName<'a>, ParseFault<'a>>
-    ensures { TakesStep name_text result lexer.new (name_alone wanted lexer.old) }
+    ensures { TakesStep name_model result lexer.new (name_alone wanted lexer.old) }
 {
     let name = name_next(lexer, wanted)?;
     expect_sign(lexer, Sign::LineEnd, Wanted::Newline)?;
@@ -29,7 +29,7 @@ fn name_alone<'a>(lexer: &mut Lexer<'a>, wanted: Wanted) -> Result<PlacedName<'a
 
 /// After `rule`: its name.
 fn rule_next<'a>(alloc: Global, lexer: &mut Lexer<'a>) -> Result<Statement<'a>, ParseFault<'a>>
-    ensures { TakesStep head_text result lexer.new
+    ensures { TakesStep head_model result lexer.new
         (as_head RuleHead (name_alone Wanted.RuleName lexer.old)) }
 {
     let PlacedName { spot, name } = name_alone(lexer, Wanted::RuleName)?;
@@ -42,7 +42,7 @@ fn rule_next<'a>(alloc: Global, lexer: &mut Lexer<'a>) -> Result<Statement<'a>, 
 
 /// After `pool`: its name.
 fn pool_next<'a>(alloc: Global, lexer: &mut Lexer<'a>) -> Result<Statement<'a>, ParseFault<'a>>
-    ensures { TakesStep head_text result lexer.new
+    ensures { TakesStep head_model result lexer.new
         (as_head PoolHead (name_alone Wanted.PoolName lexer.old)) }
 {
     let PlacedName { spot, name } = name_alone(lexer, Wanted::PoolName)?;
@@ -60,7 +60,7 @@ fn outputs_next<'a>(
     lexer: &mut Lexer<'a>,
     buffers: &mut Buffers<'a>,
 ) -> Result<(Vec<Word<'a>>, Vec<Word<'a>>), ParseFault<'a>>
-    ensures { TakesStep (λ outs. outs_text outs.0.items outs.1.items) result lexer.new
+    ensures { TakesStep (λ outs. outs_model outs.0.items outs.1.items) result lexer.new
         (outputs_next lexer.old) }
 {
     let explicit = words_next(alloc, lexer, &mut buffers.explicit_outs)?;
@@ -78,7 +78,7 @@ fn build_next<'a>(
     lexer: &mut Lexer<'a>,
     buffers: &mut Buffers<'a>,
 ) -> Result<Statement<'a>, ParseFault<'a>>
-    ensures { TakesStep head_text result lexer.new (build_head lexer.old) }
+    ensures { TakesStep head_model result lexer.new (build_head lexer.old) }
 {
     let (explicit_outs, implicit_outs) = outputs_next(alloc, lexer, buffers)?;
     expect_sign(lexer, Sign::Colon, Wanted::Colon)?;
@@ -104,7 +104,7 @@ fn build_next<'a>(
 /// After `default`: the targets.
 #[tactic(auto, unfolding(crate::specs::Statements::targets_next))]
 fn targets_next<'a>(alloc: Global, lexer: &mut Lexer<'a>) -> Result<Vec<Word<'a>>, ParseFault<'a>>
-    ensures { TakesStep (λ words. words_text words.items) result lexer.new
+    ensures { TakesStep (λ words. words_model words.items) result lexer.new
         (targets_next lexer.old) }
 {
     let words = words_next(alloc, lexer, &mut None)?;
@@ -118,7 +118,7 @@ fn targets_next<'a>(alloc: Global, lexer: &mut Lexer<'a>) -> Result<Vec<Word<'a>
 /// After `include` or `subninja`: the file.
 #[tactic(auto, unfolding(crate::specs::Statements::file_next))]
 fn file_next<'a>(alloc: Global, lexer: &mut Lexer<'a>) -> Result<Word<'a>, ParseFault<'a>>
-    ensures { TakesStep word_text result lexer.new (file_next lexer.old) }
+    ensures { TakesStep word_model result lexer.new (file_next lexer.old) }
 {
     match lexer.path_word(alloc)? {
         None => Err(ParseFault::Expected(lexer.spot(), Wanted::Path)),
@@ -137,7 +137,7 @@ fn head_after<'a>(
     buffers: &mut Buffers<'a>,
     word: &'a [u8],
 ) -> Result<Statement<'a>, ParseFault<'a>>
-    ensures { TakesStep head_text result lexer.new (head_after word.now lexer.old) }
+    ensures { TakesStep head_model result lexer.new (head_after word.now lexer.old) }
 {
     if word == b"build".as_slice() {
         build_next(alloc, lexer, buffers)
@@ -167,7 +167,7 @@ pub fn head_next<'a>(
     lexer: &mut Lexer<'a>,
     buffers: &mut Buffers<'a>,
 ) -> Result<Statement<'a>, ParseFault<'a>>
-    ensures { TakesStep head_text result lexer.new (head_next lexer.old) }
+    ensures { TakesStep head_model result lexer.new (head_next lexer.old) }
 {
     let word = name_next(lexer, Wanted::Statement)?;
     head_after(alloc, lexer, buffers, word.name)

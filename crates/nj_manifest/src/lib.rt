@@ -4,25 +4,24 @@
 //! none of it.
 #![tactic(auto)]
 
-mod block;
-mod buffers;
+mod block_lines;
 mod cause;
 mod dyndep;
 mod entries;
-mod fault;
 mod fault_text;
 mod heads;
 mod laws;
-mod next;
-mod opening;
+mod next_statement;
+mod parse_fault;
 mod parser;
 mod statement;
+mod statement_buffers;
+mod statement_start;
 mod steps;
 
 pub use cause::{SyntaxCause, Wanted};
 pub use dyndep::DyndepParser;
 pub use entries::Entry;
-pub use fault::ParseFault;
 pub use fault_text::FaultText;
 pub use laws::{
     dyndep_entries_are_the_forms, dyndep_faults_are_leftmost, dyndep_versions_are_the_forms,
@@ -30,5 +29,6 @@ pub use laws::{
     statements_are_the_forms, units_of_strings_are_apart,
 };
 pub use nj_text::{LexFault, Part, Spot, Word};
+pub use parse_fault::ParseFault;
 pub use parser::Parser;
 pub use statement::{Build, Line, Placed, Pool, Rule, Statement};

@@ -6,10 +6,10 @@ ghost use Rattle.nj_manifest.specs.Inside.ParserContracts.{is_between_unless};
 ghost use Rattle.nj_manifest.specs.Parsers.{IsNext};
 ghost use Rattle.nj_text.specs.Lines.{text_lines};
 
-use crate::buffers::Buffers;
-use crate::fault::ParseFault;
-use crate::next::next_statement;
+use crate::next_statement::next_statement;
+use crate::parse_fault::ParseFault;
 use crate::statement::{Placed, Statement};
+use crate::statement_buffers::Buffers;
 use nj_text::Lexer;
 use std::alloc::Global;
 use std::marker::Model;

@@ -1,13 +1,13 @@
 //! Reading on along a line.
 
 ghost use Rattle.std.specs.Prelude.{◌≡◌, map};
-ghost use Rattle.nj_text.specs.Words.{word_text};
-ghost use Rattle.nj_manifest.specs.Inside.ParserContracts.{TakesStep, LeadsTo, name_text};
+ghost use Rattle.nj_text.specs.Words.{word_model};
+ghost use Rattle.nj_manifest.specs.Inside.ParserContracts.{TakesStep, LeadsTo, name_model};
 ghost use Rattle.nj_manifest.specs.LineSteps.{name_next, expect_sign, words_next, section_next};
 
-use crate::buffers::empty_list;
 use crate::cause::Wanted;
-use crate::fault::ParseFault;
+use crate::parse_fault::ParseFault;
+use crate::statement_buffers::empty_list;
 use nj_text::{Lexer, PlainWord, Sign, Spot, Word};
 use std::alloc::Global;
 
@@ -24,7 +24,7 @@ pub fn name_next<'a>(
     lexer: &mut Lexer<'a>,
     wanted: Wanted,
 ) -> Result<PlacedName<'a>, ParseFault<'a>>
-    ensures { TakesStep name_text result lexer.new (name_next wanted lexer.old) }
+    ensures { TakesStep name_model result lexer.new (name_next wanted lexer.old) }
 {
     lexer.skip_blanks();
     let spot = lexer.spot();
@@ -56,7 +56,7 @@ pub fn words_next<'a>(
     lexer: &mut Lexer<'a>,
     kept: &mut Option<Vec<Word<'a>>>,
 ) -> Result<Vec<Word<'a>>, ParseFault<'a>>
-    ensures { TakesStep (λ words. map word_text words.items) result lexer.new
+    ensures { TakesStep (λ words. map word_model words.items) result lexer.new
         (words_next lexer.old) }
 {
     let mut words = empty_list(alloc, kept);
@@ -81,7 +81,7 @@ pub fn section_next<'a>(
     want: Sign,
     kept: &mut Option<Vec<Word<'a>>>,
 ) -> Result<Vec<Word<'a>>, ParseFault<'a>>
-    ensures { TakesStep (λ words. map word_text words.items) result lexer.new
+    ensures { TakesStep (λ words. map word_model words.items) result lexer.new
         (section_next want lexer.old) }
 {
     if lexer.sign(want)? {

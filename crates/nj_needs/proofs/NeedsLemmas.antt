@@ -14,7 +14,7 @@ use Rattle.nj_needs.specs.Inside.Standing.{IsWalkAt, IsWalk, left_of, turns_left
 use Rattle.nj_needs.specs.Walks.{IsSound, IsSameWalk, bound_of, rest_of, IsFirstPlaceOf}
 use Rattle.nj_needs.specs.Inside.Views.{state_of, IsNeeds}
 use Rattle.nj_needs.specs.declared.frame.Frame.{Frame}
-use Rattle.nj_needs.specs.declared.saved.Saved.{Saved}
+use Rattle.nj_needs.specs.declared.resume_point.Saved.{Saved}
 use Rattle.nj_needs.specs.declared.walk.Walk.{Walk}
 use Rattle.nj_needs.proofs.Turning.{turns_left-start}
 

@@ -11,9 +11,9 @@ mod mark_laws;
 mod mark_numbers;
 mod marks;
 mod needs;
+mod next_edge;
+mod resume_point;
 mod resuming;
-mod returned;
-mod saved;
 mod walk;
 
 pub use growing::{grow_targets, growing_law};

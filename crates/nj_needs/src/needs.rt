@@ -9,8 +9,8 @@ ghost use Rattle.nj_needs.specs.Walks.{IsSound, IsSameWalk, NextIs, ReturnsNext,
 pub(crate) mod beginning;
 
 use crate::marks::Mark;
-use crate::returned::next_edge;
-use crate::saved::Saved;
+use crate::next_edge::next_edge;
+use crate::resume_point::Saved;
 use crate::walk::Walk;
 use nj_edges::EdgeNo;
 use std::alloc::{AllocError, Global};

@@ -8,35 +8,35 @@ use Rattle.nj_requests.specs.declared.actions.Request.{Request}
 
 -- `paths` are of targets or files, `names` of rules; `start` is the numbers of a mark; `validations`: what is to be validated when the
 -- targets are built counts as a target too
-pub data ActionText : Type 0 where
-  commands : (paths : List (List ℕ)) (validations : Bool) (take : Option ℕ) (start : List ℕ) → ActionText
-  single_commands : (paths : List (List ℕ)) → ActionText
-  inputs : (paths : List (List ℕ)) (validations : Bool) (style : InputsStyle) → ActionText
-  targets : (view : TargetsView) → ActionText
-  query : (paths : List (List ℕ)) → ActionText
-  rules : (descriptions : Bool) → ActionText
-  compdb : (names : List (List ℕ)) (directory : List ℕ) (expand : Bool) → ActionText
+pub data ActionModel : Type 0 where
+  commands : (paths : List (List ℕ)) (validations : Bool) (take : Option ℕ) (start : List ℕ) → ActionModel
+  single_commands : (paths : List (List ℕ)) → ActionModel
+  inputs : (paths : List (List ℕ)) (validations : Bool) (style : InputsStyle) → ActionModel
+  targets : (view : TargetsView) → ActionModel
+  query : (paths : List (List ℕ)) → ActionModel
+  rules : (descriptions : Bool) → ActionModel
+  compdb : (names : List (List ℕ)) (directory : List ℕ) (expand : Bool) → ActionModel
 
 -- `dyndep`: what dyndep files discover is joined first
-pub record RequestText : Type 0 where
+pub record RequestModel : Type 0 where
   pub file : List ℕ
   pub from_stdin : Bool
   pub dyndep : Bool
-  pub action : ActionText
+  pub action : ActionModel
 
-abbrev pub action_text : Action → ActionText
-action_text (action.Commands paths validations take start) = commands (map string_bytes paths.items) validations take start
-action_text (action.SingleCommands paths) = single_commands (map string_bytes paths.items)
-action_text (action.Inputs paths validations style) = inputs (map string_bytes paths.items) validations style
-action_text (action.Targets view) = targets view
-action_text (action.Query paths) = query (map string_bytes paths.items)
-action_text (action.Rules descriptions) = rules descriptions
-action_text (action.Compdb names directory expand) = compdb (map string_bytes names.items) (string_bytes directory) expand
+abbrev pub action_model : Action → ActionModel
+action_model (action.Commands paths validations take start) = commands (map string_bytes paths.items) validations take start
+action_model (action.SingleCommands paths) = single_commands (map string_bytes paths.items)
+action_model (action.Inputs paths validations style) = inputs (map string_bytes paths.items) validations style
+action_model (action.Targets view) = targets view
+action_model (action.Query paths) = query (map string_bytes paths.items)
+action_model (action.Rules descriptions) = rules descriptions
+action_model (action.Compdb names directory expand) = compdb (map string_bytes names.items) (string_bytes directory) expand
 
-abbrev pub request_text : Request → RequestText
-request_text request = record {
+abbrev pub request_model : Request → RequestModel
+request_model request = record {
   file = string_bytes request.file;
   from_stdin = request.from_stdin;
   dyndep = request.dyndep;
-  action = action_text request.action;
+  action = action_model request.action;
 }

@@ -3,12 +3,12 @@ use Rattle.std.proofs.Common.{◌≡◌, ℕ, ◌+◌, Bool, true, false, ◌&&�
 use Rattle.std.specs.Option.{option_or, option_map_or}
 use Rattle.std.specs.List.{push}
 use Rattle.std.proofs.lemmas.List.{length_push}
-use Rattle.nj_text.specs.Words.{PartText, Text, Name, WordText}
-use Rattle.nj_manifest.specs.LineSteps.{NameText}
-use Rattle.nj_manifest.specs.Statements.{LineText, OutputsText, InputsText, StatementText, BindingText, RuleText, PoolText, BuildText, DefaultText, IncludeText, SubninjaText}
+use Rattle.nj_text.specs.Words.{PartModel, Text, Name, WordModel}
+use Rattle.nj_manifest.specs.LineSteps.{NameModel}
+use Rattle.nj_manifest.specs.Statements.{LineModel, OutputsModel, InputsModel, StatementModel, BindingModel, RuleModel, PoolModel, BuildModel, DefaultModel, IncludeModel, SubninjaModel}
 use Rattle.nj_scope.specs.Rules.{line_kept, phony_rule}
 use Rattle.nj_scope.specs.Scopes.{first_given, Bounds, value_in, expanded, bound_at, rule_at}
-use Rattle.nj_scope.specs.Declarations.{DeclarationsText, DeclaredBy, TakesIn}
+use Rattle.nj_scope.specs.Declarations.{DeclarationsModel, DeclaredBy, TakesIn}
 use Rattle.nj_scope.specs.ReadingList.{ReadStatement, scope_of, binds, declares, bounds, rules, rule_given, rules_read, pool_given, pools, scope_given, gathered, value_after, value_if_bound}
 
 pub at_ok : {X Y P Q : Type 0} (r : Result X Y) → OnOk r P → (P → Q) → OnOk r Q
@@ -32,16 +32,16 @@ nearest-same f g same (s ∷ around) = ap (λ o. option_or o (first_given f arou
 value-same : (f g : Bounds) → ((n : ℕ) (name : List ℕ) → f n name ≡ g n name) → (scope name : List ℕ) → value_in f scope name ≡ value_in g scope name
 value-same f g same scope name = ap (λ o. unwrap_or o []) (nearest-same (λ s. f s name) (λ s. g s name) (λ s. same s name) scope)
 
-expanded-same : (f g : List ℕ → List ℕ) → ((name : List ℕ) → f name ≡ g name) → (parts : List PartText) → expanded f parts ≡ expanded g parts
+expanded-same : (f g : List ℕ → List ℕ) → ((name : List ℕ) → f name ≡ g name) → (parts : List PartModel) → expanded f parts ≡ expanded g parts
 expanded-same f g same [] = refl
 expanded-same f g same (Text bytes ∷ parts) = ap (λ more. bytes ++ more) (expanded-same f g same parts)
 expanded-same f g same (Name name ∷ parts) = ap (λ v. v ++ expanded f parts) (same name) ∙ ap (λ more. g name ++ more) (expanded-same f g same parts)
 
 -- ---- a binding
 
-module _ (held after : DeclarationsText) (entries : List ReadStatement) (e : ReadStatement) (name value : List ℕ) (word : WordText) (follows : DeclaredBy held entries) where
+module _ (held after : DeclarationsModel) (entries : List ReadStatement) (e : ReadStatement) (name value : List ℕ) (word : WordModel) (follows : DeclaredBy held entries) where
   abbrev pub binding : ReadStatement
-  binding = record e { item = BindingText name word }
+  binding = record e { item = BindingModel name word }
 
   -- the value is the one of the list
   listed : value ≡ expanded (value_in (bound_at held.scopes) (scope_of e)) word.parts → value ≡ expanded (value_after entries (scope_of e)) word.parts
@@ -100,13 +100,13 @@ rules-kept e entries nothing n x = by (n == e.number) (declares e.item x) (nothi
 
 -- ---- a rule
 
-module _ (held after : DeclarationsText) (entries : List ReadStatement) (e : ReadStatement) (name : NameText) (lines : List LineText) (follows : DeclaredBy held entries) where
+module _ (held after : DeclarationsModel) (entries : List ReadStatement) (e : ReadStatement) (name : NameModel) (lines : List LineModel) (follows : DeclaredBy held entries) where
   pub with-rule : ((n : ℕ) (x : List ℕ) → rule_at after.scopes n x ≡ (if n == e.number && bytes_eq x name.name then Some (length held.rules) else rule_at held.scopes n x))
       → ((n : ℕ) (x : List ℕ) → bound_at after.scopes n x ≡ bound_at held.scopes n x) → length after.scopes ≡ length held.scopes
       → after.rules ≡ held.rules ++ record { scope = e.number; name = name.name; lines = map line_kept lines } ∷ [] → after.pools ≡ held.pools
-      → DeclaredBy after (record e { item = RuleText name lines } ∷ entries)
+      → DeclaredBy after (record e { item = RuleModel name lines } ∷ entries)
   with-rule declared bound count one_more same_pools = record {
-    bound = λ n x. bound n x ∙ follows.bound n x ∙ sym (bounds-kept (record e { item = RuleText name lines }) entries (λ value y. refl) n x);
+    bound = λ n x. bound n x ∙ follows.bound n x ∙ sym (bounds-kept (record e { item = RuleModel name lines }) entries (λ value y. refl) n x);
     declared = λ n x. declared n x ∙ ap (λ o. if n == e.number && bytes_eq x name.name then Some (length held.rules) else o) (follows.declared n x)
         ∙ ap (λ r. if n == e.number && bytes_eq x name.name then Some (length r) else rules entries n x) follows.rules ∙ by n x (n == e.number && bytes_eq x name.name);
     scopes = count ∙ follows.scopes;
@@ -120,12 +120,12 @@ module _ (held after : DeclarationsText) (entries : List ReadStatement) (e : Rea
 
 -- ---- a pool
 
-module _ (held after : DeclarationsText) (entries : List ReadStatement) (e : ReadStatement) (name : NameText) (lines : List LineText) (follows : DeclaredBy held entries) where
+module _ (held after : DeclarationsModel) (entries : List ReadStatement) (e : ReadStatement) (name : NameModel) (lines : List LineModel) (follows : DeclaredBy held entries) where
   pub with-pool : after.scopes ≡ held.scopes → after.rules ≡ held.rules → after.pools ≡ held.pools ++ name.name ∷ []
-      → DeclaredBy after (record e { item = PoolText name lines } ∷ entries)
+      → DeclaredBy after (record e { item = PoolModel name lines } ∷ entries)
   with-pool same_scopes same_rules one_more = record {
-    bound = λ n x. ap (λ ss. bound_at ss n x) same_scopes ∙ follows.bound n x ∙ sym (bounds-kept (record e { item = PoolText name lines }) entries (λ value y. refl) n x);
-    declared = λ n x. ap (λ ss. rule_at ss n x) same_scopes ∙ follows.declared n x ∙ sym (rules-kept (record e { item = PoolText name lines }) entries (λ y. refl) n x);
+    bound = λ n x. ap (λ ss. bound_at ss n x) same_scopes ∙ follows.bound n x ∙ sym (bounds-kept (record e { item = PoolModel name lines }) entries (λ value y. refl) n x);
+    declared = λ n x. ap (λ ss. rule_at ss n x) same_scopes ∙ follows.declared n x ∙ sym (rules-kept (record e { item = PoolModel name lines }) entries (λ y. refl) n x);
     scopes = ap length same_scopes ∙ follows.scopes;
     rules = same_rules ∙ follows.rules;
     pools = one_more ∙ ap (λ ps. ps ++ name.name ∷ []) follows.pools;
@@ -133,13 +133,13 @@ module _ (held after : DeclarationsText) (entries : List ReadStatement) (e : Rea
 
 -- ---- a scope
 
-module _ (held after : DeclarationsText) (entries : List ReadStatement) (e : ReadStatement) (word : WordText) (follows : DeclaredBy held entries) where
+module _ (held after : DeclarationsModel) (entries : List ReadStatement) (e : ReadStatement) (word : WordModel) (follows : DeclaredBy held entries) where
   pub with-subninja : ((n : ℕ) (x : List ℕ) → bound_at after.scopes n x ≡ bound_at held.scopes n x) → ((n : ℕ) (x : List ℕ) → rule_at after.scopes n x ≡ rule_at held.scopes n x)
       → length after.scopes ≡ length held.scopes + 1 → after.rules ≡ held.rules → after.pools ≡ held.pools
-      → DeclaredBy after (record e { item = SubninjaText word } ∷ entries)
+      → DeclaredBy after (record e { item = SubninjaModel word } ∷ entries)
   with-subninja bound declared count same_rules same_pools = record {
-    bound = λ n x. bound n x ∙ follows.bound n x ∙ sym (bounds-kept (record e { item = SubninjaText word }) entries (λ value y. refl) n x);
-    declared = λ n x. declared n x ∙ follows.declared n x ∙ sym (rules-kept (record e { item = SubninjaText word }) entries (λ y. refl) n x);
+    bound = λ n x. bound n x ∙ follows.bound n x ∙ sym (bounds-kept (record e { item = SubninjaModel word }) entries (λ value y. refl) n x);
+    declared = λ n x. declared n x ∙ follows.declared n x ∙ sym (rules-kept (record e { item = SubninjaModel word }) entries (λ y. refl) n x);
     scopes = count ∙ ap (λ n. n + 1) (follows.scopes ∙ sym (length_push (gathered scope_given entries) e.number));
     rules = same_rules ∙ follows.rules;
     pools = same_pools ∙ follows.pools;
@@ -147,10 +147,10 @@ module _ (held after : DeclarationsText) (entries : List ReadStatement) (e : Rea
 
 -- ---- statements that declare nothing
 
-abbrev with_item : ReadStatement → StatementText → ReadStatement
+abbrev with_item : ReadStatement → StatementModel → ReadStatement
 with_item e item = record e { item = item }
 
-nothing-more : (held : DeclarationsText) (entries : List ReadStatement) (e : ReadStatement) (item : StatementText) → ((value : List ℕ → List ℕ) (x : List ℕ) → binds value item x ≡ None) → ((x : List ℕ) → declares item x ≡ false)
+nothing-more : (held : DeclarationsModel) (entries : List ReadStatement) (e : ReadStatement) (item : StatementModel) → ((value : List ℕ → List ℕ) (x : List ℕ) → binds value item x ≡ None) → ((x : List ℕ) → declares item x ≡ false)
     → scope_given e entries item ≡ None → rule_given e entries item ≡ None → pool_given e entries item ≡ None
     → DeclaredBy held entries → DeclaredBy held (record e { item = item } ∷ entries)
 nothing-more held entries e item no_value no_rule no_scope none_given no_pool by = record {
@@ -161,40 +161,40 @@ nothing-more held entries e item no_value no_rule no_scope none_given no_pool by
   pools = by.pools ∙ ap (λ o. option_map_or (push (pools entries)) o (pools entries)) (sym no_pool);
 }
 
-module _ (held : DeclarationsText) (number : ℕ) (around : List ℕ) where
-  pub takes-include : (word : WordText) → TakesIn held held number around (IncludeText word)
+module _ (held : DeclarationsModel) (number : ℕ) (around : List ℕ) where
+  pub takes-include : (word : WordModel) → TakesIn held held number around (IncludeModel word)
   takes-include word entries file spot depth by =
-      nothing-more held entries (record { file = file; spot = spot; depth = depth; number = number; around = around; item = IncludeText word; discovered = None }) (IncludeText word) (λ value x. refl) (λ x. refl) refl refl refl by
+      nothing-more held entries (record { file = file; spot = spot; depth = depth; number = number; around = around; item = IncludeModel word; discovered = None }) (IncludeModel word) (λ value x. refl) (λ x. refl) refl refl refl by
 
-  pub takes-build : (outputs : OutputsText) (rule : NameText) (inputs : InputsText) (lines : List LineText) → TakesIn held held number around (BuildText outputs rule inputs lines)
+  pub takes-build : (outputs : OutputsModel) (rule : NameModel) (inputs : InputsModel) (lines : List LineModel) → TakesIn held held number around (BuildModel outputs rule inputs lines)
   takes-build outputs rule inputs lines entries file spot depth by =
-      nothing-more held entries (record { file = file; spot = spot; depth = depth; number = number; around = around; item = BuildText outputs rule inputs lines; discovered = None }) (BuildText outputs rule inputs lines) (λ value x. refl) (λ x. refl) refl refl refl by
+      nothing-more held entries (record { file = file; spot = spot; depth = depth; number = number; around = around; item = BuildModel outputs rule inputs lines; discovered = None }) (BuildModel outputs rule inputs lines) (λ value x. refl) (λ x. refl) refl refl refl by
 
-  pub takes-default : (words : List WordText) → TakesIn held held number around (DefaultText words)
+  pub takes-default : (words : List WordModel) → TakesIn held held number around (DefaultModel words)
   takes-default words entries file spot depth by =
-      nothing-more held entries (record { file = file; spot = spot; depth = depth; number = number; around = around; item = DefaultText words; discovered = None }) (DefaultText words) (λ value x. refl) (λ x. refl) refl refl refl by
+      nothing-more held entries (record { file = file; spot = spot; depth = depth; number = number; around = around; item = DefaultModel words; discovered = None }) (DefaultModel words) (λ value x. refl) (λ x. refl) refl refl refl by
 
 -- ---- look-ups
 
-pub value-listed : (held : DeclarationsText) (entries : List ReadStatement) → DeclaredBy held entries → (scope : List ℕ) (parts : List PartText)
+pub value-listed : (held : DeclarationsModel) (entries : List ReadStatement) → DeclaredBy held entries → (scope : List ℕ) (parts : List PartModel)
     → expanded (value_in (bound_at held.scopes) scope) parts ≡ expanded (value_after entries scope) parts
 value-listed held entries follows scope parts =
     expanded-same (value_in (bound_at held.scopes) scope) (value_after entries scope) (value-same (bound_at held.scopes) (bounds entries) follows.bound scope) parts
 
-pub name-listed : (held : DeclarationsText) (entries : List ReadStatement) → DeclaredBy held entries → (scope name : List ℕ)
+pub name-listed : (held : DeclarationsModel) (entries : List ReadStatement) → DeclaredBy held entries → (scope name : List ℕ)
     → value_in (bound_at held.scopes) scope name ≡ value_after entries scope name
 name-listed held entries follows scope name = value-same (bound_at held.scopes) (bounds entries) follows.bound scope name
 
-pub name-seen : (held : DeclarationsText) (entries : List ReadStatement) → DeclaredBy held entries → (scope name : List ℕ)
+pub name-seen : (held : DeclarationsModel) (entries : List ReadStatement) → DeclaredBy held entries → (scope name : List ℕ)
     → first_given (λ s. bound_at held.scopes s name) scope ≡ value_if_bound entries scope name
 name-seen held entries follows scope name = nearest-same (λ s. bound_at held.scopes s name) (λ s. bounds entries s name) (λ s. follows.bound s name) scope
 
-pub rule-listed : (held : DeclarationsText) (entries : List ReadStatement) → DeclaredBy held entries → (scope name : List ℕ)
+pub rule-listed : (held : DeclarationsModel) (entries : List ReadStatement) → DeclaredBy held entries → (scope name : List ℕ)
     → first_given (λ s. rule_at held.scopes s name) scope ≡ first_given (λ s. rules entries s name) scope
 rule-listed held entries follows scope name = nearest-same (λ s. rule_at held.scopes s name) (λ s. rules entries s name) (λ s. follows.declared s name) scope
 
 -- ---- at the front
 
-pub declared_by-nothing : (held : DeclarationsText) → ((n : ℕ) (x : List ℕ) → bound_at held.scopes n x ≡ None) → ((n : ℕ) (x : List ℕ) → rule_at held.scopes n x ≡ None) → length held.scopes ≡ 1 → held.rules ≡ phony_rule ∷ [] → held.pools ≡ [] → DeclaredBy held []
+pub declared_by-nothing : (held : DeclarationsModel) → ((n : ℕ) (x : List ℕ) → bound_at held.scopes n x ≡ None) → ((n : ℕ) (x : List ℕ) → rule_at held.scopes n x ≡ None) → length held.scopes ≡ 1 → held.rules ≡ phony_rule ∷ [] → held.pools ≡ [] → DeclaredBy held []
 unfolding bounds
 declared_by-nothing held nothing no_rule count no_rules no_pools = record { bound = nothing; declared = no_rule; scopes = count; rules = no_rules; pools = no_pools }

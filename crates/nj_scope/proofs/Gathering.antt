@@ -6,7 +6,7 @@ use Rattle.std.proofs.lemmas.List.{length_push, length-append}
 use Rattle.std.proofs.lemmas.Option.{slice_get_within, slice_get-get_or, get_or_from_slice_get}
 use Rattle.std.proofs.Math.ListN.{get_or-append}
 use Rattle.std.proofs.Math.Seq.{get_or-append_seam}
-use Rattle.nj_manifest.specs.Statements.{StatementText, BindingText, RuleText, PoolText, BuildText, DefaultText, IncludeText, SubninjaText}
+use Rattle.nj_manifest.specs.Statements.{StatementModel, BindingModel, RuleModel, PoolModel, BuildModel, DefaultModel, IncludeModel, SubninjaModel}
 use Rattle.nj_scope.specs.ReadingList.{ReadStatement, scope_of, expanded_in, gathered, path_named, files_opened}
 use Rattle.nj_scope.specs.Laws.{givers, IsInReadingOrder}
 
@@ -22,7 +22,7 @@ get-old xs y n x h =
 pub get-last : {X : Type 0} (xs : List X) (y : X) → slice_get (xs ++ y ∷ []) (length xs) ≡ Some y
 get-last xs y = slice_get-get_or (xs ++ y ∷ []) (length xs) y (simp length-append (omega arith)) ∙ ap Some (get_or-append_seam xs y [] y)
 
-module _ {A : Type 0} (given : ReadStatement → List ReadStatement → StatementText → Option A) where
+module _ {A : Type 0} (given : ReadStatement → List ReadStatement → StatementModel → Option A) where
   -- what gives the same of other statements
   pub gathered-map : (f : ReadStatement → ReadStatement) → ((e : ReadStatement) (before : List ReadStatement) → given (f e) (map f before) (f e).item ≡ given e before e.item)
       → (entries : List ReadStatement) → gathered given (map f entries) ≡ gathered given entries
@@ -56,19 +56,19 @@ module _ {A : Type 0} (given : ReadStatement → List ReadStatement → Statemen
 
 -- ---- how many files and scopes are opened
 
-abbrev pub opens_file : StatementText → ℕ
-opens_file (IncludeText word) = 1
-opens_file (SubninjaText word) = 1
+abbrev pub opens_file : StatementModel → ℕ
+opens_file (IncludeModel word) = 1
+opens_file (SubninjaModel word) = 1
 opens_file item = 0
 
 pub files-more : (e : ReadStatement) (before : List ReadStatement) → files_opened (e ∷ before) ≡ files_opened before + opens_file e.item
 files-more e before = by e.item
   where
-    by : (item : StatementText) → length (with_given (gathered path_named before) (path_named e before item)) + 1 ≡ files_opened before + opens_file item
-    by (IncludeText word) = ap (λ n. n + 1) (length_push (gathered path_named before) (expanded_in (scope_of e) before word))
-    by (SubninjaText word) = ap (λ n. n + 1) (length_push (gathered path_named before) (expanded_in (scope_of e) before word))
-    by (BindingText name word) = sym (add-zero (files_opened before))
-    by (RuleText name lines) = sym (add-zero (files_opened before))
-    by (PoolText name lines) = sym (add-zero (files_opened before))
-    by (BuildText outputs rule inputs lines) = sym (add-zero (files_opened before))
-    by (DefaultText words) = sym (add-zero (files_opened before))
+    by : (item : StatementModel) → length (with_given (gathered path_named before) (path_named e before item)) + 1 ≡ files_opened before + opens_file item
+    by (IncludeModel word) = ap (λ n. n + 1) (length_push (gathered path_named before) (expanded_in (scope_of e) before word))
+    by (SubninjaModel word) = ap (λ n. n + 1) (length_push (gathered path_named before) (expanded_in (scope_of e) before word))
+    by (BindingModel name word) = sym (add-zero (files_opened before))
+    by (RuleModel name lines) = sym (add-zero (files_opened before))
+    by (PoolModel name lines) = sym (add-zero (files_opened before))
+    by (BuildModel outputs rule inputs lines) = sym (add-zero (files_opened before))
+    by (DefaultModel words) = sym (add-zero (files_opened before))

@@ -4,11 +4,11 @@ use Rattle.std.specs.Option.{option_or}
 use Rattle.std.specs.List.{Contains}
 use Rattle.std.proofs.lemmas.Option.{slice_get_within}
 use Rattle.std.proofs.lemmas.Slice.Eq.{bytes_eq-Decides}
-use Rattle.nj_manifest.specs.Statements.{StatementText, BindingText, RuleText, PoolText, BuildText, DefaultText, IncludeText, SubninjaText}
+use Rattle.nj_manifest.specs.Statements.{StatementModel, BindingModel, RuleModel, PoolModel, BuildModel, DefaultModel, IncludeModel, SubninjaModel}
 use Rattle.nj_scope.specs.Rules as kept
 use Rattle.nj_scope.specs.Rules.{line_kept, phony, phony_rule}
 use Rattle.nj_scope.specs.Scopes.{first_given, rule_at}
-use Rattle.nj_scope.specs.Declarations.{DeclarationsText, DeclaredBy}
+use Rattle.nj_scope.specs.Declarations.{DeclarationsModel, DeclaredBy}
 use Rattle.nj_scope.specs.Laws.{InForceIsDeclared}
 use Rattle.nj_scope.specs.ReadingList.{ReadStatement, rules_read, rules}
 use Rattle.nj_scope.proofs.DeclarationLemmas.{rules-kept, rule-listed}
@@ -22,18 +22,18 @@ none_some h = absurd (true≢false (ap is_some (sym h)))
 
 -- ---- what a scope itself declares
 
-pub record Found (strings : List kept.RuleText) (scope : ℕ) (name : List ℕ) (number : ℕ) : Type 0 where
-  pub rule : kept.RuleText
+pub record Found (strings : List kept.RuleModel) (scope : ℕ) (name : List ℕ) (number : ℕ) : Type 0 where
+  pub rule : kept.RuleModel
   pub there : slice_get strings number ≡ Some rule
   pub its_scope : rule.scope ≡ scope
   pub its_name : rule.name ≡ name
 
-found-old : (strings : List kept.RuleText) (more : kept.RuleText) (scope : ℕ) (name : List ℕ) (number : ℕ) → Found strings scope name number → Found (strings ++ more ∷ []) scope name number
+found-old : (strings : List kept.RuleModel) (more : kept.RuleModel) (scope : ℕ) (name : List ℕ) (number : ℕ) → Found strings scope name number → Found (strings ++ more ∷ []) scope name number
 found-old strings more scope name number f = record { rule = f.rule; there = get-old strings more number f.rule f.there; its_scope = f.its_scope; its_name = f.its_name }
 
-found-more : (before : List ReadStatement) (e : ReadStatement) (item : StatementText) (scope : ℕ) (name : List ℕ) (number : ℕ) → (rules before scope name ≡ Some number → Found (rules_read before) scope name number)
+found-more : (before : List ReadStatement) (e : ReadStatement) (item : StatementModel) (scope : ℕ) (name : List ℕ) (number : ℕ) → (rules before scope name ≡ Some number → Found (rules_read before) scope name number)
     → rules (record e { item = item } ∷ before) scope name ≡ Some number → Found (rules_read (record e { item = item } ∷ before)) scope name number
-found-more before e (RuleText declared lines) scope name number rest h = by (scope == e.number) (bytes_eq name declared.name) (eqb-true scope e.number) (bytes_eq-Decides name declared.name).0 h
+found-more before e (RuleModel declared lines) scope name number rest h = by (scope == e.number) (bytes_eq name declared.name) (eqb-true scope e.number) (bytes_eq-Decides name declared.name).0 h
   where
     by : (a b : Bool) → (a ≡ true → scope ≡ e.number) → (b ≡ true → name ≡ declared.name)
         → option_or (if a && b then Some (length (rules_read before)) else None) (rules before scope name) ≡ Some number
@@ -47,12 +47,12 @@ found-more before e (RuleText declared lines) scope name number rest h = by (sco
     }
     by true false at named h = found-old (rules_read before) (record { scope = e.number; name = declared.name; lines = map line_kept lines }) scope name number (rest h)
     by false b at named h = found-old (rules_read before) (record { scope = e.number; name = declared.name; lines = map line_kept lines }) scope name number (rest h)
-found-more before e (BindingText bound word) scope name number rest h = rest (sym (rules-kept (record e { item = BindingText bound word }) before (λ x. refl) scope name) ∙ h)
-found-more before e (PoolText declared lines) scope name number rest h = rest (sym (rules-kept (record e { item = PoolText declared lines }) before (λ x. refl) scope name) ∙ h)
-found-more before e (BuildText outputs rule inputs lines) scope name number rest h = rest (sym (rules-kept (record e { item = BuildText outputs rule inputs lines }) before (λ x. refl) scope name) ∙ h)
-found-more before e (DefaultText words) scope name number rest h = rest (sym (rules-kept (record e { item = DefaultText words }) before (λ x. refl) scope name) ∙ h)
-found-more before e (IncludeText word) scope name number rest h = rest (sym (rules-kept (record e { item = IncludeText word }) before (λ x. refl) scope name) ∙ h)
-found-more before e (SubninjaText word) scope name number rest h = rest (sym (rules-kept (record e { item = SubninjaText word }) before (λ x. refl) scope name) ∙ h)
+found-more before e (BindingModel bound word) scope name number rest h = rest (sym (rules-kept (record e { item = BindingModel bound word }) before (λ x. refl) scope name) ∙ h)
+found-more before e (PoolModel declared lines) scope name number rest h = rest (sym (rules-kept (record e { item = PoolModel declared lines }) before (λ x. refl) scope name) ∙ h)
+found-more before e (BuildModel outputs rule inputs lines) scope name number rest h = rest (sym (rules-kept (record e { item = BuildModel outputs rule inputs lines }) before (λ x. refl) scope name) ∙ h)
+found-more before e (DefaultModel words) scope name number rest h = rest (sym (rules-kept (record e { item = DefaultModel words }) before (λ x. refl) scope name) ∙ h)
+found-more before e (IncludeModel word) scope name number rest h = rest (sym (rules-kept (record e { item = IncludeModel word }) before (λ x. refl) scope name) ∙ h)
+found-more before e (SubninjaModel word) scope name number rest h = rest (sym (rules-kept (record e { item = SubninjaModel word }) before (λ x. refl) scope name) ∙ h)
 
 pub found : (entries : List ReadStatement) (scope : ℕ) (name : List ℕ) (number : ℕ) → rules entries scope name ≡ Some number → Found (rules_read entries) scope name number
 found [] scope name number h = none_some h
@@ -79,22 +79,22 @@ pub in_force : InForceIsDeclared
 in_force entries scope name number h = by (bytes_eq name phony) (bytes_eq-Decides name phony).0 h
   where
     of_scope : (s : ℕ) × Contains scope s × (rules entries s name ≡ Some number)
-        → (rule : kept.RuleText) × (slice_get (rules_read entries) number ≡ Some rule) × (rule.name ≡ name) × ((rule ≡ phony_rule) ⊎ Contains scope rule.scope)
+        → (rule : kept.RuleModel) × (slice_get (rules_read entries) number ≡ Some rule) × (rule.name ≡ name) × ((rule ≡ phony_rule) ⊎ Contains scope rule.scope)
     of_scope (s, among, owns) =
         let f : Found (rules_read entries) s name number = found entries s name number owns in
         (f.rule, f.there, f.its_name, inr (subst (λ t. Contains scope t) (sym f.its_scope) among))
 
     by : (b : Bool) → (b ≡ true → name ≡ phony) → (if b then Some 0 else first_given (λ s. rules entries s name) scope) ≡ Some number
-        → (rule : kept.RuleText) × (slice_get (rules_read entries) number ≡ Some rule) × (rule.name ≡ name) × ((rule ≡ phony_rule) ⊎ Contains scope rule.scope)
+        → (rule : kept.RuleModel) × (slice_get (rules_read entries) number ≡ Some rule) × (rule.name ≡ name) × ((rule ≡ phony_rule) ⊎ Contains scope rule.scope)
     by true named h = (phony_rule, ap (slice_get (rules_read entries)) (sym (some_same h)) ∙ phony-there entries, sym (named refl), inl refl)
     by false named h = of_scope (nearest-own (λ s. rules entries s name) scope number h)
 
 -- ---- its number
 
-pub phony-within : (held : DeclarationsText) (entries : List ReadStatement) → DeclaredBy held entries → 0 < length held.rules
+pub phony-within : (held : DeclarationsModel) (entries : List ReadStatement) → DeclaredBy held entries → 0 < length held.rules
 phony-within held entries by = subst (λ rs. 0 < length rs) (sym by.rules) (slice_get_within (rules_read entries) 0 phony_rule (phony-there entries))
 
-pub nearest-within : (held : DeclarationsText) (entries : List ReadStatement) → DeclaredBy held entries → (scope name : List ℕ) → IfSome (first_given (λ s. rule_at held.scopes s name) scope) (λ n. n < length held.rules)
+pub nearest-within : (held : DeclarationsModel) (entries : List ReadStatement) → DeclaredBy held entries → (scope name : List ℕ) → IfSome (first_given (λ s. rule_at held.scopes s name) scope) (λ n. n < length held.rules)
 nearest-within held entries by scope name = at (first_given (λ s. rule_at held.scopes s name) scope) (sym (rule-listed held entries by scope name))
   where
     found-within : (number : ℕ) → (s : ℕ) × Contains scope s × (rules entries s name ≡ Some number) → number < length held.rules

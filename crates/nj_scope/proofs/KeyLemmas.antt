@@ -8,9 +8,9 @@ use Rattle.std.proofs.lemmas.List.Folds.{find-append}
 use Rattle.std.specs.Option.{option_or}
 use Rattle.std.proofs.lemmas.Option.{slice_get_within, slice_get-get_or, slice_get-map, get_or_from_slice_get, slice_get_read}
 use Rattle.std.proofs.lemmas.Slice.Eq.{bytes_eq-Decides}
-use Rattle.nj_text.specs.Words.{PartText}
+use Rattle.nj_text.specs.Words.{PartModel}
 use Rattle.nj_scope.specs.declared.rule.RuleLine.{RuleLine}
-use Rattle.nj_scope.specs.Rules.{RuleLineText, given}
+use Rattle.nj_scope.specs.Rules.{RuleLineModel, given}
 use Rattle.nj_scope.specs.RulesHeld.{has_key, last_lines, key_count, key_at, KeysAreNumbered, NumbersDiffer, IsNumber}
 use Rattle.nj_scope.specs.Inside.KeysHeld.{line_held, AreIndexes, HasKeyAt}
 
@@ -43,16 +43,16 @@ get-push (z ∷ xs) x y (suc n) h = by (get-push xs x y n h)
 
 -- ---- the last line of a key
 
-abbrev last_of : List RuleLineText → (key : List ℕ) → Option RuleLineText
+abbrev last_of : List RuleLineModel → (key : List ℕ) → Option RuleLineModel
 last_of lines key = find (λ l. bytes_eq key l.key) (reverse lines)
 
-abbrev here : RuleLineText → (key : List ℕ) → Option RuleLineText
+abbrev here : RuleLineModel → (key : List ℕ) → Option RuleLineModel
 here l key = if bytes_eq key l.key then Some l else None
 
-last_of-cons : (l : RuleLineText) (lines : List RuleLineText) (key : List ℕ) → last_of (l ∷ lines) key ≡ option_or (last_of lines key) (here l key)
+last_of-cons : (l : RuleLineModel) (lines : List RuleLineModel) (key : List ℕ) → last_of (l ∷ lines) key ≡ option_or (last_of lines key) (here l key)
 last_of-cons l lines key = ap (find (λ m. bytes_eq key m.key)) (reverse-append (l ∷ []) lines) ∙ find-append (λ m. bytes_eq key m.key) (reverse lines) (l ∷ [])
 
-no_last : (lines : List RuleLineText) (key : List ℕ) → has_key lines key ≡ false → last_of lines key ≡ None
+no_last : (lines : List RuleLineModel) (key : List ℕ) → has_key lines key ≡ false → last_of lines key ≡ None
 no_last [] key h = refl
 no_last (l ∷ lines) key h = last_of-cons l lines key ∙ by (bytes_eq key l.key) (no_last lines key) h
   where
@@ -60,17 +60,17 @@ no_last (l ∷ lines) key h = last_of-cons l lines key ∙ by (bytes_eq key l.ke
     by true rest h = absurd (true≢false h)
     by false rest h = ap (λ o. option_or o None) (rest h)
 
-some_last : (lines : List RuleLineText) (key : List ℕ) → has_key lines key ≡ true → is_some (last_of lines key) ≡ true
+some_last : (lines : List RuleLineModel) (key : List ℕ) → has_key lines key ≡ true → is_some (last_of lines key) ≡ true
 some_last [] key h = absurd (true≢false (sym h))
 some_last (l ∷ lines) key h = ap is_some (last_of-cons l lines key) ∙ by (last_of lines key) (bytes_eq key l.key) (some_last lines key) h
   where
-    by : (o : Option RuleLineText) (b : Bool) → (has_key lines key ≡ true → is_some o ≡ true) → (b || has_key lines key) ≡ true → is_some (option_or o (if b then Some l else None)) ≡ true
+    by : (o : Option RuleLineModel) (b : Bool) → (has_key lines key ≡ true → is_some o ≡ true) → (b || has_key lines key) ≡ true → is_some (option_or o (if b then Some l else None)) ≡ true
     by (Some m) b rest h = refl
     by None true rest h = refl
     by None false rest h = rest h
 
 -- the line of each number is the last one of its key
-last_at : (lines : List RuleLineText) (n : ℕ) (m : RuleLineText) → slice_get (last_lines lines) n ≡ Some m → last_of lines m.key ≡ Some m
+last_at : (lines : List RuleLineModel) (n : ℕ) (m : RuleLineModel) → slice_get (last_lines lines) n ≡ Some m → last_of lines m.key ≡ Some m
 unfolding last_lines
 last_at [] n m h = absurd (true≢false (sym (ap is_some h)))
 last_at (l ∷ lines) n m h = last_of-cons l lines m.key ∙ by (has_key lines l.key) refl (last_at lines n m) h
@@ -91,7 +91,7 @@ last_at (l ∷ lines) n m h = last_of-cons l lines m.key ∙ by (has_key lines l
     by false none rest h = pushed none rest (get-push (last_lines lines) l m n h)
 
 -- a key that is given has a number
-numbered : (lines : List RuleLineText) (key : List ℕ) (m : RuleLineText) → last_of lines key ≡ Some m → (n : ℕ) × (slice_get (last_lines lines) n ≡ Some m) × (m.key ≡ key)
+numbered : (lines : List RuleLineModel) (key : List ℕ) (m : RuleLineModel) → last_of lines key ≡ Some m → (n : ℕ) × (slice_get (last_lines lines) n ≡ Some m) × (m.key ≡ key)
 unfolding last_lines
 numbered [] key m h = absurd (true≢false (sym (ap is_some h)))
 numbered (l ∷ lines) key m h = by (last_of lines key) refl (numbered lines key) (sym (last_of-cons l lines key) ∙ h)
@@ -111,18 +111,18 @@ numbered (l ∷ lines) key m h = by (last_of lines key) refl (numbered lines key
     last none true same e = new none same (has_key lines l.key) refl cc
     last none false same e = absurd (true≢false (sym (ap is_some e)))
 
-    by : (o : Option RuleLineText) → last_of lines key ≡ o → ((x : RuleLineText) → last_of lines key ≡ Some x → (n : ℕ) × (slice_get (last_lines lines) n ≡ Some x) × (x.key ≡ key)) → option_or o (here l key) ≡ Some m
+    by : (o : Option RuleLineModel) → last_of lines key ≡ o → ((x : RuleLineModel) → last_of lines key ≡ Some x → (n : ℕ) × (slice_get (last_lines lines) n ≡ Some x) × (x.key ≡ key)) → option_or o (here l key) ≡ Some m
         → (n : ℕ) × (slice_get (if has_key lines l.key then last_lines lines else last_lines lines ++ l ∷ []) n ≡ Some m) × (m.key ≡ key)
     by None none rest e = last none (bytes_eq key l.key) refl e
     by (Some x) is rest e = let r = rest m (is ∙ e) in (r.0, longer r.0 r.1 (has_key lines l.key), r.2)
 
 -- and no other
-apart : (lines : List RuleLineText) (i j : ℕ) (m o : RuleLineText) → slice_get (last_lines lines) i ≡ Some m → slice_get (last_lines lines) j ≡ Some o → m.key ≡ o.key → i ≡ j
+apart : (lines : List RuleLineModel) (i j : ℕ) (m o : RuleLineModel) → slice_get (last_lines lines) i ≡ Some m → slice_get (last_lines lines) j ≡ Some o → m.key ≡ o.key → i ≡ j
 unfolding last_lines
 apart [] i j m o h k same = absurd (true≢false (sym (ap is_some h)))
 apart (l ∷ lines) i j m o h k same = by (has_key lines l.key) refl (apart lines i j m o) h k
   where
-    clash : has_key lines l.key ≡ false → (n : ℕ) (x : RuleLineText) → slice_get (last_lines lines) n ≡ Some x → l.key ≡ x.key → ⊥
+    clash : has_key lines l.key ≡ false → (n : ℕ) (x : RuleLineModel) → slice_get (last_lines lines) n ≡ Some x → l.key ≡ x.key → ⊥
     clash none n x e same = true≢false (sym (ap is_some (sym (no_last lines l.key none) ∙ ap (last_of lines) same ∙ last_at lines n x e)))
 
     pushed : has_key lines l.key ≡ false → (slice_get (last_lines lines) i ≡ Some m → slice_get (last_lines lines) j ≡ Some o → m.key ≡ o.key → i ≡ j)
@@ -140,59 +140,59 @@ apart (l ∷ lines) i j m o h k same = by (has_key lines l.key) refl (apart line
 -- ---- numbers
 
 -- the line of a number
-line_of_number : (lines : List RuleLineText) (n : ℕ) → n < key_count lines → (m : RuleLineText) × (slice_get (last_lines lines) n ≡ Some m) × (key_at lines n ≡ m.key)
+line_of_number : (lines : List RuleLineModel) (n : ℕ) → n < key_count lines → (m : RuleLineModel) × (slice_get (last_lines lines) n ≡ Some m) × (key_at lines n ≡ m.key)
 line_of_number lines n below =
     let m = get_or (last_lines lines) n (record { key = []; value = [] }) in
     let e : slice_get (last_lines lines) n ≡ Some m = slice_get-get_or (last_lines lines) n (record { key = []; value = [] }) below in
-    (m, e, ap (λ o. unwrap_or (option_map (λ (l : RuleLineText). l.key) o) []) e)
+    (m, e, ap (λ o. unwrap_or (option_map (λ (l : RuleLineModel). l.key) o) []) e)
 
-pub key_of_line : (lines : List RuleLineText) (n : ℕ) (m : RuleLineText) → slice_get (last_lines lines) n ≡ Some m → key_at lines n ≡ m.key
-key_of_line lines n m e = ap (λ o. unwrap_or (option_map (λ (l : RuleLineText). l.key) o) []) e
+pub key_of_line : (lines : List RuleLineModel) (n : ℕ) (m : RuleLineModel) → slice_get (last_lines lines) n ≡ Some m → key_at lines n ≡ m.key
+key_of_line lines n m e = ap (λ o. unwrap_or (option_map (λ (l : RuleLineModel). l.key) o) []) e
 
-pub given_of_line : (lines : List RuleLineText) (n : ℕ) (m : RuleLineText) → slice_get (last_lines lines) n ≡ Some m → given lines (key_at lines n) ≡ Some m.value
-given_of_line lines n m e = ap (given lines) (key_of_line lines n m e) ∙ ap (option_map (λ (l : RuleLineText). l.value)) (last_at lines n m e)
+pub given_of_line : (lines : List RuleLineModel) (n : ℕ) (m : RuleLineModel) → slice_get (last_lines lines) n ≡ Some m → given lines (key_at lines n) ≡ Some m.value
+given_of_line lines n m e = ap (given lines) (key_of_line lines n m e) ∙ ap (option_map (λ (l : RuleLineModel). l.value)) (last_at lines n m e)
 
-pub keys_are_numbered : (lines : List RuleLineText) → KeysAreNumbered lines
+pub keys_are_numbered : (lines : List RuleLineModel) → KeysAreNumbered lines
 keys_are_numbered lines key value h = by (last_of lines key) refl h
   where
-    by : (o : Option RuleLineText) → last_of lines key ≡ o → option_map (λ (l : RuleLineText). l.value) o ≡ Some value → (n : ℕ) × (n < key_count lines) × (key_at lines n ≡ key)
+    by : (o : Option RuleLineModel) → last_of lines key ≡ o → option_map (λ (l : RuleLineModel). l.value) o ≡ Some value → (n : ℕ) × (n < key_count lines) × (key_at lines n ≡ key)
     by None is e = absurd (true≢false (sym (ap is_some e)))
     by (Some m) is e = let r = numbered lines key m is in (r.0, slice_get_within (last_lines lines) r.0 m r.1, key_of_line lines r.0 m r.1 ∙ r.2)
 
-pub numbers_differ : (lines : List RuleLineText) → NumbersDiffer lines
+pub numbers_differ : (lines : List RuleLineModel) → NumbersDiffer lines
 numbers_differ lines i j below under same =
     let m = line_of_number lines i below in
     let o = line_of_number lines j under in
     apart lines i j m.0 o.0 m.1 o.1 (sym m.2 ∙ same ∙ o.2)
 
-pub not_given : (lines : List RuleLineText) (key : List ℕ) → ((n : ℕ) → n < key_count lines → ¬ (key_at lines n ≡ key)) → given lines key ≡ None
+pub not_given : (lines : List RuleLineModel) (key : List ℕ) → ((n : ℕ) → n < key_count lines → ¬ (key_at lines n ≡ key)) → given lines key ≡ None
 not_given lines key none = by (given lines key) refl
   where
-    by : (o : Option (List PartText)) → given lines key ≡ o → given lines key ≡ None
+    by : (o : Option (List PartModel)) → given lines key ≡ o → given lines key ≡ None
     by None is = is
     by (Some value) is = let r = keys_are_numbered lines key value is in absurd (none r.0 r.1 r.2)
 
 -- ---- how they are held
 
 -- the line at the index that is at a place
-at_place : (all : List RuleLineText) (indexes : List ℕ) (held : List RuleLineText) (n : ℕ) → AreIndexes all indexes held → n < length indexes → slice_get all (slice_index indexes n) ≡ slice_get held n
+at_place : (all : List RuleLineModel) (indexes : List ℕ) (held : List RuleLineModel) (n : ℕ) → AreIndexes all indexes held → n < length indexes → slice_get all (slice_index indexes n) ≡ slice_get held n
 at_place all indexes held n are below =
     by (slice_get held n)
     (sym (slice_get-map Some held n) ∙ sym (ap (λ os. slice_get os n) are) ∙ slice_get-map (slice_get all) indexes n ∙ ap (option_map (slice_get all)) (slice_get-get_or indexes n 0 below))
   where
-    by : (o : Option RuleLineText) → option_map Some o ≡ Some (slice_get all (slice_index indexes n)) → slice_get all (slice_index indexes n) ≡ o
+    by : (o : Option RuleLineModel) → option_map Some o ≡ Some (slice_get all (slice_index indexes n)) → slice_get all (slice_index indexes n) ≡ o
     by None h = absurd (true≢false (sym (ap is_some h)))
     by (Some m) h = cc
 
-pub length_held : (all : List RuleLineText) (indexes : List ℕ) (held : List RuleLineText) → AreIndexes all indexes held → length indexes ≡ length held
+pub length_held : (all : List RuleLineModel) (indexes : List ℕ) (held : List RuleLineModel) → AreIndexes all indexes held → length indexes ≡ length held
 length_held all indexes held are = sym (length-map indexes (slice_get all)) ∙ ap length are ∙ length-map held Some
 
-pub held_at : (lines : List RuleLine) (indexes : List ℕ) (held : List RuleLineText) (n : ℕ) (line : RuleLine) → AreIndexes (map line_held lines) indexes held → n < length indexes
+pub held_at : (lines : List RuleLine) (indexes : List ℕ) (held : List RuleLineModel) (n : ℕ) (line : RuleLine) → AreIndexes (map line_held lines) indexes held → n < length indexes
     → slice_get lines (slice_index indexes n) ≡ Some line → slice_get held n ≡ Some (line_held line)
 held_at lines indexes held n line are below here =
     sym (at_place (map line_held lines) indexes held n are below) ∙ slice_get-map line_held lines (slice_index indexes n) ∙ ap (option_map line_held) here
 
-pub indexes_within : (lines : List RuleLine) (indexes : List ℕ) (held : List RuleLineText) → AreIndexes (map line_held lines) indexes held → All (λ i. i < length lines) indexes
+pub indexes_within : (lines : List RuleLine) (indexes : List ℕ) (held : List RuleLineModel) → AreIndexes (map line_held lines) indexes held → All (λ i. i < length lines) indexes
 indexes_within lines indexes held are = All-from_get_or (λ i. i < length lines) indexes 0 (λ n below.
     let long = length_held (map line_held lines) indexes held are in
     let m = get_or held n (record { key = []; value = [] }) in
@@ -233,7 +233,7 @@ has_not_here lines i line key is other at =
     let k : key ≡ line.key.items = sym at.2 ∙ ap (λ (x : RuleLine). x.key.items) e in
     true≢false (sym ((bytes_eq-Decides key line.key.items).1 k) ∙ other)
 
-line_there : (lines : List RuleLine) (indexes : List ℕ) (held : List RuleLineText) → AreIndexes (map line_held lines) indexes held → (n : ℕ) → n < length indexes
+line_there : (lines : List RuleLine) (indexes : List ℕ) (held : List RuleLineModel) → AreIndexes (map line_held lines) indexes held → (n : ℕ) → n < length indexes
     → (line : RuleLine) × (slice_get lines (slice_index indexes n) ≡ Some line)
 line_there lines indexes held are n below = by (slice_get lines (slice_index indexes n)) refl
   where
@@ -251,18 +251,18 @@ none_held lines indexes key are none = not_given (map line_held lines) key (λ n
 
 -- ---- the last line of each key, from the end
 
-pub pushed_index : (all : List RuleLineText) (indexes : List ℕ) (held : List RuleLineText) (i : ℕ) (m : RuleLineText) → AreIndexes all indexes held → slice_get all i ≡ Some m → AreIndexes all (indexes ++ i ∷ []) (held ++ m ∷ [])
+pub pushed_index : (all : List RuleLineModel) (indexes : List ℕ) (held : List RuleLineModel) (i : ℕ) (m : RuleLineModel) → AreIndexes all indexes held → slice_get all i ≡ Some m → AreIndexes all (indexes ++ i ∷ []) (held ++ m ∷ [])
 pushed_index all indexes held i m are is = map_push (slice_get all) indexes i ∙ ap (λ os. os ++ slice_get all i ∷ []) are ∙ ap (λ o. map Some held ++ o ∷ []) is ∙ sym (map_push Some held m)
 
 -- whether a line has the key is whether a last line has it
-has_number : (lines : List RuleLineText) (key : List ℕ) → has_key lines key ≡ true → (n : ℕ) × (m : RuleLineText) × (slice_get (last_lines lines) n ≡ Some m) × (m.key ≡ key)
+has_number : (lines : List RuleLineModel) (key : List ℕ) → has_key lines key ≡ true → (n : ℕ) × (m : RuleLineModel) × (slice_get (last_lines lines) n ≡ Some m) × (m.key ≡ key)
 has_number lines key has = by (last_of lines key) refl
   where
-    by : (o : Option RuleLineText) → last_of lines key ≡ o → (n : ℕ) × (m : RuleLineText) × (slice_get (last_lines lines) n ≡ Some m) × (m.key ≡ key)
+    by : (o : Option RuleLineModel) → last_of lines key ≡ o → (n : ℕ) × (m : RuleLineModel) × (slice_get (last_lines lines) n ≡ Some m) × (m.key ≡ key)
     by None is = absurd (true≢false (sym (some_last lines key has) ∙ ap is_some is))
     by (Some m) is = let r = numbered lines key m is in (r.0, m, r.1, r.2)
 
-has_not : (lines : List RuleLineText) (n : ℕ) (m : RuleLineText) → slice_get (last_lines lines) n ≡ Some m → has_key lines m.key ≡ true
+has_not : (lines : List RuleLineModel) (n : ℕ) (m : RuleLineModel) → slice_get (last_lines lines) n ≡ Some m → has_key lines m.key ≡ true
 has_not lines n m e = by (has_key lines m.key) refl
   where
     by : (b : Bool) → has_key lines m.key ≡ b → has_key lines m.key ≡ true
@@ -296,7 +296,7 @@ line_taken lines last i line is are none =
         let l = line_there lines last (last_lines (drop (i + 1) (map line_held lines))) are r.0 inside in
         let same = held_at lines last (last_lines (drop (i + 1) (map line_held lines))) r.0 l.0 are inside l.1 in
         let m : r.1 ≡ line_held l.0 = cc in
-        absurd (none r.0 inside (l.0, l.1, sym (ap (λ (x : RuleLineText). x.key) m) ∙ r.3))
+        absurd (none r.0 inside (l.0, l.1, sym (ap (λ (x : RuleLineModel). x.key) m) ∙ r.3))
     by false has = pushed_index (map line_held lines) last (last_lines (drop (i + 1) (map line_held lines))) i (line_held line) are (slice_get-map line_held lines i ∙ ap (option_map line_held) is)
 
 -- the same, where a line after it has its key
@@ -313,7 +313,7 @@ line_passed lines last i n line is are below at =
 
 -- ---- the same for what a rule keeps, where ls and is are read from it
 
-module _ (lines : List RuleLine) (last : List ℕ) (held : List RuleLineText) (same : map line_held lines ≡ held) (are : AreIndexes (map line_held lines) last (last_lines (map line_held lines)))
+module _ (lines : List RuleLine) (last : List ℕ) (held : List RuleLineModel) (same : map line_held lines ≡ held) (are : AreIndexes (map line_held lines) last (last_lines (map line_held lines)))
     (ls : List RuleLine) (is : List ℕ) (e : ls ≡ lines) (f : is ≡ last) where
   place_reported : (n : ℕ) → n < key_count held → n < length last
   place_reported n below = subst (λ k. n < k) (ap key_count (sym same) ∙ sym (length_held (map line_held lines) last (last_lines (map line_held lines)) are)) below

@@ -8,8 +8,8 @@ use Rattle.std.proofs.Math.Seq.{take-suc}
 use Rattle.std.proofs.lemmas.Grind.{flat_map-append}
 use Rattle.std.proofs.lemmas.List.{append-nil}
 use Rattle.std.proofs.lemmas.Option.{slice_get_within, get_or_from_slice_get}
-use Rattle.nj_text.specs.Words.{PartText}
-use Rattle.nj_scope.specs.declared.late.LatePart.{LatePart}
+use Rattle.nj_text.specs.Words.{PartModel}
+use Rattle.nj_scope.specs.declared.deferred.LatePart.{LatePart}
 use Rattle.nj_scope.specs.Late.{part_written, parts_written}
 use Rattle.nj_scope.specs.Inside.LateHeld.{text_or_name, late_part, late_parts, AreWithin}
 
@@ -70,7 +70,7 @@ parts-counted text longer bytes is_name ps qs start end within is from to pushed
 
 -- ---- a part written
 
-pub written-turn : (parts : List PartText) (i : ℕ) (p : PartText) (before after : List ℕ) → slice_get parts i ≡ Some p → before ≡ parts_written (take i parts) → after ≡ before ++ part_written p → after ≡ parts_written (take (i + 1) parts)
+pub written-turn : (parts : List PartModel) (i : ℕ) (p : PartModel) (before after : List ℕ) → slice_get parts i ≡ Some p → before ≡ parts_written (take i parts) → after ≡ before ++ part_written p → after ≡ parts_written (take (i + 1) parts)
 written-turn parts i p before after here is more =
     more ∙ ap (λ bytes. bytes ++ part_written p) is
     ∙ sym (ap parts_written (ap (λ n. take n parts) (add-one i) ∙ take-suc parts i p (slice_get_within parts i p here) ∙ ap (λ q. take i parts ++ q ∷ []) (get_or_from_slice_get parts i p p here))

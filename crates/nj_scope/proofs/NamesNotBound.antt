@@ -1,15 +1,15 @@
 -- Names that no scope binds.
 use Rattle.std.proofs.Common.{◌≡◌, ℕ, true, List, [], ◌∷◌, Option, None, unwrap_or, refl, sym, ap, ◌∙◌}
 use Rattle.std.specs.Option.{option_or}
-use Rattle.nj_scope.specs.Scopes.{ScopeText, first_given, value_in, bound_at}
+use Rattle.nj_scope.specs.Scopes.{ScopeModel, first_given, value_in, bound_at}
 use Rattle.nj_scope.specs.Inside.PoolOrDyndep.{is_pool_or_dyndep, BindNeither}
 
 none-given : {X : Type 0} (own : ℕ → Option X) → ((n : ℕ) → own n ≡ None) → (scope : List ℕ) → first_given own scope ≡ None
 none-given own none [] = refl
 none-given own none (s ∷ around) = ap (λ o. option_or o (first_given own around)) (none s) ∙ none-given own none around
 
-pub none-bound : (scopes : List ScopeText) (scope name : List ℕ) → BindNeither scopes → is_pool_or_dyndep name ≡ true → None ≡ first_given (λ s. bound_at scopes s name) scope
+pub none-bound : (scopes : List ScopeModel) (scope name : List ℕ) → BindNeither scopes → is_pool_or_dyndep name ≡ true → None ≡ first_given (λ s. bound_at scopes s name) scope
 none-bound scopes scope name neither h = sym (none-given (λ s. bound_at scopes s name) (λ n. neither n name h) scope)
 
-pub value-empty : (scopes : List ScopeText) (scope name : List ℕ) → BindNeither scopes → is_pool_or_dyndep name ≡ true → [] ≡ value_in (bound_at scopes) scope name
+pub value-empty : (scopes : List ScopeModel) (scope name : List ℕ) → BindNeither scopes → is_pool_or_dyndep name ≡ true → [] ≡ value_in (bound_at scopes) scope name
 value-empty scopes scope name neither h = ap (λ o. unwrap_or o []) (none-bound scopes scope name neither h)

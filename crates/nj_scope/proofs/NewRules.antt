@@ -1,11 +1,11 @@
 -- Rules that are new where they are declared.
 use Rattle.std.specs.Prelude.{◌≡◌, ℕ, false, List, [], ◌∷◌}
-use Rattle.nj_manifest.specs.Statements.{StatementText, RuleText}
+use Rattle.nj_manifest.specs.Statements.{StatementModel, RuleModel}
 use Rattle.nj_scope.specs.ReadingList.{ReadStatement, rules, is_declared}
 
 -- A rule is new where its scope declares none of its name yet; one called `phony` never is.
-abbrev pub RuleIsNew : List ReadStatement → (number : ℕ) → StatementText → Type 0
-RuleIsNew before number (RuleText name lines) = is_declared (rules before number name.name) name.name ≡ false
+abbrev pub RuleIsNew : List ReadStatement → (number : ℕ) → StatementModel → Type 0
+RuleIsNew before number (RuleModel name lines) = is_declared (rules before number name.name) name.name ≡ false
 RuleIsNew before number item = Unit {0}
 
 -- each rule was new as it was declared

@@ -7,7 +7,7 @@ use Rattle.std.proofs.lemmas.List.{map-append, append-nil}
 use Rattle.std.proofs.lemmas.List.Elements.{filter-append}
 use Rattle.std.proofs.lemmas.List.Folds.{list_any-append}
 use Rattle.std.proofs.lemmas.Map.Keys.{IsDistinct-push}
-use Rattle.nj_manifest.specs.Statements.{StatementText, BindingText, RuleText, PoolText, BuildText, DefaultText, IncludeText, SubninjaText}
+use Rattle.nj_manifest.specs.Statements.{StatementModel, BindingModel, RuleModel, PoolModel, BuildModel, DefaultModel, IncludeModel, SubninjaModel}
 use Rattle.nj_scope.specs.Rules as kept
 use Rattle.nj_scope.specs.Rules.{rule_names, line_kept, phony, phony_rule}
 use Rattle.nj_scope.specs.ReadingList.{ReadStatement, rules_read, declares, rules, is_declared}
@@ -21,7 +21,7 @@ one_name true name = name ∷ []
 one_name false name = []
 
 -- the names, with the names of one rule more
-names-push : (before : List kept.RuleText) (r : kept.RuleText) (scope : ℕ) → rule_names (before ++ r ∷ []) scope ≡ rule_names before scope ++ one_name (scope == r.scope) r.name
+names-push : (before : List kept.RuleModel) (r : kept.RuleModel) (scope : ℕ) → rule_names (before ++ r ∷ []) scope ≡ rule_names before scope ++ one_name (scope == r.scope) r.name
 names-push before r scope =
     ap (λ rs. map (λ x. x.name) rs) (filter-append (λ x. scope == x.scope) before (r ∷ []))
     ∙ map-append (λ x. x.name) (filter (λ x. scope == x.scope) before) (filter (λ x. scope == x.scope) (r ∷ []))
@@ -34,7 +34,7 @@ names-push before r scope =
 -- ---- which names are taken
 
 -- whether a rule of the scope has the name, or it is `phony`
-abbrev names_have : List kept.RuleText → (number : ℕ) → (name : List ℕ) → Bool
+abbrev names_have : List kept.RuleModel → (number : ℕ) → (name : List ℕ) → Bool
 names_have rules number name = bytes_eq name phony || list_any (bytes_eq name) (rule_names rules number)
 
 or_among : (a b d : Bool) → ((a || b) || d) ≡ (a || (b || d))
@@ -60,22 +60,22 @@ module _ (before : List ReadStatement) (e : ReadStatement) (number : ℕ) (name 
   no_rule : ((x : List ℕ) → declares e.item x ≡ false) → is_declared (rules (e ∷ before) number name) name ≡ names_have (rules_read before) number name
   no_rule nothing = ap (λ o. is_declared o name) (rules-kept e before nothing number name) ∙ rest
 
-listed-more : (before : List ReadStatement) (number : ℕ) (e : ReadStatement) (item : StatementText) (name : List ℕ)
+listed-more : (before : List ReadStatement) (number : ℕ) (e : ReadStatement) (item : StatementModel) (name : List ℕ)
     → is_declared (rules before number name) name ≡ names_have (rules_read before) number name
     → is_declared (rules (record e { item = item } ∷ before) number name) name ≡ names_have (rules_read (record e { item = item } ∷ before)) number name
-listed-more before number e (RuleText declared lines) name rest =
+listed-more before number e (RuleModel declared lines) name rest =
     taken-push (bytes_eq name phony) (number == e.number && bytes_eq name declared.name) (length (rules_read before)) (rules before number name)
     ∙ ap (λ b. b || (number == e.number && bytes_eq name declared.name)) rest
     ∙ ap (λ b. (bytes_eq name phony || list_any (bytes_eq name) (rule_names (rules_read before) number)) || b) (sym (any_one name declared.name (number == e.number)))
     ∙ or_among (bytes_eq name phony) (list_any (bytes_eq name) (rule_names (rules_read before) number)) (list_any (bytes_eq name) (one_name (number == e.number) declared.name))
     ∙ ap (λ b. bytes_eq name phony || b) (sym (list_any-append (bytes_eq name) (rule_names (rules_read before) number) (one_name (number == e.number) declared.name)))
     ∙ ap (λ names. bytes_eq name phony || list_any (bytes_eq name) names) (sym (names-push (rules_read before) (record { scope = e.number; name = declared.name; lines = map line_kept lines }) number))
-listed-more before number e (BindingText bound word) name rest = no_rule before (record e { item = BindingText bound word }) number name rest (λ x. refl)
-listed-more before number e (PoolText declared lines) name rest = no_rule before (record e { item = PoolText declared lines }) number name rest (λ x. refl)
-listed-more before number e (BuildText outputs rule inputs lines) name rest = no_rule before (record e { item = BuildText outputs rule inputs lines }) number name rest (λ x. refl)
-listed-more before number e (DefaultText words) name rest = no_rule before (record e { item = DefaultText words }) number name rest (λ x. refl)
-listed-more before number e (IncludeText word) name rest = no_rule before (record e { item = IncludeText word }) number name rest (λ x. refl)
-listed-more before number e (SubninjaText word) name rest = no_rule before (record e { item = SubninjaText word }) number name rest (λ x. refl)
+listed-more before number e (BindingModel bound word) name rest = no_rule before (record e { item = BindingModel bound word }) number name rest (λ x. refl)
+listed-more before number e (PoolModel declared lines) name rest = no_rule before (record e { item = PoolModel declared lines }) number name rest (λ x. refl)
+listed-more before number e (BuildModel outputs rule inputs lines) name rest = no_rule before (record e { item = BuildModel outputs rule inputs lines }) number name rest (λ x. refl)
+listed-more before number e (DefaultModel words) name rest = no_rule before (record e { item = DefaultModel words }) number name rest (λ x. refl)
+listed-more before number e (IncludeModel word) name rest = no_rule before (record e { item = IncludeModel word }) number name rest (λ x. refl)
+listed-more before number e (SubninjaModel word) name rest = no_rule before (record e { item = SubninjaModel word }) number name rest (λ x. refl)
 
 -- a name is taken in a scope where it is one of its names
 pub is_declared-listed : (entries : List ReadStatement) (number : ℕ) (name : List ℕ) → is_declared (rules entries number name) name ≡ names_have (rules_read entries) number name
@@ -93,7 +93,7 @@ is_declared-listed (e ∷ before) number name = listed-more before number e e.it
 -- ---- the names differ
 
 -- the names of a scope, with the name of a rule that was new in its scope
-distinct-more : (before : List kept.RuleText) (r : kept.RuleText) (number : ℕ) → (number ≡ r.scope → list_any (bytes_eq r.name) (rule_names before number) ≡ false)
+distinct-more : (before : List kept.RuleModel) (r : kept.RuleModel) (number : ℕ) → (number ≡ r.scope → list_any (bytes_eq r.name) (rule_names before number) ≡ false)
     → IsDistinct bytes_eq (rule_names before number) → IsDistinct bytes_eq (rule_names (before ++ r ∷ []) number)
 distinct-more before r number new distinct = subst (IsDistinct bytes_eq) (sym (names-push before r number)) (by (number == r.scope) (eqb-true number r.scope))
   where
@@ -101,17 +101,17 @@ distinct-more before r number new distinct = subst (IsDistinct bytes_eq) (sym (n
     by true same = IsDistinct-push nat_list_eq_equiv (rule_names before number) r.name distinct (new (same refl))
     by false same = subst (IsDistinct bytes_eq) (sym (append-nil (rule_names before number))) distinct
 
-distinct-with : (before : List ReadStatement) (number : ℕ) (e : ReadStatement) (item : StatementText) → RuleIsNew before e.number item → IsDistinct bytes_eq (rule_names (rules_read before) number) → IsDistinct bytes_eq (rule_names (rules_read (record e { item = item } ∷ before)) number)
-distinct-with before number e (RuleText declared lines) is_new rest =
+distinct-with : (before : List ReadStatement) (number : ℕ) (e : ReadStatement) (item : StatementModel) → RuleIsNew before e.number item → IsDistinct bytes_eq (rule_names (rules_read before) number) → IsDistinct bytes_eq (rule_names (rules_read (record e { item = item } ∷ before)) number)
+distinct-with before number e (RuleModel declared lines) is_new rest =
     distinct-more (rules_read before) (record { scope = e.number; name = declared.name; lines = map line_kept lines }) number
     (λ same. or_false (bytes_eq declared.name phony) (list_any (bytes_eq declared.name) (rule_names (rules_read before) number))
     (sym (is_declared-listed before number declared.name) ∙ ap (λ n. is_declared (rules before n declared.name) declared.name) same ∙ is_new)) rest
-distinct-with before number e (BindingText bound word) is_new rest = rest
-distinct-with before number e (PoolText declared lines) is_new rest = rest
-distinct-with before number e (BuildText outputs rule inputs lines) is_new rest = rest
-distinct-with before number e (DefaultText words) is_new rest = rest
-distinct-with before number e (IncludeText word) is_new rest = rest
-distinct-with before number e (SubninjaText word) is_new rest = rest
+distinct-with before number e (BindingModel bound word) is_new rest = rest
+distinct-with before number e (PoolModel declared lines) is_new rest = rest
+distinct-with before number e (BuildModel outputs rule inputs lines) is_new rest = rest
+distinct-with before number e (DefaultModel words) is_new rest = rest
+distinct-with before number e (IncludeModel word) is_new rest = rest
+distinct-with before number e (SubninjaModel word) is_new rest = rest
 
 -- Where each rule was new, no two rules of a scope have one name, and none is called `phony`.
 pub names-distinct : (entries : List ReadStatement) → EachRuleIsNew entries → (number : ℕ) → IsDistinct bytes_eq (rule_names (rules_read entries) number)

@@ -9,8 +9,8 @@ use Rattle.std.proofs.lemmas.Slice.Eq.{bytes_eq-Decides}
 use Rattle.std.proofs.Math.Nat.{lt_irrefl}
 use Rattle.indexmap.specs.IndexMap.{insert_entry}
 use Rattle.nj_scope.specs.declared.scopes.Scope.{Scope}
-use Rattle.nj_scope.specs.Scopes.{ScopeText, at_scope, parent_at, bound_at, rule_at}
-use Rattle.nj_scope.specs.Inside.ScopesHeld.{scope_text, values_text, ParentsAreEarlier}
+use Rattle.nj_scope.specs.Scopes.{ScopeModel, at_scope, parent_at, bound_at, rule_at}
+use Rattle.nj_scope.specs.Inside.ScopesHeld.{scope_model, values_text, ParentsAreEarlier}
 
 -- ---- lists
 
@@ -57,10 +57,10 @@ Compared n m = ((nat_eq n m ≡ true) × (n ≡ m)) ⊎ ((nat_eq n m ≡ false) 
 
 -- ---- a scope more
 
-abbrev pub opened : List ScopeText → ℕ → List ScopeText
+abbrev pub opened : List ScopeModel → ℕ → List ScopeModel
 opened scopes p = scopes ++ record { parent = Some p; values = []; rules = [] } ∷ []
 
-module _ (scopes : List ScopeText) (p : ℕ) where
+module _ (scopes : List ScopeModel) (p : ℕ) where
   pub parent_at-number : parent_at (opened scopes p) (length scopes) ≡ Some p
   parent_at-number = ap (option_and_then (λ s. s.parent)) (get-push_same scopes (record { parent = Some p; values = []; rules = [] }))
 
@@ -68,7 +68,7 @@ module _ (scopes : List ScopeText) (p : ℕ) where
   parent_at-other n h = ap (option_and_then (λ s. s.parent)) (get-push_other scopes (record { parent = Some p; values = []; rules = [] }) n (λ e. lt_irrefl n (subst (λ m. n < m) (sym e) h)))
 
   -- what is not there in a new scope is where it was
-  at_scope-opened : {X : Type 0} (f : ScopeText → Option X) → f (record { parent = Some p; values = []; rules = [] }) ≡ None → (n : ℕ) → at_scope f (opened scopes p) n ≡ at_scope f scopes n
+  at_scope-opened : {X : Type 0} (f : ScopeModel → Option X) → f (record { parent = Some p; values = []; rules = [] }) ≡ None → (n : ℕ) → at_scope f (opened scopes p) n ≡ at_scope f scopes n
   at_scope-opened f nothing n = by (eqb_tells n (length scopes))
     where
       by : Compared n (length scopes) → at_scope f (opened scopes p) n ≡ at_scope f scopes n
@@ -92,15 +92,15 @@ module _ (scopes : List ScopeText) (p : ℕ) where
 
 -- ---- a scope that was changed
 
-module _ (scopes : List ScopeText) (i : ℕ) (s t : ScopeText) (here : slice_get scopes i ≡ Some s) where
-  at_scope-set : {X : Type 0} (f : ScopeText → Option X) (n : ℕ) → at_scope f (slice_set scopes i t) n ≡ cond (nat_eq n i) (f t) (at_scope f scopes n)
+module _ (scopes : List ScopeModel) (i : ℕ) (s t : ScopeModel) (here : slice_get scopes i ≡ Some s) where
+  at_scope-set : {X : Type 0} (f : ScopeModel → Option X) (n : ℕ) → at_scope f (slice_set scopes i t) n ≡ cond (nat_eq n i) (f t) (at_scope f scopes n)
   at_scope-set {X = X} f n = ap (option_and_then f) (get-set scopes i s t n here) ∙ split (nat_eq n i)
     where
       split : (b : Bool) → option_and_then f (cond b (Some t) (slice_get scopes n)) ≡ cond b (f t) (at_scope f scopes n)
       split true = refl
       split false = refl
 
-  pub at_scope-kept : {X : Type 0} (f : ScopeText → Option X) → f t ≡ f s → (n : ℕ) → at_scope f (slice_set scopes i t) n ≡ at_scope f scopes n
+  pub at_scope-kept : {X : Type 0} (f : ScopeModel → Option X) → f t ≡ f s → (n : ℕ) → at_scope f (slice_set scopes i t) n ≡ at_scope f scopes n
   at_scope-kept f same n = at_scope-set f n ∙ by (eqb_tells n i)
     where
       by : Compared n i → cond (nat_eq n i) (f t) (at_scope f scopes n) ≡ at_scope f scopes n
@@ -108,7 +108,7 @@ module _ (scopes : List ScopeText) (i : ℕ) (s t : ScopeText) (here : slice_get
       by (inr (f', apart)) = ap (λ b. cond b (f t) (at_scope f scopes n)) f'
 
   -- one name more, or another meaning of it
-  pub at_scope-bound : {X : Type 0} (f : ScopeText → Option X) (b : Bool) (x : Option X) → f t ≡ cond b x (f s) → (n : ℕ) → at_scope f (slice_set scopes i t) n ≡ cond (nat_eq n i && b) x (at_scope f scopes n)
+  pub at_scope-bound : {X : Type 0} (f : ScopeModel → Option X) (b : Bool) (x : Option X) → f t ≡ cond b x (f s) → (n : ℕ) → at_scope f (slice_set scopes i t) n ≡ cond (nat_eq n i && b) x (at_scope f scopes n)
   at_scope-bound f b x bound n = at_scope-set f n ∙ by (eqb_tells n i)
     where
       by : Compared n i → cond (nat_eq n i) (f t) (at_scope f scopes n) ≡ cond (nat_eq n i && b) x (at_scope f scopes n)
@@ -161,38 +161,38 @@ module _ {V X : Type 0} (g : V → X) where
 
 -- ---- the same of a program's scopes
 
-pub pushed-text : (scopes items : List Scope) (p : ℕ) (new : Scope) → new.parent ≡ Some p → new.values.entries ≡ [] → new.rules.entries ≡ [] → items ≡ scopes ++ new ∷ [] → map scope_text items ≡ opened (map scope_text scopes) p
+pub pushed-text : (scopes items : List Scope) (p : ℕ) (new : Scope) → new.parent ≡ Some p → new.values.entries ≡ [] → new.rules.entries ≡ [] → items ≡ scopes ++ new ∷ [] → map scope_model items ≡ opened (map scope_model scopes) p
 pushed-text scopes items p new within no_values no_rules is =
-    ap (map scope_text) is ∙ map_push scope_text scopes new
-    ∙ ap (λ q. map scope_text scopes ++ record { parent = q; values = (scope_text new).values; rules = (scope_text new).rules } ∷ []) within
-    ∙ ap (λ es. map scope_text scopes ++ record { parent = Some p; values = entries_text (λ v. v.items) es; rules = (scope_text new).rules } ∷ []) no_values
-    ∙ ap (λ es. map scope_text scopes ++ record { parent = Some p; values = []; rules = entries_text (λ v. v) es } ∷ []) no_rules
+    ap (map scope_model) is ∙ map_push scope_model scopes new
+    ∙ ap (λ q. map scope_model scopes ++ record { parent = q; values = (scope_model new).values; rules = (scope_model new).rules } ∷ []) within
+    ∙ ap (λ es. map scope_model scopes ++ record { parent = Some p; values = entries_text (λ v. v.items) es; rules = (scope_model new).rules } ∷ []) no_values
+    ∙ ap (λ es. map scope_model scopes ++ record { parent = Some p; values = []; rules = entries_text (λ v. v) es } ∷ []) no_rules
 
-module _ (items : List Scope) (i : ℕ) (s t : Scope) (inside : i < length (map scope_text items)) (read : s ≡ get_or items i s) where
-  here-text : slice_get (map scope_text items) i ≡ Some (scope_text s)
-  here-text = slice_get-map scope_text items i ∙ ap (option_map scope_text) (slice_get_read items (length items) i s refl (subst (λ n. i < n) (length-map items scope_text) inside) read)
+module _ (items : List Scope) (i : ℕ) (s t : Scope) (inside : i < length (map scope_model items)) (read : s ≡ get_or items i s) where
+  here-text : slice_get (map scope_model items) i ≡ Some (scope_model s)
+  here-text = slice_get-map scope_model items i ∙ ap (option_map scope_model) (slice_get_read items (length items) i s refl (subst (λ n. i < n) (length-map items scope_model) inside) read)
 
-  pub at_scope-text : {X : Type 0} (f : ScopeText → Option X) → at_scope f (map scope_text items) i ≡ f (scope_text s)
+  pub at_scope-text : {X : Type 0} (f : ScopeModel → Option X) → at_scope f (map scope_model items) i ≡ f (scope_model s)
   at_scope-text f = ap (option_and_then f) here-text
 
   -- another scope in place of this one
-  pub earlier-set_text : t.parent ≡ s.parent → ParentsAreEarlier (map scope_text items) → ParentsAreEarlier (map scope_text (slice_set items i t))
+  pub earlier-set_text : t.parent ≡ s.parent → ParentsAreEarlier (map scope_model items) → ParentsAreEarlier (map scope_model (slice_set items i t))
   earlier-set_text within earlier =
-      subst ParentsAreEarlier (sym (map-set scope_text items i t)) (earlier-set (map scope_text items) i (scope_text s) (scope_text t) here-text within earlier)
+      subst ParentsAreEarlier (sym (map-set scope_model items i t)) (earlier-set (map scope_model items) i (scope_model s) (scope_model t) here-text within earlier)
 
-  pub kept-text : {X : Type 0} (f : ScopeText → Option X) → f (scope_text t) ≡ f (scope_text s) → (n : ℕ) → at_scope f (map scope_text (slice_set items i t)) n ≡ at_scope f (map scope_text items) n
+  pub kept-text : {X : Type 0} (f : ScopeModel → Option X) → f (scope_model t) ≡ f (scope_model s) → (n : ℕ) → at_scope f (map scope_model (slice_set items i t)) n ≡ at_scope f (map scope_model items) n
   kept-text f same n =
-      ap (λ ss. at_scope f ss n) (map-set scope_text items i t) ∙ at_scope-kept (map scope_text items) i (scope_text s) (scope_text t) here-text f same n
+      ap (λ ss. at_scope f ss n) (map-set scope_model items i t) ∙ at_scope-kept (map scope_model items) i (scope_model s) (scope_model t) here-text f same n
 
   pub bound-text : (name v : List ℕ) → ((x : List ℕ) → lookup (bytes_eq x) (values_text t.values.entries) ≡ cond (bytes_eq x name) (Some v) (lookup (bytes_eq x) (values_text s.values.entries)))
-      → (n : ℕ) (x : List ℕ) → bound_at (map scope_text (slice_set items i t)) n x ≡ cond (nat_eq n i && bytes_eq x name) (Some v) (bound_at (map scope_text items) n x)
+      → (n : ℕ) (x : List ℕ) → bound_at (map scope_model (slice_set items i t)) n x ≡ cond (nat_eq n i && bytes_eq x name) (Some v) (bound_at (map scope_model items) n x)
   bound-text name v set n x =
-      ap (λ ss. bound_at ss n x) (map-set scope_text items i t)
-      ∙ at_scope-bound (map scope_text items) i (scope_text s) (scope_text t) here-text (λ u. lookup (bytes_eq x) u.values) (bytes_eq x name) (Some v) (set x) n
+      ap (λ ss. bound_at ss n x) (map-set scope_model items i t)
+      ∙ at_scope-bound (map scope_model items) i (scope_model s) (scope_model t) here-text (λ u. lookup (bytes_eq x) u.values) (bytes_eq x name) (Some v) (set x) n
 
   pub declared-text : (k : Vec ℕ) (v : ℕ) → t.rules.entries ≡ insert_entry (same_key (λ (v : ℕ). v)) s.rules.entries k v
-      → (n : ℕ) (x : List ℕ) → rule_at (map scope_text (slice_set items i t)) n x ≡ cond (nat_eq n i && bytes_eq x k.items) (Some v) (rule_at (map scope_text items) n x)
+      → (n : ℕ) (x : List ℕ) → rule_at (map scope_model (slice_set items i t)) n x ≡ cond (nat_eq n i && bytes_eq x k.items) (Some v) (rule_at (map scope_model items) n x)
   declared-text k v entries n x =
-      ap (λ ss. rule_at ss n x) (map-set scope_text items i t)
-      ∙ at_scope-bound (map scope_text items) i (scope_text s) (scope_text t) here-text (λ u. lookup (bytes_eq x) u.rules) (bytes_eq x k.items) (Some v)
+      ap (λ ss. rule_at ss n x) (map-set scope_model items i t)
+      ∙ at_scope-bound (map scope_model items) i (scope_model s) (scope_model t) here-text (λ u. lookup (bytes_eq x) u.rules) (bytes_eq x k.items) (Some v)
       (ap (λ es. lookup (bytes_eq x) (entries_text (λ w. w) es)) entries ∙ lookup-inserted (λ w. w) s.rules.entries k v x) n

@@ -2,10 +2,10 @@
 use Rattle.std.proofs.Common.{◌≡◌, ℕ, suc, ◌<◌, List, Option, Some, None, unwrap_or, is_some, IfSome, length, refl, sym, ap, ◌∙◌, subst, true≢false}
 use Rattle.std.specs.Option.{option_or}
 use Rattle.std.proofs.Math.Nat.{lt_trans, zero-lt-suc, suc-lt_of_lt-pred}
-use Rattle.nj_scope.specs.Scopes.{IsScope, first_given, ScopeText, parent_at}
+use Rattle.nj_scope.specs.Scopes.{IsScope, first_given, ScopeModel, parent_at}
 use Rattle.nj_scope.specs.Scopes.IsScope.{outermost, child}
 
-abbrev pub IsWithin : List ScopeText → Option ℕ → Type 0
+abbrev pub IsWithin : List ScopeModel → Option ℕ → Type 0
 IsWithin scopes None = Unit {0}
 IsWithin scopes (Some n) = n < length scopes
 
@@ -16,7 +16,7 @@ scopes_left (Some n) = suc n
 some_same : {X : Type 0} {x y : X} → Some x ≡ Some y → x ≡ y
 some_same {x = x} h = ap (λ o. unwrap_or o x) h
 
-within_beyond : (scopes : List ScopeText) (n : ℕ) (parent : Option ℕ) → n < length scopes → IfSome parent (λ p. p < n) → IsWithin scopes parent
+within_beyond : (scopes : List ScopeModel) (n : ℕ) (parent : Option ℕ) → n < length scopes → IfSome parent (λ p. p < n) → IsWithin scopes parent
 within_beyond scopes n None h earlier = tt
 within_beyond scopes n (Some p) h earlier = lt_trans earlier h
 
@@ -26,15 +26,15 @@ left-falls n (Some p) earlier = suc-lt_of_lt-pred {n = p} {m = suc n} earlier
 
 module _ {X : Type 0} where
   -- a look-up in the scopes that are left finds what a look-up in all of them finds
-  abbrev pub LooksFrom : (own : ℕ → Option X) → List ScopeText → (found : Option X) → Option ℕ → Type 0
+  abbrev pub LooksFrom : (own : ℕ → Option X) → List ScopeModel → (found : Option X) → Option ℕ → Type 0
   LooksFrom own scopes found None = found ≡ None
   LooksFrom own scopes found (Some n) = (around : List ℕ) × IsScope (parent_at scopes) n around × (found ≡ first_given own around)
 
-  pub record StillLooks (own : ℕ → Option X) (scopes : List ScopeText) (scope : ℕ) (next : Option ℕ) : Type 0 where
+  pub record StillLooks (own : ℕ → Option X) (scopes : List ScopeModel) (scope : ℕ) (next : Option ℕ) : Type 0 where
     pub within : IsWithin scopes next
     pub looks : (around : List ℕ) → IsScope (parent_at scopes) scope around → LooksFrom own scopes (first_given own around) next
 
-  module _ (own : ℕ → Option X) (scopes : List ScopeText) (scope : ℕ) where
+  module _ (own : ℕ → Option X) (scopes : List ScopeModel) (scope : ℕ) where
     pub looks-front : scope < length scopes → StillLooks own scopes scope (Some scope)
     looks-front h = record { within = h; looks = λ around is. (around, is, refl) }
 

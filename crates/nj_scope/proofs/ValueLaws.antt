@@ -3,20 +3,20 @@ use Rattle.std.proofs.Common.{◌≡◌, ℕ, Bool, true, false, ◌&&◌, ◌==
 use Rattle.std.specs.Option.{option_or}
 use Rattle.std.proofs.lemmas.Slice.Eq.{bytes_eq-Decides}
 use Rattle.std.proofs.lemmas.Bool.{eq-eqb}
-use Rattle.nj_manifest.specs.Statements.{StatementText, BindingText, RuleText, PoolText, BuildText, DefaultText, IncludeText, SubninjaText}
+use Rattle.nj_manifest.specs.Statements.{StatementModel, BindingModel, RuleModel, PoolModel, BuildModel, DefaultModel, IncludeModel, SubninjaModel}
 use Rattle.nj_scope.specs.Scopes.{value_in, first_given, expanded}
 use Rattle.nj_scope.specs.Laws.{binds_name, NoneBinds, LastBindingCounts, OthersAreInherited, OthersKeepTheirs}
 use Rattle.nj_scope.specs.ReadingList.{ReadStatement, scope_of, binds, binds_in, bounds, value_after}
 
 -- a statement that does not bind the name
-not_binding : (value : List ℕ → List ℕ) (item : StatementText) (name : List ℕ) → binds_name item name ≡ false → binds value item name ≡ None
-not_binding value (BindingText bound word) name h = ap (λ b. if b then Some (expanded value word.parts) else None) h
-not_binding value (RuleText n lines) name h = refl
-not_binding value (PoolText n lines) name h = refl
-not_binding value (BuildText outputs rule inputs lines) name h = refl
-not_binding value (DefaultText words) name h = refl
-not_binding value (IncludeText word) name h = refl
-not_binding value (SubninjaText word) name h = refl
+not_binding : (value : List ℕ → List ℕ) (item : StatementModel) (name : List ℕ) → binds_name item name ≡ false → binds value item name ≡ None
+not_binding value (BindingModel bound word) name h = ap (λ b. if b then Some (expanded value word.parts) else None) h
+not_binding value (RuleModel n lines) name h = refl
+not_binding value (PoolModel n lines) name h = refl
+not_binding value (BuildModel outputs rule inputs lines) name h = refl
+not_binding value (DefaultModel words) name h = refl
+not_binding value (IncludeModel word) name h = refl
+not_binding value (SubninjaModel word) name h = refl
 
 none_here : (e : ReadStatement) (number : ℕ) (name : List ℕ) (value : List ℕ → List ℕ) → (number == e.number && binds_name e.item name) ≡ false → binds_in number e value name ≡ None
 none_here e number name value h = by (number == e.number) h
@@ -35,8 +35,8 @@ passed (e ∷ after) before number name none =
 pub last_counts : LastBindingCounts
 unfolding bounds
 last_counts after before e name word is none = subst (λ item. value_after (after ++ record e { item = item } ∷ before) (scope_of e) name ≡ expanded (value_after before (scope_of e)) word.parts) (sym is) (
-    ap (λ o. unwrap_or (option_or o (first_given (λ s. bounds (after ++ record e { item = BindingText name word } ∷ before) s name) e.around)) [])
-    (passed after (record e { item = BindingText name word } ∷ before) e.number name none
+    ap (λ o. unwrap_or (option_or o (first_given (λ s. bounds (after ++ record e { item = BindingModel name word } ∷ before) s name) e.around)) [])
+    (passed after (record e { item = BindingModel name word } ∷ before) e.number name none
     ∙ ap (λ b. option_or (if b then (if bytes_eq name name then Some (expanded (value_in (bounds before) (scope_of e)) word.parts) else None) else None) (bounds before e.number name)) (eq-eqb e.number e.number refl)
     ∙ ap (λ b. option_or (if b then Some (expanded (value_in (bounds before) (scope_of e)) word.parts) else None) (bounds before e.number name)) ((bytes_eq-Decides name name).1 refl)))
 

@@ -2,15 +2,15 @@
 use Rattle.std.proofs.Common.{◌≡◌, ℕ, List, [], ◌∷◌, Some, None, true, refl}
 use Rattle.std.specs.Prelude.{codes, reverse, Option, option_and_then, slice_get}
 use Rattle.nj_text.specs.Units.{first_spot}
-use Rattle.nj_text.specs.Words.{PartText, Text, Name, WordText}
-use Rattle.nj_manifest.specs.Statements.{BindingText, RuleText, PoolText, DefaultText, SubninjaText}
+use Rattle.nj_text.specs.Words.{PartModel, Text, Name, WordModel}
+use Rattle.nj_manifest.specs.Statements.{BindingModel, RuleModel, PoolModel, DefaultModel, SubninjaModel}
 use Rattle.nj_scope.specs.ReadingList.{ReadStatement, bounds, value_after, rules, rule_in_force, rules_read, pools, scopes_opened, files_opened}
 use Rattle.nj_scope.specs.Pools.{is_pool}
 use Rattle.nj_scope.specs.Rules as kept
 use Rattle.nj_scope.specs.Rules.{phony_rule, rule_names}
 
 -- the rule that is in force under a name
-abbrev rule_text_in_force : List ReadStatement → (scope name : List ℕ) → Option kept.RuleText
+abbrev rule_text_in_force : List ReadStatement → (scope name : List ℕ) → Option kept.RuleModel
 rule_text_in_force entries scope name = option_and_then (slice_get (rules_read entries)) (rule_in_force entries scope name)
 
 abbrev main : List ℕ
@@ -20,23 +20,23 @@ abbrev child : List ℕ
 child = 1 ∷ 0 ∷ []
 
 -- a word, whose place does not matter here
-abbrev word : List PartText → WordText
+abbrev word : List PartModel → WordModel
 word parts = record { spot = first_spot; parts = parts }
 
 -- where the statements are; their spots do not matter here
 abbrev at_main : ReadStatement
-at_main = record { file = codes "build.ninja"; spot = first_spot; depth = 0; number = 0; around = []; item = DefaultText []; discovered = None }
+at_main = record { file = codes "build.ninja"; spot = first_spot; depth = 0; number = 0; around = []; item = DefaultModel []; discovered = None }
 
 abbrev at_child : ReadStatement
-at_child = record { file = codes "s"; spot = first_spot; depth = 1; number = 1; around = 0 ∷ []; item = DefaultText []; discovered = None }
+at_child = record { file = codes "s"; spot = first_spot; depth = 1; number = 1; around = 0 ∷ []; item = DefaultModel []; discovered = None }
 
 -- x = 1, y = a$x, x = 2: a value expands at once
 abbrev at_once : List ReadStatement
 at_once =
     reverse
-    (record at_main { item = BindingText (codes "x") (word (Text (codes "1") ∷ [])) }
-    ∷ record at_main { item = BindingText (codes "y") (word (Text (codes "a") ∷ Name (codes "x") ∷ [])) }
-    ∷ record at_main { item = BindingText (codes "x") (word (Text (codes "2") ∷ [])) } ∷ [])
+    (record at_main { item = BindingModel (codes "x") (word (Text (codes "1") ∷ [])) }
+    ∷ record at_main { item = BindingModel (codes "y") (word (Text (codes "a") ∷ Name (codes "x") ∷ [])) }
+    ∷ record at_main { item = BindingModel (codes "x") (word (Text (codes "2") ∷ [])) } ∷ [])
 
 early : value_after at_once main (codes "y") ≡ codes "a1"
 unfolding bounds
@@ -54,11 +54,11 @@ unknown = refl
 abbrev shadowed : List ReadStatement
 shadowed =
     reverse
-    (record at_main { item = BindingText (codes "x") (word (Text (codes "p") ∷ [])) }
-    ∷ record at_main { item = SubninjaText (word (Text (codes "s") ∷ [])) }
-    ∷ record at_child { item = BindingText (codes "x") (word (Text (codes "c") ∷ Name (codes "x") ∷ [])) }
-    ∷ record at_child { item = RuleText (record { spot = first_spot; name = codes "r" }) [] }
-    ∷ record at_child { item = PoolText (record { spot = first_spot; name = codes "p" }) [] } ∷ [])
+    (record at_main { item = BindingModel (codes "x") (word (Text (codes "p") ∷ [])) }
+    ∷ record at_main { item = SubninjaModel (word (Text (codes "s") ∷ [])) }
+    ∷ record at_child { item = BindingModel (codes "x") (word (Text (codes "c") ∷ Name (codes "x") ∷ [])) }
+    ∷ record at_child { item = RuleModel (record { spot = first_spot; name = codes "r" }) [] }
+    ∷ record at_child { item = PoolModel (record { spot = first_spot; name = codes "p" }) [] } ∷ [])
 
 in_child : value_after shadowed child (codes "x") ≡ codes "cp"
 unfolding bounds

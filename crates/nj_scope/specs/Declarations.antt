@@ -1,20 +1,20 @@
 -- What is held of the statements that were read: that the scopes, rules and pools are those that the statements declare.
 use Rattle.std.specs.Prelude.{◌≡◌, ℕ, None, List, length, ◌∷◌}
 use Rattle.nj_text.specs.declared.spot.Spot.{Spot}
-use Rattle.nj_manifest.specs.Statements.{StatementText}
-use Rattle.nj_scope.specs.Scopes.{ScopeText, parent_at, bound_at, rule_at}
-use Rattle.nj_scope.specs.Rules.{RuleText}
+use Rattle.nj_manifest.specs.Statements.{StatementModel}
+use Rattle.nj_scope.specs.Scopes.{ScopeModel, parent_at, bound_at, rule_at}
+use Rattle.nj_scope.specs.Rules.{RuleModel}
 use Rattle.nj_scope.specs.ReadingList as list
 
 -- the scopes, the rules in the order of their numbers, and the pools
-pub record DeclarationsText : Type 0 where
-  pub scopes : List ScopeText
-  pub rules : List RuleText
+pub record DeclarationsModel : Type 0 where
+  pub scopes : List ScopeModel
+  pub rules : List RuleModel
   pub pools : List (List ℕ)
 
 -- It has what these statements declare, the last read first: each scope binds what they bind there,
 -- and declares the rules that they declare there; there are as many scopes, and the same rules and pools.
-pub record DeclaredBy (held : DeclarationsText) (entries : List list.ReadStatement) : Type 0 where
+pub record DeclaredBy (held : DeclarationsModel) (entries : List list.ReadStatement) : Type 0 where
   pub bound : (number : ℕ) (name : List ℕ) → bound_at held.scopes number name ≡ list.bounds entries number name
   pub declared : (number : ℕ) (name : List ℕ) → rule_at held.scopes number name ≡ list.rules entries number name
   pub scopes : length held.scopes ≡ list.scopes_opened entries
@@ -22,7 +22,7 @@ pub record DeclaredBy (held : DeclarationsText) (entries : List list.ReadStateme
   pub pools : held.pools ≡ list.pools entries
 
 -- One statement more: it is in the scope of this number, within those around it, wherever in the files.
-abbrev pub TakesIn : (old new : DeclarationsText) → (number : ℕ) → (around : List ℕ) → StatementText → Type 0
+abbrev pub TakesIn : (old new : DeclarationsModel) → (number : ℕ) → (around : List ℕ) → StatementModel → Type 0
 TakesIn old new number around item =
     (entries : List list.ReadStatement) (file : List ℕ) (spot : Spot) (depth : ℕ) → DeclaredBy old entries
     → DeclaredBy new (record {
@@ -36,10 +36,10 @@ TakesIn old new number around item =
     } ∷ entries)
 
 -- What was held before is still held.
-abbrev pub Keeps : (old new : DeclarationsText) → Type 0
+abbrev pub Keeps : (old new : DeclarationsModel) → Type 0
 Keeps old new = (entries : List list.ReadStatement) → DeclaredBy old entries → DeclaredBy new entries
 
 -- There are the same scopes, each within the same one.
-pub record SameScopes (old new : DeclarationsText) : Type 0 where
+pub record SameScopes (old new : DeclarationsModel) : Type 0 where
   pub count : length new.scopes ≡ length old.scopes
   pub parents : (n : ℕ) → parent_at new.scopes n ≡ parent_at old.scopes n

@@ -1,16 +1,16 @@
 -- Laws of what statements give, in the words of Ninja's manual.
 use Rattle.std.specs.Prelude.{◌≡◌, ◌⊎◌, ℕ, ◌+◌, Bool, false, ◌&&◌, ◌==◌, if◌then◌else◌, Option, Some, is_some, List, [], ◌∷◌, ◌++◌, length, slice_get, bytes_eq}
 use Rattle.std.specs.List.{Contains}
-use Rattle.nj_text.specs.Words.{WordText}
-use Rattle.nj_manifest.specs.Statements.{StatementText, BindingText}
+use Rattle.nj_text.specs.Words.{WordModel}
+use Rattle.nj_manifest.specs.Statements.{StatementModel, BindingModel}
 use Rattle.nj_scope.specs.Rules as kept
 use Rattle.nj_scope.specs.Rules.{phony_rule}
 use Rattle.nj_scope.specs.Scopes.{expanded}
 use Rattle.nj_scope.specs.ReadingList.{ReadStatement, scope_of, bounds, value_after, rules_read, rule_in_force}
 
 -- no statement of the list binds the name in the scope of this number itself
-abbrev pub binds_name : StatementText → (name : List ℕ) → Bool
-binds_name (BindingText bound word) name = bytes_eq name bound
+abbrev pub binds_name : StatementModel → (name : List ℕ) → Bool
+binds_name (BindingModel bound word) name = bytes_eq name bound
 binds_name item name = false
 
 abbrev pub NoneBinds : List ReadStatement → (number : ℕ) → (name : List ℕ) → Type 0
@@ -19,8 +19,8 @@ NoneBinds (e ∷ others) number name = ((number == e.number && binds_name e.item
 
 -- The value of a name in a scope that binds it itself is the value of its last binding there, expanded by what was bound before.
 abbrev pub LastBindingCounts : Type 0
-LastBindingCounts = (after before : List ReadStatement) (e : ReadStatement) (name : List ℕ) (word : WordText)
-    → e.item ≡ BindingText name word → NoneBinds after e.number name
+LastBindingCounts = (after before : List ReadStatement) (e : ReadStatement) (name : List ℕ) (word : WordModel)
+    → e.item ≡ BindingModel name word → NoneBinds after e.number name
     → value_after (after ++ e ∷ before) (scope_of e) name ≡ expanded (value_after before (scope_of e)) word.parts
 
 -- In a scope that does not bind it, a name has the value that it has in the scopes around.
@@ -36,18 +36,18 @@ OthersKeepTheirs = (e : ReadStatement) (before : List ReadStatement) (number : �
 -- A rule that is in force under a name has that name, and one of the scopes declares it; `phony` belongs to the main file's.
 abbrev pub InForceIsDeclared : Type 0
 InForceIsDeclared = (entries : List ReadStatement) (scope name : List ℕ) (number : ℕ) → rule_in_force entries scope name ≡ Some number
-    → (rule : kept.RuleText) × (slice_get (rules_read entries) number ≡ Some rule) × (rule.name ≡ name)
+    → (rule : kept.RuleModel) × (slice_get (rules_read entries) number ≡ Some rule) × (rule.name ≡ name)
     × ((rule ≡ phony_rule) ⊎ Contains scope rule.scope)
 
 -- ---- lists of what statements give
 
 -- how many of the statements give something
-abbrev pub givers : {A : Type 0} → (given : ReadStatement → List ReadStatement → StatementText → Option A) → List ReadStatement → ℕ
+abbrev pub givers : {A : Type 0} → (given : ReadStatement → List ReadStatement → StatementModel → Option A) → List ReadStatement → ℕ
 givers given [] = 0
 givers given (e ∷ before) = givers given before + (if is_some (given e before e.item) then 1 else 0)
 
 -- The k-th of the list is what the k-th statement that gives something gives, by the statements before it.
-pub record IsInReadingOrder {A : Type 0} (given : ReadStatement → List ReadStatement → StatementText → Option A)
+pub record IsInReadingOrder {A : Type 0} (given : ReadStatement → List ReadStatement → StatementModel → Option A)
     (list : List ReadStatement → List A) : Type 0 where
   -- there are as many as statements that give something
   pub count : (entries : List ReadStatement) → length (list entries) ≡ givers given entries

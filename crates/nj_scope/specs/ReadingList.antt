@@ -2,11 +2,11 @@
 use Rattle.std.specs.Prelude.{ℕ, ◌+◌, Bool, false, ◌&&◌, ◌==◌, Option, Some, None, List, [], ◌∷◌, map, length, bytes_eq, is_some, ◌||◌, if◌then◌else◌}
 use Rattle.std.specs.Option.{option_or, option_map_or}
 use Rattle.std.specs.List.{push}
-use Rattle.nj_text.specs.Words.{WordText}
+use Rattle.nj_text.specs.Words.{WordModel}
 use Rattle.nj_text.specs.declared.spot.Spot.{Spot}
 use Rattle.nj_scope.specs.Rules as kept
 use Rattle.nj_scope.specs.Rules.{line_kept, phony, phony_rule}
-use Rattle.nj_manifest.specs.Statements.{StatementText, BindingText, RuleText, PoolText, IncludeText, SubninjaText}
+use Rattle.nj_manifest.specs.Statements.{StatementModel, BindingModel, RuleModel, PoolModel, IncludeModel, SubninjaModel}
 use Rattle.nj_scope.specs.Scopes.{first_given, Bounds, value_in, expanded}
 
 -- What a dyndep file adds to a build statement ("Dynamic Dependencies" in the manual): outputs and inputs, by their clean paths.
@@ -25,7 +25,7 @@ pub record ReadStatement : Type 0 where
   -- the number of its scope, and the numbers of the scopes around it, the nearest first
   pub number : ℕ
   pub around : List ℕ
-  pub item : StatementText
+  pub item : StatementModel
   -- what was discovered for it; `None` as long as no dyndep file was joined to it
   pub discovered : Option Discovered
 
@@ -36,8 +36,8 @@ scope_of e = e.number ∷ e.around
 -- ---- values
 
 -- what a statement binds to a name, where the names in its value have these values
-abbrev pub binds : (value : List ℕ → List ℕ) → StatementText → (name : List ℕ) → Option (List ℕ)
-binds value (BindingText bound word) name = if bytes_eq name bound then Some (expanded value word.parts) else None
+abbrev pub binds : (value : List ℕ → List ℕ) → StatementModel → (name : List ℕ) → Option (List ℕ)
+binds value (BindingModel bound word) name = if bytes_eq name bound then Some (expanded value word.parts) else None
 binds value item name = None
 
 -- what a statement binds in a scope
@@ -59,28 +59,28 @@ abbrev pub value_if_bound : List ReadStatement → (scope name : List ℕ) → O
 value_if_bound entries scope name = first_given (λ s. bounds entries s name) scope
 
 -- a word that is expanded in a scope, by the statements before it, the last read first
-abbrev pub expanded_in : (scope : List ℕ) → (before : List ReadStatement) → WordText → List ℕ
+abbrev pub expanded_in : (scope : List ℕ) → (before : List ReadStatement) → WordModel → List ℕ
 expanded_in scope before word = expanded (value_after before scope) word.parts
 
 -- ---- lists of what statements give
 
 -- What each statement that gives something gives, in reading order. It gives that by the statements before it, the last read first.
-abbrev pub gathered : {A : Type 0} → (given : ReadStatement → List ReadStatement → StatementText → Option A) → List ReadStatement → List A
+abbrev pub gathered : {A : Type 0} → (given : ReadStatement → List ReadStatement → StatementModel → Option A) → List ReadStatement → List A
 gathered given [] = []
 gathered given (e ∷ before) = let others = gathered given before in option_map_or (push others) (given e before e.item) others
 
 -- ---- rules
 
-abbrev pub rule_given : ReadStatement → (before : List ReadStatement) → StatementText → Option kept.RuleText
-rule_given e before (RuleText name lines) = Some (record { scope = e.number; name = name.name; lines = map line_kept lines })
+abbrev pub rule_given : ReadStatement → (before : List ReadStatement) → StatementModel → Option kept.RuleModel
+rule_given e before (RuleModel name lines) = Some (record { scope = e.number; name = name.name; lines = map line_kept lines })
 rule_given e before item = None
 
 -- the rules in the order of their numbers: `phony`, and then those that were declared, in their order
-abbrev pub rules_read : List ReadStatement → List kept.RuleText
+abbrev pub rules_read : List ReadStatement → List kept.RuleModel
 rules_read entries = phony_rule ∷ gathered rule_given entries
 
-abbrev pub declares : StatementText → (name : List ℕ) → Bool
-declares (RuleText declared lines) name = bytes_eq name declared.name
+abbrev pub declares : StatementModel → (name : List ℕ) → Bool
+declares (RuleModel declared lines) name = bytes_eq name declared.name
 declares item name = false
 
 -- the number of the rule that a scope itself declares under a name
@@ -100,8 +100,8 @@ rule_in_force entries scope name = if bytes_eq name phony then Some 0 else first
 
 -- ---- pools
 
-abbrev pub pool_given : ReadStatement → (before : List ReadStatement) → StatementText → Option (List ℕ)
-pool_given e before (PoolText name lines) = Some name.name
+abbrev pub pool_given : ReadStatement → (before : List ReadStatement) → StatementModel → Option (List ℕ)
+pool_given e before (PoolModel name lines) = Some name.name
 pool_given e before item = None
 
 -- the pools in the order in which they were declared
@@ -111,8 +111,8 @@ pools entries = gathered pool_given entries
 -- ---- scopes and openings
 
 -- the number of the scope in which a `subninja` opens one
-abbrev pub scope_given : ReadStatement → (before : List ReadStatement) → StatementText → Option ℕ
-scope_given e before (SubninjaText word) = Some e.number
+abbrev pub scope_given : ReadStatement → (before : List ReadStatement) → StatementModel → Option ℕ
+scope_given e before (SubninjaModel word) = Some e.number
 scope_given e before item = None
 
 -- how many scopes there are, the main file's among them
@@ -120,9 +120,9 @@ abbrev pub scopes_opened : List ReadStatement → ℕ
 scopes_opened entries = length (gathered scope_given entries) + 1
 
 -- the path of the file that a statement opens
-abbrev pub path_named : ReadStatement → (before : List ReadStatement) → StatementText → Option (List ℕ)
-path_named e before (IncludeText word) = Some (expanded_in (scope_of e) before word)
-path_named e before (SubninjaText word) = Some (expanded_in (scope_of e) before word)
+abbrev pub path_named : ReadStatement → (before : List ReadStatement) → StatementModel → Option (List ℕ)
+path_named e before (IncludeModel word) = Some (expanded_in (scope_of e) before word)
+path_named e before (SubninjaModel word) = Some (expanded_in (scope_of e) before word)
 path_named e before item = None
 
 -- how many files were opened, the main file and repeated ones among them

@@ -27,23 +27,23 @@ pub data IsScope (parent : ℕ → Option ℕ) : ℕ → List ℕ → Type 0 whe
 
 -- a scope: the number of the scope around it, the names that it binds itself with their values, and the rules that it
 -- declares itself with their numbers
-pub record ScopeText : Type 0 where
+pub record ScopeModel : Type 0 where
   pub parent : Option ℕ
   pub values : List (List ℕ × List ℕ)
   pub rules : List (List ℕ × ℕ)
 
 -- something of the scope of this number
-abbrev pub at_scope : {X : Type 0} → (ScopeText → Option X) → List ScopeText → ℕ → Option X
+abbrev pub at_scope : {X : Type 0} → (ScopeModel → Option X) → List ScopeModel → ℕ → Option X
 at_scope of_scope scopes number = option_and_then of_scope (slice_get scopes number)
 
 -- the number of the scope around it
-abbrev pub parent_at : List ScopeText → ℕ → Option ℕ
+abbrev pub parent_at : List ScopeModel → ℕ → Option ℕ
 parent_at scopes number = at_scope (λ s. s.parent) scopes number
 
 -- the value that it itself binds to the name
-abbrev pub bound_at : List ScopeText → ℕ → List ℕ → Option (List ℕ)
+abbrev pub bound_at : List ScopeModel → ℕ → List ℕ → Option (List ℕ)
 bound_at scopes number name = at_scope (λ s. lookup (bytes_eq name) s.values) scopes number
 
 -- the number of the rule that it itself declares under the name
-abbrev pub rule_at : List ScopeText → ℕ → List ℕ → Option ℕ
+abbrev pub rule_at : List ScopeModel → ℕ → List ℕ → Option ℕ
 rule_at scopes number name = at_scope (λ s. lookup (bytes_eq name) s.rules) scopes number

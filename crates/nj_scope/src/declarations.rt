@@ -2,9 +2,9 @@
 
 ghost use Rattle.std.specs.Prelude.{◌≡◌, ℕ, ◌+◌, ◌<◌, List, [], ◌∷◌, ◌++◌, Some, None, true, false, length, not, slice_get, option_copied, IfOk, OnOk, OnErr, IfSome};
 ghost use Rattle.nj_text.specs.declared.spot.Spot.{Spot};
-ghost use Rattle.nj_text.specs.Words.{WordText, word_text};
-ghost use Rattle.nj_manifest.specs.Contents.{lines_text};
-ghost use Rattle.nj_manifest.specs.Statements.{LineText, BindingText, RuleText, PoolText, SubninjaText};
+ghost use Rattle.nj_text.specs.Words.{WordModel, word_model};
+ghost use Rattle.nj_manifest.specs.Contents.{lines_model};
+ghost use Rattle.nj_manifest.specs.Statements.{LineModel, BindingModel, RuleModel, PoolModel, SubninjaModel};
 ghost use Rattle.nj_scope.specs.Scopes.{IsScope, expanded, parent_at, rule_at};
 ghost use Rattle.nj_scope.specs.Pools.{is_pool};
 ghost use Rattle.nj_scope.specs.Declarations.{DeclaredBy, TakesIn, Keeps, SameScopes};
@@ -40,10 +40,10 @@ pub struct Declarations {
 
 impl Model for Declarations {
     ghost use Rattle.std.specs.Prelude.{◌≡◌, false};
-    ghost use Rattle.nj_scope.specs.Declarations.{DeclarationsText};
+    ghost use Rattle.nj_scope.specs.Declarations.{DeclarationsModel};
     ghost use Rattle.nj_scope.specs.Inside.PoolOrDyndep.{BindNeither};
 
-    ghost Value = { DeclarationsText };
+    ghost Value = { DeclarationsModel };
 
     ghost view = { λ d. record { scopes = d.scopes; rules = d.rules.items; pools = d.pools } };
 
@@ -83,7 +83,7 @@ impl Declarations {
         ensures bound { (around : List ℕ)
             → IsScope (parent_at self.old.scopes) scope (scope ∷ around)
             → OnOk result (TakesIn self.old self.new scope around
-            (BindingText name.now (word_text value.now))) }
+            (BindingModel name.now (word_model value.now))) }
         ensures refused { OnErr result (Keeps self.old self.new) }
         ensures scopes { SameScopes self.old self.new }
     {
@@ -108,7 +108,7 @@ impl Declarations {
             is_new ≡ not (is_declared (rule_at self.old.scopes scope name.now) name.now)) }
         ensures declared { (around : List ℕ) (spot : Spot) → IfOk result (λ is_new. is_new ≡ true
             → TakesIn self.old self.new scope around
-            (RuleText (record { spot = spot; name = name.now }) (lines_text lines.now))) }
+            (RuleModel (record { spot = spot; name = name.now }) (lines_model lines.now))) }
         ensures kept { IfOk result (λ is_new. is_new ≡ false → self.new ≡ self.old) }
         ensures refused { OnErr result (Keeps self.old self.new) }
         ensures scopes { SameScopes self.old self.new }
@@ -129,10 +129,10 @@ impl Declarations {
     /// already ("Pools" in the Ninja manual).
     pub fn declare_pool(&mut self, name: &[u8]) -> Result<bool, AllocError>
         ensures is_new { IfOk result (λ is_new. is_new ≡ not (is_pool self.old.pools name.now)) }
-        ensures declared { (number : ℕ) (around : List ℕ) (spot : Spot) (lines : List LineText)
+        ensures declared { (number : ℕ) (around : List ℕ) (spot : Spot) (lines : List LineModel)
             → IfOk result (λ is_new. is_new ≡ true
             → TakesIn self.old self.new number around
-            (PoolText (record { spot = spot; name = name.now }) lines)) }
+            (PoolModel (record { spot = spot; name = name.now }) lines)) }
         ensures kept { IfOk result (λ is_new. is_new ≡ false → self.new ≡ self.old) }
         ensures refused { OnErr result (self.new ≡ self.old) }
         ensures scopes { SameScopes self.old self.new }
@@ -149,8 +149,8 @@ impl Declarations {
         ensures others { (n : ℕ) → n < length self.old.scopes
             → parent_at self.new.scopes n ≡ parent_at self.old.scopes n }
         ensures count { OnOk result (length self.new.scopes ≡ length self.old.scopes + 1) }
-        ensures opened { (around : List ℕ) (word : WordText)
-            → OnOk result (TakesIn self.old self.new parent around (SubninjaText word)) }
+        ensures opened { (around : List ℕ) (word : WordModel)
+            → OnOk result (TakesIn self.old self.new parent around (SubninjaModel word)) }
         ensures refused { OnErr result (self.new ≡ self.old) }
     {
         self.scopes.open(parent)
@@ -167,7 +167,7 @@ impl Declarations {
         ensures { (entries : List ReadStatement) (around : List ℕ) → DeclaredBy self.now entries
             → IsScope (parent_at self.now.scopes) scope (scope ∷ around)
             → IfOk result (λ v. v.items
-            ≡ expanded (value_after entries (scope ∷ around)) (word_text word.now).parts) }
+            ≡ expanded (value_after entries (scope ∷ around)) (word_model word.now).parts) }
     {
         self.scopes.expand(alloc, scope, word)
     }
@@ -183,7 +183,7 @@ impl Declarations {
         ensures { (entries : List ReadStatement) (around : List ℕ) → DeclaredBy self.now entries
             → IsScope (parent_at self.now.scopes) scope (scope ∷ around)
             → OnOk result (text.new.items ≡ text.old.items
-            ++ expanded (value_after entries (scope ∷ around)) (word_text word.now).parts) }
+            ++ expanded (value_after entries (scope ∷ around)) (word_model word.now).parts) }
     {
         self.scopes.append_expanded(scope, word, text)
     }

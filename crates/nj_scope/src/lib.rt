@@ -2,10 +2,10 @@
 #![tactic(auto)]
 
 mod declarations;
-mod late;
+mod deferred;
 mod laws;
-mod limits;
-mod memory;
+mod memory_files;
+mod pool_depths;
 mod pools;
 mod rule;
 mod scopes;
@@ -13,11 +13,11 @@ mod source;
 mod table;
 
 pub use declarations::{Declarations, MAIN_SCOPE, PHONY};
-pub use late::LateValue;
+pub use deferred::LateValue;
 pub use laws::{lists_by_reading_order, rules_in_force, values_by_reading_order};
-pub use limits::is_depth;
-pub use memory::MemoryFiles;
+pub use memory_files::MemoryFiles;
 pub use nj_names::HashKeys;
+pub use pool_depths::is_depth;
 pub use rule::Rule;
 pub use source::{FileSource, SourceFault};
 pub use table::FileTable;

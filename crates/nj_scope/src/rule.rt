@@ -4,9 +4,9 @@ ghost use Rattle.std.specs.Prelude.{◌≡◌, ◌<◌, ℕ, List, Some, None, m
 ghost use Rattle.nj_scope.specs.Rules.{line_kept, given};
 ghost use Rattle.nj_scope.specs.RulesHeld.{last_lines, key_count, key_at, IsNumber, KeysAreNumbered, NumbersDiffer};
 ghost use Rattle.nj_scope.specs.Inside.KeysHeld.{line_held, AreIndexes, HasKeyAt};
-ghost use Rattle.nj_manifest.specs.Contents.{line_text};
+ghost use Rattle.nj_manifest.specs.Contents.{line_model};
 
-use crate::late::LateValue;
+use crate::deferred::LateValue;
 use nj_manifest::Line;
 use std::alloc::{AllocError, Global};
 use std::marker::Model;
@@ -31,20 +31,20 @@ pub struct Rule {
 
 impl Model for Rule {
     ghost use Rattle.std.specs.Prelude.{map};
-    ghost use Rattle.nj_scope.specs.Rules.{RuleText, RuleLineText};
+    ghost use Rattle.nj_scope.specs.Rules.{RuleModel, RuleLineModel};
     ghost use Rattle.nj_scope.specs.RulesHeld.{last_lines};
     ghost use Rattle.nj_scope.specs.Inside.KeysHeld.{line_held, AreIndexes};
 
-    ghost Value = { RuleText };
+    ghost Value = { RuleModel };
 
     ghost view = { λ r. record {
       scope = r.scope;
       name = r.name.items;
-      lines = map {B = RuleLineText} line_held r.lines.items;
+      lines = map {B = RuleLineModel} line_held r.lines.items;
     } };
 
-    ghost invariant = { λ r. AreIndexes (map {B = RuleLineText} line_held r.lines.items)
-        r.last.items (last_lines (map {B = RuleLineText} line_held r.lines.items)) };
+    ghost invariant = { λ r. AreIndexes (map {B = RuleLineModel} line_held r.lines.items)
+        r.last.items (last_lines (map {B = RuleLineModel} line_held r.lines.items)) };
 }
 
 impl Rule {
@@ -57,7 +57,7 @@ impl Rule {
     ) -> Result<Rule, AllocError>
         ensures scope { IfOk result (λ r. r.scope ≡ scope) }
         ensures name { IfOk result (λ r. r.name ≡ name.now) }
-        ensures lines { IfOk result (λ r. r.lines ≡ map (λ l. line_kept (line_text l)) lines.now) }
+        ensures lines { IfOk result (λ r. r.lines ≡ map (λ l. line_kept (line_model l)) lines.now) }
     {
         let name = Vec::from_slice(alloc, name)?;
         let mut kept = Vec::with_capacity(alloc, lines.len())?;

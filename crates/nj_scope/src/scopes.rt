@@ -4,9 +4,9 @@ ghost use Rattle.std.specs.Prelude.{◌≡◌, ℕ, ◌+◌, ◌<◌, ◌&&◌, 
 ghost use Rattle.nj_scope.specs.Scopes.{IsScope, first_given, value_in, expanded, parent_at, bound_at, rule_at};
 ghost use Rattle.std.specs.Map.{lookup};
 ghost use Rattle.nj_scope.specs.Inside.ScopesHeld.{values_text};
-ghost use Rattle.nj_text.specs.Words.{word_text};
+ghost use Rattle.nj_text.specs.Words.{word_model};
 
-use crate::late::written_len;
+use crate::deferred::written_len;
 use indexmap::IndexMap;
 use nj_names::HashKeys;
 use nj_text::{Part, Word};
@@ -33,14 +33,14 @@ pub(crate) struct Scopes {
 
 impl Model for Scopes {
     ghost use Rattle.std.specs.Prelude.{List, map};
-    ghost use Rattle.nj_scope.specs.Scopes.{ScopeText};
-    ghost use Rattle.nj_scope.specs.Inside.ScopesHeld.{scope_text, ParentsAreEarlier};
+    ghost use Rattle.nj_scope.specs.Scopes.{ScopeModel};
+    ghost use Rattle.nj_scope.specs.Inside.ScopesHeld.{scope_model, ParentsAreEarlier};
 
-    ghost Value = { List ScopeText };
+    ghost Value = { List ScopeModel };
 
-    ghost view = { λ s. map scope_text s.scopes.items };
+    ghost view = { λ s. map scope_model s.scopes.items };
 
-    ghost invariant = { λ s. ParentsAreEarlier (map scope_text s.scopes.items) };
+    ghost invariant = { λ s. ParentsAreEarlier (map scope_model s.scopes.items) };
 }
 
 impl Scopes {
@@ -209,7 +209,7 @@ impl Scopes {
         requires { scope < length self.now }
         ensures { (around : List ℕ) → IsScope (parent_at self.now) scope around
             → IfOk result (λ v. v.items
-            ≡ expanded (value_in (bound_at self.now) around) (word_text word.now).parts) }
+            ≡ expanded (value_in (bound_at self.now) around) (word_model word.now).parts) }
     {
         let mut text = Vec::with_capacity(alloc, written_len(word))?;
         self.append_expanded(scope, word, &mut text)?;
@@ -226,7 +226,7 @@ impl Scopes {
         requires { scope < length self.now }
         ensures { (around : List ℕ) → IsScope (parent_at self.now) scope around
             → OnOk result (text.new.items ≡ text.old.items
-            ++ expanded (value_in (bound_at self.now) around) (word_text word.now).parts) }
+            ++ expanded (value_in (bound_at self.now) around) (word_model word.now).parts) }
     {
         'parts: for part in word.parts.as_slice() {
             match part {

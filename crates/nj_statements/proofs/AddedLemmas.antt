@@ -9,8 +9,8 @@ use Rattle.std.proofs.lemmas.List.{append_assoc, append-nil}
 use Rattle.std.proofs.lemmas.Map.Keys.{IsDistinct-push}
 use Rattle.std.proofs.lemmas.Cmp.{nat_list_eq_equiv}
 use Rattle.nj_text.specs.declared.word.Word.{Word}
-use Rattle.nj_text.specs.Words.{WordText, word_text}
-use Rattle.nj_manifest.specs.Contents.{words_text}
+use Rattle.nj_text.specs.Words.{WordModel, word_model}
+use Rattle.nj_manifest.specs.Contents.{words_model}
 use Rattle.nj_edges.specs.Files.{with_path}
 use Rattle.nj_edges.specs.Joining.{JoinTable, with_added_output, with_added_input, is_made_so_far}
 use Rattle.nj_faults.specs.declared.fault.GraphFault.{GraphFault}
@@ -71,48 +71,48 @@ inputs-open t (p ∷ ps) = inputs-open (with_added_input t p) ps ∙ ap (λ is. 
 
 -- ---- one word more
 
-pub inputs-turn : (t new : JoinTable) (path : List ℕ) (words : List Word) (i : ℕ) (word : Word) → i < length words → word ≡ get_or words i word → path ≡ path_given no_values (word_text word)
+pub inputs-turn : (t new : JoinTable) (path : List ℕ) (words : List Word) (i : ℕ) (word : Word) → i < length words → word ≡ get_or words i word → path ≡ path_given no_values (word_model word)
     → new ≡ with_added_input t path
-    → with_added_inputs new (paths_given no_values (words_text (drop (i + 1) words))) ≡ with_added_inputs t (paths_given no_values (words_text (drop i words)))
+    → with_added_inputs new (paths_given no_values (words_model (drop (i + 1) words))) ≡ with_added_inputs t (paths_given no_values (words_model (drop i words)))
 inputs-turn t new path words i word below is gives adds =
     ap (λ u. with_added_inputs u rest) (adds ∙ ap (with_added_input t) gives)
-    ∙ sym (at-next (λ (ws : List Word). with_added_inputs t (paths_given no_values (words_text ws))) words i word below is)
+    ∙ sym (at-next (λ (ws : List Word). with_added_inputs t (paths_given no_values (words_model ws))) words i word below is)
   where
     rest : List (List ℕ)
-    rest = paths_given no_values (words_text (drop (i + 1) words))
+    rest = paths_given no_values (words_model (drop (i + 1) words))
 
-pub outputs-turn : (t new : JoinTable) (path : List ℕ) (words : List Word) (i : ℕ) (word : Word) → i < length words → word ≡ get_or words i word → path ≡ path_given no_values (word_text word)
+pub outputs-turn : (t new : JoinTable) (path : List ℕ) (words : List Word) (i : ℕ) (word : Word) → i < length words → word ≡ get_or words i word → path ≡ path_given no_values (word_model word)
     → new ≡ with_added_output t path
-    → with_added_outputs new (paths_given no_values (words_text (drop (i + 1) words))) ≡ with_added_outputs t (paths_given no_values (words_text (drop i words)))
+    → with_added_outputs new (paths_given no_values (words_model (drop (i + 1) words))) ≡ with_added_outputs t (paths_given no_values (words_model (drop i words)))
 outputs-turn t new path words i word below is gives adds =
     ap (λ u. with_added_outputs u rest) (adds ∙ ap (with_added_output t) gives)
-    ∙ sym (at-next (λ (ws : List Word). with_added_outputs t (paths_given no_values (words_text ws))) words i word below is)
+    ∙ sym (at-next (λ (ws : List Word). with_added_outputs t (paths_given no_values (words_model ws))) words i word below is)
   where
     rest : List (List ℕ)
-    rest = paths_given no_values (words_text (drop (i + 1) words))
+    rest = paths_given no_values (words_model (drop (i + 1) words))
 
-pub no-fault-turn : (fault_of : WordText → Option GraphFault) (words : List Word) (i : ℕ) (word : Word) → i < length words → word ≡ get_or words i word → fault_of (word_text word) ≡ None
-    → first_given fault_of (words_text (drop (i + 1) words)) ≡ first_given fault_of (words_text (drop i words))
+pub no-fault-turn : (fault_of : WordModel → Option GraphFault) (words : List Word) (i : ℕ) (word : Word) → i < length words → word ≡ get_or words i word → fault_of (word_model word) ≡ None
+    → first_given fault_of (words_model (drop (i + 1) words)) ≡ first_given fault_of (words_model (drop i words))
 no-fault-turn fault_of words i word below is none =
-    ap (λ o. option_or o (first_given fault_of (words_text (drop (i + 1) words)))) (sym none)
-    ∙ sym (at-next (λ (ws : List Word). first_given fault_of (words_text ws)) words i word below is)
+    ap (λ o. option_or o (first_given fault_of (words_model (drop (i + 1) words)))) (sym none)
+    ∙ sym (at-next (λ (ws : List Word). first_given fault_of (words_model ws)) words i word below is)
 
-pub new-output-turn : (name : List ℕ) (t new : JoinTable) (path : List ℕ) (words : List Word) (i : ℕ) (word : Word) → i < length words → word ≡ get_or words i word → path ≡ path_given no_values (word_text word)
-    → empty_path name no_values (word_text word) ≡ None → is_made_so_far t path ≡ false → new ≡ with_added_output t path
-    → outputs_fault name no_values new.joined new.«open».outputs (words_text (drop (i + 1) words)) ≡ outputs_fault name no_values t.joined t.«open».outputs (words_text (drop i words))
+pub new-output-turn : (name : List ℕ) (t new : JoinTable) (path : List ℕ) (words : List Word) (i : ℕ) (word : Word) → i < length words → word ≡ get_or words i word → path ≡ path_given no_values (word_model word)
+    → empty_path name no_values (word_model word) ≡ None → is_made_so_far t path ≡ false → new ≡ with_added_output t path
+    → outputs_fault name no_values new.joined new.«open».outputs (words_model (drop (i + 1) words)) ≡ outputs_fault name no_values t.joined t.«open».outputs (words_model (drop i words))
 new-output-turn name t new path words i word below is gives none fresh adds =
     ap (λ (u : JoinTable). outputs_fault name no_values u.joined u.«open».outputs rest) (adds ∙ ap (with_added_output t) gives)
     ∙ sym (
-    at-next (λ (ws : List Word). outputs_fault name no_values t.joined t.«open».outputs (words_text ws)) words i word below is
-    ∙ ap (λ o. option_or (option_or o (two_makers name no_values t.joined t.«open».outputs (word_text word))) later) none
+    at-next (λ (ws : List Word). outputs_fault name no_values t.joined t.«open».outputs (words_model ws)) words i word below is
+    ∙ ap (λ o. option_or (option_or o (two_makers name no_values t.joined t.«open».outputs (word_model word))) later) none
     ∙ ap (λ b. option_or (then_some b (fault_at name word.spot (TwoMakers meant))) later) (ap (is_made_so_far t) (sym gives) ∙ fresh)
     )
   where
     meant : List ℕ
-    meant = path_given no_values (word_text word)
+    meant = path_given no_values (word_model word)
 
-    rest : List WordText
-    rest = words_text (drop (i + 1) words)
+    rest : List WordModel
+    rest = words_model (drop (i + 1) words)
 
     later : Option GraphFault
     later = outputs_fault name no_values t.joined (t.«open».outputs ++ meant ∷ []) rest

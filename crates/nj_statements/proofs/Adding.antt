@@ -1,6 +1,6 @@
 -- What is added by a build statement.
 use Rattle.std.proofs.Common.{◌≡◌, ℕ, Bool, List, [], ◌∷◌, ◌++◌, length, sym, ap, subst, ◌∙◌}
-use Rattle.nj_manifest.specs.Statements.{OutputsText, InputsText}
+use Rattle.nj_manifest.specs.Statements.{OutputsModel, InputsModel}
 use Rattle.nj_scope.specs.Readings.{IsPrefix}
 use Rattle.nj_edges.specs.declared.edges.KindEnds.{KindEnds}
 use Rattle.nj_edges.specs.Edges.{EdgePaths}
@@ -10,7 +10,7 @@ use Rattle.nj_statements.specs.Answers.{KeepsRead}
 use Rattle.nj_statements.specs.Inside.EdgeSteps.{with_outputs, with_inputs, AddsInputs, AddsEdge}
 use Rattle.nj_statements.proofs.Tables.{kept, outputs-open, inputs-open, validations-open, edge-is, edge-kept}
 
-module _ (values : Values) (outputs : OutputsText) (inputs : InputsText) (is_phony loses : Bool) (t0 t1 t2 : EdgeTable) (ends : ℕ × ℕ)
+module _ (values : Values) (outputs : OutputsModel) (inputs : InputsModel) (is_phony loses : Bool) (t0 t1 t2 : EdgeTable) (ends : ℕ × ℕ)
     (none : t0.«open» ≡ no_files) (loses_is : loses ≡ loses_own (stated_paths values outputs inputs is_phony))
     (outputs_are : t1 ≡ with_outputs (with_outputs t0 (paths_given values outputs.explicit)) (paths_given values outputs.implicit))
     (adds : AddsInputs loses values inputs t1 t2 ends) where

@@ -6,12 +6,12 @@ use Rattle.std.proofs.lemmas.Option.{slice_get_within, slice_get-map, get_or_fro
 use Rattle.nj_scope.specs.Readings.{IsPrefix}
 use Rattle.nj_edges.specs.declared.files.FileNo.{FileNo}
 use Rattle.nj_edges.specs.Files.{path_at}
-use Rattle.nj_statements.specs.declared.detail.Assigned.{Assigned}
-use Rattle.nj_statements.specs.declared.detail.Detail.{Detail}
-use Rattle.nj_statements.specs.EdgeList.{AssignedText}
-use Rattle.nj_statements.specs.Answers.{DetailText, IsAssigned, AreAssigned, numbered}
+use Rattle.nj_statements.specs.declared.edge_record.Assigned.{Assigned}
+use Rattle.nj_statements.specs.declared.edge_record.Detail.{Detail}
+use Rattle.nj_statements.specs.EdgeList.{AssignedModel}
+use Rattle.nj_statements.specs.Answers.{DetailModel, IsAssigned, AreAssigned, numbered}
 use Rattle.nj_statements.specs.Inside.Details.{numbered_at, IsNumbered, AreNumbersOf}
-use Rattle.nj_statements.specs.Inside.EdgeSteps.{detail_text, IsFileGiven}
+use Rattle.nj_statements.specs.Inside.EdgeSteps.{detail_model, IsFileGiven}
 use Rattle.nj_statements.specs.Inside.BuiltHeld.{assigned_named}
 use Rattle.nj_statements.proofs.Lists.{get-longer}
 
@@ -34,29 +34,29 @@ numbered-longer strings longer n o (more, is) there =
 
 -- ---- one edge more
 
-pub assigned-longer : (strings longer : List (List ℕ)) (d : DetailText) (a : AssignedText) → IsPrefix strings longer → IsAssigned strings d a → IsAssigned longer d a
+pub assigned-longer : (strings longer : List (List ℕ)) (d : DetailModel) (a : AssignedModel) → IsPrefix strings longer → IsAssigned strings d a → IsAssigned longer d a
 assigned-longer strings longer d a grows is = record { pool = numbered-longer strings longer d.pool a.pool grows is.pool; dyndep = numbered-longer strings longer d.dyndep a.dyndep grows is.dyndep }
 
-pub assigned-more : (strings longer : List (List ℕ)) (ds : List DetailText) (meant : List AssignedText) (d : DetailText) (a : AssignedText)
+pub assigned-more : (strings longer : List (List ℕ)) (ds : List DetailModel) (meant : List AssignedModel) (d : DetailModel) (a : AssignedModel)
     → IsPrefix strings longer → AreAssigned strings ds meant → IsAssigned longer d a → AreAssigned longer (ds ++ d ∷ []) (meant ++ a ∷ [])
 assigned-more strings longer [] [] d a grows are is = (is, tt)
 assigned-more strings longer [] (b ∷ meant) d a grows are is = absurd are
 assigned-more strings longer (c ∷ ds) [] d a grows are is = absurd are
 assigned-more strings longer (c ∷ ds) (b ∷ meant) d a grows (of, are) is = (assigned-longer strings longer c b grows of, assigned-more strings longer ds meant d a grows are is)
 
-pub assigned-numbers : (strings : List (List ℕ)) (given : Assigned) (d : Detail) → d.pool ≡ given.pool → d.dyndep ≡ given.dyndep → (a : AssignedText) → AreNumbersOf strings given a → IsAssigned strings (detail_text d) a
+pub assigned-numbers : (strings : List (List ℕ)) (given : Assigned) (d : Detail) → d.pool ≡ given.pool → d.dyndep ≡ given.dyndep → (a : AssignedModel) → AreNumbersOf strings given a → IsAssigned strings (detail_model d) a
 assigned-numbers strings given d pool dyndep a are = record { pool = ap (slice_get (numbered strings)) pool ∙ are.pool; dyndep = ap (slice_get (numbered strings)) dyndep ∙ are.dyndep }
 
 -- ---- all edges
 
-pub assigned-known : (strings : List (List ℕ)) (ds : List Detail) (meant : List AssignedText) → AreAssigned strings (map detail_text ds) meant
+pub assigned-known : (strings : List (List ℕ)) (ds : List Detail) (meant : List AssignedModel) → AreAssigned strings (map detail_model ds) meant
     → AllByRecursion (λ (d : Detail). IsNumbered strings d.pool × IsNumbered strings d.dyndep) ds
 assigned-known strings [] meant are = tt
 assigned-known strings (d ∷ ds) [] are = absurd are
 assigned-known strings (d ∷ ds) (a ∷ meant) (is, are) =
     ((slice_get_within (numbered strings) d.pool a.pool is.pool, slice_get_within (numbered strings) d.dyndep a.dyndep is.dyndep), assigned-known strings ds meant are)
 
-pub assigned-named : (strings : List (List ℕ)) (ds : List Detail) (meant : List AssignedText) → AreAssigned strings (map detail_text ds) meant → map (assigned_named strings) ds ≡ meant
+pub assigned-named : (strings : List (List ℕ)) (ds : List Detail) (meant : List AssignedModel) → AreAssigned strings (map detail_model ds) meant → map (assigned_named strings) ds ≡ meant
 assigned-named strings [] [] are = refl
 assigned-named strings [] (a ∷ meant) are = absurd are
 assigned-named strings (d ∷ ds) [] are = absurd are

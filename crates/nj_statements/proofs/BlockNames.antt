@@ -4,22 +4,22 @@ use Rattle.std.proofs.lemmas.Bool.Decides.{eqb_tells}
 use Rattle.std.proofs.lemmas.List.{map-append, take_more}
 use Rattle.std.proofs.lemmas.List.Folds.{list_any-append}
 use Rattle.nj_manifest.specs.declared.statement.Line.{Line}
-use Rattle.nj_manifest.specs.Statements.{LineText}
-use Rattle.nj_manifest.specs.Contents.{line_text, lines_text}
+use Rattle.nj_manifest.specs.Statements.{LineModel}
+use Rattle.nj_manifest.specs.Contents.{line_model, lines_model}
 use Rattle.nj_edges.specs.Edges.{is_among}
-use Rattle.nj_edge_env.specs.Blocks.{BlocksText, bound_in, names_in}
+use Rattle.nj_edge_env.specs.Blocks.{BlocksModel, bound_in, names_in}
 use Rattle.nj_edges.specs.Repeats.{each_once}
 use Rattle.nj_statements.proofs.OnceLemmas.{once-known, once-new}
 
 abbrev pub line_names : List Line → List (List ℕ)
-line_names ls = map (λ (l : LineText). l.name) (lines_text ls)
+line_names ls = map (λ (l : LineModel). l.name) (lines_model ls)
 
 -- the block of the edge binds these names, which its lines so far have
-pub record AreNamesSoFar (blocks : BlocksText) (edge : ℕ) (names : List (List ℕ)) : Type 0 where
+pub record AreNamesSoFar (blocks : BlocksModel) (edge : ℕ) (names : List (List ℕ)) : Type 0 where
   pub are : names_in blocks edge ≡ each_once bytes_eq names
   pub bound : (x : List ℕ) → is_some (bound_in blocks edge x) ≡ is_among names x
 
-pub names-none : (blocks : BlocksText) (edge : ℕ) → ((x : List ℕ) → bound_in blocks edge x ≡ None) → names_in blocks edge ≡ [] → AreNamesSoFar blocks edge []
+pub names-none : (blocks : BlocksModel) (edge : ℕ) → ((x : List ℕ) → bound_in blocks edge x ≡ None) → names_in blocks edge ≡ [] → AreNamesSoFar blocks edge []
 names-none blocks edge none empty = record { are = empty; bound = λ x. ap is_some (none x) }
 
 own : (edge : ℕ) → (edge == edge) ≡ true
@@ -29,7 +29,7 @@ own edge = by (eqb_tells edge edge)
     by (inl (same, h)) = same
     by (inr (other, apart)) = absurd (apart refl)
 
-pub names-turn : (old new : BlocksText) (edge : ℕ) (names : List (List ℕ)) (name value : List ℕ) → AreNamesSoFar old edge names
+pub names-turn : (old new : BlocksModel) (edge : ℕ) (names : List (List ℕ)) (name value : List ℕ) → AreNamesSoFar old edge names
     → ((e : ℕ) (x : List ℕ) → bound_in new e x ≡ cond ((e == edge) && bytes_eq x name) (Some value) (bound_in old e x))
     → ((e : ℕ) → names_in new e ≡ cond ((e == edge) && not (is_some (bound_in old edge name))) (names_in old e ++ name ∷ []) (names_in old e))
     → AreNamesSoFar new edge (names ++ name ∷ [])
@@ -67,5 +67,5 @@ names-turn old new edge names name value so_far binds lists = record {
 pub names-next : (lines : List Line) (i : ℕ) (l : Line) → i < length lines → l ≡ get_or lines i l → line_names (take (i + 1) lines) ≡ line_names (take i lines) ++ l.name.now ∷ []
 names-next lines i l below is =
     ap line_names (take_more lines i l below ∙ ap (λ x. take i lines ++ x ∷ []) (sym is))
-    ∙ ap (map (λ (l : LineText). l.name)) (map-append line_text (take i lines) (l ∷ []))
-    ∙ map-append (λ (l : LineText). l.name) (lines_text (take i lines)) (line_text l ∷ [])
+    ∙ ap (map (λ (l : LineModel). l.name)) (map-append line_model (take i lines) (l ∷ []))
+    ∙ map-append (λ (l : LineModel). l.name) (lines_model (take i lines)) (line_model l ∷ [])

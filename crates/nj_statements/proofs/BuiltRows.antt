@@ -1,28 +1,28 @@
 -- Worked rows of what statements come to: the defaults in force, and the fault of a cycle.
 use Rattle.std.proofs.Common.{◌≡◌, ◌<◌, ℕ, Option, None, Some, unwrap_or, ap, zero, suc, List, [], ◌∷◌, refl, lit<, arith, sym, subst}
 use Rattle.std.specs.Prelude.{codes, Contains}
-use Rattle.nj_text.specs.Words.{Text, WordText}
+use Rattle.nj_text.specs.Words.{Text, WordModel}
 use Rattle.nj_text.specs.Paths.{clean_path_of, without_leftmost_pair}
-use Rattle.nj_manifest.specs.Statements.{StatementText, BuildText, DefaultText}
+use Rattle.nj_manifest.specs.Statements.{StatementModel, BuildModel, DefaultModel}
 use Rattle.nj_scope.specs.ReadingList.{ReadStatement, bounds}
 use Rattle.nj_cycles.specs.Cycles.{Chain, Needs}
 use Rattle.nj_cycles.specs.Cycles.Chain.{one, more}
 use Rattle.nj_edges.specs.Needs.{makers_of_inputs}
 use Rattle.nj_faults.specs.declared.fault.Cause.TheVariants.{Cycle}
 use Rattle.nj_faults.specs.Faults.{fault_at}
-use Rattle.nj_statements.specs.EdgeList.{EdgeText, edge_of_build, edges_read, paths_of_edges, defaults_read}
+use Rattle.nj_statements.specs.EdgeList.{EdgeModel, edge_of_build, edges_read, paths_of_edges, defaults_read}
 use Rattle.nj_statements.specs.Built.{IsCycleFault, defaults_in_force}
 
-abbrev word : (text : List ℕ) → WordText
+abbrev word : (text : List ℕ) → WordModel
 word text = record { spot = record { line = 1; column = 7 }; parts = Text text ∷ [] }
 
 -- a statement on a line of its own
-abbrev on : (line : ℕ) → StatementText → ReadStatement
+abbrev on : (line : ℕ) → StatementModel → ReadStatement
 on line item = record { file = codes "build.ninja"; spot = record { line = line; column = 1 }; depth = 0; number = 0; around = []; item = item; discovered = None }
 
-abbrev build : (output : List ℕ) → (inputs : List WordText) → StatementText
+abbrev build : (output : List ℕ) → (inputs : List WordModel) → StatementModel
 build output inputs =
-    BuildText (record { explicit = word output ∷ []; implicit = [] }) (record { spot = record { line = 1; column = 9 }; name = codes "phony" })
+    BuildModel (record { explicit = word output ∷ []; implicit = [] }) (record { spot = record { line = 1; column = 9 }; name = codes "phony" })
     (record { explicit = inputs; implicit = []; order_only = []; validations = [] }) []
 
 abbrev in_force : List ReadStatement → List (List ℕ)
@@ -37,7 +37,7 @@ unfolding clean_path_of without_leftmost_pair edges_read defaults_read bounds
 row-roots = refl
 
 -- and then `default a`
-pub row-default : in_force (on 3 (DefaultText (word (codes "a") ∷ [])) ∷ two) ≡ codes "a" ∷ []
+pub row-default : in_force (on 3 (DefaultModel (word (codes "a") ∷ [])) ∷ two) ≡ codes "a" ∷ []
 unfolding clean_path_of without_leftmost_pair edges_read defaults_read bounds
 row-default = refl
 
@@ -102,7 +102,7 @@ row-cycle = record {
   fault_is = refl;
 }
   where
-    second : EdgeText
+    second : EdgeModel
     second = edge_of_build (on 2 (build (codes "a") (word (codes "b") ∷ []))) (on 1 (build (codes "c") (word (codes "a") ∷ [])) ∷ [])
         (record { explicit = word (codes "a") ∷ []; implicit = [] }) (record { spot = record { line = 1; column = 9 }; name = codes "phony" })
         (record { explicit = word (codes "b") ∷ []; implicit = []; order_only = []; validations = [] }) []

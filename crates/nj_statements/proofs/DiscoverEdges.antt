@@ -10,8 +10,8 @@ use Rattle.std.proofs.lemmas.Bool.Decides.{eqb_tells}
 use Rattle.std.proofs.lemmas.List.{length-append}
 use Rattle.std.proofs.lemmas.List.Elements.{AllZip-push, filter-append}
 use Rattle.std.proofs.lemmas.List.Folds.{list_any-append}
-use Rattle.nj_manifest.specs.LineSteps.{NameText}
-use Rattle.nj_manifest.specs.Statements.{LineText, OutputsText, InputsText, StatementText, BindingText, RuleText, PoolText, BuildText, DefaultText, IncludeText, SubninjaText}
+use Rattle.nj_manifest.specs.LineSteps.{NameModel}
+use Rattle.nj_manifest.specs.Statements.{LineModel, OutputsModel, InputsModel, StatementModel, BindingModel, RuleModel, PoolModel, BuildModel, DefaultModel, IncludeModel, SubninjaModel}
 use Rattle.nj_scope.specs.Rules.{phony}
 use Rattle.nj_scope.specs.Scopes.{Bounds, first_given, value_in}
 use Rattle.nj_scope.specs.ReadingList.{Discovered, ReadStatement, scope_of, bounds, rules}
@@ -20,7 +20,7 @@ use Rattle.nj_faults.specs.declared.fault.GraphFault.{GraphFault}
 use Rattle.nj_faults.specs.declared.fault.Cause.TheVariants.{DyndepExtra, DyndepTwice}
 use Rattle.nj_faults.specs.Faults.{fault_at}
 use Rattle.nj_edge_env.specs.LateStrings.{LateNames, asked_text}
-use Rattle.nj_statements.specs.EdgeList.{EdgeText, Pending, path_given, block_of, names_bound, block_names_at, on_line, stated_paths, edge_paths, with_discovered, edge_of_build, edges_read, paths_of_edges, block_of_edge, block_at}
+use Rattle.nj_statements.specs.EdgeList.{EdgeModel, Pending, path_given, block_of, names_bound, block_names_at, on_line, stated_paths, edge_paths, with_discovered, edge_of_build, edges_read, paths_of_edges, block_of_edge, block_at}
 use Rattle.nj_statements.specs.EdgeList.{file_given, name_given, dyndep_of, pending_at, pending_read, assigned_of, assigned_read}
 use Rattle.nj_statements.specs.Joining.{no_values, discover, discovered_by, edge_meant, pending_on, meaning_fault}
 use Rattle.nj_statements.specs.BuildFaults.{empty_path, outputs_fault}
@@ -53,10 +53,10 @@ map-changed g f h same (suc n) (x ∷ xs) = ap (λ ys. g x ∷ ys) (map-changed 
 
 -- ---- one edge, by what its statement sees
 
-abbrev number_by : ReadStatement → Declared → NameText → ℕ
+abbrev number_by : ReadStatement → Declared → NameModel → ℕ
 number_by e own rule = unwrap_or (if bytes_eq rule.name phony then Some 0 else first_given (λ s. own s rule.name) (scope_of e)) 0
 
-abbrev edge_by : ReadStatement → Bounds → Declared → OutputsText → NameText → InputsText → List LineText → EdgeText
+abbrev edge_by : ReadStatement → Bounds → Declared → OutputsModel → NameModel → InputsModel → List LineModel → EdgeModel
 edge_by e bound own outputs rule inputs lines = record {
   file = e.file;
   spot = e.spot;
@@ -69,7 +69,7 @@ edge_by e bound own outputs rule inputs lines = record {
       (edge_paths (stated_paths (on_line (value_in bound (scope_of e)) (block_of (value_in bound (scope_of e)) lines)) outputs inputs (number_by e own rule == 0)));
 }
 
-edge-same : (edge : ℕ) (found : Discovered) (e : ReadStatement) (before : List ReadStatement) (outputs : OutputsText) (rule : NameText) (inputs : InputsText) (lines : List LineText)
+edge-same : (edge : ℕ) (found : Discovered) (e : ReadStatement) (before : List ReadStatement) (outputs : OutputsModel) (rule : NameModel) (inputs : InputsModel) (lines : List LineModel)
     → edge_of_build e (discover edge found before) outputs rule inputs lines ≡ edge_of_build e before outputs rule inputs lines
 edge-same edge found e before outputs rule inputs lines =
     ap (λ (b : Bounds). edge_by e b (rules (discover edge found before)) outputs rule inputs lines) (bounds-discover edge found before)
@@ -77,59 +77,59 @@ edge-same edge found e before outputs rule inputs lines =
 
 -- ---- all edges are the same but for their implicit files
 
-abbrev with_files : EdgeText → (outs ins : List (List ℕ)) → EdgeText
+abbrev with_files : EdgeModel → (outs ins : List (List ℕ)) → EdgeModel
 with_files e outs ins = record e { paths = record e.paths { implicit_outputs = outs; implicit_inputs = ins } }
 
-abbrev SameEdge : (e other : EdgeText) → Type 0
+abbrev SameEdge : (e other : EdgeModel) → Type 0
 SameEdge e other = other ≡ with_files e other.paths.implicit_outputs other.paths.implicit_inputs
 
-same-all : (edges : List EdgeText) → AllZip SameEdge edges edges
+same-all : (edges : List EdgeModel) → AllZip SameEdge edges edges
 same-all [] = tt
 same-all (e ∷ edges) = (refl, same-all edges)
 
-same-found : (e : EdgeText) (d : Option Discovered) (found : Discovered) → SameEdge (record e { paths = with_discovered d e.paths }) (with_found found e)
+same-found : (e : EdgeModel) (d : Option Discovered) (found : Discovered) → SameEdge (record e { paths = with_discovered d e.paths }) (with_found found e)
 same-found e None found = refl
 same-found e (Some before) found = refl
 
-same-build : (edge : ℕ) (found : Discovered) (e : ReadStatement) (before : List ReadStatement) (outputs : OutputsText) (rule : NameText) (inputs : InputsText) (lines : List LineText)
+same-build : (edge : ℕ) (found : Discovered) (e : ReadStatement) (before : List ReadStatement) (outputs : OutputsModel) (rule : NameModel) (inputs : InputsModel) (lines : List LineModel)
     → AllZip SameEdge (edges_read before) (edges_read (discover edge found before))
-    → AllZip SameEdge (edges_read (record e { item = BuildText outputs rule inputs lines } ∷ before))
-    (edges_read (discover edge found (record e { item = BuildText outputs rule inputs lines } ∷ before)))
+    → AllZip SameEdge (edges_read (record e { item = BuildModel outputs rule inputs lines } ∷ before))
+    (edges_read (discover edge found (record e { item = BuildModel outputs rule inputs lines } ∷ before)))
 unfolding edges_read discover
 same-build edge found e before outputs rule inputs lines others = by (length (edges_read before) == edge)
   where
-    own : EdgeText
+    own : EdgeModel
     own = edge_of_build e before outputs rule inputs lines
 
-    stated : EdgeText
+    stated : EdgeModel
     stated = edge_of_build (record e { discovered = None }) before outputs rule inputs lines
 
     by : (b : Bool) → AllZip SameEdge (edges_read before ++ own ∷ [])
-        (edges_read (if b then record e { item = BuildText outputs rule inputs lines; discovered = Some found } ∷ before else record e { item = BuildText outputs rule inputs lines } ∷ discover edge found before))
+        (edges_read (if b then record e { item = BuildModel outputs rule inputs lines; discovered = Some found } ∷ before else record e { item = BuildModel outputs rule inputs lines } ∷ discover edge found before))
     by true = AllZip-push SameEdge (edges_read before) (edges_read before) own (with_found found stated) (same-all (edges_read before)) (same-found stated e.discovered found)
     by false =
         AllZip-push SameEdge (edges_read before) (edges_read (discover edge found before)) own (edge_of_build e (discover edge found before) outputs rule inputs lines) others
         (subst (SameEdge own) (sym (edge-same edge found e before outputs rule inputs lines)) refl)
 
-same-item : (edge : ℕ) (found : Discovered) (e : ReadStatement) (before : List ReadStatement) (item : StatementText)
+same-item : (edge : ℕ) (found : Discovered) (e : ReadStatement) (before : List ReadStatement) (item : StatementModel)
     → AllZip SameEdge (edges_read before) (edges_read (discover edge found before))
     → AllZip SameEdge (edges_read (record e { item = item } ∷ before)) (edges_read (discover edge found (record e { item = item } ∷ before)))
 unfolding edges_read discover
-same-item edge found e before (BuildText outputs rule inputs lines) others = same-build edge found e before outputs rule inputs lines others
-same-item edge found e before (BindingText bound word) others = others
-same-item edge found e before (RuleText name lines) others = others
-same-item edge found e before (PoolText name lines) others = others
-same-item edge found e before (DefaultText words) others = others
-same-item edge found e before (IncludeText word) others = others
-same-item edge found e before (SubninjaText word) others = others
+same-item edge found e before (BuildModel outputs rule inputs lines) others = same-build edge found e before outputs rule inputs lines others
+same-item edge found e before (BindingModel bound word) others = others
+same-item edge found e before (RuleModel name lines) others = others
+same-item edge found e before (PoolModel name lines) others = others
+same-item edge found e before (DefaultModel words) others = others
+same-item edge found e before (IncludeModel word) others = others
+same-item edge found e before (SubninjaModel word) others = others
 
 same-edges : (edge : ℕ) (found : Discovered) (entries : List ReadStatement) → AllZip SameEdge (edges_read entries) (edges_read (discover edge found entries))
 unfolding edges_read discover
 same-edges edge found [] = tt
 same-edges edge found (e ∷ before) = same-item edge found e before e.item (same-edges edge found before)
 
-map-same : {X : Type 0} (g : EdgeText → X) → ((e : EdgeText) (outs ins : List (List ℕ)) → g (record e { paths = record e.paths { implicit_outputs = outs; implicit_inputs = ins } }) ≡ g e)
-    → (edges others : List EdgeText) → AllZip SameEdge edges others → map g others ≡ map g edges
+map-same : {X : Type 0} (g : EdgeModel → X) → ((e : EdgeModel) (outs ins : List (List ℕ)) → g (record e { paths = record e.paths { implicit_outputs = outs; implicit_inputs = ins } }) ≡ g e)
+    → (edges others : List EdgeModel) → AllZip SameEdge edges others → map g others ≡ map g edges
 map-same g unseen [] [] same = refl
 map-same g unseen [] (o ∷ others) same = absurd same
 map-same g unseen (e ∷ edges) [] same = absurd same
@@ -137,14 +137,14 @@ map-same g unseen (e ∷ edges) (o ∷ others) same =
     ap (λ x. x ∷ map g others) (ap g same.0 ∙ unseen e o.paths.implicit_outputs o.paths.implicit_inputs) ∙ ap (λ xs. g e ∷ xs) (map-same g unseen edges others same.1)
 
 -- What does not look at implicit files gives the same for each edge.
-pub map-discover : {X : Type 0} (g : EdgeText → X) → ((e : EdgeText) (outs ins : List (List ℕ)) → g (record e { paths = record e.paths { implicit_outputs = outs; implicit_inputs = ins } }) ≡ g e)
+pub map-discover : {X : Type 0} (g : EdgeModel → X) → ((e : EdgeModel) (outs ins : List (List ℕ)) → g (record e { paths = record e.paths { implicit_outputs = outs; implicit_inputs = ins } }) ≡ g e)
     → (edge : ℕ) (found : Discovered) (entries : List ReadStatement) → map g (edges_read (discover edge found entries)) ≡ map g (edges_read entries)
 map-discover g unseen edge found entries = map-same g unseen (edges_read entries) (edges_read (discover edge found entries)) (same-edges edge found entries)
 
 pub details-discover : (edge : ℕ) (found : Discovered) (entries : List ReadStatement) → map detail_of (edges_read (discover edge found entries)) ≡ map detail_of (edges_read entries)
 details-discover = map-discover detail_of (λ e outs ins. refl)
 
-count-same : (edges others : List EdgeText) → AllZip SameEdge edges others → length others ≡ length edges
+count-same : (edges others : List EdgeModel) → AllZip SameEdge edges others → length others ≡ length edges
 count-same [] [] same = refl
 count-same [] (o ∷ others) same = absurd same
 count-same (e ∷ edges) [] same = absurd same
@@ -153,28 +153,28 @@ count-same (e ∷ edges) (o ∷ others) same = ap suc (count-same edges others s
 pub count-discover : (edge : ℕ) (found : Discovered) (entries : List ReadStatement) → length (edges_read (discover edge found entries)) ≡ length (edges_read entries)
 count-discover edge found entries = count-same (edges_read entries) (edges_read (discover edge found entries)) (same-edges edge found entries)
 
-block-same : (n : ℕ) (name : List ℕ) (edges others : List EdgeText) → AllZip SameEdge edges others → block_of_edge (slice_get others n) name ≡ block_of_edge (slice_get edges n) name
+block-same : (n : ℕ) (name : List ℕ) (edges others : List EdgeModel) → AllZip SameEdge edges others → block_of_edge (slice_get others n) name ≡ block_of_edge (slice_get edges n) name
 block-same n name [] [] same = refl
 block-same n name [] (o ∷ others) same = absurd same
 block-same n name (e ∷ edges) [] same = absurd same
-block-same zero name (e ∷ edges) (o ∷ others) same = ap (λ (x : EdgeText). x.block name) same.0
+block-same zero name (e ∷ edges) (o ∷ others) same = ap (λ (x : EdgeModel). x.block name) same.0
 block-same (suc n) name (e ∷ edges) (o ∷ others) same = block-same n name edges others same.1
 
 pub block_at-discover : (edge : ℕ) (found : Discovered) (entries : List ReadStatement) (n : ℕ) (name : List ℕ) → block_at (edges_read (discover edge found entries)) n name ≡ block_at (edges_read entries) n name
 block_at-discover edge found entries n name = block-same n name (edges_read entries) (edges_read (discover edge found entries)) (same-edges edge found entries)
 
 pub block_names_at-discover : (edge : ℕ) (found : Discovered) (entries : List ReadStatement) (n : ℕ) → block_names_at (edges_read (discover edge found entries)) n ≡ block_names_at (edges_read entries) n
-block_names_at-discover edge found entries n = ap (λ all. slice_index_or all n []) (map-discover (λ (e : EdgeText). e.block_names) (λ e outs ins. refl) edge found entries)
+block_names_at-discover edge found entries n = ap (λ all. slice_index_or all n []) (map-discover (λ (e : EdgeModel). e.block_names) (λ e outs ins. refl) edge found entries)
 
-all-same : (P : EdgeText → Type 0) → ((e : EdgeText) (outs ins : List (List ℕ)) → P e → P (record e { paths = record e.paths { implicit_outputs = outs; implicit_inputs = ins } }))
-    → (edges others : List EdgeText) → AllZip SameEdge edges others → AllByRecursion P edges → AllByRecursion P others
+all-same : (P : EdgeModel → Type 0) → ((e : EdgeModel) (outs ins : List (List ℕ)) → P e → P (record e { paths = record e.paths { implicit_outputs = outs; implicit_inputs = ins } }))
+    → (edges others : List EdgeModel) → AllZip SameEdge edges others → AllByRecursion P edges → AllByRecursion P others
 all-same P kept [] [] same all = tt
 all-same P kept [] (o ∷ others) same all = absurd same
 all-same P kept (e ∷ edges) [] same all = absurd same
 all-same P kept (e ∷ edges) (o ∷ others) same all = (subst P (sym same.0) (kept e o.paths.implicit_outputs o.paths.implicit_inputs all.0), all-same P kept edges others same.1 all.1)
 
 -- What is true of each edge, whatever its implicit files are, stays true.
-pub all_edges-discover : (P : EdgeText → Type 0) → ((e : EdgeText) (outs ins : List (List ℕ)) → P e → P (record e { paths = record e.paths { implicit_outputs = outs; implicit_inputs = ins } }))
+pub all_edges-discover : (P : EdgeModel → Type 0) → ((e : EdgeModel) (outs ins : List (List ℕ)) → P e → P (record e { paths = record e.paths { implicit_outputs = outs; implicit_inputs = ins } }))
     → (edge : ℕ) (found : Discovered) (entries : List ReadStatement) → AllByRecursion P (edges_read entries) → AllByRecursion P (edges_read (discover edge found entries))
 all_edges-discover P kept edge found entries = all-same P kept (edges_read entries) (edges_read (discover edge found entries)) (same-edges edge found entries)
 
@@ -255,8 +255,8 @@ at-kept n edge None None other = refl
 
 -- ---- they are ordered by number
 
-comes-build : (e : ReadStatement) (before : List ReadStatement) (outputs : OutputsText) (rule : NameText) (inputs : InputsText) (lines : List LineText) → AreByNumber before
-    → AreByNumber (record e { item = BuildText outputs rule inputs lines } ∷ before)
+comes-build : (e : ReadStatement) (before : List ReadStatement) (outputs : OutputsModel) (rule : NameModel) (inputs : InputsModel) (lines : List LineModel) → AreByNumber before
+    → AreByNumber (record e { item = BuildModel outputs rule inputs lines } ∷ before)
 unfolding edges_read pending_read
 comes-build e before outputs rule inputs lines comes = record {
   within = all-append (λ p. p.edge < length (edges_read before ++ own ∷ [])) (pending_read before) (pending_at (length (edges_read before)) e.discovered (dyndep_of before own))
@@ -266,21 +266,21 @@ comes-build e before outputs rule inputs lines comes = record {
       (at-rising (length (edges_read before)) e.discovered (dyndep_of before own)) (at-above (length (edges_read before)) e.discovered (dyndep_of before own));
 }
   where
-    own : EdgeText
+    own : EdgeModel
     own = edge_of_build e before outputs rule inputs lines
 
     more : length (edges_read before ++ own ∷ []) ≡ length (edges_read before) + 1
     more = length-append (edges_read before) (own ∷ [])
 
-comes-item : (e : ReadStatement) (before : List ReadStatement) (item : StatementText) → AreByNumber before → AreByNumber (record e { item = item } ∷ before)
+comes-item : (e : ReadStatement) (before : List ReadStatement) (item : StatementModel) → AreByNumber before → AreByNumber (record e { item = item } ∷ before)
 unfolding edges_read pending_read
-comes-item e before (BuildText outputs rule inputs lines) comes = comes-build e before outputs rule inputs lines comes
-comes-item e before (BindingText bound word) comes = record { within = comes.within; rising = comes.rising }
-comes-item e before (RuleText name lines) comes = record { within = comes.within; rising = comes.rising }
-comes-item e before (PoolText name lines) comes = record { within = comes.within; rising = comes.rising }
-comes-item e before (DefaultText words) comes = record { within = comes.within; rising = comes.rising }
-comes-item e before (IncludeText word) comes = record { within = comes.within; rising = comes.rising }
-comes-item e before (SubninjaText word) comes = record { within = comes.within; rising = comes.rising }
+comes-item e before (BuildModel outputs rule inputs lines) comes = comes-build e before outputs rule inputs lines comes
+comes-item e before (BindingModel bound word) comes = record { within = comes.within; rising = comes.rising }
+comes-item e before (RuleModel name lines) comes = record { within = comes.within; rising = comes.rising }
+comes-item e before (PoolModel name lines) comes = record { within = comes.within; rising = comes.rising }
+comes-item e before (DefaultModel words) comes = record { within = comes.within; rising = comes.rising }
+comes-item e before (IncludeModel word) comes = record { within = comes.within; rising = comes.rising }
+comes-item e before (SubninjaModel word) comes = record { within = comes.within; rising = comes.rising }
 
 pub pending_rise : PendingEdgesRise
 unfolding edges_read pending_read
@@ -295,27 +295,27 @@ pending-rising entries = (pending_rise entries).rising
 
 -- ---- which edges are pending from then on
 
-dyndep-same : (edge : ℕ) (found : Discovered) (before : List ReadStatement) (e : EdgeText) → dyndep_of (discover edge found before) e ≡ dyndep_of before e
+dyndep-same : (edge : ℕ) (found : Discovered) (before : List ReadStatement) (e : EdgeModel) → dyndep_of (discover edge found before) e ≡ dyndep_of before e
 dyndep-same edge found before e = ap (λ (n : LateNames). file_given (asked_text n (codes "dyndep"))) (names_of_edge-discover edge found before e)
 
-pending-build : (edge : ℕ) (found : Discovered) (e : ReadStatement) (before : List ReadStatement) (outputs : OutputsText) (rule : NameText) (inputs : InputsText) (lines : List LineText)
+pending-build : (edge : ℕ) (found : Discovered) (e : ReadStatement) (before : List ReadStatement) (outputs : OutputsModel) (rule : NameModel) (inputs : InputsModel) (lines : List LineModel)
     → pending_read (discover edge found before) ≡ filter (λ p. not (p.edge == edge)) (pending_read before)
-    → pending_read (discover edge found (record e { item = BuildText outputs rule inputs lines } ∷ before))
-    ≡ filter (λ p. not (p.edge == edge)) (pending_read (record e { item = BuildText outputs rule inputs lines } ∷ before))
+    → pending_read (discover edge found (record e { item = BuildModel outputs rule inputs lines } ∷ before))
+    ≡ filter (λ p. not (p.edge == edge)) (pending_read (record e { item = BuildModel outputs rule inputs lines } ∷ before))
 unfolding edges_read pending_read discover
 pending-build edge found e before outputs rule inputs lines rest = by (eqb_tells (length (edges_read before)) edge) ∙ sym (filter-append (λ p. not (p.edge == edge)) (pending_read before) last)
   where
     number : ℕ
     number = length (edges_read before)
 
-    own : EdgeText
+    own : EdgeModel
     own = edge_of_build e before outputs rule inputs lines
 
     last : List Pending
     last = pending_at number e.discovered (dyndep_of before own)
 
     after : Bool → List ReadStatement
-    after b = if b then record e { item = BuildText outputs rule inputs lines; discovered = Some found } ∷ before else record e { item = BuildText outputs rule inputs lines } ∷ discover edge found before
+    after b = if b then record e { item = BuildModel outputs rule inputs lines; discovered = Some found } ∷ before else record e { item = BuildModel outputs rule inputs lines } ∷ discover edge found before
 
     by : ((number == edge) ≡ true × (number ≡ edge)) ⊎ ((number == edge) ≡ false × (number ≢ edge))
         → pending_read (after (number == edge)) ≡ filter (λ p. not (p.edge == edge)) (pending_read before) ++ filter (λ p. not (p.edge == edge)) last
@@ -331,17 +331,17 @@ pending-build edge found e before outputs rule inputs lines rest = by (eqb_tells
         (ap (dyndep_of (discover edge found before)) (edge-same edge found e before outputs rule inputs lines) ∙ dyndep-same edge found before own)
         ∙ ap (λ ps. filter (λ p. not (p.edge == edge)) (pending_read before) ++ ps) (sym (at-kept number edge e.discovered (dyndep_of before own) other))
 
-pending-item : (edge : ℕ) (found : Discovered) (e : ReadStatement) (before : List ReadStatement) (item : StatementText)
+pending-item : (edge : ℕ) (found : Discovered) (e : ReadStatement) (before : List ReadStatement) (item : StatementModel)
     → pending_read (discover edge found before) ≡ filter (λ p. not (p.edge == edge)) (pending_read before)
     → pending_read (discover edge found (record e { item = item } ∷ before)) ≡ filter (λ p. not (p.edge == edge)) (pending_read (record e { item = item } ∷ before))
 unfolding edges_read pending_read discover
-pending-item edge found e before (BuildText outputs rule inputs lines) rest = pending-build edge found e before outputs rule inputs lines rest
-pending-item edge found e before (BindingText bound word) rest = rest
-pending-item edge found e before (RuleText name lines) rest = rest
-pending-item edge found e before (PoolText name lines) rest = rest
-pending-item edge found e before (DefaultText words) rest = rest
-pending-item edge found e before (IncludeText word) rest = rest
-pending-item edge found e before (SubninjaText word) rest = rest
+pending-item edge found e before (BuildModel outputs rule inputs lines) rest = pending-build edge found e before outputs rule inputs lines rest
+pending-item edge found e before (BindingModel bound word) rest = rest
+pending-item edge found e before (RuleModel name lines) rest = rest
+pending-item edge found e before (PoolModel name lines) rest = rest
+pending-item edge found e before (DefaultModel words) rest = rest
+pending-item edge found e before (IncludeModel word) rest = rest
+pending-item edge found e before (SubninjaModel word) rest = rest
 
 pub pending-discover : (edge : ℕ) (found : Discovered) (entries : List ReadStatement) → pending_read (discover edge found entries) ≡ filter (λ p. not (p.edge == edge)) (pending_read entries)
 unfolding edges_read pending_read discover
@@ -351,28 +351,28 @@ pending-discover edge found (e ∷ before) = pending-item edge found e before e.
 -- ---- what is assigned to edges
 
 -- it does not depend on what is discovered for an edge
-assigned-found : (before : List ReadStatement) (stated : EdgeText) (d : Option Discovered) → assigned_of before (record stated { paths = with_discovered d stated.paths }) ≡ assigned_of before stated
+assigned-found : (before : List ReadStatement) (stated : EdgeModel) (d : Option Discovered) → assigned_of before (record stated { paths = with_discovered d stated.paths }) ≡ assigned_of before stated
 assigned-found before stated None = refl
 assigned-found before stated (Some found) = refl
 
-assigned-same : (edge : ℕ) (found : Discovered) (before : List ReadStatement) (e : EdgeText) → assigned_of (discover edge found before) e ≡ assigned_of before e
+assigned-same : (edge : ℕ) (found : Discovered) (before : List ReadStatement) (e : EdgeModel) → assigned_of (discover edge found before) e ≡ assigned_of before e
 assigned-same edge found before e =
     ap (λ (n : LateNames). record { pool = name_given (asked_text n (codes "pool")); dyndep = file_given (asked_text n (codes "dyndep")) }) (names_of_edge-discover edge found before e)
 
-assigned-build : (edge : ℕ) (found : Discovered) (e : ReadStatement) (before : List ReadStatement) (outputs : OutputsText) (rule : NameText) (inputs : InputsText) (lines : List LineText)
+assigned-build : (edge : ℕ) (found : Discovered) (e : ReadStatement) (before : List ReadStatement) (outputs : OutputsModel) (rule : NameModel) (inputs : InputsModel) (lines : List LineModel)
     → assigned_read (discover edge found before) ≡ assigned_read before
-    → assigned_read (discover edge found (record e { item = BuildText outputs rule inputs lines } ∷ before)) ≡ assigned_read (record e { item = BuildText outputs rule inputs lines } ∷ before)
+    → assigned_read (discover edge found (record e { item = BuildModel outputs rule inputs lines } ∷ before)) ≡ assigned_read (record e { item = BuildModel outputs rule inputs lines } ∷ before)
 unfolding edges_read assigned_read discover
 assigned-build edge found e before outputs rule inputs lines rest = by (length (edges_read before) == edge)
   where
-    own : EdgeText
+    own : EdgeModel
     own = edge_of_build e before outputs rule inputs lines
 
-    stated : EdgeText
+    stated : EdgeModel
     stated = edge_of_build (record e { discovered = None }) before outputs rule inputs lines
 
     after : Bool → List ReadStatement
-    after b = if b then record e { item = BuildText outputs rule inputs lines; discovered = Some found } ∷ before else record e { item = BuildText outputs rule inputs lines } ∷ discover edge found before
+    after b = if b then record e { item = BuildModel outputs rule inputs lines; discovered = Some found } ∷ before else record e { item = BuildModel outputs rule inputs lines } ∷ discover edge found before
 
     by : (b : Bool) → assigned_read (after b) ≡ assigned_read before ++ assigned_of before own ∷ []
     by true = ap (λ a. assigned_read before ++ a ∷ []) (assigned-found before stated (Some found) ∙ sym (assigned-found before stated e.discovered))
@@ -380,16 +380,16 @@ assigned-build edge found e before outputs rule inputs lines rest = by (length (
         ap (λ others. others ++ assigned_of (discover edge found before) (edge_of_build e (discover edge found before) outputs rule inputs lines) ∷ []) rest
         ∙ ap (λ a. assigned_read before ++ a ∷ []) (ap (assigned_of (discover edge found before)) (edge-same edge found e before outputs rule inputs lines) ∙ assigned-same edge found before own)
 
-assigned-item : (edge : ℕ) (found : Discovered) (e : ReadStatement) (before : List ReadStatement) (item : StatementText) → assigned_read (discover edge found before) ≡ assigned_read before
+assigned-item : (edge : ℕ) (found : Discovered) (e : ReadStatement) (before : List ReadStatement) (item : StatementModel) → assigned_read (discover edge found before) ≡ assigned_read before
     → assigned_read (discover edge found (record e { item = item } ∷ before)) ≡ assigned_read (record e { item = item } ∷ before)
 unfolding edges_read assigned_read discover
-assigned-item edge found e before (BuildText outputs rule inputs lines) rest = assigned-build edge found e before outputs rule inputs lines rest
-assigned-item edge found e before (BindingText bound word) rest = rest
-assigned-item edge found e before (RuleText name lines) rest = rest
-assigned-item edge found e before (PoolText name lines) rest = rest
-assigned-item edge found e before (DefaultText words) rest = rest
-assigned-item edge found e before (IncludeText word) rest = rest
-assigned-item edge found e before (SubninjaText word) rest = rest
+assigned-item edge found e before (BuildModel outputs rule inputs lines) rest = assigned-build edge found e before outputs rule inputs lines rest
+assigned-item edge found e before (BindingModel bound word) rest = rest
+assigned-item edge found e before (RuleModel name lines) rest = rest
+assigned-item edge found e before (PoolModel name lines) rest = rest
+assigned-item edge found e before (DefaultModel words) rest = rest
+assigned-item edge found e before (IncludeModel word) rest = rest
+assigned-item edge found e before (SubninjaModel word) rest = rest
 
 pub assigned-discover : (edge : ℕ) (found : Discovered) (entries : List ReadStatement) → assigned_read (discover edge found entries) ≡ assigned_read entries
 unfolding edges_read assigned_read discover
@@ -401,21 +401,21 @@ others_are_pending entries edge found = pending-discover edge found entries
 
 -- ---- the edge that changes
 
-edges-build : (edge : ℕ) (found : Discovered) (e : ReadStatement) (before : List ReadStatement) (outputs : OutputsText) (rule : NameText) (inputs : InputsText) (lines : List LineText)
+edges-build : (edge : ℕ) (found : Discovered) (e : ReadStatement) (before : List ReadStatement) (outputs : OutputsModel) (rule : NameModel) (inputs : InputsModel) (lines : List LineModel)
     → (is_pending before edge ≡ true → edges_read (discover edge found before) ≡ changed_at (with_found found) edge (edges_read before))
-    → is_pending (record e { item = BuildText outputs rule inputs lines } ∷ before) edge ≡ true
-    → edges_read (discover edge found (record e { item = BuildText outputs rule inputs lines } ∷ before))
-    ≡ changed_at (with_found found) edge (edges_read (record e { item = BuildText outputs rule inputs lines } ∷ before))
+    → is_pending (record e { item = BuildModel outputs rule inputs lines } ∷ before) edge ≡ true
+    → edges_read (discover edge found (record e { item = BuildModel outputs rule inputs lines } ∷ before))
+    ≡ changed_at (with_found found) edge (edges_read (record e { item = BuildModel outputs rule inputs lines } ∷ before))
 unfolding edges_read pending_read discover
 edges-build edge found e before outputs rule inputs lines rest pends = by (eqb_tells number edge)
   where
     number : ℕ
     number = length (edges_read before)
 
-    own : EdgeText
+    own : EdgeModel
     own = edge_of_build e before outputs rule inputs lines
 
-    stated : EdgeText
+    stated : EdgeModel
     stated = edge_of_build (record e { discovered = None }) before outputs rule inputs lines
 
     last : List Pending
@@ -425,7 +425,7 @@ edges-build edge found e before outputs rule inputs lines rest pends = by (eqb_t
     pends-either = sym (list_any-append (λ p. p.edge == edge) (pending_read before) last) ∙ pends
 
     after : Bool → List ReadStatement
-    after b = if b then record e { item = BuildText outputs rule inputs lines; discovered = Some found } ∷ before else record e { item = BuildText outputs rule inputs lines } ∷ discover edge found before
+    after b = if b then record e { item = BuildModel outputs rule inputs lines; discovered = Some found } ∷ before else record e { item = BuildModel outputs rule inputs lines } ∷ discover edge found before
 
     not_joined : number ≡ edge → e.discovered ≡ None
     not_joined is = at-not_joined number edge e.discovered (dyndep_of before own)
@@ -447,18 +447,18 @@ edges-build edge found e before outputs rule inputs lines rest pends = by (eqb_t
         ∙ ap (λ es. es ++ own ∷ []) (rest (either (is_pending before edge) (list_any (λ p. p.edge == edge) last) (at-other number edge e.discovered (dyndep_of before own) other) pends-either))
         ∙ sym (changed-front (with_found found) (edges_read before) own edge apart)
 
-edges-item : (edge : ℕ) (found : Discovered) (e : ReadStatement) (before : List ReadStatement) (item : StatementText)
+edges-item : (edge : ℕ) (found : Discovered) (e : ReadStatement) (before : List ReadStatement) (item : StatementModel)
     → (is_pending before edge ≡ true → edges_read (discover edge found before) ≡ changed_at (with_found found) edge (edges_read before))
     → is_pending (record e { item = item } ∷ before) edge ≡ true
     → edges_read (discover edge found (record e { item = item } ∷ before)) ≡ changed_at (with_found found) edge (edges_read (record e { item = item } ∷ before))
 unfolding edges_read pending_read discover
-edges-item edge found e before (BuildText outputs rule inputs lines) rest pends = edges-build edge found e before outputs rule inputs lines rest pends
-edges-item edge found e before (BindingText bound word) rest pends = rest pends
-edges-item edge found e before (RuleText name lines) rest pends = rest pends
-edges-item edge found e before (PoolText name lines) rest pends = rest pends
-edges-item edge found e before (DefaultText words) rest pends = rest pends
-edges-item edge found e before (IncludeText word) rest pends = rest pends
-edges-item edge found e before (SubninjaText word) rest pends = rest pends
+edges-item edge found e before (BuildModel outputs rule inputs lines) rest pends = edges-build edge found e before outputs rule inputs lines rest pends
+edges-item edge found e before (BindingModel bound word) rest pends = rest pends
+edges-item edge found e before (RuleModel name lines) rest pends = rest pends
+edges-item edge found e before (PoolModel name lines) rest pends = rest pends
+edges-item edge found e before (DefaultModel words) rest pends = rest pends
+edges-item edge found e before (IncludeModel word) rest pends = rest pends
+edges-item edge found e before (SubninjaModel word) rest pends = rest pends
 
 pub edges-discover : (edge : ℕ) (found : Discovered) (entries : List ReadStatement) → is_pending entries edge ≡ true
     → edges_read (discover edge found entries) ≡ changed_at (with_found found) edge (edges_read entries)
@@ -473,7 +473,7 @@ pub paths-discover : (edge : ℕ) (found : Discovered) (entries : List ReadState
     → paths_of_edges (edges_read (discover edge found entries)) ≡ changed_at (with_added (record { outputs = found.outputs; inputs = found.inputs })) edge (paths_of_edges (edges_read entries))
 paths-discover edge found entries pends =
     ap paths_of_edges (edges-discover edge found entries pends)
-    ∙ map-changed (λ (e : EdgeText). e.paths) (with_found found) (with_added (record { outputs = found.outputs; inputs = found.inputs })) (λ e. refl) edge (edges_read entries)
+    ∙ map-changed (λ (e : EdgeModel). e.paths) (with_found found) (with_added (record { outputs = found.outputs; inputs = found.inputs })) (λ e. refl) edge (edges_read entries)
 
 -- ---- an edge that is pending on a file
 

@@ -5,18 +5,18 @@ use Rattle.nj_statements.specs.Inside.JoiningSteps.{discover_for}
 use Rattle.nj_statements.specs.Inside.EdgeSteps.{lines_of_rule}
 use Rattle.std.specs.Option.{option_or}
 use Rattle.std.specs.List.{AllByRecursion}
-use Rattle.nj_manifest.specs.Statements.{StatementText, BindingText, RuleText, PoolText, BuildText, DefaultText, IncludeText, SubninjaText}
-use Rattle.nj_manifest.specs.Dyndeps.{EntryText}
+use Rattle.nj_manifest.specs.Statements.{StatementModel, BindingModel, RuleModel, PoolModel, BuildModel, DefaultModel, IncludeModel, SubninjaModel}
+use Rattle.nj_manifest.specs.Dyndeps.{EntryModel}
 use Rattle.nj_scope.specs.Rules as kept
 use Rattle.nj_scope.specs.Rules.{phony, phony_rule}
 use Rattle.nj_scope.specs.Scopes.{Bounds, first_given, value_in, expanded}
-use Rattle.nj_scope.specs.Declarations.{DeclarationsText, DeclaredBy}
+use Rattle.nj_scope.specs.Declarations.{DeclarationsModel, DeclaredBy}
 use Rattle.nj_scope.specs.ReadingList.{Discovered, ReadStatement, scope_of, binds_in, bounds, value_after, rule_given, rules_read, declares, rules, rule_in_force, is_declared}
 use Rattle.nj_scope.proofs.NewRules.{RuleIsNew, EachRuleIsNew}
 use Rattle.nj_scope.specs.ReadingList.{pool_given, pools, scope_given, path_named, scopes_opened, files_opened}
 use Rattle.nj_scope.proofs.Gathering.{gathered-map}
 use Rattle.nj_edge_env.specs.LateStrings.{LateNames}
-use Rattle.nj_statements.specs.EdgeList.{EdgeText, paths_given, edges_read, with_defaults, defaults_read, names_of_edge, edge_given}
+use Rattle.nj_statements.specs.EdgeList.{EdgeModel, paths_given, edges_read, with_defaults, defaults_read, names_of_edge, edge_given}
 use Rattle.nj_statements.specs.Joining.{discover, discovered_by, edge_meant, with_entry}
 use Rattle.nj_statements.specs.Laws.{NamesStay}
 
@@ -66,14 +66,14 @@ value_after-discover edge found entries = ap value_in (bounds-discover edge foun
 rules_read-as_read : (entries : List ReadStatement) → rules_read (as_read entries) ≡ rules_read entries
 rules_read-as_read entries = ap (λ rules. phony_rule ∷ rules) (gathered-map rule_given unseen (λ e before. by e before e.item) entries)
   where
-    by : (e : ReadStatement) (before : List ReadStatement) (item : StatementText) → rule_given (unseen e) (as_read before) item ≡ rule_given e before item
-    by e before (RuleText name lines) = refl
-    by e before (BindingText bound word) = refl
-    by e before (PoolText name lines) = refl
-    by e before (BuildText outputs rule inputs lines) = refl
-    by e before (DefaultText words) = refl
-    by e before (IncludeText word) = refl
-    by e before (SubninjaText word) = refl
+    by : (e : ReadStatement) (before : List ReadStatement) (item : StatementModel) → rule_given (unseen e) (as_read before) item ≡ rule_given e before item
+    by e before (RuleModel name lines) = refl
+    by e before (BindingModel bound word) = refl
+    by e before (PoolModel name lines) = refl
+    by e before (BuildModel outputs rule inputs lines) = refl
+    by e before (DefaultModel words) = refl
+    by e before (IncludeModel word) = refl
+    by e before (SubninjaModel word) = refl
 
 pub rules_read-discover : (edge : ℕ) (found : Discovered) (entries : List ReadStatement) → rules_read (discover edge found entries) ≡ rules_read entries
 rules_read-discover = kept-by rules_read rules_read-as_read
@@ -83,7 +83,7 @@ abbrev pub Declared : Type 0
 Declared = ℕ → List ℕ → Option ℕ
 
 -- one statement more, after this many rules
-abbrev declared_with : ReadStatement → (strings : List kept.RuleText) → Declared → Declared
+abbrev declared_with : ReadStatement → (strings : List kept.RuleModel) → Declared → Declared
 declared_with e strings own number name = option_or (if number == e.number && declares e.item name then Some (length strings) else None) (own number name)
 
 rules-as_read : (entries : List ReadStatement) → rules (as_read entries) ≡ rules entries
@@ -100,14 +100,14 @@ in_force_by own scope name = if bytes_eq name phony then Some 0 else first_given
 pub rule_in_force-discover : (edge : ℕ) (found : Discovered) (entries : List ReadStatement) → rule_in_force (discover edge found entries) ≡ rule_in_force entries
 rule_in_force-discover edge found entries = ap in_force_by (rules-discover edge found entries)
 
-is_new-by : (some others : List ReadStatement) → rules others ≡ rules some → (number : ℕ) (item : StatementText) → RuleIsNew some number item → RuleIsNew others number item
-is_new-by some others same number (RuleText name lines) new = ap (λ (own : Declared). is_declared (own number name.name) name.name) same ∙ new
-is_new-by some others same number (BindingText bound word) new = tt
-is_new-by some others same number (PoolText name lines) new = tt
-is_new-by some others same number (BuildText outputs rule inputs lines) new = tt
-is_new-by some others same number (DefaultText words) new = tt
-is_new-by some others same number (IncludeText word) new = tt
-is_new-by some others same number (SubninjaText word) new = tt
+is_new-by : (some others : List ReadStatement) → rules others ≡ rules some → (number : ℕ) (item : StatementModel) → RuleIsNew some number item → RuleIsNew others number item
+is_new-by some others same number (RuleModel name lines) new = ap (λ (own : Declared). is_declared (own number name.name) name.name) same ∙ new
+is_new-by some others same number (BindingModel bound word) new = tt
+is_new-by some others same number (PoolModel name lines) new = tt
+is_new-by some others same number (BuildModel outputs rule inputs lines) new = tt
+is_new-by some others same number (DefaultModel words) new = tt
+is_new-by some others same number (IncludeModel word) new = tt
+is_new-by some others same number (SubninjaModel word) new = tt
 
 rules_new-as_read : (entries : List ReadStatement) → EachRuleIsNew entries → EachRuleIsNew (as_read entries)
 rules_new-as_read [] new = tt
@@ -130,14 +130,14 @@ rules_new-from_discover edge found entries new =
 pools-as_read : (entries : List ReadStatement) → pools (as_read entries) ≡ pools entries
 pools-as_read = gathered-map pool_given unseen (λ e before. by e before e.item)
   where
-    by : (e : ReadStatement) (before : List ReadStatement) (item : StatementText) → pool_given (unseen e) (as_read before) item ≡ pool_given e before item
-    by e before (PoolText name lines) = refl
-    by e before (BindingText bound word) = refl
-    by e before (RuleText name lines) = refl
-    by e before (BuildText outputs rule inputs lines) = refl
-    by e before (DefaultText words) = refl
-    by e before (IncludeText word) = refl
-    by e before (SubninjaText word) = refl
+    by : (e : ReadStatement) (before : List ReadStatement) (item : StatementModel) → pool_given (unseen e) (as_read before) item ≡ pool_given e before item
+    by e before (PoolModel name lines) = refl
+    by e before (BindingModel bound word) = refl
+    by e before (RuleModel name lines) = refl
+    by e before (BuildModel outputs rule inputs lines) = refl
+    by e before (DefaultModel words) = refl
+    by e before (IncludeModel word) = refl
+    by e before (SubninjaModel word) = refl
 
 pub pools-discover : (edge : ℕ) (found : Discovered) (entries : List ReadStatement) → pools (discover edge found entries) ≡ pools entries
 pools-discover = kept-by pools pools-as_read
@@ -145,14 +145,14 @@ pools-discover = kept-by pools pools-as_read
 scopes_opened-as_read : (entries : List ReadStatement) → scopes_opened (as_read entries) ≡ scopes_opened entries
 scopes_opened-as_read entries = ap (λ scopes. length scopes + 1) (gathered-map scope_given unseen (λ e before. by e before e.item) entries)
   where
-    by : (e : ReadStatement) (before : List ReadStatement) (item : StatementText) → scope_given (unseen e) (as_read before) item ≡ scope_given e before item
-    by e before (SubninjaText word) = refl
-    by e before (BindingText bound word) = refl
-    by e before (RuleText name lines) = refl
-    by e before (PoolText name lines) = refl
-    by e before (BuildText outputs rule inputs lines) = refl
-    by e before (DefaultText words) = refl
-    by e before (IncludeText word) = refl
+    by : (e : ReadStatement) (before : List ReadStatement) (item : StatementModel) → scope_given (unseen e) (as_read before) item ≡ scope_given e before item
+    by e before (SubninjaModel word) = refl
+    by e before (BindingModel bound word) = refl
+    by e before (RuleModel name lines) = refl
+    by e before (PoolModel name lines) = refl
+    by e before (BuildModel outputs rule inputs lines) = refl
+    by e before (DefaultModel words) = refl
+    by e before (IncludeModel word) = refl
 
 pub scopes_opened-discover : (edge : ℕ) (found : Discovered) (entries : List ReadStatement) → scopes_opened (discover edge found entries) ≡ scopes_opened entries
 scopes_opened-discover = kept-by scopes_opened scopes_opened-as_read
@@ -160,28 +160,28 @@ scopes_opened-discover = kept-by scopes_opened scopes_opened-as_read
 files_opened-as_read : (entries : List ReadStatement) → files_opened (as_read entries) ≡ files_opened entries
 files_opened-as_read entries = ap (λ paths. length paths + 1) (gathered-map path_named unseen (λ e before. by e before e.item) entries)
   where
-    by : (e : ReadStatement) (before : List ReadStatement) (item : StatementText) → path_named (unseen e) (as_read before) item ≡ path_named e before item
-    by e before (IncludeText word) = ap (λ (b : Bounds). Some (expanded (value_in b (scope_of e)) word.parts)) (bounds-as_read before)
-    by e before (SubninjaText word) = ap (λ (b : Bounds). Some (expanded (value_in b (scope_of e)) word.parts)) (bounds-as_read before)
-    by e before (BindingText bound word) = refl
-    by e before (RuleText name lines) = refl
-    by e before (PoolText name lines) = refl
-    by e before (BuildText outputs rule inputs lines) = refl
-    by e before (DefaultText words) = refl
+    by : (e : ReadStatement) (before : List ReadStatement) (item : StatementModel) → path_named (unseen e) (as_read before) item ≡ path_named e before item
+    by e before (IncludeModel word) = ap (λ (b : Bounds). Some (expanded (value_in b (scope_of e)) word.parts)) (bounds-as_read before)
+    by e before (SubninjaModel word) = ap (λ (b : Bounds). Some (expanded (value_in b (scope_of e)) word.parts)) (bounds-as_read before)
+    by e before (BindingModel bound word) = refl
+    by e before (RuleModel name lines) = refl
+    by e before (PoolModel name lines) = refl
+    by e before (BuildModel outputs rule inputs lines) = refl
+    by e before (DefaultModel words) = refl
 
 pub files_opened-discover : (edge : ℕ) (found : Discovered) (entries : List ReadStatement) → files_opened (discover edge found entries) ≡ files_opened entries
 files_opened-discover = kept-by files_opened files_opened-as_read
 
 -- ---- defaults
 
-with_defaults-as_read : (e : ReadStatement) (before : List ReadStatement) (item : StatementText) (paths : List (List ℕ)) → with_defaults (unseen e) (as_read before) item paths ≡ with_defaults e before item paths
-with_defaults-as_read e before (DefaultText words) paths = ap (λ (b : Bounds). paths ++ paths_given (value_in b (scope_of e)) words) (bounds-as_read before)
-with_defaults-as_read e before (BindingText bound word) paths = refl
-with_defaults-as_read e before (RuleText name lines) paths = refl
-with_defaults-as_read e before (PoolText name lines) paths = refl
-with_defaults-as_read e before (BuildText outputs rule inputs lines) paths = refl
-with_defaults-as_read e before (IncludeText word) paths = refl
-with_defaults-as_read e before (SubninjaText word) paths = refl
+with_defaults-as_read : (e : ReadStatement) (before : List ReadStatement) (item : StatementModel) (paths : List (List ℕ)) → with_defaults (unseen e) (as_read before) item paths ≡ with_defaults e before item paths
+with_defaults-as_read e before (DefaultModel words) paths = ap (λ (b : Bounds). paths ++ paths_given (value_in b (scope_of e)) words) (bounds-as_read before)
+with_defaults-as_read e before (BindingModel bound word) paths = refl
+with_defaults-as_read e before (RuleModel name lines) paths = refl
+with_defaults-as_read e before (PoolModel name lines) paths = refl
+with_defaults-as_read e before (BuildModel outputs rule inputs lines) paths = refl
+with_defaults-as_read e before (IncludeModel word) paths = refl
+with_defaults-as_read e before (SubninjaModel word) paths = refl
 
 defaults_read-as_read : (entries : List ReadStatement) → defaults_read (as_read entries) ≡ defaults_read entries
 unfolding defaults_read
@@ -195,7 +195,7 @@ defaults_read-discover = kept-by defaults_read defaults_read-as_read
 -- ---- the names of an edge
 
 -- by the rules, and by what scopes bind
-abbrev names_by : List kept.RuleText → Bounds → EdgeText → LateNames
+abbrev names_by : List kept.RuleModel → Bounds → EdgeModel → LateNames
 names_by strings b e = record {
   inputs = e.paths.explicit_inputs;
   outputs = e.paths.explicit_outputs;
@@ -205,7 +205,7 @@ names_by strings b e = record {
   file = value_in b (e.number ∷ e.around);
 }
 
-pub names_of_edge-discover : (edge : ℕ) (found : Discovered) (entries : List ReadStatement) (e : EdgeText) → names_of_edge (discover edge found entries) e ≡ names_of_edge entries e
+pub names_of_edge-discover : (edge : ℕ) (found : Discovered) (entries : List ReadStatement) (e : EdgeModel) → names_of_edge (discover edge found entries) e ≡ names_of_edge entries e
 names_of_edge-discover edge found entries e =
     ap (λ strings. names_by strings (bounds (discover edge found entries)) e) (rules_read-discover edge found entries)
     ∙ ap (λ (b : Bounds). names_by (rules_read entries) b e) (bounds-discover edge found entries)
@@ -223,7 +223,7 @@ names_stay entries edge found = record {
 }
 
 -- What is held of the statements is held still.
-pub declared-discover : (held : DeclarationsText) (edge : ℕ) (found : Discovered) (entries : List ReadStatement) → DeclaredBy held entries → DeclaredBy held (discover edge found entries)
+pub declared-discover : (held : DeclarationsModel) (edge : ℕ) (found : Discovered) (entries : List ReadStatement) → DeclaredBy held entries → DeclaredBy held (discover edge found entries)
 declared-discover held edge found entries by = record {
   bound = λ number name. by.bound number name ∙ ap (λ (b : Bounds). b number name) (sym (bounds-discover edge found entries));
   declared = λ number name. by.declared number name ∙ ap (λ (own : Declared). own number name) (sym (rules-discover edge found entries));
@@ -253,7 +253,7 @@ all-discover P kept edge found (e ∷ before) all = by (is_some (edge_given e be
     by false rest = (all.0, rest)
 
 -- What is true of statements, and of them with what is discovered for any edge, is true of them with what an entry adds.
-pub with_entry-by : (P : List ReadStatement → Type 0) (stated joined : List ReadStatement) (entry : EntryText) → P joined
+pub with_entry-by : (P : List ReadStatement → Type 0) (stated joined : List ReadStatement) (entry : EntryModel) → P joined
     → ((edge : ℕ) → P (discover edge (discovered_by entry) joined)) → P (with_entry stated joined entry)
 with_entry-by P stated joined entry same more = by (edge_meant stated entry)
   where

@@ -9,15 +9,15 @@ use Rattle.std.proofs.lemmas.Bool.{or_parts}
 use Rattle.std.proofs.lemmas.List.{length-map}
 use Rattle.std.proofs.lemmas.List.Folds.{list_any-append}
 use Rattle.std.proofs.lemmas.Slice.Eq.{bytes_eq-Decides}
-use Rattle.nj_text.specs.Words.{WordText}
+use Rattle.nj_text.specs.Words.{WordModel}
 use Rattle.nj_edges.specs.Edges.{EdgePaths, outputs_of, is_among, first_edge, maker_of}
 use Rattle.nj_edges.specs.Joining.{AddedFiles, with_added, changed_at}
 use Rattle.nj_faults.specs.declared.fault.GraphFault.{GraphFault}
 use Rattle.nj_faults.specs.declared.fault.Cause.TheVariants.{TwoMakers}
 use Rattle.nj_faults.specs.Faults.{fault_at}
-use Rattle.nj_statements.specs.EdgeList.{Values, EdgeText, path_given, paths_given, edges_read, paths_of_edges, pending_read}
+use Rattle.nj_statements.specs.EdgeList.{Values, EdgeModel, path_given, paths_given, edges_read, paths_of_edges, pending_read}
 use Rattle.nj_statements.specs.BuildFaults.{empty_path, two_makers, outputs_fault}
-use Rattle.nj_manifest.specs.Dyndeps.{EntryText}
+use Rattle.nj_manifest.specs.Dyndeps.{EntryModel}
 use Rattle.nj_scope.specs.ReadingList.{ReadStatement}
 use Rattle.nj_statements.specs.Joining.{no_values, discovered_by, edge_meant, with_entry, meaning_fault, entry_fault}
 use Rattle.nj_statements.specs.Laws.{AddsToItsEdge, EdgesMakeWhatIsDiscovered}
@@ -83,7 +83,7 @@ fault_if-not false fault none = refl
 fault_if-not true fault none = absurd (true≢false (ap is_some none))
 
 -- no edge makes an output that has no fault, and it is none of those to its left
-pub neither-makes : (file : List ℕ) (values : Values) (edges : List EdgePaths) (left : List (List ℕ)) (word : WordText) → two_makers file values edges left word ≡ None
+pub neither-makes : (file : List ℕ) (values : Values) (edges : List EdgePaths) (left : List (List ℕ)) (word : WordModel) → two_makers file values edges left word ≡ None
     → (maker_of edges (path_given values word) ≡ None) × (is_among left (path_given values word) ≡ false)
 neither-makes file values edges left word none = (is_some-none (maker_of edges (path_given values word)) parts.0, parts.1)
   where
@@ -92,7 +92,7 @@ neither-makes file values edges left word none = (is_some-none (maker_of edges (
         (fault_if-not (is_some (maker_of edges (path_given values word)) || is_among left (path_given values word)) (fault_at file word.spot (TwoMakers (path_given values word))) none)
 
 -- no edge makes an output that has none
-pub outputs-new : (file : List ℕ) (values : Values) (edges : List EdgePaths) (left : List (List ℕ)) (words : List WordText) (path : List ℕ)
+pub outputs-new : (file : List ℕ) (values : Values) (edges : List EdgePaths) (left : List (List ℕ)) (words : List WordModel) (path : List ℕ)
     → outputs_fault file values edges left words ≡ None → is_among (paths_given values words) path ≡ true → maker_of edges path ≡ None
 outputs-new file values edges left [] path none among = absurd (true≢false (sym among))
 outputs-new file values edges left (word ∷ words) path none among = by (bytes_eq path (path_given values word)) (bytes_eq-Decides path (path_given values word)).0 (outputs-new file values edges (left ++ path_given values word ∷ []) words path parts.1) among
@@ -110,7 +110,7 @@ outputs-new file values edges left (word ∷ words) path none among = by (bytes_
 
 -- ---- an entry that has no fault
 
-module _ (file : List ℕ) (stated joined : List ReadStatement) (entry : EntryText) (edge : ℕ) (none : entry_fault file stated joined entry ≡ None) (means : edge_meant stated entry ≡ Some edge) where
+module _ (file : List ℕ) (stated joined : List ReadStatement) (entry : EntryModel) (edge : ℕ) (none : entry_fault file stated joined entry ≡ None) (means : edge_meant stated entry ≡ Some edge) where
   abbrev before : List EdgePaths
   before = paths_of_edges (edges_read joined)
 
@@ -127,7 +127,7 @@ module _ (file : List ℕ) (stated joined : List ReadStatement) (entry : EntryTe
       some-is = sym found.1.meant ∙ means
 
   pub within-before : edge < length before
-  within-before = let count = length-map (edges_read joined) (λ (e : EdgeText). e.paths) in omega (arith, count, unjoined-below edge (length (edges_read joined)) (pending_read joined) (pending-within joined) pends)
+  within-before = let count = length-map (edges_read joined) (λ (e : EdgeModel). e.paths) in omega (arith, count, unjoined-below edge (length (edges_read joined)) (pending_read joined) (pending-within joined) pends)
 
   pub after-is : paths_of_edges (edges_read (with_entry stated joined entry)) ≡ changed_at (with_added added-by) edge before
   after-is = ap (λ m. paths_of_edges (edges_read (discover_for m (discovered_by entry) joined))) means ∙ paths-discover edge (discovered_by entry) joined pends

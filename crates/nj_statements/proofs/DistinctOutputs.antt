@@ -11,14 +11,14 @@ use Rattle.std.proofs.lemmas.List.Folds.{list_any-append}
 use Rattle.std.proofs.lemmas.List.Sorted.{IsPermutation-refl, IsPermutation-append, IsPermutation-append_comm}
 use Rattle.std.proofs.lemmas.Map.Keys.{IsDistinct-push, IsDistinct-IsPermutation}
 use Rattle.std.proofs.lemmas.Cmp.{nat_list_eq_equiv}
-use Rattle.nj_text.specs.Words.{WordText}
-use Rattle.nj_manifest.specs.Dyndeps.{EntryText}
-use Rattle.nj_manifest.specs.LineSteps.{NameText}
-use Rattle.nj_manifest.specs.Statements.{LineText, OutputsText, InputsText, StatementText, BuildText}
+use Rattle.nj_text.specs.Words.{WordModel}
+use Rattle.nj_manifest.specs.Dyndeps.{EntryModel}
+use Rattle.nj_manifest.specs.LineSteps.{NameModel}
+use Rattle.nj_manifest.specs.Statements.{LineModel, OutputsModel, InputsModel, StatementModel, BuildModel}
 use Rattle.nj_scope.specs.ReadingList.{Discovered, ReadStatement}
 use Rattle.nj_edges.specs.Edges.{EdgePaths, outputs_of, is_among, maker_of}
 use Rattle.nj_edges.specs.Joining.{AddedFiles, with_added, changed_at}
-use Rattle.nj_statements.specs.EdgeList.{Values, EdgeText, path_given, paths_given, line_values, stated_paths, loses_own, without_own, edge_paths, with_discovered, rule_number, edge_of_build, edges_read, paths_of_edges, edge_given}
+use Rattle.nj_statements.specs.EdgeList.{Values, EdgeModel, path_given, paths_given, line_values, stated_paths, loses_own, without_own, edge_paths, with_discovered, rule_number, edge_of_build, edges_read, paths_of_edges, edge_given}
 use Rattle.nj_statements.specs.BuildFaults.{empty_path, two_makers, outputs_fault, inputs_fault, unknown_rule, paths_fault, late_fault, build_fault}
 use Rattle.nj_statements.specs.Joining.{no_values, edge_meant, with_entry, entry_fault}
 use Rattle.nj_statements.specs.Laws.{AddsToItsEdge, IsFaultless, AreFaultless, IsWithEntries, as_stated, with_one_more, all_outputs, NoFileGetsTwoMakers}
@@ -41,7 +41,7 @@ no-output (e ∷ edges) path none = list_any-append (bytes_eq path) (outputs_of 
     by false rest none = rest (option-none (maker_of edges path) none)
 
 -- outputs that have no fault are apart from each other, and from those before them
-outputs-apart : (file : List ℕ) (values : Values) (edges : List EdgePaths) (left : List (List ℕ)) (words : List WordText) → outputs_fault file values edges left words ≡ None
+outputs-apart : (file : List ℕ) (values : Values) (edges : List EdgePaths) (left : List (List ℕ)) (words : List WordModel) → outputs_fault file values edges left words ≡ None
     → IsDistinct bytes_eq (all_outputs edges ++ left) → IsDistinct bytes_eq (all_outputs edges ++ (left ++ paths_given values words))
 outputs-apart file values edges left [] none apart = subst (λ paths. IsDistinct bytes_eq (all_outputs edges ++ paths)) (sym (append-nil left)) apart
 outputs-apart file values edges left (word ∷ words) none apart =
@@ -71,7 +71,7 @@ outputs-stated e = by (loses_own e)
     by true = refl
     by false = refl
 
-module _ (e : ReadStatement) (before : List ReadStatement) (outputs : OutputsText) (rule : NameText) (inputs : InputsText) (lines : List LineText) (nothing : e.discovered ≡ None) where
+module _ (e : ReadStatement) (before : List ReadStatement) (outputs : OutputsModel) (rule : NameModel) (inputs : InputsModel) (lines : List LineModel) (nothing : e.discovered ≡ None) where
   outputs-read : outputs_of (edge_of_build e before outputs rule inputs lines).paths ≡ paths_given (line_values e before lines) (outputs.explicit ++ outputs.implicit)
   outputs-read =
       ap (λ (found : Option Discovered). outputs_of (with_discovered found (edge_paths paths))) nothing ∙ outputs-stated paths
@@ -90,10 +90,10 @@ module _ (e : ReadStatement) (before : List ReadStatement) (outputs : OutputsTex
       edges : List EdgePaths
       edges = paths_of_edges (edges_read before)
 
-      words : List WordText
+      words : List WordModel
       words = outputs.explicit ++ outputs.implicit
 
-      edge : EdgeText
+      edge : EdgeModel
       edge = edge_of_build e before outputs rule inputs lines
 
       fine : outputs_fault e.file values edges [] words ≡ None
@@ -103,13 +103,13 @@ module _ (e : ReadStatement) (before : List ReadStatement) (outputs : OutputsTex
 
       all-is : all_outputs (paths_of_edges (edges_read before ++ edge ∷ [])) ≡ all_outputs edges ++ paths_given values words
       all-is =
-          ap all_outputs (map-append (λ (x : EdgeText). x.paths) (edges_read before) (edge ∷ []))
+          ap all_outputs (map-append (λ (x : EdgeModel). x.paths) (edges_read before) (edge ∷ []))
           ∙ flat_map-append outputs_of edges (edge.paths ∷ [])
           ∙ ap (λ paths. all_outputs edges ++ paths) (append-nil (outputs_of edge.paths) ∙ outputs-read)
 
-statement-apart : (e : ReadStatement) (before : List ReadStatement) (item : StatementText) → IsFaultless e before item → IsDistinct bytes_eq (all_outputs (paths_of_edges (edges_read before)))
+statement-apart : (e : ReadStatement) (before : List ReadStatement) (item : StatementModel) → IsFaultless e before item → IsDistinct bytes_eq (all_outputs (paths_of_edges (edges_read before)))
     → IsDistinct bytes_eq (all_outputs (paths_of_edges (with_given (edges_read before) (edge_given e before item))))
-statement-apart e before (BuildText outputs rule inputs lines) fine apart = build-apart e before outputs rule inputs lines fine.1 fine.0 apart
+statement-apart e before (BuildModel outputs rule inputs lines) fine apart = build-apart e before outputs rule inputs lines fine.1 fine.0 apart
 statement-apart e before item fine apart = apart
 
 stated-apart : (stated : List ReadStatement) → AreFaultless stated → IsDistinct bytes_eq (all_outputs (paths_of_edges (edges_read stated)))
@@ -133,7 +133,7 @@ added-last added (suc edge) (e ∷ edges) within =
     subst (λ paths. IsPermutation paths (outputs_of e ++ all_outputs (changed_at (with_added added) edge edges))) (sym (append_assoc (outputs_of e) (all_outputs edges) added.outputs))
     (IsPermutation-append (outputs_of e) (outputs_of e) (all_outputs edges ++ added.outputs) (all_outputs (changed_at (with_added added) edge edges)) (IsPermutation-refl (outputs_of e)) (added-last added edge edges (omega (arith, within))))
 
-entry-apart : (file : List ℕ) (stated joined : List ReadStatement) (entry : EntryText) → entry_fault file stated joined entry ≡ None
+entry-apart : (file : List ℕ) (stated joined : List ReadStatement) (entry : EntryModel) → entry_fault file stated joined entry ≡ None
     → IsDistinct bytes_eq (all_outputs (paths_of_edges (edges_read joined))) → IsDistinct bytes_eq (all_outputs (paths_of_edges (edges_read (with_entry stated joined entry))))
 entry-apart file stated joined entry none apart =
     subst (λ es. IsDistinct bytes_eq (all_outputs es)) (sym (after-is file stated joined entry edge none means))

@@ -5,8 +5,8 @@ use Rattle.std.specs.Option.{option_or}
 use Rattle.std.proofs.lemmas.List.{append_assoc, append-nil}
 use Rattle.std.proofs.lemmas.Option.{same_Some}
 use Rattle.nj_text.specs.declared.word.Word.{Word}
-use Rattle.nj_text.specs.Words.{WordText, word_text}
-use Rattle.nj_manifest.specs.Contents.{words_text}
+use Rattle.nj_text.specs.Words.{WordModel, word_model}
+use Rattle.nj_manifest.specs.Contents.{words_model}
 use Rattle.nj_edges.specs.Edges.{EdgePaths}
 use Rattle.nj_faults.specs.declared.fault.GraphFault.{GraphFault}
 use Rattle.nj_faults.specs.Faults.{IsFault, no_memory}
@@ -43,11 +43,11 @@ or_then-assoc : (a b c : Option GraphFault) → option_or (option_or a b) c ≡ 
 or_then-assoc (Some x) b c = refl
 or_then-assoc None b c = refl
 
-pub first-append : (fault_of : WordText → Option GraphFault) (xs ys : List WordText) → first_given fault_of (xs ++ ys) ≡ option_or (first_given fault_of xs) (first_given fault_of ys)
+pub first-append : (fault_of : WordModel → Option GraphFault) (xs ys : List WordModel) → first_given fault_of (xs ++ ys) ≡ option_or (first_given fault_of xs) (first_given fault_of ys)
 first-append fault_of [] ys = refl
 first-append fault_of (x ∷ xs) ys = ap (option_or (fault_of x)) (first-append fault_of xs ys) ∙ sym (or_then-assoc (fault_of x) (first_given fault_of xs) (first_given fault_of ys))
 
-pub outputs-append : (file : List ℕ) (values : Values) (edges : List EdgePaths) (left : List (List ℕ)) (xs ys : List WordText)
+pub outputs-append : (file : List ℕ) (values : Values) (edges : List EdgePaths) (left : List (List ℕ)) (xs ys : List WordModel)
     → outputs_fault file values edges left (xs ++ ys) ≡ option_or (outputs_fault file values edges left xs) (outputs_fault file values edges (left ++ paths_given values xs) ys)
 outputs-append file values edges left [] ys = ap (λ l. outputs_fault file values edges l ys) (sym (append-nil left))
 outputs-append file values edges left (x ∷ xs) ys =
@@ -58,16 +58,16 @@ outputs-append file values edges left (x ∷ xs) ys =
     here = option_or (empty_path file values x) (two_makers file values edges left x)
 
 -- the faults of four lists of words
-pub first-four : (fault_of : WordText → Option GraphFault) (a b c d : List WordText)
+pub first-four : (fault_of : WordModel → Option GraphFault) (a b c d : List WordModel)
     → first_given fault_of (a ++ (b ++ (c ++ d))) ≡ option_or (first_given fault_of a) (option_or (first_given fault_of b) (option_or (first_given fault_of c) (first_given fault_of d)))
 first-four fault_of a b c d =
     first-append fault_of a (b ++ (c ++ d))
     ∙ ap (option_or (first_given fault_of a)) (first-append fault_of b (c ++ d) ∙ ap (option_or (first_given fault_of b)) (first-append fault_of c d))
 
 -- the fault of the next word is the fault of all of them, where the ones before it have none
-pub next-fault : (fault_of : WordText → Option GraphFault) (words : List Word) (i : ℕ) (word : Word) (f : GraphFault) → i < length words → word ≡ get_or words i word
-    → first_given fault_of (words_text (drop i words)) ≡ first_given fault_of (words_text words)
-    → IsFault (fault_of (word_text word)) f → IsFault (first_given fault_of (words_text words)) f
+pub next-fault : (fault_of : WordModel → Option GraphFault) (words : List Word) (i : ℕ) (word : Word) (f : GraphFault) → i < length words → word ≡ get_or words i word
+    → first_given fault_of (words_model (drop i words)) ≡ first_given fault_of (words_model words)
+    → IsFault (fault_of (word_model word)) f → IsFault (first_given fault_of (words_model words)) f
 next-fault fault_of words i word f below is same h =
-    subst (λ o. IsFault o f) (sym (at-next (λ (ws : List Word). first_given fault_of (words_text ws)) words i word below is) ∙ same)
-    (fault-first (fault_of (word_text word)) (first_given fault_of (words_text (drop (i + 1) words))) f h)
+    subst (λ o. IsFault o f) (sym (at-next (λ (ws : List Word). first_given fault_of (words_model ws)) words i word below is) ∙ same)
+    (fault-first (fault_of (word_model word)) (first_given fault_of (words_model (drop (i + 1) words))) f h)

@@ -15,15 +15,15 @@ use Rattle.nj_faults.specs.Faults.{fault_at}
 use Rattle.nj_edges.specs.Inside.EdgesHeld.{AreNumbers, paths_at}
 use Rattle.nj_edges.specs.Files.{path_at, AreFiles}
 use Rattle.nj_edges.proofs.GraphLemmas.{files-at, files-numbers}
-use Rattle.nj_manifest.specs.Statements.{StatementText, BindingText, RuleText, PoolText, BuildText, DefaultText, IncludeText, SubninjaText}
+use Rattle.nj_manifest.specs.Statements.{StatementModel, BindingModel, RuleModel, PoolModel, BuildModel, DefaultModel, IncludeModel, SubninjaModel}
 use Rattle.nj_scope.specs.ReadingList.{Discovered, ReadStatement}
-use Rattle.nj_statements.specs.declared.detail.Detail.{Detail}
+use Rattle.nj_statements.specs.declared.edge_record.Detail.{Detail}
 use Rattle.nj_statements.specs.declared.building.DyndepEdge.{DyndepEdge}
-use Rattle.nj_statements.specs.EdgeList.{EdgeText, Pending, edge_of_build, edges_read, paths_of_edges, defaults_read, dyndep_of, pending_at, with_pending, pending_read, assigned_read, edge_given}
-use Rattle.nj_statements.specs.Answers.{BuildingText, HasEdges, IsDetail, AreDetails, AreAssigned}
+use Rattle.nj_statements.specs.EdgeList.{EdgeModel, Pending, edge_of_build, edges_read, paths_of_edges, defaults_read, dyndep_of, pending_at, with_pending, pending_read, assigned_read, edge_given}
+use Rattle.nj_statements.specs.Answers.{BuildingModel, HasEdges, IsDetail, AreDetails, AreAssigned}
 use Rattle.nj_statements.specs.Inside.Details.{text_at, spot_of}
-use Rattle.nj_statements.specs.Inside.EdgeSteps.{detail_text}
-use Rattle.nj_statements.specs.Built.{BuiltText, ComesTo, defaults_in_force, IsCycleFault, detail_of}
+use Rattle.nj_statements.specs.Inside.EdgeSteps.{detail_model}
+use Rattle.nj_statements.specs.Built.{BuiltModel, ComesTo, defaults_in_force, IsCycleFault, detail_of}
 use Rattle.nj_statements.specs.Inside.BuiltHeld.{detail_named, pending_named, built_of, BuiltIsHeld}
 use Rattle.nj_statements.proofs.AssignedLemmas.{assigned-known, assigned-named}
 use Rattle.nj_statements.proofs.Holding.{details-count}
@@ -44,10 +44,10 @@ files-paths files (n ∷ ns) (p ∷ paths) are = ap (λ o. unwrap_or o [] ∷ pa
     rest (o ∷ os) = os
 
 -- files of `default` lines are in force
-pub in-force : (held built : BuiltText) (ns defaults : List FileNo) → held ≡ built → ns ≡ defaults → held.defaults ≡ paths_at held.graph.files defaults → AreNumbers (length held.graph.files) defaults → false ≡ (length ns == 0)
+pub in-force : (held built : BuiltModel) (ns defaults : List FileNo) → held ≡ built → ns ≡ defaults → held.defaults ≡ paths_at held.graph.files defaults → AreNumbers (length held.graph.files) defaults → false ≡ (length ns == 0)
     → AreFiles built.graph.files ns (defaults_in_force built.defaults built.graph.edges)
 in-force held built ns defaults is same paths are some =
-    subst (λ (b : BuiltText). AreFiles b.graph.files ns (defaults_in_force b.defaults b.graph.edges)) is
+    subst (λ (b : BuiltModel). AreFiles b.graph.files ns (defaults_in_force b.defaults b.graph.edges)) is
     (subst (λ ps. AreFiles held.graph.files ns (defaults_in_force ps held.graph.edges)) (sym (paths ∙ ap (paths_at held.graph.files) (sym same))) (by ns some (subst (AreNumbers (length held.graph.files)) (sym same) are)))
   where
     by : (fs : List FileNo) → false ≡ (length fs == 0) → AreNumbers (length held.graph.files) fs → AreFiles held.graph.files fs (defaults_in_force (paths_at held.graph.files fs) held.graph.edges)
@@ -119,29 +119,29 @@ unfolding edges_read pending_read
 unjoined-known [] = tt
 unjoined-known (e ∷ before) = by e.item (unjoined-known before)
   where
-    by : (item : StatementText) → AllByRecursion (λ (p : Pending). p.edge < length (edges_read before)) (pending_read before)
+    by : (item : StatementModel) → AllByRecursion (λ (p : Pending). p.edge < length (edges_read before)) (pending_read before)
         → AllByRecursion (λ (p : Pending). p.edge < length (with_given (edges_read before) (edge_given e before item))) (with_pending e before item (pending_read before))
-    by (BuildText outputs rule inputs lines) all =
+    by (BuildModel outputs rule inputs lines) all =
         let edge = edge_of_build e before outputs rule inputs lines in
         let count = length (edges_read before) in
         let longer : length (edges_read before ++ edge ∷ []) ≡ count + 1 = length-append (edges_read before) (edge ∷ []) in
         subst (λ n. AllByRecursion (λ (p : Pending). p.edge < n) (pending_read before ++ pending_at count e.discovered (dyndep_of before edge))) (sym longer)
         (unjoined-append (count + 1) (pending_read before) (pending_at count e.discovered (dyndep_of before edge)) (unjoined-more count 1 (pending_read before) all) (unjoined-last count e.discovered (dyndep_of before edge)))
-    by (BindingText bound word) all = all
-    by (RuleText declared lines) all = all
-    by (PoolText declared lines) all = all
-    by (DefaultText words) all = all
-    by (IncludeText word) all = all
-    by (SubninjaText word) all = all
+    by (BindingModel bound word) all = all
+    by (RuleModel declared lines) all = all
+    by (PoolModel declared lines) all = all
+    by (DefaultModel words) all = all
+    by (IncludeModel word) all = all
+    by (SubninjaModel word) all = all
 
 -- ---- details
 
-names-known : (names : List (List ℕ)) (ds : List Detail) (es : List EdgeText) → AreDetails names (map detail_text ds) es → AllByRecursion (λ d. d.file < length names) ds
+names-known : (names : List (List ℕ)) (ds : List Detail) (es : List EdgeModel) → AreDetails names (map detail_model ds) es → AllByRecursion (λ d. d.file < length names) ds
 names-known names [] es are = tt
 names-known names (d ∷ ds) [] are = absurd are
 names-known names (d ∷ ds) (e ∷ es) (is, are) = (slice_get_within names d.file e.file is.file, names-known names ds es are)
 
-details-named : (names : List (List ℕ)) (ds : List Detail) (es : List EdgeText) → AreDetails names (map detail_text ds) es → map (detail_named names) ds ≡ map detail_of es
+details-named : (names : List (List ℕ)) (ds : List Detail) (es : List EdgeModel) → AreDetails names (map detail_model ds) es → map (detail_named names) ds ≡ map detail_of es
 details-named names [] [] are = refl
 details-named names [] (e ∷ es) are = absurd are
 details-named names (d ∷ ds) [] are = absurd are
@@ -153,10 +153,10 @@ details-named names (d ∷ ds) (e ∷ es) (is, are) =
     let rule = is.rule in
     cc
 
-detail-at : (names : List (List ℕ)) (ds : List Detail) (es : List EdgeText) (n : ℕ) (d : Detail) (e : EdgeText) → AreDetails names (map detail_text ds) es → slice_get ds n ≡ Some d → slice_get es n ≡ Some e → IsDetail names (detail_text d) e
+detail-at : (names : List (List ℕ)) (ds : List Detail) (es : List EdgeModel) (n : ℕ) (d : Detail) (e : EdgeModel) → AreDetails names (map detail_model ds) es → slice_get ds n ≡ Some d → slice_get es n ≡ Some e → IsDetail names (detail_model d) e
 detail-at names [] es n d e are at is = absurd (true≢false (sym (ap is_some at)))
 detail-at names (c ∷ ds) [] n d e are at is = absurd are
-detail-at names (c ∷ ds) (f ∷ es) zero d e (first, are) at is = subst (λ x. IsDetail names (detail_text x) e) (ap (λ o. unwrap_or o c) at) (subst (IsDetail names (detail_text c)) (ap (λ o. unwrap_or o f) is) first)
+detail-at names (c ∷ ds) (f ∷ es) zero d e (first, are) at is = subst (λ x. IsDetail names (detail_model x) e) (ap (λ o. unwrap_or o c) at) (subst (IsDetail names (detail_model c)) (ap (λ o. unwrap_or o f) is) first)
 detail-at names (c ∷ ds) (f ∷ es) (suc n) d e (first, are) at is = detail-at names ds es n d e are at is
 
 -- ---- one edge
@@ -166,25 +166,25 @@ get-some [] n below = absurd (omega arith)
 get-some (x ∷ xs) zero below = (x, refl)
 get-some (x ∷ xs) (suc n) below = get-some xs n (omega arith)
 
-paths-at : (es : List EdgeText) (n : ℕ) (e : EdgeText) → slice_get es n ≡ Some e → edge_at (paths_of_edges es) n ≡ e.paths
+paths-at : (es : List EdgeModel) (n : ℕ) (e : EdgeModel) → slice_get es n ≡ Some e → edge_at (paths_of_edges es) n ≡ e.paths
 paths-at [] n e h = absurd (true≢false (sym (ap is_some h)))
-paths-at (f ∷ es) zero e h = ap (λ (o : Option EdgeText). (unwrap_or o f).paths) h
+paths-at (f ∷ es) zero e h = ap (λ (o : Option EdgeModel). (unwrap_or o f).paths) h
 paths-at (f ∷ es) (suc n) e h = paths-at es n e h
 
 -- ---- without a cycle
 
-module _ (held : BuildingText) (entries : List ReadStatement) (has : HasEdges held entries) (ds : List Detail) (details_are : map detail_text ds ≡ held.details) where
-  all-details : AreDetails held.names (map detail_text ds) (edges_read entries)
+module _ (held : BuildingModel) (entries : List ReadStatement) (has : HasEdges held entries) (ds : List Detail) (details_are : map detail_model ds ≡ held.details) where
+  all-details : AreDetails held.names (map detail_model ds) (edges_read entries)
   all-details = subst (λ xs. AreDetails held.names xs (edges_read entries)) (sym details_are) has.details
 
-  all-assigned : AreAssigned held.names (map detail_text ds) (assigned_read entries)
+  all-assigned : AreAssigned held.names (map detail_model ds) (assigned_read entries)
   all-assigned = subst (λ xs. AreAssigned held.names xs (assigned_read entries)) (sym details_are) has.assigned
 
   edge-count : length held.table.edges ≡ length (edges_read entries)
-  edge-count = ap length has.edges ∙ length-map (edges_read entries) (λ (e : EdgeText). e.paths)
+  edge-count = ap length has.edges ∙ length-map (edges_read entries) (λ (e : EdgeModel). e.paths)
 
   pub detail-count : length ds ≡ length held.table.edges
-  detail-count = sym (length-map ds detail_text) ∙ details-count held.names (map detail_text ds) (edges_read entries) all-details ∙ sym edge-count
+  detail-count = sym (length-map ds detail_model) ∙ details-count held.names (map detail_model ds) (edges_read entries) all-details ∙ sym edge-count
 
   pub detail-there : (n : ℕ) (d : Detail) → n < length held.table.edges → d ≡ get_or ds n d → slice_get ds n ≡ Some d
   detail-there n d below is = slice_get-get_or ds n d (subst (λ m. n < m) (sym detail-count) below) ∙ ap Some (sym is)
@@ -218,7 +218,7 @@ module _ (held : BuildingText) (entries : List ReadStatement) (has : HasEdges he
         pending = ap (λ (v : EdgeGraph). map (pending_named v.files) held.dyndeps) is ∙ pending-named held.table.files held.dyndeps (pending_read entries) has.dyndeps.edges_are has.dyndeps.files_are;
         assigned = assigned-named held.names ds (assigned_read entries) all-assigned;
       },
-      subst (λ n. IsAcyclic (makers_of_inputs (paths_of_edges (edges_read entries))) n) (length-map (edges_read entries) (λ (e : EdgeText). e.paths))
+      subst (λ n. IsAcyclic (makers_of_inputs (paths_of_edges (edges_read entries))) n) (length-map (edges_read entries) (λ (e : EdgeModel). e.paths))
           (subst (λ es. IsAcyclic (makers_of_inputs es) (length es)) has.edges acyclic),
     )
 

@@ -8,28 +8,28 @@ use Rattle.std.proofs.Math.Seq.{get_or-append_seam}
 use Rattle.std.proofs.lemmas.Option.{slice_get_past, slice_get-get_or}
 use Rattle.std.proofs.Math.ListN.{get_or-append}
 use Rattle.nj_text.specs.declared.word.Word.{Word}
-use Rattle.nj_text.specs.Words.{WordText, word_text}
-use Rattle.nj_manifest.specs.LineSteps.{NameText}
-use Rattle.nj_manifest.specs.Contents.{words_text}
-use Rattle.nj_manifest.specs.Statements.{LineText, OutputsText, InputsText, StatementText, BindingText, RuleText, PoolText, BuildText, DefaultText, IncludeText, SubninjaText}
+use Rattle.nj_text.specs.Words.{WordModel, word_model}
+use Rattle.nj_manifest.specs.LineSteps.{NameModel}
+use Rattle.nj_manifest.specs.Contents.{words_model}
+use Rattle.nj_manifest.specs.Statements.{LineModel, OutputsModel, InputsModel, StatementModel, BindingModel, RuleModel, PoolModel, BuildModel, DefaultModel, IncludeModel, SubninjaModel}
 use Rattle.nj_scope.specs.Rules.{line_kept}
 use Rattle.nj_scope.specs.Readings.{IsPrefix}
 use Rattle.nj_scope.specs.ReadingList.{ReadStatement, scope_of, value_after, rules_read}
-use Rattle.nj_edge_env.specs.Blocks.{BlocksText, bound_in, names_in}
+use Rattle.nj_edge_env.specs.Blocks.{BlocksModel, bound_in, names_in}
 use Rattle.nj_edges.specs.declared.files.FileNo.{FileNo}
 use Rattle.nj_edges.specs.EdgeTables.{no_files}
 use Rattle.nj_edges.specs.Files.{AreFiles}
 use Rattle.nj_faults.specs.declared.fault.GraphFault.{GraphFault}
 use Rattle.nj_faults.specs.Faults.{IsFault}
-use Rattle.nj_statements.specs.EdgeList.{Values, Block, EdgeText, Pending, build_block, path_given, paths_given, edge_of_build, edges_read, defaults_read, dyndep_of, pending_at, pending_read, block_at, block_names_at, names_bound, block_of_edge, assigned_of, assigned_read}
+use Rattle.nj_statements.specs.EdgeList.{Values, Block, EdgeModel, Pending, build_block, path_given, paths_given, edge_of_build, edges_read, defaults_read, dyndep_of, pending_at, pending_read, block_at, block_names_at, names_bound, block_of_edge, assigned_of, assigned_read}
 use Rattle.nj_statements.specs.declared.building.DyndepEdge.{DyndepEdge}
-use Rattle.nj_statements.specs.Answers.{BuildingText, ArePending, HasEdges, DetailText, IsDetail, AreDetails, IsAssigned, AreAssigned, ReadsStatement, HasReferences}
+use Rattle.nj_statements.specs.Answers.{BuildingModel, ArePending, HasEdges, DetailModel, IsDetail, AreDetails, IsAssigned, AreAssigned, ReadsStatement, HasReferences}
 use Rattle.nj_statements.specs.Inside.EdgeSteps.{IsFileGiven, with_dyndep, AddsEdge, AddsTargets}
 use Rattle.nj_statements.proofs.AssignedLemmas.{assigned-more}
 use Rattle.nj_statements.proofs.Lists.{get-longer}
 use Rattle.nj_statements.proofs.ReferenceLemmas.{references-none, references-longer}
 
-pub has-none : (held : BuildingText) → held.table ≡ record { files = []; edges = []; «open» = no_files }
+pub has-none : (held : BuildingModel) → held.table ≡ record { files = []; edges = []; «open» = no_files }
     → ((edge : ℕ) (name : List ℕ) → bound_in held.blocks edge name ≡ None) → ((edge : ℕ) → names_in held.blocks edge ≡ []) → held.details ≡ [] → held.defaults ≡ [] → held.dyndeps ≡ [] → held.references ≡ [] → HasEdges held []
 unfolding edges_read defaults_read pending_read assigned_read
 has-none held table blocks block_names details defaults dyndeps references = record {
@@ -52,7 +52,7 @@ pub on-err : {X Y P : Type 0} (r : Result X Y) → P → OnErr r P
 on-err (Ok x) p = tt
 on-err (Err e) p = p
 
-pub reads-err : (after : BuildingText) (expected : Option GraphFault) (e : ReadStatement) (before : List ReadStatement) (r : Result (Unit {0}) GraphFault) (f : GraphFault)
+pub reads-err : (after : BuildingModel) (expected : Option GraphFault) (e : ReadStatement) (before : List ReadStatement) (r : Result (Unit {0}) GraphFault) (f : GraphFault)
     → IsErrAnd r (λ y. y ≡ f) → IsFault expected f → ReadsStatement after expected e before r
 reads-err after expected e before (Err y) f is h = subst (IsFault expected) (sym is) h
 reads-err after expected e before (Ok x) f is h = absurd is
@@ -87,27 +87,27 @@ files-append files ns ms ps qs are others =
 
 -- the file that one more word names
 pub targets-turn : (values : Values) (files : List (List ℕ)) (before held new : List FileNo) (file : FileNo) (words : List Word) (i : ℕ) (word : Word) → i < length words → word ≡ get_or words i word
-    → AddsTargets files before held (paths_given values (words_text (take i words))) → new ≡ held ++ file ∷ [] → slice_get files file.0 ≡ Some (path_given values (word_text word))
-    → AddsTargets files before new (paths_given values (words_text (take (i + 1) words)))
+    → AddsTargets files before held (paths_given values (words_model (take i words))) → new ≡ held ++ file ∷ [] → slice_get files file.0 ≡ Some (path_given values (word_model word))
+    → AddsTargets files before new (paths_given values (words_model (take (i + 1) words)))
 targets-turn values files before held new file words i word below at adds is there = record {
   added = adds.added ++ file ∷ [];
   after_is = is ∙ ap (λ fs. fs ++ file ∷ []) adds.after_is ∙ append_assoc before adds.added (file ∷ []);
-  are = subst (AreFiles files (adds.added ++ file ∷ [])) (sym more) (files-append files adds.added (file ∷ []) (meant (take i words)) (path_given values (word_text word) ∷ []) adds.are (ap (λ o. o ∷ []) there));
+  are = subst (AreFiles files (adds.added ++ file ∷ [])) (sym more) (files-append files adds.added (file ∷ []) (meant (take i words)) (path_given values (word_model word) ∷ []) adds.are (ap (λ o. o ∷ []) there));
 }
   where
     meant : List Word → List (List ℕ)
-    meant ws = paths_given values (words_text ws)
+    meant ws = paths_given values (words_model ws)
 
-    more : meant (take (i + 1) words) ≡ meant (take i words) ++ path_given values (word_text word) ∷ []
+    more : meant (take (i + 1) words) ≡ meant (take i words) ++ path_given values (word_model word) ∷ []
     more =
         ap meant (take_more words i word below ∙ ap (λ w. take i words ++ w ∷ []) (sym at))
-        ∙ ap (map (path_given values)) (map-append word_text (take i words) (word ∷ []))
-        ∙ map-append (path_given values) (words_text (take i words)) (word_text word ∷ [])
+        ∙ ap (map (path_given values)) (map-append word_model (take i words) (word ∷ []))
+        ∙ map-append (path_given values) (words_model (take i words)) (word_model word ∷ [])
 
-pub has-default : (old new : BuildingText) (e : ReadStatement) (before : List ReadStatement) (words : List WordText) → HasEdges old before
+pub has-default : (old new : BuildingModel) (e : ReadStatement) (before : List ReadStatement) (words : List WordModel) → HasEdges old before
     → new.table ≡ old.table → new.blocks ≡ old.blocks → new.names ≡ old.names → new.details ≡ old.details
     → AddsTargets old.table.files old.defaults new.defaults (paths_given (value_after before (scope_of e)) words)
-    → new.dyndeps ≡ old.dyndeps → new.references ≡ old.references → HasEdges new (record e { item = DefaultText words } ∷ before)
+    → new.dyndeps ≡ old.dyndeps → new.references ≡ old.references → HasEdges new (record e { item = DefaultModel words } ∷ before)
 unfolding edges_read defaults_read pending_read assigned_read
 has-default old new e before words has table blocks names details adds dyndeps references = record {
   edges = ap (λ t. t.edges) table ∙ has.edges;
@@ -125,13 +125,13 @@ has-default old new e before words has table blocks names details adds dyndeps r
 
 -- ---- a build statement
 
-pub details-count : (names : List (List ℕ)) (ds : List DetailText) (es : List EdgeText) → AreDetails names ds es → length ds ≡ length es
+pub details-count : (names : List (List ℕ)) (ds : List DetailModel) (es : List EdgeModel) → AreDetails names ds es → length ds ≡ length es
 details-count names [] [] are = refl
 details-count names [] (e ∷ es) are = absurd are
 details-count names (d ∷ ds) [] are = absurd are
 details-count names (d ∷ ds) (e ∷ es) (is, are) = ap suc (details-count names ds es are)
 
-details-more : (names longer : List (List ℕ)) (ds : List DetailText) (es : List EdgeText) (d : DetailText) (e : EdgeText)
+details-more : (names longer : List (List ℕ)) (ds : List DetailModel) (es : List EdgeModel) (d : DetailModel) (e : EdgeModel)
     → IsPrefix names longer → AreDetails names ds es → IsDetail longer d e → AreDetails longer (ds ++ d ∷ []) (es ++ e ∷ [])
 details-more names longer [] [] d e grows are is = (is, tt)
 details-more names longer [] (f ∷ es) d e grows are is = absurd are
@@ -140,10 +140,10 @@ details-more names longer (c ∷ ds) (f ∷ es) d e grows (of, are) is =
     (record { file = get-prefix names longer c.file f.file grows of.file; spot = of.spot; scope = of.scope; rule = of.rule }, details-more names longer ds es d e grows are is)
 
 -- the blocks of one edge more
-abbrev bound-by : Option EdgeText → (name : List ℕ) → Option (List ℕ)
+abbrev bound-by : Option EdgeModel → (name : List ℕ) → Option (List ℕ)
 bound-by o name = block_of_edge o name
 
-block-more : (edges : List EdgeText) (e : EdgeText) (n : ℕ) (name : List ℕ)
+block-more : (edges : List EdgeModel) (e : EdgeModel) (n : ℕ) (name : List ℕ)
     → (if n == length edges then option_or (e.block name) (block_at edges n name) else block_at edges n name) ≡ block_at (edges ++ e ∷ []) n name
 block-more edges e n name = by (eqb_tells n (length edges)) (cases_lt n (length edges))
   where
@@ -169,24 +169,24 @@ block-more edges e n name = by (eqb_tells n (length edges)) (cases_lt n (length 
         ∙ ap (λ o. bound-by o name) (slice_get_past edges n above ∙ sym (slice_get_past (edges ++ e ∷ []) n (omega (arith, above, apart, whole))))
 
 -- the names of one block more
-names-more : (edges : List EdgeText) (e : EdgeText) (n : ℕ) → (new old : List (List ℕ)) → old ≡ block_names_at edges n
+names-more : (edges : List EdgeModel) (e : EdgeModel) (n : ℕ) → (new old : List (List ℕ)) → old ≡ block_names_at edges n
     → (n ≡ length edges → new ≡ e.block_names) → ((n == length edges) ≡ false → new ≡ old) → new ≡ block_names_at (edges ++ e ∷ []) n
 names-more edges e n new old was here others = by (eqb_tells n (length edges)) (cases_lt n (length edges))
   where
     all : List (List (List ℕ))
-    all = map (λ (x : EdgeText). x.block_names) edges
+    all = map (λ (x : EdgeModel). x.block_names) edges
 
     one : List (List (List ℕ))
     one = e.block_names ∷ []
 
     count : length all ≡ length edges
-    count = length-map edges (λ (x : EdgeText). x.block_names)
+    count = length-map edges (λ (x : EdgeModel). x.block_names)
 
     whole : length (all ++ one) ≡ length all + 1
     whole = length-append all one
 
     appended : block_names_at (edges ++ e ∷ []) n ≡ get_or (all ++ one) n []
-    appended = ap (λ xs. get_or xs n []) (map-append (λ (x : EdgeText). x.block_names) edges (e ∷ []))
+    appended = ap (λ xs. get_or xs n []) (map-append (λ (x : EdgeModel). x.block_names) edges (e ∷ []))
 
     by : ((n == length edges) ≡ true × (n ≡ length edges)) ⊎ ((n == length edges) ≡ false × (n ≢ length edges)) → (n < length edges) ⊎ (length edges ≤ n) → new ≡ block_names_at (edges ++ e ∷ []) n
     by (inl (same, is)) h =
@@ -221,16 +221,16 @@ pending-more files longer held expected edge (Some file) (Some path) grows are m
 abbrev fresh : ReadStatement → ReadStatement
 fresh e = record e { discovered = None }
 
-pub has-build : (old new : BuildingText) (e : ReadStatement) (before : List ReadStatement) (outputs : OutputsText) (rule : NameText) (inputs : InputsText) (lines : List LineText) (d : DetailText) (dyndep : Option FileNo) → HasEdges old before
+pub has-build : (old new : BuildingModel) (e : ReadStatement) (before : List ReadStatement) (outputs : OutputsModel) (rule : NameModel) (inputs : InputsModel) (lines : List LineModel) (d : DetailModel) (dyndep : Option FileNo) → HasEdges old before
     → AddsEdge old.table new.table (edge_of_build (fresh e) before outputs rule inputs lines).paths
     → ((n : ℕ) (name : List ℕ) → bound_in new.blocks n name ≡ (if n == length old.details then option_or (build_block e before lines name) (bound_in old.blocks n name) else bound_in old.blocks n name))
     → ((n : ℕ) → n ≡ length old.details → names_in new.blocks n ≡ names_bound lines) → ((n : ℕ) → (n == length old.details) ≡ false → names_in new.blocks n ≡ names_in old.blocks n)
     → IsPrefix old.names new.names → new.details ≡ old.details ++ d ∷ [] → IsDetail new.names d (edge_of_build (fresh e) before outputs rule inputs lines) → IsAssigned new.names d (assigned_of before (edge_of_build (fresh e) before outputs rule inputs lines)) → new.defaults ≡ old.defaults
     → new.dyndeps ≡ with_dyndep (length old.details) dyndep old.dyndeps → IsFileGiven new.table.files dyndep (dyndep_of before (edge_of_build (fresh e) before outputs rule inputs lines))
-    → HasReferences new.references (rules_read before) → HasEdges new (record e { item = BuildText outputs rule inputs lines; discovered = None } ∷ before)
+    → HasReferences new.references (rules_read before) → HasEdges new (record e { item = BuildModel outputs rule inputs lines; discovered = None } ∷ before)
 unfolding edges_read defaults_read pending_read assigned_read
 has-build old new e before outputs rule inputs lines d dyndep has adds blocks own_names other_names names details is assigned defaults dyndeps meant references = record {
-  edges = adds.edges ∙ ap (λ es. es ++ edge.paths ∷ []) has.edges ∙ sym (map-append (λ (x : EdgeText). x.paths) (edges_read before) (edge ∷ []));
+  edges = adds.edges ∙ ap (λ es. es ++ edge.paths ∷ []) has.edges ∙ sym (map-append (λ (x : EdgeModel). x.paths) (edges_read before) (edge ∷ []));
   none_open = adds.none_open;
   blocks = λ n name.
       blocks n name
@@ -249,21 +249,21 @@ has-build old new e before outputs rule inputs lines d dyndep has adds blocks ow
   references = references;
 }
   where
-    edge : EdgeText
+    edge : EdgeModel
     edge = edge_of_build (fresh e) before outputs rule inputs lines
 
 -- the edge that would be read next binds nothing
-pub no-block : (held : BuildingText) (before : List ReadStatement) (edge : ℕ) → HasEdges held before → edge ≡ length held.details → (name : List ℕ) → bound_in held.blocks edge name ≡ None
+pub no-block : (held : BuildingModel) (before : List ReadStatement) (edge : ℕ) → HasEdges held before → edge ≡ length held.details → (name : List ℕ) → bound_in held.blocks edge name ≡ None
 no-block held before edge has is name = has.blocks edge name ∙ ap (λ o. bound-by o name) (slice_get_past (edges_read before) edge (omega (arith, is, count)))
   where
     count : length held.details ≡ length (edges_read before)
     count = details-count held.names held.details (edges_read before) has.details
 
-pub no-names : (held : BuildingText) (before : List ReadStatement) (edge : ℕ) → HasEdges held before → edge ≡ length held.details → names_in held.blocks edge ≡ []
-no-names held before edge has is = has.block_names edge ∙ get_or_past (map (λ (x : EdgeText). x.block_names) (edges_read before)) edge [] (omega (arith, is, details-count held.names held.details (edges_read before) has.details, length-map (edges_read before) (λ (x : EdgeText). x.block_names)))
+pub no-names : (held : BuildingModel) (before : List ReadStatement) (edge : ℕ) → HasEdges held before → edge ≡ length held.details → names_in held.blocks edge ≡ []
+no-names held before edge has is = has.block_names edge ∙ get_or_past (map (λ (x : EdgeModel). x.block_names) (edges_read before)) edge [] (omega (arith, is, details-count held.names held.details (edges_read before) has.details, length-map (edges_read before) (λ (x : EdgeModel). x.block_names)))
 
 -- what the block of the edge that is being read binds
-pub open-block : (old : BuildingText) (before : List ReadStatement) (block : Block) (new : BlocksText) (edge : ℕ) → HasEdges old before → edge ≡ length old.details
+pub open-block : (old : BuildingModel) (before : List ReadStatement) (block : Block) (new : BlocksModel) (edge : ℕ) → HasEdges old before → edge ≡ length old.details
     → ((n : ℕ) (name : List ℕ) → bound_in new n name ≡ (if n == edge then option_or (block name) (bound_in old.blocks n name) else bound_in old.blocks n name))
     → (name : List ℕ) → bound_in new edge name ≡ block name
 open-block old before block new edge has is bound name =
@@ -283,22 +283,22 @@ open-block old before block new edge has is bound name =
 -- ---- any other statement
 
 -- a statement that names files of edges
-abbrev pub names_files : StatementText → Bool
-names_files (BuildText outputs rule inputs lines) = true
-names_files (DefaultText words) = true
+abbrev pub names_files : StatementModel → Bool
+names_files (BuildModel outputs rule inputs lines) = true
+names_files (DefaultModel words) = true
 names_files item = false
 
-has-item : (held : BuildingText) (e : ReadStatement) (before : List ReadStatement) (item : StatementText) → names_files item ≡ false → HasEdges held before → HasEdges held (record e { item = item } ∷ before)
+has-item : (held : BuildingModel) (e : ReadStatement) (before : List ReadStatement) (item : StatementModel) → names_files item ≡ false → HasEdges held before → HasEdges held (record e { item = item } ∷ before)
 unfolding edges_read defaults_read pending_read assigned_read
-has-item held e before (BindingText bound word) other has = record { edges = has.edges; none_open = has.none_open; blocks = has.blocks; block_names = has.block_names; details = has.details; assigned = has.assigned; defaults = has.defaults; dyndeps = has.dyndeps; references = has.references }
-has-item held e before (RuleText declared lines) other has =
+has-item held e before (BindingModel bound word) other has = record { edges = has.edges; none_open = has.none_open; blocks = has.blocks; block_names = has.block_names; details = has.details; assigned = has.assigned; defaults = has.defaults; dyndeps = has.dyndeps; references = has.references }
+has-item held e before (RuleModel declared lines) other has =
     record { edges = has.edges; none_open = has.none_open; blocks = has.blocks; block_names = has.block_names; details = has.details; assigned = has.assigned; defaults = has.defaults; dyndeps = has.dyndeps; references = references-longer held.references (rules_read before) (record { scope = e.number; name = declared.name; lines = map line_kept lines } ∷ []) has.references }
-has-item held e before (PoolText declared lines) other has = record { edges = has.edges; none_open = has.none_open; blocks = has.blocks; block_names = has.block_names; details = has.details; assigned = has.assigned; defaults = has.defaults; dyndeps = has.dyndeps; references = has.references }
-has-item held e before (BuildText outputs rule inputs lines) other has = absurd (true≢false other)
-has-item held e before (DefaultText words) other has = absurd (true≢false other)
-has-item held e before (IncludeText word) other has = record { edges = has.edges; none_open = has.none_open; blocks = has.blocks; block_names = has.block_names; details = has.details; assigned = has.assigned; defaults = has.defaults; dyndeps = has.dyndeps; references = has.references }
-has-item held e before (SubninjaText word) other has = record { edges = has.edges; none_open = has.none_open; blocks = has.blocks; block_names = has.block_names; details = has.details; assigned = has.assigned; defaults = has.defaults; dyndeps = has.dyndeps; references = has.references }
+has-item held e before (PoolModel declared lines) other has = record { edges = has.edges; none_open = has.none_open; blocks = has.blocks; block_names = has.block_names; details = has.details; assigned = has.assigned; defaults = has.defaults; dyndeps = has.dyndeps; references = has.references }
+has-item held e before (BuildModel outputs rule inputs lines) other has = absurd (true≢false other)
+has-item held e before (DefaultModel words) other has = absurd (true≢false other)
+has-item held e before (IncludeModel word) other has = record { edges = has.edges; none_open = has.none_open; blocks = has.blocks; block_names = has.block_names; details = has.details; assigned = has.assigned; defaults = has.defaults; dyndeps = has.dyndeps; references = has.references }
+has-item held e before (SubninjaModel word) other has = record { edges = has.edges; none_open = has.none_open; blocks = has.blocks; block_names = has.block_names; details = has.details; assigned = has.assigned; defaults = has.defaults; dyndeps = has.dyndeps; references = has.references }
 
 -- What is held is held still after a statement that names no files.
-pub kept-other : (held : BuildingText) (e : ReadStatement) (before : List ReadStatement) → names_files e.item ≡ false → HasEdges held before → HasEdges held (e ∷ before)
+pub kept-other : (held : BuildingModel) (e : ReadStatement) (before : List ReadStatement) → names_files e.item ≡ false → HasEdges held before → HasEdges held (e ∷ before)
 kept-other held e before other has = has-item held e before e.item other has

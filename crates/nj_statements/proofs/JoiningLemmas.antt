@@ -7,11 +7,11 @@ use Rattle.std.specs.List.{AllByRecursion, IsDistinct, filter}
 use Rattle.std.proofs.lemmas.List.{get_or_read, length-map, length-append, length-set, get_or-set_same, get_or-set_other}
 use Rattle.std.proofs.lemmas.Bool.Decides.{eqb_tells}
 use Rattle.std.proofs.lemmas.Option.{same_Some, slice_get-get_or, slice_get_within, slice_get-map, get_or_from_slice_get}
-use Rattle.nj_text.specs.Words.{WordText}
-use Rattle.nj_manifest.specs.Dyndeps.{EntryText}
+use Rattle.nj_text.specs.Words.{WordModel}
+use Rattle.nj_manifest.specs.Dyndeps.{EntryModel}
 use Rattle.nj_scope.specs.Readings.{IsPrefix}
 use Rattle.nj_scope.specs.ReadingList.{Discovered, ReadStatement}
-use Rattle.nj_edge_env.specs.Blocks.{BlocksText}
+use Rattle.nj_edge_env.specs.Blocks.{BlocksModel}
 use Rattle.nj_edges.specs.declared.files.FileNo.{FileNo}
 use Rattle.nj_edges.specs.Edges.{EdgePaths, edge_at, outputs_of, first_edge, maker_of}
 use Rattle.nj_edges.specs.Inside.EdgesHeld.{AreNumbers, paths_at}
@@ -21,14 +21,14 @@ use Rattle.nj_edges.proofs.EdgeLemmas.{same-number}
 use Rattle.nj_faults.specs.declared.fault.GraphFault.{GraphFault}
 use Rattle.nj_faults.specs.declared.fault.Cause.TheVariants.{DyndepExtra, DyndepTwice, DyndepNoStatement}
 use Rattle.nj_faults.specs.Faults.{IsFault, fault_at}
-use Rattle.nj_statements.specs.declared.detail.Detail.{Detail}
+use Rattle.nj_statements.specs.declared.edge_record.Detail.{Detail}
 use Rattle.nj_statements.specs.declared.building.DyndepEdge.{DyndepEdge}
-use Rattle.nj_statements.specs.EdgeList.{Pending, EdgeText, path_given, edges_read, paths_of_edges, pending_read}
+use Rattle.nj_statements.specs.EdgeList.{Pending, EdgeModel, path_given, edges_read, paths_of_edges, pending_read}
 use Rattle.nj_statements.specs.BuildFaults.{empty_path, outputs_fault}
 use Rattle.nj_statements.specs.Built.{EdgeDetail, detail_at, detail_of}
 use Rattle.nj_statements.specs.Inside.BuiltHeld.{detail_named, pending_named}
 use Rattle.nj_statements.specs.Joining.{no_values, discover, discovered_by, edge_meant, with_entry, pending_on, meaning_fault, entry_fault, no_statement, lacking_fault}
-use Rattle.nj_statements.specs.JoiningHeld.{unless_joined, still_pending, pending_from, left_pending_from, KeepsEdges, JoiningText, HasJoined, JoinsEntry, JoinsNothing}
+use Rattle.nj_statements.specs.JoiningHeld.{unless_joined, still_pending, pending_from, left_pending_from, KeepsEdges, JoiningModel, HasJoined, JoinsEntry, JoinsNothing}
 use Rattle.nj_statements.specs.Inside.JoiningSteps.{is_bound_to, count_pending, fault_of_pending, file_named, if_bound, maker_fault, edge_bound, IsMeant, joining_of, JoiningIsHeld, discover_for}
 use Rattle.nj_statements.proofs.Lists.{get-longer}
 use Rattle.nj_statements.proofs.PendingLemmas.{is_path, find-first, find-none, none-first, first-passes, still-at, still-length, still-map, still-changed, unjoined-at, without-one, count-removed, count-less}
@@ -38,7 +38,7 @@ use Rattle.nj_statements.proofs.DiscoverEdges.{details-discover, assigned-discov
 -- ---- results
 
 -- what the exit of a `?` returns
-pub joins-err : (after : JoiningText) (expected : Option GraphFault) (stated joined : List ReadStatement) (r : Result (Unit {0}) GraphFault) (f : GraphFault)
+pub joins-err : (after : JoiningModel) (expected : Option GraphFault) (stated joined : List ReadStatement) (r : Result (Unit {0}) GraphFault) (f : GraphFault)
     → IsErrAnd r (λ y. y ≡ f) → IsFault expected f → JoinsEntry after expected stated joined r
 joins-err after expected stated joined (Err y) f is h = subst (IsFault expected) (sym is) h
 joins-err after expected stated joined (Ok x) f is h = absurd is
@@ -170,7 +170,7 @@ meant-binds bound file edge (Some m) h = by (is_bound_to (get_or bound m None) f
 
 -- ---- what is held
 
-module _ (table : JoinTable) (blocks : BlocksText) (names : List (List ℕ)) (details : List Detail) (defaults : List FileNo) (firsts : List DyndepEdge) (bound : List (Option FileNo)) (unjoined : List ℕ)
+module _ (table : JoinTable) (blocks : BlocksModel) (names : List (List ℕ)) (details : List Detail) (defaults : List FileNo) (firsts : List DyndepEdge) (bound : List (Option FileNo)) (unjoined : List ℕ)
     (held : JoiningIsHeld table names details defaults firsts bound unjoined) where
   pub bound-files : AreKnown (length table.files) bound
   bound-files = known-weaker (length unjoined) (length table.files) bound held.pending_known held.bound_known
@@ -216,9 +216,9 @@ module _ (table : JoinTable) (blocks : BlocksText) (names : List (List ℕ)) (de
     same-bound = bound-kept table.files after.files bound keeps.files bound-files
 
     -- what is held then
-    pub joins-nothing : (b : JoiningText) → joining_of table blocks names details defaults firsts bound ≡ b → JoinsNothing b (joining_of after blocks names details defaults firsts bound)
+    pub joins-nothing : (b : JoiningModel) → joining_of table blocks names details defaults firsts bound ≡ b → JoinsNothing b (joining_of after blocks names details defaults firsts bound)
     joins-nothing b is =
-        subst (λ (h : JoiningText). JoinsNothing h (joining_of after blocks names details defaults firsts bound)) is
+        subst (λ (h : JoiningModel). JoinsNothing h (joining_of after blocks names details defaults firsts bound)) is
         (record { edges = keeps; blocks = refl; details = refl; defaults = same-defaults; dyndep_files = same-firsts; bound = same-bound; assigned = refl })
 
   -- ---- with one
@@ -369,14 +369,14 @@ module _ (table : JoinTable) (blocks : BlocksText) (names : List (List ℕ)) (de
           path-is = ap (file_named table.files) bound-file.1
 
           edges-count : length table.stated ≡ length (edges_read joined)
-          edges-count = sym held.as_many_joined ∙ ap length has.joined_paths ∙ length-map (edges_read joined) (λ (e : EdgeText). e.paths)
+          edges-count = sym held.as_many_joined ∙ ap length has.joined_paths ∙ length-map (edges_read joined) (λ (e : EdgeModel). e.paths)
 
-          get-some : (es : List EdgeText) (n : ℕ) → n < length es → (e : EdgeText) × (slice_get es n ≡ Some e)
+          get-some : (es : List EdgeModel) (n : ℕ) → n < length es → (e : EdgeModel) × (slice_get es n ≡ Some e)
           get-some [] n h = absurd (omega (arith, h))
           get-some (e ∷ es) zero h = (e, refl)
           get-some (e ∷ es) (suc n) h = get-some es n (omega (arith, h))
 
-          there : (e : EdgeText) × (slice_get (edges_read joined) edge ≡ Some e)
+          there : (e : EdgeModel) × (slice_get (edges_read joined) edge ≡ Some e)
           there = get-some (edges_read joined) edge (subst (λ n. edge < n) edges-count below)
 
           detail-is : detail_at (map (detail_named names) details) edge ≡ detail_of there.0
@@ -388,10 +388,10 @@ module _ (table : JoinTable) (blocks : BlocksText) (names : List (List ℕ)) (de
           paths-are : edge_at table.stated edge ≡ there.0.paths
           paths-are =
               get_or_from_slice_get table.stated edge there.0.paths (record { explicit_outputs = []; implicit_outputs = []; explicit_inputs = []; implicit_inputs = []; order_only_inputs = []; validations = []; is_phony = false })
-              (sym (held.unchanged edge not-joined) ∙ ap (λ (es : List EdgePaths). slice_get es edge) has.joined_paths ∙ slice_get-map (λ (e : EdgeText). e.paths) (edges_read joined) edge ∙ ap (option_map (λ (e : EdgeText). e.paths)) there.1)
+              (sym (held.unchanged edge not-joined) ∙ ap (λ (es : List EdgePaths). slice_get es edge) has.joined_paths ∙ slice_get-map (λ (e : EdgeModel). e.paths) (edges_read joined) edge ∙ ap (option_map (λ (e : EdgeModel). e.paths)) there.1)
 
       -- which statement an entry means
-      pub meaning-held : (entry : EntryText) → maker_fault name entry.out table (edge_bound table bound file entry.out) ≡ meaning_fault name stated joined entry
+      pub meaning-held : (entry : EntryModel) → maker_fault name entry.out table (edge_bound table bound file entry.out) ≡ meaning_fault name stated joined entry
       meaning-held entry =
           by (maker_of table.stated path)
           ∙ ap (λ (es : List EdgePaths). option_or (then_some (not (pending_on name (pending_read stated) (maker_of es path))) extra) (then_some (not (pending_on name (pending_read joined) (maker_of es path))) twice)) has.stated_paths
@@ -429,7 +429,7 @@ module _ (table : JoinTable) (blocks : BlocksText) (names : List (List ℕ)) (de
               ∙ ap (λ b. option_or (then_some (not (pending_on name (pending_read stated) (Some edge))) extra) (then_some (not b) twice)) (sym (still-pends edge))
 
       -- what is wrong with an entry
-      pub fault-is : (entry : EntryText)
+      pub fault-is : (entry : EntryModel)
           → entry_fault name stated joined entry
           ≡ option_or (option_or (empty_path name no_values entry.out) (maker_fault name entry.out table (edge_bound table bound file entry.out)))
           (option_or (outputs_fault name no_values table.joined table.«open».outputs entry.outs) (first_given (empty_path name no_values) entry.ins))
@@ -450,7 +450,7 @@ module _ (table : JoinTable) (blocks : BlocksText) (names : List (List ℕ)) (de
           or_then-assoc None b d = refl
 
       -- the statements with what an entry adds
-      pub joined-has : (entry : EntryText) (edge : ℕ) → IsMeant table bound file entry.out edge → (after last : JoinTable) → KeepsEdges table after
+      pub joined-has : (entry : EntryModel) (edge : ℕ) → IsMeant table bound file entry.out edge → (after last : JoinTable) → KeepsEdges table after
           → after.«open» ≡ record { outputs = (discovered_by entry).outputs; inputs = (discovered_by entry).inputs } → last ≡ with_joined after edge
           → HasJoined (joining_of last blocks names details defaults firsts bound) stated (with_entry stated joined entry)
       joined-has entry edge meant after last keeps opens is =
@@ -504,8 +504,8 @@ module _ (table : JoinTable) (blocks : BlocksText) (names : List (List ℕ)) (de
           }
 
 -- what is held after an entry, whose files were collected
-module _ (table : JoinTable) (blocks : BlocksText) (names : List (List ℕ)) (details : List Detail) (defaults : List FileNo) (firsts : List DyndepEdge) (bound : List (Option FileNo)) (unjoined : List ℕ)
-    (held : JoiningIsHeld table names details defaults firsts bound unjoined) (file : FileNo) (word : WordText) (edge : ℕ) (meant : IsMeant table bound file word edge) where
+module _ (table : JoinTable) (blocks : BlocksModel) (names : List (List ℕ)) (details : List Detail) (defaults : List FileNo) (firsts : List DyndepEdge) (bound : List (Option FileNo)) (unjoined : List ℕ)
+    (held : JoiningIsHeld table names details defaults firsts bound unjoined) (file : FileNo) (word : WordModel) (edge : ℕ) (meant : IsMeant table bound file word edge) where
   binds : is_bound_to (get_or bound edge None) file ≡ true
   binds = (meant-binds bound file edge (maker_of table.stated (path_given no_values word)) meant.is).1
 

@@ -2,10 +2,10 @@
 use Rattle.std.proofs.Common.{◌≡◌, ℕ, Some, None, List, [], ◌∷◌, refl}
 use Rattle.std.specs.Prelude.{codes, true, Option}
 use Rattle.nj_text.specs.declared.spot.Spot.{Spot}
-use Rattle.nj_text.specs.Words.{Text, Name, WordText}
+use Rattle.nj_text.specs.Words.{Text, Name, WordModel}
 use Rattle.nj_text.specs.Paths.{clean_path_of, without_leftmost_pair}
-use Rattle.nj_manifest.specs.Statements.{BuildText}
-use Rattle.nj_manifest.specs.Dyndeps.{EntryText}
+use Rattle.nj_manifest.specs.Statements.{BuildModel}
+use Rattle.nj_manifest.specs.Dyndeps.{EntryModel}
 use Rattle.nj_scope.specs.ReadingList.{ReadStatement, bounds}
 use Rattle.nj_edges.specs.Edges.{edge_at}
 use Rattle.nj_faults.specs.declared.fault.GraphFault.{GraphFault}
@@ -20,7 +20,7 @@ use Rattle.nj_statements.specs.Joining.{discover, with_entry, entry_fault, lacki
 abbrev at : (line column : ℕ) → Spot
 at line column = record { line = line; column = column }
 
-abbrev word : (column : ℕ) → (text : List ℕ) → WordText
+abbrev word : (column : ℕ) → (text : List ℕ) → WordModel
 word column text = record { spot = at 2 column; parts = Text text ∷ [] }
 
 -- a build statement on a line of its own, with an explicit output, an implicit one and one input of each kind
@@ -31,7 +31,7 @@ build line output implicit dyndep = record {
   depth = 0;
   number = 0;
   around = [];
-  item = BuildText (record { explicit = word 7 output ∷ []; implicit = word 9 implicit ∷ [] }) (record { spot = at 2 11; name = codes "phony" })
+  item = BuildModel (record { explicit = word 7 output ∷ []; implicit = word 9 implicit ∷ [] }) (record { spot = at 2 11; name = codes "phony" })
       (record { explicit = word 17 (codes "x") ∷ []; implicit = word 19 (codes "y") ∷ []; order_only = word 21 (codes "dd") ∷ word 24 (codes "ee") ∷ []; validations = [] })
       (record { spot = at 2 3; name = codes "dyndep"; value = word 12 dyndep } ∷ []);
   discovered = None;
@@ -52,22 +52,22 @@ row-files = refl
 -- ---- entries of the file `dd`
 
 -- `build OUT | OUTS: dyndep | INS`
-abbrev entry : (out : List ℕ) → (outs ins : List WordText) → EntryText
+abbrev entry : (out : List ℕ) → (outs ins : List WordModel) → EntryModel
 entry out outs ins = record { out = word 7 out; outs = outs; ins = ins }
 
 -- `build o | o2: dyndep | extra`
-abbrev of_o : EntryText
+abbrev of_o : EntryModel
 of_o = entry (codes "o") (word 11 (codes "o2") ∷ []) (word 24 (codes "extra") ∷ [])
 
 abbrev joined : List ReadStatement
 joined = with_entry stated stated of_o
 
 -- what is wrong with an entry, where nothing was joined before
-abbrev wrong_with : EntryText → Option GraphFault
+abbrev wrong_with : EntryModel → Option GraphFault
 wrong_with e = entry_fault (codes "dd") stated stated e
 
 -- after the entry of `o`
-abbrev wrong_after : EntryText → Option GraphFault
+abbrev wrong_after : EntryModel → Option GraphFault
 wrong_after e = entry_fault (codes "dd") stated joined e
 
 abbrev wrong : (column : ℕ) → Cause → Option GraphFault

@@ -5,7 +5,7 @@ use Rattle.std.specs.List.{list_any}
 use Rattle.std.proofs.lemmas.List.{append-nil}
 use Rattle.nj_text.specs.Calls.{is_empty}
 use Rattle.nj_text.specs.Paths.{clean_path_of}
-use Rattle.nj_text.specs.Words.{Text, WordText}
+use Rattle.nj_text.specs.Words.{Text, WordModel}
 use Rattle.nj_text.proofs.CleanPaths.{clean-twice}
 use Rattle.nj_scope.specs.Readings.{IsPrefix}
 use Rattle.nj_scope.specs.Scopes.{expanded}
@@ -38,7 +38,7 @@ named-clean files path all clean = by (list_any (bytes_eq path) files)
 
 -- a word that is the path of a file as it is
 
-module _ (files : List (List ℕ)) (path : List ℕ) (word : WordText) (all : AreClean files) (values : Values) (is : word.parts ≡ Text path ∷ []) where
+module _ (files : List (List ℕ)) (path : List ℕ) (word : WordModel) (all : AreClean files) (values : Values) (is : word.parts ≡ Text path ∷ []) where
   path-clean : (n : ℕ) → Some n ≡ position (bytes_eq path) files → clean_path_of path ≡ path
   path-clean n index = all-get (λ p. clean_path_of p ≡ p) files n path all (found-at path files n (sym index))
 

@@ -6,11 +6,11 @@ use Rattle.std.proofs.lemmas.Slice.Eq.{bytes_eq-Decides}
 use Rattle.std.proofs.lemmas.List.{take-map, length-map}
 use Rattle.std.proofs.lemmas.List.Elements.{All-take, All-from_recursion}
 use Rattle.std.proofs.lemmas.Option.{slice_get_within}
-use Rattle.nj_manifest.specs.LineSteps.{NameText}
-use Rattle.nj_manifest.specs.Statements.{LineText, OutputsText, InputsText}
-use Rattle.nj_scope.specs.Rules.{RuleText, phony}
+use Rattle.nj_manifest.specs.LineSteps.{NameModel}
+use Rattle.nj_manifest.specs.Statements.{LineModel, OutputsModel, InputsModel}
+use Rattle.nj_scope.specs.Rules.{RuleModel, phony}
 use Rattle.nj_scope.specs.Scopes.{first_given, IsScope, parent_at}
-use Rattle.nj_scope.specs.Declarations.{DeclarationsText, DeclaredBy}
+use Rattle.nj_scope.specs.Declarations.{DeclarationsModel, DeclaredBy}
 use Rattle.nj_scope.specs.ReadingList.{ReadStatement, scope_of, value_after, rules, rule_in_force, rules_read, pools}
 use Rattle.nj_scope.proofs.InForce.{in_force, phony-there}
 use Rattle.nj_edges.specs.declared.files.FileNo.{FileNo}
@@ -19,10 +19,10 @@ use Rattle.nj_edges.specs.Edges.{EdgePaths, inputs_of}
 use Rattle.nj_edges.specs.EdgeTables.{OpenEdge, EndWithin, edge_read}
 use Rattle.nj_edges.specs.Files.{path_at, AreFiles}
 use Rattle.nj_edges.proofs.GraphLemmas.{kinds-joined}
-use Rattle.nj_edge_env.specs.declared.edge.LateEdge.{LateEdge}
+use Rattle.nj_edge_env.specs.declared.late_edge.LateEdge.{LateEdge}
 use Rattle.nj_edge_env.specs.LateStrings.{LateNames}
 use Rattle.nj_edge_env.specs.LateEdges.{late_names}
-use Rattle.nj_statements.specs.EdgeList.{Block, Values, EdgeText, line_values, loses_own, without_own, edge_paths, stated_paths, build_block, edge_of_build, names_of_edge}
+use Rattle.nj_statements.specs.EdgeList.{Block, Values, EdgeModel, line_values, loses_own, without_own, edge_paths, stated_paths, build_block, edge_of_build, names_of_edge}
 use Rattle.nj_statements.specs.BuildFaults.{late_fault}
 use Rattle.nj_statements.specs.Inside.EdgeSteps.{names_read, SeesLate, names_fault, lines_of_rule}
 
@@ -41,15 +41,15 @@ some_same : {X : Type 0} {x y : X} → Some x ≡ Some y → x ≡ y
 some_same {x = x} h = ap (λ o. unwrap_or o x) h
 
 -- the rule in force under a name is `phony` where its number is 0
-pub is-phony : (entries : List ReadStatement) (scope name : List ℕ) (number : ℕ) (rule : RuleText)
+pub is-phony : (entries : List ReadStatement) (scope name : List ℕ) (number : ℕ) (rule : RuleModel)
     → rule_in_force entries scope name ≡ Some number → slice_get (rules_read entries) number ≡ Some rule → bytes_eq rule.name phony ≡ (number == 0)
 is-phony entries scope name number rule is there =
     same_truth (bytes_eq rule.name phony) (number == 0)
     (λ h. (Decides-eqb number 0).1 (some_same (sym is ∙ ap (λ b. if b then Some 0 else first_given (λ s. rules entries s name) scope) ((bytes_eq-Decides name phony).1 (sym named ∙ (bytes_eq-Decides rule.name phony).0 h)))))
-    (λ h. (bytes_eq-Decides rule.name phony).1 (ap (λ (r : RuleText). r.name) (some_same (sym there ∙ ap (slice_get (rules_read entries)) ((Decides-eqb number 0).0 h) ∙ phony-there entries))))
+    (λ h. (bytes_eq-Decides rule.name phony).1 (ap (λ (r : RuleModel). r.name) (some_same (sym there ∙ ap (slice_get (rules_read entries)) ((Decides-eqb number 0).0 h) ∙ phony-there entries))))
   where
     named : rule.name ≡ name
-    named = let (r, at, its, _) = in_force entries scope name number is in ap (λ (x : RuleText). x.name) (some_same (sym there ∙ at)) ∙ its
+    named = let (r, at, its, _) = in_force entries scope name number is in ap (λ (x : RuleModel). x.name) (some_same (sym there ∙ at)) ∙ its
 
 -- an edge that loses its own outputs is phony as it was
 pub kept-phony : (s : EdgePaths) → (edge_paths s).is_phony ≡ s.is_phony
@@ -61,7 +61,7 @@ kept-phony s = by (loses_own s)
 
 -- ---- the names of the edge
 
-module _ (e : ReadStatement) (entries : List ReadStatement) (outputs : OutputsText) (rule : NameText) (inputs : InputsText) (lines : List LineText) (number : ℕ) (text : RuleText) (block : Block)
+module _ (e : ReadStatement) (entries : List ReadStatement) (outputs : OutputsModel) (rule : NameModel) (inputs : InputsModel) (lines : List LineModel) (number : ℕ) (text : RuleModel) (block : Block)
     (is : rule_in_force entries (scope_of e) rule.name ≡ Some number) (there : slice_get (rules_read entries) number ≡ Some text)
     (block_is : (name : List ℕ) → block name ≡ build_block e entries lines name) where
   abbrev file : Values
@@ -83,14 +83,14 @@ module _ (e : ReadStatement) (entries : List ReadStatement) (outputs : OutputsTe
 
   names-read : names number ≡ names_read (paths_by number) block text file
   names-read =
-      ap (λ (o : Option RuleText). record (names number) { lines = lines_of_rule o }) there
+      ap (λ (o : Option RuleModel). record (names number) { lines = lines_of_rule o }) there
       ∙ ap (λ (b : Bool). record (names number) { lines = text.lines; is_phony = b })
       (kept-phony (stated_paths (line_values e entries lines) outputs inputs (number == 0)) ∙ sym (is-phony entries (scope_of e) rule.name number text is there))
       ∙ ap (λ (b : Block). record (names number) { lines = text.lines; is_phony = bytes_eq text.name phony; block = b })
       (sym (same-everywhere block (build_block e entries lines) block_is))
 
   -- the edge, to which nothing was joined
-  abbrev edge : EdgeText
+  abbrev edge : EdgeModel
   edge = edge_of_build (record e { discovered = None }) entries outputs rule inputs lines
 
   pub names-of-edge : names_of_edge entries edge ≡ names_read (paths_by number) block text file
@@ -160,7 +160,7 @@ names-by-numbers files held ins outs inputs outputs i o n held_is are_inputs are
     ∙ ap (λ (ps : List (List ℕ)). record n { inputs = take i inputs; outputs = ps }) (first-paths files outs outputs o are_outputs)
 
 -- what the names of the edge that is being read depend on
-pub sees-late : (edge : LateEdge) (held : DeclarationsText) (scope : ℕ) (entries : List ReadStatement) (around : List ℕ) (read paths : EdgePaths) (block : Block) (rule : RuleText)
+pub sees-late : (edge : LateEdge) (held : DeclarationsModel) (scope : ℕ) (entries : List ReadStatement) (around : List ℕ) (read paths : EdgePaths) (block : Block) (rule : RuleModel)
     → edge.declarations.now ≡ held → edge.scope ≡ scope → ((file : Values) → late_names edge file ≡ names_read read block rule file) → read ≡ paths
     → DeclaredBy held entries → IsScope (parent_at held.scopes) scope (scope ∷ around)
     → SeesLate edge entries (names_read paths block rule (value_after entries (scope ∷ around)))

@@ -2,11 +2,11 @@
 use Rattle.std.proofs.Common.{◌≡◌, ℕ, true, Some, None, List, [], ◌∷◌, map, refl}
 use Rattle.std.specs.Prelude.{codes, Option}
 use Rattle.nj_text.specs.declared.spot.Spot.{Spot}
-use Rattle.nj_text.specs.Words.{PartText, Text, Name, WordText}
+use Rattle.nj_text.specs.Words.{PartModel, Text, Name, WordModel}
 use Rattle.nj_text.specs.Paths.{clean_path_of, without_leftmost_pair}
 use Rattle.nj_text.specs.Quotes.{quoted}
-use Rattle.nj_manifest.specs.LineSteps.{NameText}
-use Rattle.nj_manifest.specs.Statements.{LineText, OutputsText, InputsText, StatementText, BindingText, RuleText, PoolText, BuildText, DefaultText}
+use Rattle.nj_manifest.specs.LineSteps.{NameModel}
+use Rattle.nj_manifest.specs.Statements.{LineModel, OutputsModel, InputsModel, StatementModel, BindingModel, RuleModel, PoolModel, BuildModel, DefaultModel}
 use Rattle.nj_scope.specs.ReadingList.{ReadStatement, bounds}
 use Rattle.nj_edges.specs.Edges.{EdgePaths, inputs_of}
 use Rattle.nj_faults.specs.declared.fault.GraphFault.{GraphFault}
@@ -15,7 +15,7 @@ use Rattle.nj_faults.specs.declared.fault.Cause.TheVariants.{EmptyPath, UnknownR
 use Rattle.nj_faults.specs.declared.fault.Cause.TheVariants.{RuleVariableCycle, UnknownPool, DyndepNotInput}
 use Rattle.nj_faults.specs.Faults.{fault_at}
 use Rattle.nj_edge_env.specs.VariableCycles.{variable_cycle_of}
-use Rattle.nj_statements.specs.EdgeList.{EdgeText, Pending, edges_read, pending_read}
+use Rattle.nj_statements.specs.EdgeList.{EdgeModel, Pending, edges_read, pending_read}
 use Rattle.nj_statements.specs.BuildFaults.{build_fault, default_fault}
 
 -- ---- statements of a main file
@@ -23,54 +23,54 @@ use Rattle.nj_statements.specs.BuildFaults.{build_fault, default_fault}
 abbrev at : (column : ℕ) → Spot
 at column = record { line = 1; column = column }
 
-abbrev word : (column : ℕ) → PartText → WordText
+abbrev word : (column : ℕ) → PartModel → WordModel
 word column part = record { spot = at column; parts = part ∷ [] }
 
-abbrev path : (text : List ℕ) → WordText
+abbrev path : (text : List ℕ) → WordModel
 path text = word 7 (Text text)
 
-abbrev to : List WordText → OutputsText
+abbrev to : List WordModel → OutputsModel
 to words = record { explicit = words; implicit = [] }
 
-abbrev no_inputs : InputsText
+abbrev no_inputs : InputsModel
 no_inputs = record { explicit = []; implicit = []; order_only = []; validations = [] }
 
-abbrev from : List WordText → InputsText
+abbrev from : List WordModel → InputsModel
 from words = record no_inputs { explicit = words }
 
-abbrev by_rule : List ℕ → NameText
+abbrev by_rule : List ℕ → NameModel
 by_rule name = record { spot = at 10; name = name }
 
-abbrev phony : NameText
+abbrev phony : NameModel
 phony = by_rule (codes "phony")
 
-abbrev entry : StatementText → ReadStatement
+abbrev entry : StatementModel → ReadStatement
 entry item = record { file = codes "build.ninja"; spot = at 1; depth = 0; number = 0; around = []; item = item; discovered = None }
 
-abbrev entries : List StatementText → List ReadStatement
+abbrev entries : List StatementModel → List ReadStatement
 entries items = map entry items
 
-abbrev line : (name value : List ℕ) → LineText
+abbrev line : (name value : List ℕ) → LineModel
 line name value = record { spot = at 3; name = name; value = word 7 (Text value) }
 
 -- what is wrong with a build statement after these statements, the last one first
-abbrev wrong_with : List StatementText → OutputsText → NameText → InputsText → List LineText → Option GraphFault
-wrong_with before outputs rule inputs lines = build_fault (entry (BuildText outputs rule inputs lines)) (entries before) outputs rule inputs lines
+abbrev wrong_with : List StatementModel → OutputsModel → NameModel → InputsModel → List LineModel → Option GraphFault
+wrong_with before outputs rule inputs lines = build_fault (entry (BuildModel outputs rule inputs lines)) (entries before) outputs rule inputs lines
 
-abbrev wrong_default : List StatementText → List WordText → Option GraphFault
-wrong_default before words = default_fault (entry (DefaultText words)) (entries before) words
+abbrev wrong_default : List StatementModel → List WordModel → Option GraphFault
+wrong_default before words = default_fault (entry (DefaultModel words)) (entries before) words
 
 abbrev wrong : (column : ℕ) → Cause → Option GraphFault
 wrong column cause = Some (fault_at (codes "build.ninja") (at column) cause)
 
-abbrev paths_of_entries : List StatementText → List EdgePaths
+abbrev paths_of_entries : List StatementModel → List EdgePaths
 paths_of_entries items = map (λ e. e.paths) (edges_read (entries items))
 
-abbrev a : WordText
+abbrev a : WordModel
 a = path (codes "a")
 
-abbrev build_a : StatementText
-build_a = BuildText (to (a ∷ [])) phony no_inputs []
+abbrev build_a : StatementModel
+build_a = BuildModel (to (a ∷ [])) phony no_inputs []
 
 -- ---- rows
 
@@ -105,49 +105,49 @@ unfolding clean_path_of without_leftmost_pair edges_read bounds
 row-known_target = refl
 
 -- `build a: phony a` has no inputs
-pub row-own_input : map (λ (e : EdgePaths). e.explicit_inputs) (paths_of_entries (BuildText (to (a ∷ [])) phony (from (a ∷ [])) [] ∷ [])) ≡ [] ∷ []
+pub row-own_input : map (λ (e : EdgePaths). e.explicit_inputs) (paths_of_entries (BuildModel (to (a ∷ [])) phony (from (a ∷ [])) [] ∷ [])) ≡ [] ∷ []
 unfolding clean_path_of without_leftmost_pair edges_read bounds
 row-own_input = refl
 
 -- `build a b: phony a` keeps it
-pub row-two_outputs : map (λ (e : EdgePaths). e.explicit_inputs) (paths_of_entries (BuildText (to (a ∷ path (codes "b") ∷ [])) phony (from (a ∷ [])) [] ∷ [])) ≡ (codes "a" ∷ []) ∷ []
+pub row-two_outputs : map (λ (e : EdgePaths). e.explicit_inputs) (paths_of_entries (BuildModel (to (a ∷ path (codes "b") ∷ [])) phony (from (a ∷ [])) [] ∷ [])) ≡ (codes "a" ∷ []) ∷ []
 unfolding clean_path_of without_leftmost_pair edges_read bounds
 row-two_outputs = refl
 
 -- `x = a`, and then `build $x: phony` with `x = b` in its block: the block is seen on the line
-pub row-block_on_line : map (λ (e : EdgePaths). e.explicit_outputs) (paths_of_entries (BuildText (to (word 7 (Name (codes "x")) ∷ [])) phony no_inputs (line (codes "x") (codes "b") ∷ []) ∷ BindingText (codes "x") (path (codes "a")) ∷ []))
+pub row-block_on_line : map (λ (e : EdgePaths). e.explicit_outputs) (paths_of_entries (BuildModel (to (word 7 (Name (codes "x")) ∷ [])) phony no_inputs (line (codes "x") (codes "b") ∷ []) ∷ BindingModel (codes "x") (path (codes "a")) ∷ []))
     ≡ (codes "b" ∷ []) ∷ []
 unfolding clean_path_of without_leftmost_pair edges_read bounds
 row-block_on_line = refl
 
 -- `x = a`, and then a block of `x = b` and `y = $x`: a line of a block sees no other
-pub row-lines_apart : map (λ (e : EdgeText). e.block (codes "y")) (edges_read (entries (BuildText (to (a ∷ [])) phony no_inputs (line (codes "x") (codes "b") ∷ record { spot = at 3; name = codes "y"; value = word 7 (Name (codes "x")) } ∷ []) ∷ BindingText (codes "x") (path (codes "a")) ∷ [])))
+pub row-lines_apart : map (λ (e : EdgeModel). e.block (codes "y")) (edges_read (entries (BuildModel (to (a ∷ [])) phony no_inputs (line (codes "x") (codes "b") ∷ record { spot = at 3; name = codes "y"; value = word 7 (Name (codes "x")) } ∷ []) ∷ BindingModel (codes "x") (path (codes "a")) ∷ [])))
     ≡ Some (codes "a") ∷ []
 unfolding clean_path_of without_leftmost_pair edges_read bounds
 row-lines_apart = refl
 
 -- ---- variables of the rule
 
-abbrev by_r : NameText
+abbrev by_r : NameModel
 by_r = by_rule (codes "r")
 
 -- a line of one reference
-abbrev line_of_name : (name other : List ℕ) → LineText
+abbrev line_of_name : (name other : List ℕ) → LineModel
 line_of_name name other = record { spot = at 3; name = name; value = word 7 (Name other) }
 
-abbrev rule_r : List LineText → StatementText
-rule_r lines = RuleText (record { spot = at 6; name = codes "r" }) lines
+abbrev rule_r : List LineModel → StatementModel
+rule_r lines = RuleModel (record { spot = at 6; name = codes "r" }) lines
 
 -- `rule r` whose command is `$description`, and whose description is `$command`
-abbrev circle : StatementText
+abbrev circle : StatementModel
 circle = rule_r (line_of_name (codes "command") (codes "description") ∷ line_of_name (codes "description") (codes "command") ∷ [])
 
 -- `rule r` with a plain command
-abbrev plain : StatementText
+abbrev plain : StatementModel
 plain = rule_r (line (codes "command") (codes "c") ∷ [])
 
 -- `build a: r` after the rule
-abbrev wrong_after : List StatementText → InputsText → List LineText → Option GraphFault
+abbrev wrong_after : List StatementModel → InputsModel → List LineModel → Option GraphFault
 wrong_after before inputs lines = wrong_with before (to (a ∷ [])) by_r inputs lines
 
 -- `build a: r`: the least key is named
@@ -178,7 +178,7 @@ unfolding clean_path_of without_leftmost_pair edges_read bounds variable_cycle_o
 row-unknown_pool = refl
 
 -- the same after `pool zz`
-pub row-known_pool : wrong_after (PoolText (by_rule (codes "zz")) (line (codes "depth") (codes "1") ∷ []) ∷ plain ∷ []) no_inputs (line (codes "pool") (codes "zz") ∷ []) ≡ None
+pub row-known_pool : wrong_after (PoolModel (by_rule (codes "zz")) (line (codes "depth") (codes "1") ∷ []) ∷ plain ∷ []) no_inputs (line (codes "pool") (codes "zz") ∷ []) ≡ None
 unfolding clean_path_of without_leftmost_pair edges_read bounds variable_cycle_of
 row-known_pool = refl
 
@@ -225,7 +225,7 @@ unfolding clean_path_of without_leftmost_pair edges_read bounds variable_cycle_o
 row-dyndep_lost = refl
 
 -- `dyndep = q` of the file, before the statement: it binds an edge that has no value of its own
-pub row-dyndep_of_file : wrong_with (BindingText (codes "dyndep") (path (codes "q")) ∷ []) (to (a ∷ [])) phony no_inputs [] ≡ wrong 1 (DyndepNotInput (codes "q"))
+pub row-dyndep_of_file : wrong_with (BindingModel (codes "dyndep") (path (codes "q")) ∷ []) (to (a ∷ [])) phony no_inputs [] ≡ wrong 1 (DyndepNotInput (codes "q"))
 unfolding clean_path_of without_leftmost_pair edges_read bounds variable_cycle_of
 row-dyndep_of_file = refl
 
@@ -236,8 +236,8 @@ abbrev pends : (edge : ℕ) → Pending
 pends edge = record { edge = edge; file = codes "dd" }
 
 -- `build OUT: RULE || dd`
-abbrev build_with_dd : (output : List ℕ) → NameText → List LineText → StatementText
-build_with_dd output rule lines = BuildText (to (path output ∷ [])) rule (record no_inputs { order_only = path (codes "dd") ∷ [] }) lines
+abbrev build_with_dd : (output : List ℕ) → NameModel → List LineModel → StatementModel
+build_with_dd output rule lines = BuildModel (to (path output ∷ [])) rule (record no_inputs { order_only = path (codes "dd") ∷ [] }) lines
 
 -- `build a: phony || dd` with `dyndep = .//dd` in its block: a clean path
 pub row-pending_block : pending_read (entries (build_with_dd (codes "a") phony (line (codes "dyndep") (codes ".//dd") ∷ []) ∷ [])) ≡ pends 0 ∷ []
@@ -277,6 +277,6 @@ unfolding clean_path_of without_leftmost_pair edges_read bounds
 row-discovered = refl
 
 -- `build a: phony a` with an input that was discovered: it still loses `a`
-pub row-discovered_own : map (λ (e : EdgePaths). inputs_of e) (map (λ e. e.paths) (edges_read (record (entry (BuildText (to (a ∷ [])) phony (from (a ∷ [])) [])) { discovered = Some (record { outputs = []; inputs = codes "y" ∷ [] }) } ∷ []))) ≡ (codes "y" ∷ []) ∷ []
+pub row-discovered_own : map (λ (e : EdgePaths). inputs_of e) (map (λ e. e.paths) (edges_read (record (entry (BuildModel (to (a ∷ [])) phony (from (a ∷ [])) [])) { discovered = Some (record { outputs = []; inputs = codes "y" ∷ [] }) } ∷ []))) ≡ (codes "y" ∷ []) ∷ []
 unfolding clean_path_of without_leftmost_pair edges_read bounds
 row-discovered_own = refl

@@ -3,9 +3,9 @@ use Rattle.std.proofs.Common.{◌≡◌, ℕ, zero, suc, true≢false, is_some, 
 use Rattle.std.specs.List.{AllByRecursion, IsDistinct}
 use Rattle.std.proofs.lemmas.List.{length-map, length-append, length-replicate}
 use Rattle.std.proofs.lemmas.Option.{same_Some, slice_get-map}
-use Rattle.nj_manifest.specs.Statements.{StatementText, BindingText, RuleText, PoolText, BuildText, DefaultText, IncludeText, SubninjaText}
+use Rattle.nj_manifest.specs.Statements.{StatementModel, BindingModel, RuleModel, PoolModel, BuildModel, DefaultModel, IncludeModel, SubninjaModel}
 use Rattle.nj_scope.specs.ReadingList.{Discovered, ReadStatement}
-use Rattle.nj_edge_env.specs.Blocks.{BlocksText}
+use Rattle.nj_edge_env.specs.Blocks.{BlocksModel}
 use Rattle.nj_edges.specs.declared.files.FileNo.{FileNo}
 use Rattle.nj_edges.specs.EdgeGraphs.{EdgeGraph}
 use Rattle.nj_cycles.specs.Cycles.{IsAcyclic, IsLeastOnCycle}
@@ -18,9 +18,9 @@ use Rattle.nj_faults.specs.declared.fault.GraphFault.{GraphFault}
 use Rattle.nj_faults.specs.declared.fault.Cause.TheVariants.{Cycle}
 use Rattle.nj_faults.specs.Faults.{fault_at}
 use Rattle.nj_edges.specs.Joining.{JoinTable, join_of}
-use Rattle.nj_statements.specs.declared.detail.Detail.{Detail}
+use Rattle.nj_statements.specs.declared.edge_record.Detail.{Detail}
 use Rattle.nj_statements.specs.declared.building.DyndepEdge.{DyndepEdge}
-use Rattle.nj_statements.specs.EdgeList.{EdgeText, edge_of_build, edges_read, paths_of_edges, pending_at, dyndep_of, pending_read}
+use Rattle.nj_statements.specs.EdgeList.{EdgeModel, edge_of_build, edges_read, paths_of_edges, pending_at, dyndep_of, pending_read}
 use Rattle.nj_statements.specs.Built.{EdgeDetail, IsBuiltOf, IsCycleFault, detail_of}
 use Rattle.nj_statements.specs.Inside.Details.{text_at, spot_of}
 use Rattle.nj_statements.specs.Inside.BuiltHeld.{BuiltIsHeld, built_of, detail_named, pending_named}
@@ -45,10 +45,10 @@ pending-at edge (Some found) file = refl
 pending-at edge None (Some file) = refl
 pending-at edge None None = refl
 
-awaited-more : (e : ReadStatement) (before : List ReadStatement) (item : StatementText) (unjoined : List (Option (List ℕ))) → AreAwaited before unjoined
+awaited-more : (e : ReadStatement) (before : List ReadStatement) (item : StatementModel) (unjoined : List (Option (List ℕ))) → AreAwaited before unjoined
     → (more : List (Option (List ℕ))) × AreAwaited (record e { item = item } ∷ before) more
 unfolding edges_read pending_read
-awaited-more e before (BuildText outputs rule inputs lines) unjoined is = (
+awaited-more e before (BuildModel outputs rule inputs lines) unjoined is = (
   unjoined ++ next ∷ [],
   record {
     are =
@@ -59,17 +59,17 @@ awaited-more e before (BuildText outputs rule inputs lines) unjoined is = (
   },
 )
   where
-    edge : EdgeText
+    edge : EdgeModel
     edge = edge_of_build e before outputs rule inputs lines
 
     next : Option (List ℕ)
     next = awaited-at e.discovered (dyndep_of before edge)
-awaited-more e before (BindingText bound word) unjoined is = (unjoined, record { are = is.are; count = is.count })
-awaited-more e before (RuleText name lines) unjoined is = (unjoined, record { are = is.are; count = is.count })
-awaited-more e before (PoolText name lines) unjoined is = (unjoined, record { are = is.are; count = is.count })
-awaited-more e before (DefaultText words) unjoined is = (unjoined, record { are = is.are; count = is.count })
-awaited-more e before (IncludeText word) unjoined is = (unjoined, record { are = is.are; count = is.count })
-awaited-more e before (SubninjaText word) unjoined is = (unjoined, record { are = is.are; count = is.count })
+awaited-more e before (BindingModel bound word) unjoined is = (unjoined, record { are = is.are; count = is.count })
+awaited-more e before (RuleModel name lines) unjoined is = (unjoined, record { are = is.are; count = is.count })
+awaited-more e before (PoolModel name lines) unjoined is = (unjoined, record { are = is.are; count = is.count })
+awaited-more e before (DefaultModel words) unjoined is = (unjoined, record { are = is.are; count = is.count })
+awaited-more e before (IncludeModel word) unjoined is = (unjoined, record { are = is.are; count = is.count })
+awaited-more e before (SubninjaModel word) unjoined is = (unjoined, record { are = is.are; count = is.count })
 
 pub awaited : (entries : List ReadStatement) → (unjoined : List (Option (List ℕ))) × AreAwaited entries unjoined
 unfolding edges_read pending_read
@@ -78,7 +78,7 @@ awaited (e ∷ before) = let rest = awaited before in awaited-more e before e.it
 
 -- ---- nothing is joined yet
 
-module _ (graph : EdgeGraph) (blocks : BlocksText) (names : List (List ℕ)) (details : List Detail) (defaults : List FileNo) (dyndeps : List DyndepEdge) (held : BuiltIsHeld graph names details defaults dyndeps)
+module _ (graph : EdgeGraph) (blocks : BlocksModel) (names : List (List ℕ)) (details : List Detail) (defaults : List FileNo) (dyndeps : List DyndepEdge) (held : BuiltIsHeld graph names details defaults dyndeps)
     (once : IsDistinct bytes_eq graph.files) (table : JoinTable) (table_is : table ≡ join_of graph) (firsts : List DyndepEdge) (firsts_are : firsts ≡ first_edges dyndeps)
     (bound : List (Option FileNo)) (bound_are : bound ≡ bind_all dyndeps (replicate (length graph.edges) None)) (unjoined : List ℕ) (count : length unjoined ≡ length graph.files)
     (pending_are : (file : FileNo) → get_or unjoined file.0 0 ≡ count_bound file dyndeps) where
@@ -120,7 +120,7 @@ module _ (graph : EdgeGraph) (blocks : BlocksText) (names : List (List ℕ)) (de
     named : map (file_named graph.files) (bind_all dyndeps (replicate (length graph.edges) None)) ≡ ws
     named =
         bind-unjoined graph.files dyndeps ws (length graph.edges) (is.pending ∙ (awaited stated).1.are)
-        ((awaited stated).1.count ∙ sym (length-map (edges_read stated) (λ (e : EdgeText). e.paths)) ∙ sym (ap length is.paths))
+        ((awaited stated).1.count ∙ sym (length-map (edges_read stated) (λ (e : EdgeModel). e.paths)) ∙ sym (ap length is.paths))
 
     has : HasJoined (joining_of (join_of graph) blocks names details defaults (first_edges dyndeps) (bind_all dyndeps (replicate (length graph.edges) None))) stated stated
     has = record {
@@ -146,10 +146,10 @@ module _ (graph : EdgeGraph) (blocks : BlocksText) (names : List (List ℕ)) (de
 
 -- ---- all is joined
 
-module _ (table : JoinTable) (blocks : BlocksText) (names : List (List ℕ)) (details : List Detail) (defaults : List FileNo) (firsts : List DyndepEdge) (bound : List (Option FileNo))
+module _ (table : JoinTable) (blocks : BlocksModel) (names : List (List ℕ)) (details : List Detail) (defaults : List FileNo) (firsts : List DyndepEdge) (bound : List (Option FileNo))
     (stated joined : List ReadStatement) (has : HasJoined (joining_of table blocks names details defaults firsts bound) stated joined) where
   edge-count : length table.joined ≡ length (edges_read joined)
-  edge-count = ap length has.joined_paths ∙ length-map (edges_read joined) (λ (e : EdgeText). e.paths)
+  edge-count = ap length has.joined_paths ∙ length-map (edges_read joined) (λ (e : EdgeModel). e.paths)
 
   pub joined-built : pending_read joined ≡ [] → (g : EdgeGraph) → FinishesAs table.files table.joined (Graph g) → (dyndeps : List DyndepEdge) → dyndeps ≡ []
       → IsBuiltOf (built_of g blocks names details defaults dyndeps) joined × IsAcyclic (makers_of_inputs (paths_of_edges (edges_read joined))) (length (edges_read joined))
@@ -163,7 +163,7 @@ module _ (table : JoinTable) (blocks : BlocksText) (names : List (List ℕ)) (de
       pending = ap (map (pending_named g.files)) empty ∙ sym none;
       assigned = has.assigned;
     },
-    subst (λ n. IsAcyclic (makers_of_inputs (paths_of_edges (edges_read joined))) n) (length-map (edges_read joined) (λ (e : EdgeText). e.paths))
+    subst (λ n. IsAcyclic (makers_of_inputs (paths_of_edges (edges_read joined))) n) (length-map (edges_read joined) (λ (e : EdgeModel). e.paths))
         (subst (λ es. IsAcyclic (makers_of_inputs es) (length es)) has.joined_paths finishes.1),
   )
 
@@ -185,12 +185,12 @@ module _ (table : JoinTable) (blocks : BlocksText) (names : List (List ℕ)) (de
         fault_is = is ∙ ap (λ (x : EdgeDetail). fault_at x.file x.spot (Cycle output)) detail;
       }
     where
-      get-some : (es : List EdgeText) (n : ℕ) → n < length es → (e : EdgeText) × (slice_get es n ≡ Some e)
+      get-some : (es : List EdgeModel) (n : ℕ) → n < length es → (e : EdgeModel) × (slice_get es n ≡ Some e)
       get-some [] n h = absurd (omega (arith, h))
       get-some (e ∷ es) zero h = (e, refl)
       get-some (e ∷ es) (suc n) h = get-some es n (omega (arith, h))
 
-      paths-at : (es : List EdgeText) (n : ℕ) (e : EdgeText) → slice_get es n ≡ Some e → edge_at (paths_of_edges es) n ≡ e.paths
+      paths-at : (es : List EdgeModel) (n : ℕ) (e : EdgeModel) → slice_get es n ≡ Some e → edge_at (paths_of_edges es) n ≡ e.paths
       paths-at [] n e h = absurd (true≢false (sym (ap is_some h)))
-      paths-at (f ∷ es) zero e h = ap (λ (x : EdgeText). x.paths) (same_Some f e h)
+      paths-at (f ∷ es) zero e h = ap (λ (x : EdgeModel). x.paths) (same_Some f e h)
       paths-at (f ∷ es) (suc n) e h = paths-at es n e h

@@ -2,20 +2,20 @@
 use Rattle.std.specs.Prelude.{◌≡◌, ℕ, Option, Some, None, Result, Ok, Err}
 use Rattle.std.specs.Prelude.{List, [], ◌∷◌, ◌<◌, map, length, slice_get, slice_index_or}
 use Rattle.nj_text.specs.declared.spot.Spot.{Spot}
-use Rattle.nj_manifest.specs.Statements.{StatementText}
-use Rattle.nj_scope.specs.Rules.{RuleText}
+use Rattle.nj_manifest.specs.Statements.{StatementModel}
+use Rattle.nj_scope.specs.Rules.{RuleModel}
 use Rattle.nj_scope.specs.Readings.{IsPrefix}
 use Rattle.nj_scope.specs.ReadingList.{ReadStatement, rules_read}
-use Rattle.nj_edge_env.specs.Blocks.{BlocksText, bound_in, names_in}
+use Rattle.nj_edge_env.specs.Blocks.{BlocksModel, bound_in, names_in}
 use Rattle.nj_edges.specs.declared.files.FileNo.{FileNo}
 use Rattle.nj_edges.specs.EdgeTables.{EdgeTable, no_files}
 use Rattle.nj_edges.specs.Files.{AreFiles}
 use Rattle.nj_faults.specs.declared.fault.GraphFault.{GraphFault}
 use Rattle.nj_faults.specs.declared.fault.PlaceRef.{PlaceRef}
 use Rattle.nj_faults.specs.Faults.{IsFault}
-use Rattle.nj_edge_env.specs.ReferencesHeld.{ReferringKeyText, TellsCycles}
+use Rattle.nj_edge_env.specs.ReferencesHeld.{ReferringKeyModel, TellsCycles}
 use Rattle.nj_statements.specs.declared.building.DyndepEdge.{DyndepEdge}
-use Rattle.nj_statements.specs.EdgeList.{EdgeText, Pending, AssignedText, edges_read, paths_of_edges, defaults_read, pending_read, block_at, block_names_at, assigned_read}
+use Rattle.nj_statements.specs.EdgeList.{EdgeModel, Pending, AssignedModel, edges_read, paths_of_edges, defaults_read, pending_read, block_at, block_names_at, assigned_read}
 
 -- ---- faults
 
@@ -23,8 +23,6 @@ use Rattle.nj_statements.specs.EdgeList.{EdgeText, Pending, AssignedText, edges_
 abbrev pub Checks : {A : Type 0} → Option GraphFault → Result A GraphFault → Type 0
 Checks expected (Ok done) = expected ≡ None
 Checks expected (Err fault) = IsFault expected fault
-
--- ---- names
 
 -- ---- the files of an edge
 
@@ -37,15 +35,15 @@ pub record KeepsRead (before after : EdgeTable) : Type 0 where
 -- ---- the names of a rule
 
 -- what is kept of rules is enough to find their cycles
-abbrev pub HasReferences : (kept : List (Option (List ReferringKeyText))) → List RuleText → Type 0
+abbrev pub HasReferences : (kept : List (Option (List ReferringKeyModel))) → List RuleModel → Type 0
 HasReferences kept rules =
-    (number : ℕ) (keys : List ReferringKeyText) → slice_index_or kept number None ≡ Some keys
-    → (rule : RuleText) × (slice_get rules number ≡ Some rule) × TellsCycles rule.lines keys
+    (number : ℕ) (keys : List ReferringKeyModel) → slice_index_or kept number None ≡ Some keys
+    → (rule : RuleModel) × (slice_get rules number ≡ Some rule) × TellsCycles rule.lines keys
 
 -- ---- what is held
 
 -- an edge, without its paths and its block
-pub record DetailText : Type 0 where
+pub record DetailModel : Type 0 where
   pub file : ℕ
   pub spot : Spot
   pub scope : ℕ
@@ -54,25 +52,25 @@ pub record DetailText : Type 0 where
   pub pool : ℕ
   pub dyndep : ℕ
 
-pub record BuildingText : Type 0 where
+pub record BuildingModel : Type 0 where
   pub table : EdgeTable
-  pub blocks : BlocksText
+  pub blocks : BlocksModel
   -- the names of files with edges and of pools, and the paths of dyndep files
   pub names : List (List ℕ)
-  pub details : List DetailText
+  pub details : List DetailModel
   pub defaults : List FileNo
   -- the edges with dyndep files
   pub dyndeps : List DyndepEdge
   -- of each rule by number, which of its variables refer to which, where an edge has used it
-  pub references : List (Option (List ReferringKeyText))
+  pub references : List (Option (List ReferringKeyModel))
 
-pub record IsDetail (names : List (List ℕ)) (d : DetailText) (e : EdgeText) : Type 0 where
+pub record IsDetail (names : List (List ℕ)) (d : DetailModel) (e : EdgeModel) : Type 0 where
   pub file : slice_get names d.file ≡ Some e.file
   pub spot : d.spot ≡ e.spot
   pub scope : d.scope ≡ e.number
   pub rule : d.rule ≡ e.rule
 
-abbrev pub AreDetails : (names : List (List ℕ)) → List DetailText → List EdgeText → Type 0
+abbrev pub AreDetails : (names : List (List ℕ)) → List DetailModel → List EdgeModel → Type 0
 AreDetails names [] [] = Unit {0}
 AreDetails names (d ∷ details) (e ∷ edges) = IsDetail names d e × AreDetails names details edges
 AreDetails names details edges = ⊥
@@ -81,11 +79,11 @@ AreDetails names details edges = ⊥
 abbrev pub numbered : (strings : List (List ℕ)) → List (Option (List ℕ))
 numbered strings = None ∷ map Some strings
 
-pub record IsAssigned (names : List (List ℕ)) (d : DetailText) (a : AssignedText) : Type 0 where
+pub record IsAssigned (names : List (List ℕ)) (d : DetailModel) (a : AssignedModel) : Type 0 where
   pub pool : slice_get (numbered names) d.pool ≡ Some a.pool
   pub dyndep : slice_get (numbered names) d.dyndep ≡ Some a.dyndep
 
-abbrev pub AreAssigned : (names : List (List ℕ)) → List DetailText → List AssignedText → Type 0
+abbrev pub AreAssigned : (names : List (List ℕ)) → List DetailModel → List AssignedModel → Type 0
 AreAssigned names [] [] = Unit {0}
 AreAssigned names (d ∷ details) (a ∷ assigned) = IsAssigned names d a × AreAssigned names details assigned
 AreAssigned names details assigned = ⊥
@@ -96,7 +94,7 @@ pub record ArePending (files : List (List ℕ)) (held : List DyndepEdge) (expect
   pub files_are : AreFiles files (map (λ d. d.file) held) (map (λ p. p.file) expected)
 
 -- It has the edges and defaults of these statements, the last read first.
-pub record HasEdges (held : BuildingText) (entries : List ReadStatement) : Type 0 where
+pub record HasEdges (held : BuildingModel) (entries : List ReadStatement) : Type 0 where
   pub edges : held.table.edges ≡ paths_of_edges (edges_read entries)
   pub none_open : held.table.«open» ≡ no_files
   pub blocks : (number : ℕ) (name : List ℕ) → bound_in held.blocks number name ≡ block_at (edges_read entries) number name
@@ -109,7 +107,7 @@ pub record HasEdges (held : BuildingText) (entries : List ReadStatement) : Type 
 
 -- No edge and no default is added: those that were read stay as they are, with their blocks. Files may be new, which keep the numbers of
 -- the others, and an edge may be read in part.
-pub record AddsNothing (before after : BuildingText) : Type 0 where
+pub record AddsNothing (before after : BuildingModel) : Type 0 where
   pub edges : KeepsRead before.table after.table
   pub blocks : (number : ℕ) (name : List ℕ) → number < length before.details
       → bound_in after.blocks number name ≡ bound_in before.blocks number name
@@ -121,7 +119,7 @@ pub record AddsNothing (before after : BuildingText) : Type 0 where
 
 -- ---- a statement
 
-abbrev pub entry_at_place : PlaceRef → (scope : ℕ) → (around : List ℕ) → (depth : ℕ) → StatementText → ReadStatement
+abbrev pub entry_at_place : PlaceRef → (scope : ℕ) → (around : List ℕ) → (depth : ℕ) → StatementModel → ReadStatement
 entry_at_place place scope around depth item = record {
   file = place.file.now;
   spot = place.spot;
@@ -133,7 +131,7 @@ entry_at_place place scope around depth item = record {
 }
 
 -- the statement has no fault and is held, or its fault is answered
-abbrev pub ReadsStatement : (after : BuildingText) → Option GraphFault → ReadStatement → (before : List ReadStatement)
+abbrev pub ReadsStatement : (after : BuildingModel) → Option GraphFault → ReadStatement → (before : List ReadStatement)
     → Result (Unit {0}) GraphFault → Type 0
 ReadsStatement after expected e before (Ok done) = (expected ≡ None) × HasEdges after (e ∷ before)
 ReadsStatement after expected e before (Err fault) = IsFault expected fault

@@ -3,11 +3,11 @@ use Rattle.std.specs.Prelude.{ℕ, ◌||◌, not, Option, Some, None, is_some, o
 use Rattle.std.specs.Option.{option_or}
 use Rattle.std.specs.Bool.{then_some}
 use Rattle.nj_text.specs.declared.spot.Spot.{Spot}
-use Rattle.nj_text.specs.Words.{WordText}
+use Rattle.nj_text.specs.Words.{WordModel}
 use Rattle.nj_text.specs.Paths.{clean_path_of}
 use Rattle.nj_text.specs.Calls.{is_empty}
-use Rattle.nj_manifest.specs.LineSteps.{NameText}
-use Rattle.nj_manifest.specs.Statements.{LineText, OutputsText, InputsText}
+use Rattle.nj_manifest.specs.LineSteps.{NameModel}
+use Rattle.nj_manifest.specs.Statements.{LineModel, OutputsModel, InputsModel}
 use Rattle.nj_scope.specs.Scopes.{expanded, first_given}
 use Rattle.nj_scope.specs.Pools.{is_pool}
 use Rattle.nj_scope.specs.ReadingList.{ReadStatement, scope_of, value_after, rule_in_force, pools}
@@ -18,34 +18,34 @@ use Rattle.nj_faults.specs.Faults.{fault_at}
 use Rattle.nj_edges.specs.Edges.{EdgePaths, inputs_of, maker_of, is_among, is_named}
 use Rattle.nj_edge_env.specs.LateStrings.{LateNames, asked_text}
 use Rattle.nj_edge_env.specs.VariableCycles.{variable_cycle_of}
-use Rattle.nj_statements.specs.EdgeList.{Values, EdgeText, path_given, line_values, edges_read, paths_of_edges, edge_of_build, names_of_edge}
+use Rattle.nj_statements.specs.EdgeList.{Values, EdgeModel, path_given, line_values, edges_read, paths_of_edges, edge_of_build, names_of_edge}
 
-abbrev pub empty_path : (file : List ℕ) → Values → WordText → Option GraphFault
+abbrev pub empty_path : (file : List ℕ) → Values → WordModel → Option GraphFault
 empty_path file values word = then_some (is_empty (expanded values word.parts)) (fault_at file word.spot EmptyPath)
 
 -- ---- build statements
 
-abbrev pub unknown_rule : ReadStatement → (before : List ReadStatement) → NameText → Option GraphFault
+abbrev pub unknown_rule : ReadStatement → (before : List ReadStatement) → NameModel → Option GraphFault
 unknown_rule e before rule =
     then_some (not (is_some (rule_in_force before (scope_of e) rule.name))) (fault_at e.file rule.spot (UnknownRule rule.name))
 
 -- An output is refused if an earlier edge makes it, or if it is one of those to its left.
-abbrev pub two_makers : (file : List ℕ) → Values → List EdgePaths → (left : List (List ℕ)) → WordText → Option GraphFault
+abbrev pub two_makers : (file : List ℕ) → Values → List EdgePaths → (left : List (List ℕ)) → WordModel → Option GraphFault
 two_makers file values edges left word =
     then_some (is_some (maker_of edges (path_given values word)) || is_among left (path_given values word))
     (fault_at file word.spot (TwoMakers (path_given values word)))
 
-abbrev pub outputs_fault : (file : List ℕ) → Values → List EdgePaths → (left : List (List ℕ)) → List WordText → Option GraphFault
+abbrev pub outputs_fault : (file : List ℕ) → Values → List EdgePaths → (left : List (List ℕ)) → List WordModel → Option GraphFault
 outputs_fault file values edges left [] = None
 outputs_fault file values edges left (word ∷ words) =
     option_or (option_or (empty_path file values word) (two_makers file values edges left word))
     (outputs_fault file values edges (left ++ path_given values word ∷ []) words)
 
-abbrev pub inputs_fault : (file : List ℕ) → Values → InputsText → Option GraphFault
+abbrev pub inputs_fault : (file : List ℕ) → Values → InputsModel → Option GraphFault
 inputs_fault file values inputs =
     first_given (empty_path file values) (inputs.explicit ++ (inputs.implicit ++ (inputs.order_only ++ inputs.validations)))
 
-abbrev pub paths_fault : (file : List ℕ) → Values → List EdgePaths → OutputsText → InputsText → Option GraphFault
+abbrev pub paths_fault : (file : List ℕ) → Values → List EdgePaths → OutputsModel → InputsModel → Option GraphFault
 paths_fault file values edges outputs inputs =
     option_or (outputs_fault file values edges [] (outputs.explicit ++ outputs.implicit)) (inputs_fault file values inputs)
 
@@ -64,7 +64,7 @@ dyndep_not_input file spot inputs dyndep =
 
 -- The first of these faults. The edge is the one that the statement makes, with its block and without the inputs that it loses.
 -- A name of the file has the value that it has before the statement.
-abbrev pub late_fault : (before : List ReadStatement) → EdgeText → Option GraphFault
+abbrev pub late_fault : (before : List ReadStatement) → EdgeModel → Option GraphFault
 late_fault before edge =
     let n = names_of_edge before edge in
     option_or (variable_cycle_fault edge.file edge.spot n)
@@ -72,7 +72,7 @@ late_fault before edge =
     (dyndep_not_input edge.file edge.spot (inputs_of edge.paths) (asked_text n (codes "dyndep"))))
 
 -- its rule, its outputs from left to right, its inputs, its validations; then the variables of the rule, the pool, the dyndep file
-abbrev pub build_fault : ReadStatement → (before : List ReadStatement) → OutputsText → NameText → InputsText → List LineText → Option GraphFault
+abbrev pub build_fault : ReadStatement → (before : List ReadStatement) → OutputsModel → NameModel → InputsModel → List LineModel → Option GraphFault
 build_fault e before outputs rule inputs lines =
     option_or (unknown_rule e before rule)
     (option_or (paths_fault e.file (line_values e before lines) (paths_of_edges (edges_read before)) outputs inputs)
@@ -80,14 +80,14 @@ build_fault e before outputs rule inputs lines =
 
 -- ---- default statements
 
-abbrev pub unknown_target : (file : List ℕ) → Values → List EdgePaths → WordText → Option GraphFault
+abbrev pub unknown_target : (file : List ℕ) → Values → List EdgePaths → WordModel → Option GraphFault
 unknown_target file values edges word =
     then_some (not (is_named edges (path_given values word))) (fault_at file word.spot (UnknownTarget (path_given values word)))
 
 -- A default is a file that an earlier edge names.
-abbrev pub target_fault : (file : List ℕ) → Values → List EdgePaths → WordText → Option GraphFault
+abbrev pub target_fault : (file : List ℕ) → Values → List EdgePaths → WordModel → Option GraphFault
 target_fault file values edges word = option_or (empty_path file values word) (unknown_target file values edges word)
 
-abbrev pub default_fault : ReadStatement → (before : List ReadStatement) → List WordText → Option GraphFault
+abbrev pub default_fault : ReadStatement → (before : List ReadStatement) → List WordModel → Option GraphFault
 default_fault e before words =
     first_given (target_fault e.file (value_after before (scope_of e)) (paths_of_edges (edges_read before))) words

@@ -2,7 +2,7 @@
 use Rattle.std.specs.Prelude.{◌≡◌, ◌⊎◌, ℕ, Some, Result, Ok, Err, List, [], ◌∷◌, map, length, slice_get, slice_index_or}
 use Rattle.nj_text.specs.declared.spot.Spot.{Spot}
 use Rattle.nj_scope.specs.ReadingList.{ReadStatement}
-use Rattle.nj_edge_env.specs.Blocks.{BlocksText, bound_in, names_in}
+use Rattle.nj_edge_env.specs.Blocks.{BlocksModel, bound_in, names_in}
 use Rattle.nj_cycles.specs.Cycles.{IsAcyclic, IsLeastOnCycle}
 use Rattle.nj_edges.specs.EdgeGraphs.{EdgeGraph}
 use Rattle.nj_edges.specs.Edges.{EdgePaths, first_output, roots_of}
@@ -10,7 +10,7 @@ use Rattle.nj_edges.specs.Needs.{makers_of_inputs}
 use Rattle.nj_faults.specs.declared.fault.GraphFault.{GraphFault}
 use Rattle.nj_faults.specs.declared.fault.Cause.TheVariants.{Cycle}
 use Rattle.nj_faults.specs.Faults.{fault_at, no_memory}
-use Rattle.nj_statements.specs.EdgeList.{EdgeText, Pending, AssignedText, edges_read, paths_of_edges, defaults_read, pending_read, block_at, block_names_at, assigned_read}
+use Rattle.nj_statements.specs.EdgeList.{EdgeModel, Pending, AssignedModel, edges_read, paths_of_edges, defaults_read, pending_read, block_at, block_names_at, assigned_read}
 
 -- An edge without its paths and its block: the file of its build statement, by the name under which it was opened, the place
 -- of its first byte there, the number of its scope, and the number of its rule.
@@ -20,17 +20,17 @@ pub record EdgeDetail : Type 0 where
   pub scope : ℕ
   pub rule : ℕ
 
-pub record BuiltText : Type 0 where
+pub record BuiltModel : Type 0 where
   -- the files and the edges, by their paths
   pub graph : EdgeGraph
   pub details : List EdgeDetail
-  pub blocks : BlocksText
+  pub blocks : BlocksModel
   -- the paths of all `default` lines
   pub defaults : List (List ℕ)
   -- the edges to which dyndep files are still to be joined
   pub pending : List Pending
   -- what is assigned to each edge
-  pub assigned : List AssignedText
+  pub assigned : List AssignedModel
 
 -- the detail of the edge of a number; past the last edge there is none
 abbrev pub detail_at : List EdgeDetail → (number : ℕ) → EdgeDetail
@@ -45,11 +45,11 @@ defaults_in_force (path ∷ paths) edges = path ∷ paths
 
 -- ---- by the statements
 
-abbrev pub detail_of : EdgeText → EdgeDetail
+abbrev pub detail_of : EdgeModel → EdgeDetail
 detail_of e = record { file = e.file; spot = e.spot; scope = e.number; rule = e.rule }
 
 -- It has the edges and the defaults of these statements, the last read first.
-pub record IsBuiltOf (built : BuiltText) (entries : List ReadStatement) : Type 0 where
+pub record IsBuiltOf (built : BuiltModel) (entries : List ReadStatement) : Type 0 where
   pub paths : built.graph.edges ≡ paths_of_edges (edges_read entries)
   pub details : built.details ≡ map detail_of (edges_read entries)
   pub blocks : (number : ℕ) (name : List ℕ) → bound_in built.blocks number name ≡ block_at (edges_read entries) number name
@@ -60,9 +60,9 @@ pub record IsBuiltOf (built : BuiltText) (entries : List ReadStatement) : Type 0
 
 -- The fault of a dependency cycle: at the statement of the edge of the smallest number that lies on one itself, with the first
 -- output of that edge. An edge that only leads into a cycle does not lie on it.
-pub record IsCycleFault (edges : List EdgeText) (fault : GraphFault) : Type 0 where
+pub record IsCycleFault (edges : List EdgeModel) (fault : GraphFault) : Type 0 where
   pub number : ℕ
-  pub edge : EdgeText
+  pub edge : EdgeModel
   pub output : List ℕ
   pub edge_is : slice_get edges number ≡ Some edge
   pub least : IsLeastOnCycle (makers_of_inputs (paths_of_edges edges)) number
@@ -70,7 +70,7 @@ pub record IsCycleFault (edges : List EdgeText) (fault : GraphFault) : Type 0 wh
   pub fault_is : fault ≡ fault_at edge.file edge.spot (Cycle output)
 
 -- Where no edge lies on a cycle, the statements yield their edges and defaults.
-abbrev pub ComesTo : List ReadStatement → Result BuiltText GraphFault → Type 0
+abbrev pub ComesTo : List ReadStatement → Result BuiltModel GraphFault → Type 0
 ComesTo entries (Ok built) =
     IsBuiltOf built entries × IsAcyclic (makers_of_inputs (paths_of_edges (edges_read entries))) (length (edges_read entries))
 ComesTo entries (Err fault) = (fault ≡ no_memory) ⊎ IsCycleFault (edges_read entries) fault

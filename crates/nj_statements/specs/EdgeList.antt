@@ -3,11 +3,11 @@ use Rattle.std.specs.Prelude.{ℕ, ◌==◌, Bool, ◌&&◌, not, if◌then◌el
 use Rattle.std.specs.Prelude.{[], ◌∷◌, ◌++◌, map, length, slice_get, slice_index_or, codes, bytes_eq}
 use Rattle.std.specs.List.{filter}
 use Rattle.nj_text.specs.declared.spot.Spot.{Spot}
-use Rattle.nj_text.specs.Words.{WordText}
+use Rattle.nj_text.specs.Words.{WordModel}
 use Rattle.nj_text.specs.Paths.{clean_path_of}
 use Rattle.nj_text.specs.Calls.{is_empty}
-use Rattle.nj_manifest.specs.LineSteps.{NameText}
-use Rattle.nj_manifest.specs.Statements.{LineText, last_line, OutputsText, InputsText, StatementText, BuildText, DefaultText}
+use Rattle.nj_manifest.specs.LineSteps.{NameModel}
+use Rattle.nj_manifest.specs.Statements.{LineModel, last_line, OutputsModel, InputsModel, StatementModel, BuildModel, DefaultModel}
 use Rattle.nj_scope.specs.Scopes.{expanded}
 use Rattle.nj_scope.specs.ReadingList.{Discovered, ReadStatement, scope_of, value_after, rule_in_force, rules_read, gathered}
 use Rattle.nj_edges.specs.Edges.{EdgePaths, outputs_of, is_among}
@@ -29,11 +29,11 @@ abbrev pub no_block : Block
 no_block name = None
 
 -- The last line of a name counts. Its value sees the scope of the file, and no line of the block itself.
-abbrev pub block_of : Values → List LineText → Block
+abbrev pub block_of : Values → List LineModel → Block
 block_of values lines name = option_map (λ l. expanded values l.value.parts) (last_line (λ l. l.name) lines name)
 
 -- the names that a block binds, each once, in the order of their first lines
-abbrev pub names_bound : List LineText → List (List ℕ)
+abbrev pub names_bound : List LineModel → List (List ℕ)
 names_bound lines = each_once bytes_eq (map (λ l. l.name) lines)
 
 -- A name on a build line is the block's, else the scope's.
@@ -41,15 +41,15 @@ abbrev pub on_line : Values → Block → Values
 on_line values block name = unwrap_or (block name) (values name)
 
 -- the path that a word gives
-abbrev pub path_given : Values → WordText → List ℕ
+abbrev pub path_given : Values → WordModel → List ℕ
 path_given values word = clean_path_of (expanded values word.parts)
 
-abbrev pub paths_given : Values → List WordText → List (List ℕ)
+abbrev pub paths_given : Values → List WordModel → List (List ℕ)
 paths_given values words = map (path_given values) words
 
 -- ---- edges
 
-pub record EdgeText : Type 0 where
+pub record EdgeModel : Type 0 where
   -- the file of the build statement, by the name under which it was opened, and the place of its first byte there
   pub file : List ℕ
   pub spot : Spot
@@ -64,7 +64,7 @@ pub record EdgeText : Type 0 where
   pub paths : EdgePaths
 
 -- the files that a build statement names
-abbrev pub stated_paths : Values → OutputsText → InputsText → (is_phony : Bool) → EdgePaths
+abbrev pub stated_paths : Values → OutputsModel → InputsModel → (is_phony : Bool) → EdgePaths
 stated_paths values outputs inputs is_phony = record {
   explicit_outputs = paths_given values outputs.explicit;
   implicit_outputs = paths_given values outputs.implicit;
@@ -89,14 +89,14 @@ without_own e = record e { explicit_inputs = of_others e e.explicit_inputs; orde
 abbrev pub edge_paths : EdgePaths → EdgePaths
 edge_paths e = if loses_own e then without_own e else e
 
-abbrev pub rule_number : ReadStatement → (before : List ReadStatement) → NameText → ℕ
+abbrev pub rule_number : ReadStatement → (before : List ReadStatement) → NameModel → ℕ
 rule_number e before rule = unwrap_or (rule_in_force before (scope_of e) rule.name) 0
 
-abbrev pub build_block : ReadStatement → (before : List ReadStatement) → List LineText → Block
+abbrev pub build_block : ReadStatement → (before : List ReadStatement) → List LineModel → Block
 build_block e before lines = block_of (value_after before (scope_of e)) lines
 
 -- the values of the names on its line
-abbrev pub line_values : ReadStatement → (before : List ReadStatement) → List LineText → Values
+abbrev pub line_values : ReadStatement → (before : List ReadStatement) → List LineModel → Values
 line_values e before lines = on_line (value_after before (scope_of e)) (build_block e before lines)
 
 -- Discovered files are implicit: they come after the implicit ones of the statement itself, its inputs before the order-only ones.
@@ -109,7 +109,7 @@ with_discovered (Some found) e = record e {
 
 -- The edge of a build statement, by the statements before it, the last read first. It loses its own outputs as
 -- inputs before discovered files are added.
-abbrev pub edge_of_build : ReadStatement → (before : List ReadStatement) → OutputsText → NameText → InputsText → List LineText → EdgeText
+abbrev pub edge_of_build : ReadStatement → (before : List ReadStatement) → OutputsModel → NameModel → InputsModel → List LineModel → EdgeModel
 edge_of_build e before outputs rule inputs lines = record {
   file = e.file;
   spot = e.spot;
@@ -122,33 +122,33 @@ edge_of_build e before outputs rule inputs lines = record {
       (edge_paths (stated_paths (line_values e before lines) outputs inputs (rule_number e before rule == 0)));
 }
 
-abbrev pub edge_given : ReadStatement → (before : List ReadStatement) → StatementText → Option EdgeText
-edge_given e before (BuildText outputs rule inputs lines) = Some (edge_of_build e before outputs rule inputs lines)
+abbrev pub edge_given : ReadStatement → (before : List ReadStatement) → StatementModel → Option EdgeModel
+edge_given e before (BuildModel outputs rule inputs lines) = Some (edge_of_build e before outputs rule inputs lines)
 edge_given e before item = None
 
 -- the edges of these statements
-unfoldable pub edges_read : List ReadStatement → List EdgeText
+unfoldable pub edges_read : List ReadStatement → List EdgeModel
 edges_read entries = gathered edge_given entries
 
 -- the block of the edge of a number; past the last edge there is none
-abbrev pub block_of_edge : Option EdgeText → Block
+abbrev pub block_of_edge : Option EdgeModel → Block
 block_of_edge None = no_block
 block_of_edge (Some e) = e.block
 
-abbrev pub block_at : List EdgeText → (number : ℕ) → Block
+abbrev pub block_at : List EdgeModel → (number : ℕ) → Block
 block_at edges number = block_of_edge (slice_get edges number)
 
 -- the names that the block of the edge of a number binds; past the last edge there are none
-abbrev pub block_names_at : List EdgeText → (number : ℕ) → List (List ℕ)
+abbrev pub block_names_at : List EdgeModel → (number : ℕ) → List (List ℕ)
 block_names_at edges number = slice_index_or (map (λ e. e.block_names) edges) number []
 
-abbrev pub paths_of_edges : List EdgeText → List EdgePaths
+abbrev pub paths_of_edges : List EdgeModel → List EdgePaths
 paths_of_edges edges = map (λ e. e.paths) edges
 
 -- ---- defaults
 
-abbrev pub with_defaults : ReadStatement → (before : List ReadStatement) → StatementText → List (List ℕ) → List (List ℕ)
-with_defaults e before (DefaultText words) paths = paths ++ paths_given (value_after before (scope_of e)) words
+abbrev pub with_defaults : ReadStatement → (before : List ReadStatement) → StatementModel → List (List ℕ) → List (List ℕ)
+with_defaults e before (DefaultModel words) paths = paths ++ paths_given (value_after before (scope_of e)) words
 with_defaults e before item paths = paths
 
 -- the paths of all `default` lines
@@ -160,7 +160,7 @@ defaults_read (e ∷ before) = with_defaults e before e.item (defaults_read befo
 
 -- What the names of an edge depend on, where its rule is used after these statements: its block and its rule come from its own
 -- statement, its paths those that it keeps, and a name of the file has the value that it has by then.
-abbrev pub names_of_edge : List ReadStatement → EdgeText → LateNames
+abbrev pub names_of_edge : List ReadStatement → EdgeModel → LateNames
 names_of_edge entries e = record {
   inputs = e.paths.explicit_inputs;
   outputs = e.paths.explicit_outputs;
@@ -182,7 +182,7 @@ abbrev pub file_given : (text : List ℕ) → Option (List ℕ)
 file_given text = if is_empty text then None else Some (clean_path_of text)
 
 -- the dyndep file of an edge: the value of the variable at its build statement
-abbrev pub dyndep_of : (before : List ReadStatement) → EdgeText → Option (List ℕ)
+abbrev pub dyndep_of : (before : List ReadStatement) → EdgeModel → Option (List ℕ)
 dyndep_of before edge = file_given (asked_text (names_of_edge before edge) (codes "dyndep"))
 
 -- an edge to which its dyndep file was not joined yet
@@ -191,8 +191,8 @@ pending_at edge (Some found) file = []
 pending_at edge None (Some file) = record { edge = edge; file = file } ∷ []
 pending_at edge None None = []
 
-abbrev pub with_pending : ReadStatement → (before : List ReadStatement) → StatementText → List Pending → List Pending
-with_pending e before (BuildText outputs rule inputs lines) others =
+abbrev pub with_pending : ReadStatement → (before : List ReadStatement) → StatementModel → List Pending → List Pending
+with_pending e before (BuildModel outputs rule inputs lines) others =
     others ++ pending_at (length (edges_read before)) e.discovered (dyndep_of before (edge_of_build e before outputs rule inputs lines))
 with_pending e before item others = others
 
@@ -208,24 +208,24 @@ abbrev pub name_given : (text : List ℕ) → Option (List ℕ)
 name_given text = if is_empty text then None else Some text
 
 -- the pool of an edge, by its name: the value of the variable at its build statement
-abbrev pub pool_of : (before : List ReadStatement) → EdgeText → Option (List ℕ)
+abbrev pub pool_of : (before : List ReadStatement) → EdgeModel → Option (List ℕ)
 pool_of before edge = name_given (asked_text (names_of_edge before edge) (codes "pool"))
 
 -- What is assigned to an edge at its build statement: a pool, by its name, and a dyndep file, by its clean path.
-pub record AssignedText : Type 0 where
+pub record AssignedModel : Type 0 where
   pub pool : Option (List ℕ)
   pub dyndep : Option (List ℕ)
 
-abbrev pub assigned_of : (before : List ReadStatement) → EdgeText → AssignedText
+abbrev pub assigned_of : (before : List ReadStatement) → EdgeModel → AssignedModel
 assigned_of before edge = record { pool = pool_of before edge; dyndep = dyndep_of before edge }
 
-abbrev pub assigned_given : ReadStatement → (before : List ReadStatement) → StatementText → Option AssignedText
+abbrev pub assigned_given : ReadStatement → (before : List ReadStatement) → StatementModel → Option AssignedModel
 assigned_given e before item = option_map (assigned_of before) (edge_given e before item)
 
 -- what is assigned to each edge, by number; that a dyndep file was joined to an edge changes nothing of it
-unfoldable pub assigned_read : List ReadStatement → List AssignedText
+unfoldable pub assigned_read : List ReadStatement → List AssignedModel
 assigned_read entries = gathered assigned_given entries
 
 -- what is assigned to the edge of a number; past the last edge it is nothing
-abbrev pub assigned_at : List AssignedText → (number : ℕ) → AssignedText
+abbrev pub assigned_at : List AssignedModel → (number : ℕ) → AssignedModel
 assigned_at assigned number = slice_index_or assigned number (record { pool = None; dyndep = None })

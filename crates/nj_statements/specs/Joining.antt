@@ -6,14 +6,14 @@ use Rattle.std.specs.Option.{option_or, option_map_or}
 use Rattle.std.specs.Prelude.{find, length, slice_get, bytes_eq}
 use Rattle.std.specs.List.{list_any}
 pub use Rattle.nj_manifest.specs.Expansion.{no_values}
-use Rattle.nj_manifest.specs.Dyndeps.{EntryText}
+use Rattle.nj_manifest.specs.Dyndeps.{EntryModel}
 use Rattle.nj_scope.specs.ReadingList.{Discovered, ReadStatement}
 use Rattle.nj_edges.specs.Edges.{first_output, maker_of}
 use Rattle.nj_edges.specs.Repeats.{each_once}
 use Rattle.nj_faults.specs.declared.fault.GraphFault.{GraphFault}
 use Rattle.nj_faults.specs.declared.fault.Cause.TheVariants.{DyndepExtra, DyndepTwice, DyndepNoStatement}
 use Rattle.nj_faults.specs.Faults.{fault_at}
-use Rattle.nj_statements.specs.EdgeList.{EdgeText, Pending, path_given, paths_given, edge_given, edges_read, paths_of_edges, pending_read}
+use Rattle.nj_statements.specs.EdgeList.{EdgeModel, Pending, path_given, paths_given, edge_given, edges_read, paths_of_edges, pending_read}
 use Rattle.nj_statements.specs.BuildFaults.{empty_path, outputs_fault}
 
 -- ---- the statements that are joined
@@ -26,15 +26,15 @@ discover edge found (e ∷ before) =
     else e ∷ discover edge found before
 
 -- what an entry adds to the outputs and the inputs of its build statement
-abbrev pub discovered_by : EntryText → Discovered
+abbrev pub discovered_by : EntryModel → Discovered
 discovered_by entry = record { outputs = paths_given no_values entry.outs; inputs = paths_given no_values entry.ins }
 
 -- An entry means the build statement that has its output; an output that another entry discovered names none.
-abbrev pub edge_meant : (stated : List ReadStatement) → EntryText → Option ℕ
+abbrev pub edge_meant : (stated : List ReadStatement) → EntryModel → Option ℕ
 edge_meant stated entry = maker_of (paths_of_edges (edges_read stated)) (path_given no_values entry.out)
 
 -- The statements with what an entry adds, by the statements as they were read, and those with what was joined before.
-abbrev pub with_entry : (stated joined : List ReadStatement) → EntryText → List ReadStatement
+abbrev pub with_entry : (stated joined : List ReadStatement) → EntryModel → List ReadStatement
 with_entry stated joined entry =
     unwrap_or (option_map (λ edge. discover edge (discovered_by entry) joined) (edge_meant stated entry)) joined
 
@@ -45,7 +45,7 @@ abbrev pub pending_on : (file : List ℕ) → List Pending → Option ℕ → Bo
 pending_on file edges edge = option_map_or (λ number. list_any (λ p. p.edge == number && bytes_eq p.file file) edges) edge false
 
 -- The build statement that is meant has to be bound to this file, and to be meant by no other entry.
-abbrev pub meaning_fault : (file : List ℕ) → (stated joined : List ReadStatement) → EntryText → Option GraphFault
+abbrev pub meaning_fault : (file : List ℕ) → (stated joined : List ReadStatement) → EntryModel → Option GraphFault
 meaning_fault file stated joined entry =
     let path = path_given no_values entry.out in
     let edge = edge_meant stated entry in
@@ -54,7 +54,7 @@ meaning_fault file stated joined entry =
 
 -- its output, and which statement it means; the outputs that it discovers, from left to right, each of which no other edge may
 -- make; and the inputs
-abbrev pub entry_fault : (file : List ℕ) → (stated joined : List ReadStatement) → EntryText → Option GraphFault
+abbrev pub entry_fault : (file : List ℕ) → (stated joined : List ReadStatement) → EntryModel → Option GraphFault
 entry_fault file stated joined entry =
     option_or (empty_path file no_values entry.out)
     (option_or (meaning_fault file stated joined entry)
@@ -63,7 +63,7 @@ entry_fault file stated joined entry =
 
 -- ---- what is wrong with a file
 
-abbrev pub no_statement : (file : List ℕ) → EdgeText → GraphFault
+abbrev pub no_statement : (file : List ℕ) → EdgeModel → GraphFault
 no_statement file e = fault_at e.file e.spot (DyndepNoStatement (unwrap_or (first_output e.paths) []) file)
 
 -- After its last entry no edge may be pending on it; the fault is the fault of the lowest-numbered edge.

@@ -4,10 +4,10 @@ use Rattle.std.specs.Prelude.{Result, Ok, Err, List, [], ◌∷◌, ◌++◌, ma
 use Rattle.std.specs.List.{IsDistinct}
 use Rattle.nj_scope.specs.Readings.{IsPrefix}
 use Rattle.nj_scope.specs.ReadingList.{ReadStatement}
-use Rattle.nj_edge_env.specs.Blocks.{BlocksText, bound_in, names_in}
+use Rattle.nj_edge_env.specs.Blocks.{BlocksModel, bound_in, names_in}
 use Rattle.nj_edges.specs.Joining.{JoinTable, none_added}
 use Rattle.nj_faults.specs.declared.fault.GraphFault.{GraphFault}
-use Rattle.nj_statements.specs.EdgeList.{Pending, AssignedText, edges_read, paths_of_edges, defaults_read, pending_read, block_at, block_names_at, assigned_read}
+use Rattle.nj_statements.specs.EdgeList.{Pending, AssignedModel, edges_read, paths_of_edges, defaults_read, pending_read, block_at, block_names_at, assigned_read}
 use Rattle.nj_statements.specs.Built.{EdgeDetail, detail_of}
 use Rattle.nj_statements.specs.Joining.{dyndep_files}
 use Rattle.nj_faults.specs.Faults.{IsFault}
@@ -41,8 +41,6 @@ pending_from number (w ∷ unjoined) = pending_of number w ++ pending_from (numb
 abbrev pub left_pending_from : (number : ℕ) → (bound : List (Option (List ℕ))) → (was_joined : List Bool) → List Pending
 left_pending_from number bound was_joined = pending_from number (still_pending bound was_joined)
 
--- ---- by the numbers of files
-
 -- ---- what is collected for an edge
 
 -- no edge is changed, and files keep their numbers
@@ -55,9 +53,9 @@ pub record KeepsEdges (before after : JoinTable) : Type 0 where
 
 -- ---- what is held
 
-pub record JoiningText : Type 0 where
+pub record JoiningModel : Type 0 where
   pub table : JoinTable
-  pub blocks : BlocksText
+  pub blocks : BlocksModel
   pub details : List EdgeDetail
   -- the paths of all `default` lines
   pub defaults : List (List ℕ)
@@ -66,10 +64,10 @@ pub record JoiningText : Type 0 where
   -- of each edge the dyndep file to which it is bound
   pub bound : List (Option (List ℕ))
   -- what is assigned to each edge
-  pub assigned : List AssignedText
+  pub assigned : List AssignedModel
 
 -- It has the edges and defaults of the joined statements, the edges of the statements as they were read, and which edges are pending.
-pub record HasJoined (held : JoiningText) (stated joined : List ReadStatement) : Type 0 where
+pub record HasJoined (held : JoiningModel) (stated joined : List ReadStatement) : Type 0 where
   pub stated_paths : held.table.stated ≡ paths_of_edges (edges_read stated)
   pub joined_paths : held.table.joined ≡ paths_of_edges (edges_read joined)
   pub none_open : held.table.«open» ≡ none_added
@@ -85,7 +83,7 @@ pub record HasJoined (held : JoiningText) (stated joined : List ReadStatement) :
 
 -- Nothing is joined to an edge: the edges are as they were, and so is what they are pending on. Files may be new, which keep the
 -- numbers of the others, and what an entry adds may be collected in part.
-pub record JoinsNothing (before after : JoiningText) : Type 0 where
+pub record JoinsNothing (before after : JoiningModel) : Type 0 where
   pub edges : KeepsEdges before.table after.table
   pub blocks : after.blocks ≡ before.blocks
   pub details : after.details ≡ before.details
@@ -95,6 +93,6 @@ pub record JoinsNothing (before after : JoiningText) : Type 0 where
   pub assigned : after.assigned ≡ before.assigned
 
 -- the entry has no fault and is joined, or its fault is answered
-abbrev pub JoinsEntry : (after : JoiningText) → Option GraphFault → (stated joined : List ReadStatement) → Result (Unit {0}) GraphFault → Type 0
+abbrev pub JoinsEntry : (after : JoiningModel) → Option GraphFault → (stated joined : List ReadStatement) → Result (Unit {0}) GraphFault → Type 0
 JoinsEntry after expected stated joined (Ok done) = (expected ≡ None) × HasJoined after stated joined
 JoinsEntry after expected stated joined (Err fault) = IsFault expected fault

@@ -1,12 +1,12 @@
 -- What the joining of dyndep files does to the edges of a run, and what it leaves.
 use Rattle.std.specs.Prelude.{◌≡◌, ℕ, ◌<◌, ◌==◌, Bool, true, false, not, Some, None, List, [], ◌∷◌, map, find, length, filter, bytes_eq}
 use Rattle.std.specs.List.{AllByRecursion, IsDistinct, list_any, flat_map}
-use Rattle.nj_manifest.specs.Statements.{StatementText, BuildText}
-use Rattle.nj_manifest.specs.Dyndeps.{EntryText}
+use Rattle.nj_manifest.specs.Statements.{StatementModel, BuildModel}
+use Rattle.nj_manifest.specs.Dyndeps.{EntryModel}
 use Rattle.nj_scope.specs.ReadingList.{Discovered, ReadStatement, value_after, rules_read, rule_in_force, pools}
 use Rattle.nj_edges.specs.Edges.{EdgePaths, outputs_of, maker_of, is_among}
 use Rattle.nj_edges.specs.Joining.{changed_at}
-use Rattle.nj_statements.specs.EdgeList.{EdgeText, Pending, with_discovered, edges_read, paths_of_edges, defaults_read}
+use Rattle.nj_statements.specs.EdgeList.{EdgeModel, Pending, with_discovered, edges_read, paths_of_edges, defaults_read}
 use Rattle.nj_statements.specs.EdgeList.{names_of_edge, pending_read}
 use Rattle.nj_statements.specs.BuildFaults.{build_fault}
 use Rattle.nj_statements.specs.Joining.{discover, discovered_by, edge_meant, with_entry, pending_on, entry_fault, dyndep_files}
@@ -17,7 +17,7 @@ is_pending entries edge = list_any (λ p. p.edge == edge) (pending_read entries)
 
 -- The same edge with discovered files: its outputs come after the implicit ones, and its inputs after the implicit ones and
 -- before the order-only ones.
-abbrev pub with_found : Discovered → EdgeText → EdgeText
+abbrev pub with_found : Discovered → EdgeModel → EdgeModel
 with_found found e = record e { paths = with_discovered (Some found) e.paths }
 
 -- What is discovered for a pending edge is added to that edge, and every other edge stays as it is.
@@ -31,7 +31,7 @@ OthersArePendingAsBefore = (entries : List ReadStatement) (edge : ℕ) (found : 
     → pending_read (discover edge found entries) ≡ filter (λ p. not (p.edge == edge)) (pending_read entries)
 
 -- What an entry of a dyndep file discovers is added to this edge, which waited for the file.
-pub record AddsToItsEdge (file : List ℕ) (stated joined : List ReadStatement) (entry : EntryText) (edge : ℕ) : Type 0 where
+pub record AddsToItsEdge (file : List ℕ) (stated joined : List ReadStatement) (entry : EntryModel) (edge : ℕ) : Type 0 where
   pub meant : edge_meant stated entry ≡ Some edge
   pub waited : pending_on file (pending_read joined) (Some edge) ≡ true
   pub edges : edges_read (with_entry stated joined entry) ≡ changed_at (with_found (discovered_by entry)) edge (edges_read joined)
@@ -39,12 +39,12 @@ pub record AddsToItsEdge (file : List ℕ) (stated joined : List ReadStatement) 
 
 -- An entry that has no fault means one pending edge, and adds to that one.
 abbrev pub EntriesAddToTheirEdges : Type 0
-EntriesAddToTheirEdges = (file : List ℕ) (stated joined : List ReadStatement) (entry : EntryText)
+EntriesAddToTheirEdges = (file : List ℕ) (stated joined : List ReadStatement) (entry : EntryModel)
     → entry_fault file stated joined entry ≡ None → (edge : ℕ) × AddsToItsEdge file stated joined entry edge
 
 -- An edge that has the entry of its dyndep file makes what the entry discovers, which no edge made before; each other file has the
 -- maker that it had.
-pub record MakesWhatItDiscovers (stated joined : List ReadStatement) (entry : EntryText) (edge : ℕ) (path : List ℕ) : Type 0 where
+pub record MakesWhatItDiscovers (stated joined : List ReadStatement) (entry : EntryModel) (edge : ℕ) (path : List ℕ) : Type 0 where
   pub new : is_among (discovered_by entry).outputs path ≡ true → maker_of (paths_of_edges (edges_read joined)) path ≡ None
   pub makes : is_among (discovered_by entry).outputs path ≡ true
       → maker_of (paths_of_edges (edges_read (with_entry stated joined entry))) path ≡ Some edge
@@ -52,13 +52,13 @@ pub record MakesWhatItDiscovers (stated joined : List ReadStatement) (entry : En
       → maker_of (paths_of_edges (edges_read (with_entry stated joined entry))) path ≡ maker_of (paths_of_edges (edges_read joined)) path
 
 abbrev pub EdgesMakeWhatIsDiscovered : Type 0
-EdgesMakeWhatIsDiscovered = (file : List ℕ) (stated joined : List ReadStatement) (entry : EntryText) (edge : ℕ) (path : List ℕ)
+EdgesMakeWhatIsDiscovered = (file : List ℕ) (stated joined : List ReadStatement) (entry : EntryModel) (edge : ℕ) (path : List ℕ)
     → entry_fault file stated joined entry ≡ None → edge_meant stated entry ≡ Some edge
     → MakesWhatItDiscovers stated joined entry edge path
 
 -- A build statement as it is read: it has no fault by the statements before it, and nothing is discovered for it yet.
-abbrev pub IsFaultless : ReadStatement → (before : List ReadStatement) → StatementText → Type 0
-IsFaultless e before (BuildText outputs rule inputs lines) =
+abbrev pub IsFaultless : ReadStatement → (before : List ReadStatement) → StatementModel → Type 0
+IsFaultless e before (BuildModel outputs rule inputs lines) =
     (build_fault e before outputs rule inputs lines ≡ None) × (e.discovered ≡ None)
 IsFaultless e before item = Unit {0}
 
@@ -70,7 +70,7 @@ AreFaultless (e ∷ before) = IsFaultless e before e.item × AreFaultless before
 -- The statements with what entries of dyndep files add, one after the other, each of which has no fault by then.
 pub data IsWithEntries (stated : List ReadStatement) : List ReadStatement → Type 0 where
   as_stated : IsWithEntries stated stated
-  with_one_more : {joined : List ReadStatement} → (file : List ℕ) → (entry : EntryText) → IsWithEntries stated joined
+  with_one_more : {joined : List ReadStatement} → (file : List ℕ) → (entry : EntryModel) → IsWithEntries stated joined
       → entry_fault file stated joined entry ≡ None → IsWithEntries stated (with_entry stated joined entry)
 
 -- the outputs of all edges, by edge and then by output
@@ -89,7 +89,7 @@ pub record GivesTheSame (entries others : List ReadStatement) : Type 0 where
   pub in_force : rule_in_force others ≡ rule_in_force entries
   pub pools_are : pools others ≡ pools entries
   pub defaults : defaults_read others ≡ defaults_read entries
-  pub names : (e : EdgeText) → names_of_edge others e ≡ names_of_edge entries e
+  pub names : (e : EdgeModel) → names_of_edge others e ≡ names_of_edge entries e
 
 abbrev pub NamesStay : Type 0
 NamesStay = (entries : List ReadStatement) (edge : ℕ) (found : Discovered) → GivesTheSame entries (discover edge found entries)

@@ -2,8 +2,8 @@
 
 ghost use Rattle.std.specs.Prelude.{◌≡◌, ℕ, ◌<◌, List, [], ◌∷◌, Some, option_map, length, slice_get, vec_len, vec_capacity, OnOk, OnErr, IfSome};
 ghost use Rattle.std.specs.Option.{option_or};
-ghost use Rattle.nj_manifest.specs.Contents.{words_text, outputs_text, used_rule, inputs_text, lines_text, build_text};
-ghost use Rattle.nj_manifest.specs.Statements.{DefaultText};
+ghost use Rattle.nj_manifest.specs.Contents.{words_model, outputs_model, used_rule, inputs_model, lines_model, build_model};
+ghost use Rattle.nj_manifest.specs.Statements.{DefaultModel};
 ghost use Rattle.nj_scope.specs.Readings.{IsPrefix};
 ghost use Rattle.nj_scope.specs.Scopes.{IsScope, parent_at, first_given};
 ghost use Rattle.nj_scope.specs.Declarations.{DeclaredBy};
@@ -14,12 +14,12 @@ ghost use Rattle.nj_statements.specs.BuildFaults.{paths_fault, late_fault, targe
 ghost use Rattle.nj_statements.specs.Answers.{Checks, HasEdges, AddsNothing, ReadsStatement, entry_at_place};
 ghost use Rattle.nj_statements.specs.Inside.EdgeSteps.{SeesNames, AddsTargets, with_dyndep};
 
-use crate::block::bind_block;
-use crate::capacity::Capacity;
 use crate::context::Context;
-use crate::detail::Detail;
-use crate::edge::add_edge;
-use crate::references::{UsedRule, keep_references, rule_references};
+use crate::edge_record::Detail;
+use crate::rule_references::{UsedRule, keep_references, rule_references};
+use crate::scratch::Capacity;
+use crate::stated_block::bind_block;
+use crate::stated_files::add_edge;
 use crate::text_table::Texts;
 use nj_edge_env::{Blocks, KeyReferences};
 use nj_edges::{Edges, FileNo};
@@ -54,16 +54,16 @@ pub struct Building {
 
 impl Model for Building {
     ghost use Rattle.std.specs.Prelude.{◌≤◌, length, map};
-    ghost use Rattle.nj_statements.specs.Answers.{BuildingText};
-    ghost use Rattle.nj_statements.specs.Inside.EdgeSteps.{AreClean, detail_text};
+    ghost use Rattle.nj_statements.specs.Answers.{BuildingModel};
+    ghost use Rattle.nj_statements.specs.Inside.EdgeSteps.{AreClean, detail_model};
 
-    ghost Value = { BuildingText };
+    ghost Value = { BuildingModel };
 
     ghost view = { λ b. record {
       table = b.edges;
       blocks = b.block_values;
       names = b.names;
-      details = map detail_text b.details.items;
+      details = map detail_model b.details.items;
       defaults = b.defaults.items;
       dyndeps = b.dyndeps.items;
       references = b.references.items;
@@ -113,10 +113,10 @@ impl Building {
             → DeclaredBy declarations.now entries
             → IsScope (parent_at declarations.now.scopes) scope (scope ∷ around)
             → HasEdges self.old entries
-            → let e = entry_at_place place.entry scope around depth (build_text build.now) in
-            ReadsStatement self.new (build_fault e entries (outputs_text build.now)
-            (used_rule build.now) (inputs_text build.now)
-            (lines_text build.now.lines.items)) e entries result }
+            → let e = entry_at_place place.entry scope around depth (build_model build.now) in
+            ReadsStatement self.new (build_fault e entries (outputs_model build.now)
+            (used_rule build.now) (inputs_model build.now)
+            (lines_model build.now.lines.items)) e entries result }
         ensures refused { OnErr result (AddsNothing self.old self.new) }
     {
         let rule = match rule_named(declarations, scope, build.rule) {
@@ -152,10 +152,10 @@ impl Building {
             ≡ Some rule.entry.number
             → slice_get (rules_read entries) rule.entry.number ≡ Some rule.entry.rule.now
             → HasEdges self.old entries
-            → let e = entry_at_place place.entry scope around depth (build_text build.now) in
-            let outputs = outputs_text build.now in
-            let inputs = inputs_text build.now in
-            let lines = lines_text build.now.lines.items in
+            → let e = entry_at_place place.entry scope around depth (build_model build.now) in
+            let outputs = outputs_model build.now in
+            let inputs = inputs_model build.now in
+            let lines = lines_model build.now.lines.items in
             ReadsStatement self.new (option_or (paths_fault e.file (line_values e entries lines)
             (paths_of_edges (edges_read entries)) outputs inputs) (late_fault entries
             (edge_of_build e entries outputs (used_rule build.now) inputs lines)))
@@ -219,9 +219,9 @@ impl Building {
             → DeclaredBy declarations.now entries
             → IsScope (parent_at declarations.now.scopes) scope (scope ∷ around)
             → HasEdges self.old entries
-            → let item = DefaultText (words_text words.now) in
+            → let item = DefaultModel (words_model words.now) in
             let e = entry_at_place place.entry scope around depth item in
-            ReadsStatement self.new (default_fault e entries (words_text words.now))
+            ReadsStatement self.new (default_fault e entries (words_model words.now))
             e entries result }
         ensures refused { OnErr result (self.new ≡ self.old) }
     {
@@ -271,10 +271,10 @@ fn add_targets(
     ensures fault { (values : Values) → SeesNames context.entry values
         → edges.now.«open» ≡ no_files
         → Checks (first_given (target_fault context.entry.place.file.now values edges.now.edges)
-        (words_text words.now)) result }
+        (words_model words.now)) result }
     ensures added { (values : Values) → SeesNames context.entry values
         → OnOk result (AddsTargets edges.now.files targets.old.items targets.new.items
-        (paths_given values (words_text words.now))) }
+        (paths_given values (words_model words.now))) }
     ensures kept { IsPrefix targets.old.items targets.new.items }
 {
     'words: for word in words {

@@ -10,7 +10,7 @@ ghost use Rattle.nj_statements.specs.Built.{ComesTo, defaults_in_force, detail_a
 ghost use Rattle.nj_statements.specs.Inside.Details.{text_at, spot_of};
 
 use crate::building::{Building, DyndepEdge};
-use crate::detail::Detail;
+use crate::edge_record::Detail;
 use crate::text_table::Texts;
 use nj_edge_env::Blocks;
 use nj_edges::{EdgeGraph, EdgeNo, FileNo, Finished};
@@ -40,9 +40,9 @@ pub struct Built {
 }
 
 impl Model for Built {
-    ghost use Rattle.nj_statements.specs.Built.{BuiltText};
+    ghost use Rattle.nj_statements.specs.Built.{BuiltModel};
 
-    ghost Value = { BuiltText };
+    ghost Value = { BuiltModel };
 
     ghost use Rattle.nj_statements.specs.Inside.BuiltHeld.{BuiltIsHeld, built_of};
 

@@ -1,23 +1,23 @@
 //! The reading of `build` and `default` statements: edges and what they name.
 #![tactic(auto)]
 
-mod block;
 mod building;
 mod built;
-mod capacity;
 mod context;
-mod detail;
-mod edge;
-mod joining;
-mod late;
+mod dyndep_entries;
+mod edge_faults;
+mod edge_record;
 mod laws;
-mod names;
-mod references;
+mod line_values;
+mod rule_references;
+mod scratch;
+mod stated_block;
+mod stated_files;
 mod text_table;
 
 pub use building::Building;
 pub use built::{Built, EdgeDetail};
-pub use joining::{DyndepFile, Joining};
+pub use dyndep_entries::{DyndepFile, Joining};
 pub use laws::{
     discovered_files_are_added, dyndep_files_come_once, edges_by_reading_order,
     entries_add_to_their_edges, no_file_gets_two_makers, pending_edges_rise,

@@ -13,7 +13,7 @@ use Rattle.nj_text.specs.Units.{Meaning, Ordinary, LineEnd, BadByte, BadEscape, 
 use Rattle.nj_text.specs.declared.runs.Run.{Run}
 use Rattle.nj_text.specs.Inside.Runs.{in_run}
 use Rattle.nj_text.specs.Inside.Scans.{advance, units_within, Begins, BeginsBadly}
-use Rattle.nj_text.specs.Words.{fault_of, next_fault, parts_of, PartText, Text, begins_with_ordinary, longer_run}
+use Rattle.nj_text.specs.Words.{fault_of, next_fault, parts_of, PartModel, Text, begins_with_ordinary, longer_run}
 use Rattle.nj_text.specs.Inside.Gathering.{run_of, in_text, gathered, after_text, NoneInRun}
 use Rattle.nj_text.proofs.Lists.{AllIn, AllIn-weaker, AllIn-take_while, drop_while-append, take_while-append, take_while-cons_yes, take_while-cons_no, drop_while-cons_no}
 use Rattle.nj_text.proofs.Cuts.{plain_units, cut-run, unit-ordinary}
@@ -166,8 +166,8 @@ run_over k r bytes ys is_r remainder = rw (← is_r, remainder) (none_after (in_
 -- ---- turns of the loop
 
 -- a part more
-pub part_gathered : (front : List PartText) (p : PartText) (rest before all : List PartText) → before ≡ p ∷ rest → front ++ before ≡ all → (front ++ p ∷ []) ++ rest ≡ all
+pub part_gathered : (front : List PartModel) (p : PartModel) (rest before all : List PartModel) → before ≡ p ∷ rest → front ++ before ≡ all → (front ++ p ∷ []) ++ rest ≡ all
 part_gathered front p rest before all e h = append_assoc front (p ∷ []) rest ∙ ap (λ ps. front ++ ps) (sym e) ∙ h
 
-pub all_gathered : (front before all : List PartText) → before ≡ [] → front ++ before ≡ all → front ≡ all
+pub all_gathered : (front before all : List PartModel) → before ≡ [] → front ++ before ≡ all → front ≡ all
 all_gathered front before all e h = sym (append-nil front) ∙ ap (λ ps. front ++ ps) (sym e) ∙ h

@@ -6,7 +6,7 @@ use Rattle.std.proofs.lemmas.List.{append-nil}
 use Rattle.nj_text.specs.declared.spot.Spot.{Spot}
 use Rattle.nj_text.specs.Bytes.{is_identifier_byte, is_name_byte, is_ordinary_byte, is_escapable, begins_with, drop_while}
 use Rattle.nj_text.specs.Units.{Meaning, Ordinary, Escape, Reference, Join, TextUnit, is_ordinary_in, Found, named, after_dollar, unit_at, opening, opens_comment, Position, AtStart, AfterSpaces, Within, found_at, position_after, spot_after, first_spot, cut}
-use Rattle.nj_text.specs.Words.{PartText, Text, longer_run, part_before, begins_with_ordinary, parts_of}
+use Rattle.nj_text.specs.Words.{PartModel, Text, longer_run, part_before, begins_with_ordinary, parts_of}
 use Rattle.nj_text.specs.Calls.{bytes_of}
 use Rattle.nj_text.specs.Laws.{part_bytes, AreInOrder, PartsComeInOrder}
 use Rattle.nj_text.proofs.Lists.{take_while-cons_yes, take_while-cons_no}
@@ -107,16 +107,16 @@ after_gap gap [] bytes h = tt
 after_gap gap (piece ∷ pieces) bytes h = (gap ++ h.0, h.1, ap (λ zs. gap ++ zs) h.2 ∙ simp append_assoc, h.3)
 
 -- A run of ordinary bytes is at the front.
-abbrev Starts : List PartText → List ℕ → Type 0
-Starts ps bytes = (run : List ℕ) × (more : List PartText) × (rest : List ℕ) × (ps ≡ Text run ∷ more) × (bytes ≡ run ++ rest) × AreInOrder (map part_bytes more) rest
+abbrev Starts : List PartModel → List ℕ → Type 0
+Starts ps bytes = (run : List ℕ) × (more : List PartModel) × (rest : List ℕ) × (ps ≡ Text run ∷ more) × (bytes ≡ run ++ rest) × AreInOrder (map part_bytes more) rest
 
 abbrev is_byte : Meaning → Bool
 is_byte m = is_ordinary_in (λ b. true) m
 
-abbrev InOrder : List PartText → List ℕ → Bool → Type 0
+abbrev InOrder : List PartModel → List ℕ → Bool → Type 0
 InOrder ps bytes starts = AreInOrder (map part_bytes ps) bytes × (starts ≡ true → Starts ps bytes)
 
-unit_before : (m : Meaning) (bytes : List ℕ) (t : Bool) (ps : List PartText) (rest : List ℕ) → Denotes m bytes → InOrder ps rest t → InOrder (part_before m t ps) (bytes ++ rest) (is_byte m)
+unit_before : (m : Meaning) (bytes : List ℕ) (t : Bool) (ps : List PartModel) (rest : List ℕ) → Denotes m bytes → InOrder ps rest t → InOrder (part_before m t ps) (bytes ++ rest) (is_byte m)
 unit_before (Ordinary b) bytes true ps rest h s =
     let r = s.1 refl in
     let parts : longer_run b ps ≡ Text (b ∷ r.0) ∷ r.1 = ap (longer_run b) r.3 in

@@ -9,7 +9,7 @@ use Rattle.nj_text.specs.declared.sign.Sign.TheVariants as sign
 use Rattle.nj_text.specs.Bytes.{is_space, is_ordinary_byte, is_identifier_byte, drop_while}
 use Rattle.nj_text.specs.Units.{LineEnd, TextUnit, AtStart, cut}
 use Rattle.nj_text.specs.Inside.Scans.{advance, on_next_line, units_within, Begins}
-use Rattle.nj_text.specs.Words.{is_blank, next_fault, Text, plain_text}
+use Rattle.nj_text.specs.Words.{is_blank, next_fault, Text, plain_model}
 use Rattle.nj_text.specs.Calls.{Between, TakesBinding, skip_blanks_of, spot_of, ident_of, ident_at, sign_of, sign_at, value_of, value_at}
 use Rattle.nj_text.specs.Inside.Gathering.{gathered, after_text}
 use Rattle.nj_text.specs.Inside.States.{reply, unless_bad, inside, lines_from, lines_within}
@@ -75,7 +75,7 @@ unfolding cut
 feed_ends spot bs = (refl, refl, refl)
 
 value_here : (spot here there : Spot) (rest xs zs : List ℕ) → here ≡ advance 1 spot → Starts (units_within here rest) → rest ≡ xs ++ 10 ∷ zs → xs ≡ take_while is_ordinary_byte rest → 10 ∷ zs ≡ drop_while is_ordinary_byte rest → there ≡ advance (length xs) here → eqb (length xs) 0 ≡ false
-    → value_of (inside (lines_within spot (32 ∷ rest))) ≡ reply (plain_text here xs) (inside (lines_within there (10 ∷ zs)))
+    → value_of (inside (lines_within spot (32 ∷ rest))) ≡ reply (plain_model here xs) (inside (lines_within there (10 ∷ zs)))
 value_here spot here there rest xs zs e starts whole run_is after_is t nonempty =
     let over = over_space spot here 32 (32 ∷ rest) rest rest refl refl refl e in
     let read = run_read kind.Value run.Value here there rest xs (10 ∷ zs) refl run_is after_is whole t nonempty in
@@ -122,7 +122,7 @@ pub binding_seen : (spot equals text end after : Spot) (b feed : ℕ) (bytes nam
     → signs ≡ 32 ∷ 61 ∷ 32 ∷ rest → text ≡ advance 3 equals
     → rest ≡ value ++ ys → value ≡ take_while is_ordinary_byte rest → ys ≡ drop_while is_ordinary_byte rest → end ≡ advance (length value) text → value ≡ b ∷ vs → (b ≡ 32 → ⊥)
     → ys ≡ feed ∷ zs → feed ≡ 10 → after ≡ on_next_line 0 end → next ≡ drop (1 + 0) ys
-    → TakesBinding (inside (lines_within spot bytes)) (Between (lines_from after next)) spot name (plain_text text value)
+    → TakesBinding (inside (lines_within spot bytes)) (Between (lines_from after next)) spot name (plain_model text value)
 binding_seen spot equals text end after b feed bytes name signs rest value vs ys zs next whole name_run signs_are equals_at named signs_is text_at rest_is value_run ys_are end_at value_is not_space ys_is feed_is after_at next_is =
     let starts = name_starts spot bytes (ap (λ xs. eqb (length xs) 0) (sym name_run) ∙ named) in
     let skipped = skips_nothing spot bytes starts in

@@ -8,7 +8,7 @@ use Rattle.nj_text.specs.declared.runs.Run.TheVariants as run
 use Rattle.nj_text.specs.Bytes.{is_space, is_ordinary_byte, is_word_byte, drop_while}
 use Rattle.nj_text.specs.Units.{TextUnit, cut}
 use Rattle.nj_text.specs.Inside.Scans.{advance, units_within}
-use Rattle.nj_text.specs.Words.{is_blank, next_fault, Text, plain_text}
+use Rattle.nj_text.specs.Words.{is_blank, next_fault, Text, plain_model}
 use Rattle.nj_text.specs.Calls.{begins_word, word_at, path_word_of}
 use Rattle.nj_text.specs.Inside.Gathering.{gathered, after_text}
 use Rattle.nj_text.specs.Inside.States.{reply, unless_bad, inside, lines_within}
@@ -126,7 +126,7 @@ none_seen spot here bytes rest e h =
 -- after one space or none a run of its bytes is the whole word
 pub run_seen : (spot here there : Spot) (bytes rest xs ys : List ℕ) → drop_while is_blank (units_within spot bytes) ≡ drop_while is_blank (units_within here rest) → xs ≡ take_while is_word_byte rest → ys ≡ drop_while is_word_byte rest → rest ≡ xs ++ ys → there ≡ advance (length xs) here
     → eqb (length xs) 0 ≡ false → word_ends ys ≡ true
-    → path_word_of (inside (lines_within spot bytes)) ≡ reply (Some (plain_text here xs)) (inside (lines_within there ys))
+    → path_word_of (inside (lines_within spot bytes)) ≡ reply (Some (plain_model here xs)) (inside (lines_within there ys))
 run_seen spot here there bytes rest xs ys e run_is after_is whole t nonempty stops =
     let starts = word_starts here rest (ap (λ zs. eqb (length zs) 0) (sym run_is) ∙ nonempty) in
     let read = run_read kind.Word run.Word here there rest xs ys refl run_is after_is whole t nonempty in

@@ -10,7 +10,7 @@ use Rattle.nj_text.specs.declared.line_start.LineStart.TheVariants.{End, Blank, 
 use Rattle.nj_text.specs.declared.spot.Spot.{Spot}
 use Rattle.nj_text.specs.Units.{units, cut, Meaning, Comment, LineEnd, TextEnd, Ordinary, Join, OpeningJoin, Escape, Reference, BadByte, BadEscape, LeadingTab}
 use Rattle.nj_text.specs.Lines.{text_lines, kind_of, CommentLine, TabLine, PlainLine, BlankLine, IndentedLine, line_spot}
-use Rattle.nj_text.specs.Words.{PartText, Text, Name, WordText}
+use Rattle.nj_text.specs.Words.{PartModel, Text, Name, WordModel}
 use Rattle.nj_text.specs.Calls.{State, Failed, Reply, at_front, start_line_of, ident_of, sign_of, path_word_of, value_of, spot_of}
 
 -- ---- units
@@ -142,7 +142,7 @@ data Expected : Type 0 where
   Begins : LineStart → Expected
   Found : Option (List ℕ) → Expected
   There : Bool → Expected
-  Word : Spot → List PartText → Expected
+  Word : Spot → List PartModel → Expected
   NoWord : Expected
   Placed : Spot → Expected
   Fault : UnitFault → Expected
@@ -158,10 +158,10 @@ answered show (Err f) = (Fault f, Failed f)
 abbrev shown : {A : Type 0} → (A → Expected) → (State → Reply A) → Call
 shown show call s = answered show (call s)
 
-abbrev found_word : WordText → Expected
+abbrev found_word : WordModel → Expected
 found_word w = Word w.spot w.parts
 
-abbrev found_or_not : Option WordText → Expected
+abbrev found_or_not : Option WordModel → Expected
 found_or_not None = NoWord
 found_or_not (Some w) = found_word w
 

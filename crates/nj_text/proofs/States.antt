@@ -11,7 +11,7 @@ use Rattle.nj_text.specs.declared.word.Word.{Word}
 use Rattle.nj_text.specs.declared.word.Part.{Part}
 use Rattle.nj_text.specs.Units.{OpeningJoin, TextUnit, AtStart, Within, cut}
 use Rattle.nj_text.specs.Lines.{Line, lines_of, before_first_line, with_units, line_spot}
-use Rattle.nj_text.specs.Words.{is_blank, WordText, word_text, part_text, after_opening}
+use Rattle.nj_text.specs.Words.{is_blank, WordModel, word_model, part_model, after_opening}
 use Rattle.nj_text.specs.Inside.Meanings.{opens_line_meaning}
 use Rattle.nj_text.specs.Calls.{State, Between, Inside, Reply, after_blanks, value_at, value_of, sign_of, first_line_spot, ReturnsOrLacksMemory, skip_blanks_of, is_inside}
 use Rattle.nj_text.specs.Bytes.{drop_while}
@@ -101,19 +101,19 @@ value_inside spot bytes = ap (λ us. value_at (after_blanks (with_units us (line
 
 -- ---- a value that was read
 
-finished_at_fault : (old new : State) (expected : Reply WordText) (f : WordFault) (result : Result Word LexFault) → is_inside old ≡ true → FailsStep expected f → FinishesAtFault f old new result → ReturnsOrLacksMemory word_text result old new expected
+finished_at_fault : (old new : State) (expected : Reply WordModel) (f : WordFault) (result : Result Word LexFault) → is_inside old ≡ true → FailsStep expected f → FinishesAtFault f old new result → ReturnsOrLacksMemory word_model result old new expected
 finished_at_fault old new expected (word_fault.Unit f) (Ok w) i e h = absurd h.0
 finished_at_fault old new expected (word_fault.Unit f) (Err g) i e h = rw (h.0, e) (refl, h.1)
 finished_at_fault old new expected word_fault.OutOfMemory (Ok w) i e h = absurd h.0
 finished_at_fault old new expected word_fault.OutOfMemory (Err g) i e h = rw h.0 (i, h.1)
 
-pub finished_value : (old new : State) (expected : Reply WordText) (step : Result (Word × Cursor) WordFault) (result : Result Word LexFault) → is_inside old ≡ true → value_of old ≡ expected → StepsOrLacksMemory word_text expected step → FinishesValue step old new result
-    → ReturnsOrLacksMemory word_text result old new (value_of old)
-finished_value old new expected (Ok step) result i v e h = rw (h.0, v, e) (ap (λ s. reply (word_text step.0) s) (sym h.1))
+pub finished_value : (old new : State) (expected : Reply WordModel) (step : Result (Word × Cursor) WordFault) (result : Result Word LexFault) → is_inside old ≡ true → value_of old ≡ expected → StepsOrLacksMemory word_model expected step → FinishesValue step old new result
+    → ReturnsOrLacksMemory word_model result old new (value_of old)
+finished_value old new expected (Ok step) result i v e h = rw (h.0, v, e) (ap (λ s. reply (word_model step.0) s) (sym h.1))
 finished_value old new expected (Err f) result i v e h = rw v (finished_at_fault old new expected f result i e h)
 
-pub value_between : (spot : Spot) (bytes : List ℕ) (parts : List Part) → parts ≡ [] → value_of (Between (lines_from spot bytes)) ≡ reply (record { spot = spot; parts = map part_text parts }) (Between (lines_from spot bytes))
-value_between spot bytes parts e = ap (λ p. reply (record { spot = p; parts = [] }) (Between (lines_from spot bytes))) (spot_between spot bytes) ∙ ap (λ ps. reply (record { spot = spot; parts = map part_text ps }) (Between (lines_from spot bytes))) (sym e)
+pub value_between : (spot : Spot) (bytes : List ℕ) (parts : List Part) → parts ≡ [] → value_of (Between (lines_from spot bytes)) ≡ reply (record { spot = spot; parts = map part_model parts }) (Between (lines_from spot bytes))
+value_between spot bytes parts e = ap (λ p. reply (record { spot = p; parts = [] }) (Between (lines_from spot bytes))) (spot_between spot bytes) ∙ ap (λ ps. reply (record { spot = spot; parts = map part_model ps }) (Between (lines_from spot bytes))) (sym e)
 
 -- ---- after blanks
 

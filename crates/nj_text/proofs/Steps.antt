@@ -12,7 +12,7 @@ use Rattle.nj_text.specs.Bytes.{is_ordinary_byte, is_identifier_byte, drop_while
 use Rattle.nj_text.specs.Units.{Meaning, Within, unit_at, position_after, spot_after, is_ordinary_in, cut}
 use Rattle.nj_text.specs.Lines.{Line, lines_of, with_units, line_spot}
 use Rattle.nj_text.specs.Inside.Scans.{advance, units_within, BeginsBadly}
-use Rattle.nj_text.specs.Words.{is_blank, in_identifier, in_word, next_fault, parts_of, PartText, WordText}
+use Rattle.nj_text.specs.Words.{is_blank, in_identifier, in_word, next_fault, parts_of, PartModel, WordModel}
 use Rattle.nj_text.specs.Inside.Meanings.{opens_word_meaning}
 use Rattle.nj_text.specs.Calls.{State, Inside, Reply, unless_fault, after_blanks, bytes_of, some_bytes, ident_at, begins_word, word_here, word_at, value_at}
 use Rattle.nj_text.specs.Inside.Gathering.{gathered, after_text, FailsText}
@@ -136,7 +136,7 @@ fault_after_word spot bytes = ap next_fault (sym (word_line spot bytes)) ∙ nex
 begins_here : (spot : Spot) (bytes : List ℕ) → begins_word (line spot bytes).units ≡ begins_word (units_within spot bytes)
 begins_here spot bytes = begins_word_of_line (units_within spot bytes) (cut_has_line Within 0 spot bytes)
 
-abbrev word_or_none : Spot → List ℕ → Bool → Reply (Option WordText)
+abbrev word_or_none : Spot → List ℕ → Bool → Reply (Option WordModel)
 word_or_none spot bytes t =
     cond t
     (unless_fault (next_fault (drop_while in_word (line spot bytes).units)) (reply (Some (word_here (line spot bytes))) (Inside (with_units (drop_while in_word (line spot bytes).units) (line spot bytes)) (others spot bytes))))
@@ -153,7 +153,7 @@ word_fails_here spot bytes f n b e =
     continues_here spot bytes (word_or_none spot bytes (begins_word (line spot bytes).units)) n ∙ ap (word_or_none spot bytes) (begins_here spot bytes ∙ b)
     ∙ ap (λ o. unless_fault o (reply (Some (word_here (line spot bytes))) (Inside (with_units (drop_while in_word (line spot bytes).units) (line spot bytes)) (others spot bytes)))) (fault_after_word spot bytes ∙ e)
 
-pub word_is_here : (spot : Spot) (bytes : List ℕ) (parts : List PartText) (there : Spot) (rest : List ℕ) → None ≡ next_fault (units_within spot bytes) → begins_word (units_within spot bytes) ≡ true
+pub word_is_here : (spot : Spot) (bytes : List ℕ) (parts : List PartModel) (there : Spot) (rest : List ℕ) → None ≡ next_fault (units_within spot bytes) → begins_word (units_within spot bytes) ≡ true
     → next_fault (after_text kind.Word (units_within spot bytes)) ≡ None → parts ≡ gathered kind.Word (units_within spot bytes) → units_within there rest ≡ after_text kind.Word (units_within spot bytes)
     → unless_bad word_at (line spot bytes) (others spot bytes) ≡ reply (Some (record { spot = spot; parts = parts })) (inside (lines_within there rest))
 word_is_here spot bytes parts there rest n b e p r =
@@ -174,7 +174,7 @@ value_fails_here spot bytes f e =
     let v = value_of_line (units_within spot bytes) (cut_has_line Within 0 spot bytes) in
     ap (λ o. unless_fault o (reply (record { spot = line_spot (line spot bytes); parts = parts_of (line spot bytes).units }) (Inside (with_units [] (line spot bytes)) (others spot bytes)))) (v.fault ∙ e)
 
-pub value_is_here : (spot : Spot) (bytes : List ℕ) (parts : List PartText) (there : Spot) (rest : List ℕ) → next_fault (after_text kind.Value (units_within spot bytes)) ≡ None → parts ≡ gathered kind.Value (units_within spot bytes)
+pub value_is_here : (spot : Spot) (bytes : List ℕ) (parts : List PartModel) (there : Spot) (rest : List ℕ) → next_fault (after_text kind.Value (units_within spot bytes)) ≡ None → parts ≡ gathered kind.Value (units_within spot bytes)
     → units_within there rest ≡ after_text kind.Value (units_within spot bytes)
     → value_at (line spot bytes) (others spot bytes) ≡ reply (record { spot = spot; parts = parts }) (inside (lines_within there rest))
 value_is_here spot bytes parts there rest e p r =

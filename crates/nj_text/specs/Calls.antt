@@ -16,7 +16,7 @@ use Rattle.nj_text.specs.declared.spot.Spot.{Spot}
 use Rattle.nj_text.specs.Bytes.{drop_while}
 use Rattle.nj_text.specs.Units.{TextUnit, first_spot}
 use Rattle.nj_text.specs.Lines.{Line, text_lines, line_spot, with_units, lines_after, Kind, CommentLine, TabLine, BlankLine, IndentedLine, PlainLine, kind_of, is_space_unit}
-use Rattle.nj_text.specs.Words.{is_blank, after_opening, in_identifier, opens_word, in_word, begins_with_byte, next_fault, first_fault, parts_of, WordText, plain_text}
+use Rattle.nj_text.specs.Words.{is_blank, after_opening, in_identifier, opens_word, in_word, begins_with_byte, next_fault, first_fault, parts_of, WordModel, plain_model}
 
 -- Where a lexer is: between lines, before those that are left; inside a line, before what is left of it and the lines
 -- after it; or at a fault, for good.
@@ -128,16 +128,16 @@ abbrev pub begins_word : List TextUnit → Bool
 begins_word [] = false
 begins_word (u ∷ us) = opens_word u
 
-abbrev pub word_here : Line → WordText
+abbrev pub word_here : Line → WordModel
 word_here l = record { spot = line_spot l; parts = parts_of (take_while in_word l.units) }
 
-abbrev pub word_at : Line → List Line → Reply (Option WordText)
+abbrev pub word_at : Line → List Line → Reply (Option WordModel)
 word_at l ls =
     let rest = drop_while in_word l.units in
     if begins_word l.units then unless_fault (next_fault rest) (Ok (Some (word_here l), Inside (with_units rest l) ls))
     else Ok (None, Inside l ls)
 
-abbrev pub path_word_of : State → Reply (Option WordText)
+abbrev pub path_word_of : State → Reply (Option WordModel)
 path_word_of s = in_line None word_at (skip_blanks_of s)
 
 -- ---- spot
@@ -158,11 +158,11 @@ spot_of (Failed f) = fault_spot f
 
 -- ---- value
 
-abbrev pub value_at : Line → List Line → Reply WordText
+abbrev pub value_at : Line → List Line → Reply WordModel
 value_at l ls =
     unless_fault (first_fault l.units) (Ok (record { spot = line_spot l; parts = parts_of l.units }, Inside (with_units [] l) ls))
 
-abbrev pub value_of : State → Reply WordText
+abbrev pub value_of : State → Reply WordModel
 value_of (Between ls) = Ok (record { spot = first_line_spot ls; parts = [] }, Between ls)
 value_of (Inside l ls) = value_at (after_blanks (with_units (after_opening l.units) l)) ls
 value_of (Failed f) = Err f
@@ -203,12 +203,12 @@ ReturnsOrLacksMemory view (Err f) before after expected = FailsOrLacksMemory (un
 
 -- It takes what `path_word` takes, or nothing.
 abbrev pub TakesPlainWord : PlainWord → (before after : State) → Type 0
-TakesPlainWord (plain.Word spot bytes) before after = path_word_of before ≡ Ok (Some (plain_text spot bytes.now), after)
+TakesPlainWord (plain.Word spot bytes) before after = path_word_of before ≡ Ok (Some (plain_model spot bytes.now), after)
 TakesPlainWord plain.NoWord before after = path_word_of before ≡ Ok (None, after)
 TakesPlainWord plain.Unknown before after = after ≡ before
 
 -- `NAME = VALUE` to the end of its line, as the calls take it one by one
-pub record TakesBinding (before after : State) (spot : Spot) (name : List ℕ) (value : WordText) : Type 0 where
+pub record TakesBinding (before after : State) (spot : Spot) (name : List ℕ) (value : WordModel) : Type 0 where
   pub place : spot_of (skip_blanks_of before) ≡ spot
   pub after_name : State
   pub name_taken : ident_of (skip_blanks_of before) ≡ Ok (Some name, after_name)

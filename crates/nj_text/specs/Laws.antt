@@ -6,7 +6,7 @@ use Rattle.nj_text.specs.declared.spot.Spot.{Spot}
 use Rattle.nj_text.specs.Bytes.{is_line_feed}
 use Rattle.nj_text.specs.Units.{TextUnit, units}
 use Rattle.nj_text.specs.Lines.{Line, text_lines, ending_of}
-use Rattle.nj_text.specs.Words.{PartText, Text, Name, parts_of}
+use Rattle.nj_text.specs.Words.{PartModel, Text, Name, parts_of}
 use Rattle.nj_text.specs.Calls.{bytes_of}
 
 -- the bytes of the units, one after another, are the text
@@ -42,7 +42,7 @@ abbrev pub LinesAreTheUnits : Type 0
 LinesAreTheUnits = (text : List ℕ) → flat_map marks_of (text_lines text) ≡ map mark_of (units text)
 
 -- the bytes of a part as they are in the text: a run of ordinary bytes, the byte of an escape, or a name
-abbrev pub part_bytes : PartText → List ℕ
+abbrev pub part_bytes : PartModel → List ℕ
 part_bytes (Text bytes) = bytes
 part_bytes (Name name) = name
 

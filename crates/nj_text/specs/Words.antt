@@ -62,17 +62,17 @@ first_fault (u ∷ us) = option_or (fault_of u.means u.spot) (first_fault us)
 -- ---- the meaning of the units of a word or a value
 
 -- bytes that mean themselves, or the name of a reference
-pub data PartText : Type 0 where
-  Text : (bytes : List ℕ) → PartText
-  Name : (name : List ℕ) → PartText
+pub data PartModel : Type 0 where
+  Text : (bytes : List ℕ) → PartModel
+  Name : (name : List ℕ) → PartModel
 
 -- a byte before a run of ordinary bytes
-abbrev pub longer_run : ℕ → List PartText → List PartText
+abbrev pub longer_run : ℕ → List PartModel → List PartModel
 longer_run b [] = []
 longer_run b (Text bytes ∷ ps) = Text (b ∷ bytes) ∷ ps
 longer_run b (Name name ∷ ps) = Text (b ∷ []) ∷ Name name ∷ ps
 
-abbrev pub part_before : Meaning → (run_continues : Bool) → List PartText → List PartText
+abbrev pub part_before : Meaning → (run_continues : Bool) → List PartModel → List PartModel
 part_before (Ordinary b) true ps = longer_run b ps
 part_before (Ordinary b) false ps = Text (b ∷ []) ∷ ps
 part_before (Escape b) run_continues ps = Text (b ∷ []) ∷ ps
@@ -84,24 +84,24 @@ begins_with_ordinary [] = false
 begins_with_ordinary (u ∷ us) = is_ordinary_in (λ b. true) u.means
 
 -- A longest run of ordinary bytes is one part; an escape and a reference are a part each; joins mean nothing.
-abbrev pub parts_of : List TextUnit → List PartText
+abbrev pub parts_of : List TextUnit → List PartModel
 parts_of [] = []
 parts_of (u ∷ us) = part_before u.means (begins_with_ordinary us) (parts_of us)
 
 -- a word or a value: its place and its parts
-pub record WordText : Type 0 where
+pub record WordModel : Type 0 where
   pub spot : Spot
-  pub parts : List PartText
+  pub parts : List PartModel
 
 -- a word of bytes that mean themselves
-abbrev pub plain_text : Spot → List ℕ → WordText
-plain_text spot bytes = record { spot = spot; parts = Text bytes ∷ [] }
+abbrev pub plain_model : Spot → List ℕ → WordModel
+plain_model spot bytes = record { spot = spot; parts = Text bytes ∷ [] }
 
 -- ---- the same of the program's values
 
-abbrev pub part_text : Part → PartText
-part_text (part.Bytes bytes) = Text bytes.now
-part_text (part.Name name) = Name name.now
+abbrev pub part_model : Part → PartModel
+part_model (part.Bytes bytes) = Text bytes.now
+part_model (part.Name name) = Name name.now
 
-abbrev pub word_text : Word → WordText
-word_text w = record { spot = w.spot; parts = map part_text w.parts.items }
+abbrev pub word_model : Word → WordModel
+word_model w = record { spot = w.spot; parts = map part_model w.parts.items }

@@ -6,7 +6,7 @@ ghost use Rattle.std.specs.List.{list_any, slice_split};
 ghost use Rattle.nj_text.specs.Paths.{is_slash};
 ghost use Rattle.nj_text.specs.Inside.Cleaning.{component_of, components_left, all_stay, is_here};
 
-use crate::names::are_names;
+use crate::path_lanes::are_names;
 
 /// What a component between two slashes means.
 #[derive(Clone, Copy)]

@@ -2,7 +2,7 @@
 
 ghost use Rattle.std.specs.Prelude.{◌≡◌, List, ℕ, Some, MatchOption};
 ghost use Rattle.std.specs.Option.{option_map};
-ghost use Rattle.nj_text.specs.Words.{word_text};
+ghost use Rattle.nj_text.specs.Words.{word_model};
 ghost use Rattle.nj_text.specs.Calls.{Answers, ReturnsOrLacksMemory, at_front, start_line_of, ident_of, sign_of, path_word_of, value_of, spot_of, skip_blanks_of, TakesPlainWord, TakesBinding, Failed, unit_of};
 ghost use Rattle.nj_text.specs.Inside.States.{FinishesValue};
 
@@ -10,13 +10,13 @@ use crate::blanks::skip_blanks;
 use crate::cursor::Cursor;
 use crate::fault::{LexFault, UnitFault, WordFault};
 use crate::line_start::{Begun, LineStart, begin_line};
+use crate::line_words::{identifier, value, word};
 use crate::plain_bindings::{PlainBinding, plain_binding};
 use crate::plain_words::{PlainWord, plain_word};
 use crate::sign::{Sign, SignTaken, take_sign};
 use crate::spot::Spot;
 use crate::state::State;
 use crate::word::Word;
-use crate::words::{identifier, value, word};
 use smallvec::SmallVec;
 use std::alloc::Global;
 use std::marker::Model;
@@ -129,7 +129,7 @@ impl<'a> Lexer<'a> {
     #[inline(always)]
     pub fn plain_binding(&mut self, alloc: Global) -> Option<PlainBinding<'a>>
         ensures { MatchOption result (self.new ≡ self.old) (λ found.
-            TakesBinding self.old self.new found.spot found.name.now (word_text found.value)) }
+            TakesBinding self.old self.new found.spot found.name.now (word_model found.value)) }
     {
         match self.state {
             State::Failed(_) => None,
@@ -201,7 +201,7 @@ impl<'a> Lexer<'a> {
     /// The fault of a bad unit that comes next, or of the one at which the word stops;
     /// [`LexFault::OutOfMemory`], which leaves the lexer as it was.
     pub fn path_word(&mut self, alloc: Global) -> Result<Option<Word<'a>>, LexFault>
-        ensures { ReturnsOrLacksMemory (option_map word_text) result self.old self.new
+        ensures { ReturnsOrLacksMemory (option_map word_model) result self.old self.new
             (path_word_of self.old) }
     {
         let start = self.cursor;
@@ -228,7 +228,7 @@ impl<'a> Lexer<'a> {
     /// lexer as it was.
     #[inline(always)]
     pub fn value(&mut self, alloc: Global) -> Result<Word<'a>, LexFault>
-        ensures { ReturnsOrLacksMemory word_text result self.old self.new (value_of self.old) }
+        ensures { ReturnsOrLacksMemory word_model result self.old self.new (value_of self.old) }
     {
         let cursor = self.cursor;
         match self.state {

@@ -2,7 +2,7 @@
 //! are.
 
 ghost use Rattle.std.specs.Prelude.{◌≡◌, ◌∷◌, IfSome};
-ghost use Rattle.nj_text.specs.Words.{word_text};
+ghost use Rattle.nj_text.specs.Words.{word_model};
 ghost use Rattle.nj_text.specs.Calls.{Between, TakesBinding};
 ghost use Rattle.nj_text.specs.Inside.Scans.{advance};
 ghost use Rattle.nj_text.specs.Inside.States.{inside, lines_at, lines_within};
@@ -41,7 +41,7 @@ fn past_equals(cursor: Cursor<'_>) -> Option<Cursor<'_>>
 pub fn plain_binding<'a>(alloc: Global, start: Cursor<'a>) -> Option<(PlainBinding<'a>, Cursor<'a>)>
     ensures { IfSome result (λ found. TakesBinding
         (inside (lines_within start.entry.spot start.entry.rest.now)) (Between (lines_at found.1))
-        found.0.spot found.0.name.now (word_text found.0.value)) }
+        found.0.spot found.0.name.now (word_model found.0.value)) }
 {
     let (name, equals) = start.run(Run::Identifier);
     if name.is_empty() {

@@ -7,7 +7,7 @@ ghost use Rattle.nj_text.specs.Inside.Cleaning.{BeginsWith};
 ghost use Rattle.nj_text.specs.Quotes.{is_plain_byte, within_quotes, in_quotes, quoted};
 ghost use Rattle.nj_text.specs.Inside.Quoting.{after_run};
 
-use crate::plain::plain_front;
+use crate::plain_bytes::plain_front;
 use std::alloc::AllocError;
 
 /// Appends the shell quote of a path: a path of letters, digits and `_`, `+`, `-`, `.`, `/` alone

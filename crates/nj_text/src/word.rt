@@ -1,7 +1,7 @@
 //! Words and values: texts with references.
 
 ghost use Rattle.std.specs.Prelude.{◌≡◌};
-ghost use Rattle.nj_text.specs.Words.{plain_text, word_text};
+ghost use Rattle.nj_text.specs.Words.{plain_model, word_model};
 
 use crate::spot::Spot;
 use smallvec::SmallVec;
@@ -38,7 +38,7 @@ impl<'a> Word<'a> {
     /// A word of bytes that mean themselves, at this place.
     #[inline(always)]
     pub fn plain(alloc: Global, spot: Spot, bytes: &'a [u8]) -> Word<'a>
-        ensures { word_text result ≡ plain_text spot bytes.now }
+        ensures { word_model result ≡ plain_model spot bytes.now }
     {
         let mut parts = SmallVec::new(alloc);
         parts.push_reserved(Part::Bytes(bytes));

@@ -14,11 +14,11 @@ use Rattle.nj_edges.specs.declared.files.FileNo.{FileNo}
 use Rattle.nj_edges.specs.Edges.{inputs_of, edges_from}
 use Rattle.nj_edges.specs.Files.{AreFiles}
 use Rattle.nj_statements.specs.EdgeList.{edges_read}
-use Rattle.nj_graph.specs.Graph.{GraphText, edges_of, IsGraphOf, rule_name_of}
+use Rattle.nj_graph.specs.Graph.{GraphModel, edges_of, IsGraphOf, rule_name_of}
 use Rattle.nj_graph.proofs.Stated.{graph-edges}
-use Rattle.nj_tools.specs.declared.fault.ToolFault.{ToolFault}
+use Rattle.nj_tools.specs.declared.tool_fault.ToolFault.{ToolFault}
 use Rattle.nj_edges.specs.declared.edges.EdgeNo.{EdgeNo}
-use Rattle.nj_tools.specs.declared.fault.ToolFault.TheVariants.{TextNotUtf8, Write, OutOfMemory}
+use Rattle.nj_tools.specs.declared.tool_fault.ToolFault.TheVariants.{TextNotUtf8, Write, OutOfMemory}
 use Rattle.nj_tools.specs.Sinks.{SinkState, Takes}
 use Rattle.nj_tools.specs.Inside.Blocks.{IsUnderway}
 use Rattle.nj_tools.specs.Texts.{FailsWithin, TakesFront, StopsWithin}
@@ -152,7 +152,7 @@ module _ (c : Compilation) where
       by false h = refl
 
 -- there are edges as there are statements of them
-pub count-is : (g : GraphText) (entries : List ReadStatement) → IsGraphOf g entries → length (edges_of g) ≡ length (edges_read entries)
+pub count-is : (g : GraphModel) (entries : List ReadStatement) → IsGraphOf g entries → length (edges_of g) ≡ length (edges_read entries)
 count-is g entries is = ap length (graph-edges is) ∙ length-map (edges_read entries) (λ e. e.paths)
 
 -- ---- edge by edge

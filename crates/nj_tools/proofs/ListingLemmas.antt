@@ -11,9 +11,9 @@ use Rattle.nj_scope.specs.ReadingList.{ReadStatement}
 use Rattle.nj_edges.specs.declared.files.FileNo.{FileNo}
 use Rattle.nj_edges.specs.Edges.{EdgePaths, edge_at, outputs_of}
 use Rattle.nj_edges.specs.Files.{path_at, AreFiles}
-use Rattle.nj_statements.specs.EdgeList.{EdgeText, edges_read}
+use Rattle.nj_statements.specs.EdgeList.{EdgeModel, edges_read}
 use Rattle.nj_statements.proofs.LateLemmas.{paths-are}
-use Rattle.nj_graph.specs.Graph.{GraphText, edges_of, files_of, IsGraphOf, rule_name_of, rule_name_at}
+use Rattle.nj_graph.specs.Graph.{GraphModel, edges_of, files_of, IsGraphOf, rule_name_of, rule_name_at}
 use Rattle.nj_graph.proofs.EdgeStrings.{there}
 use Rattle.nj_tools.specs.Inside.Collections.{with_files, AreOf}
 use Rattle.nj_requests.specs.declared.style.InputsStyle.{InputsStyle}
@@ -56,12 +56,12 @@ module _ {X : Type 0} (paths : List (List ℕ)) (distinct : IsDistinct bytes_eq 
 
 -- ---- the edge of a number as it is stated
 
-module _ (g : GraphText) (entries : List ReadStatement) (is : IsGraphOf g entries) where
+module _ (g : GraphModel) (entries : List ReadStatement) (is : IsGraphOf g entries) where
   pub edge-count : length (edges_of g) ≡ length (edges_read entries)
   edge-count = ap length is.built.paths ∙ length-map (edges_read entries) (λ e. e.paths)
 
   module _ (n : ℕ) (below : n < length (edges_of g)) where
-    abbrev pub stated : EdgeText
+    abbrev pub stated : EdgeModel
     stated = (there g entries is n below).0
 
     pub stated-below : n < length (edges_read entries)
@@ -85,15 +85,15 @@ module _ (g : GraphText) (entries : List ReadStatement) (is : IsGraphOf g entrie
     made-stated row rule are h =
         ap (λ r. flat_map (λ path. made_line path r) (map (path_at (files_of g)) row)) (rule-stated rule h)
         ∙ ap (flat_map (λ path. made_line path (rule_name_of entries stated))) (paths-are (files_of g) row _ are ∙ ap outputs_of paths-stated)
-        ∙ ap (λ (e : EdgeText). flat_map (λ path. made_line path (rule_name_of entries e)) (outputs_of e.paths)) (sym stated-is)
+        ∙ ap (λ (e : EdgeModel). flat_map (λ path. made_line path (rule_name_of entries e)) (outputs_of e.paths)) (sym stated-is)
 
     more : (rule : List ℕ) (b : Bool) → b ≡ bytes_eq (rule_name_at entries n) rule
         → filter (λ e. bytes_eq (rule_name_of entries e) rule) (take (n + 1) (edges_read entries))
         ≡ filter (λ e. bytes_eq (rule_name_of entries e) rule) (take n (edges_read entries)) ++ cond b (stated ∷ []) []
     more rule b is_b =
-        let p : EdgeText → Bool = λ e. bytes_eq (rule_name_of entries e) rule in
+        let p : EdgeModel → Bool = λ e. bytes_eq (rule_name_of entries e) rule in
         filter_more p (edges_read entries) n stated stated-below
-        ∙ ap (λ (e : EdgeText). filter p (take n (edges_read entries)) ++ cond (p e) (e ∷ []) []) stated-is
+        ∙ ap (λ (e : EdgeModel). filter p (take n (edges_read entries)) ++ cond (p e) (e ∷ []) []) stated-is
         ∙ ap (λ c. filter p (take n (edges_read entries)) ++ cond c (stated ∷ []) []) (ap (λ r. bytes_eq r rule) (sym (rule-stated (rule_name_at entries n) refl)) ∙ sym is_b)
 
     -- the outputs of one edge more, if its rule has the name
@@ -103,9 +103,9 @@ module _ (g : GraphText) (entries : List ReadStatement) (is : IsGraphOf g entrie
         → new ≡ with_files files row → bytes_eq (rule_name_at entries n) rule ≡ true
         → AreOf (files_of g) new (flat_map (λ e. outputs_of e.paths) (filter (λ e. bytes_eq (rule_name_of entries e) rule) (take (n + 1) (edges_read entries))))
     outputs-more rule distinct row files new are known so_far is passes =
-        let p : EdgeText → Bool = λ e. bytes_eq (rule_name_of entries e) rule in
+        let p : EdgeModel → Bool = λ e. bytes_eq (rule_name_of entries e) rule in
         subst (λ es. AreOf (files_of g) new (flat_map (λ e. outputs_of e.paths) es)) (sym (more rule true (sym passes)))
-        (AreOf-row (files_of g) distinct (λ (e : EdgeText). outputs_of e.paths) (filter p (take n (edges_read entries))) stated row files new (are ∙ ap (λ (e : EdgePaths). map Some (outputs_of e)) paths-stated) known so_far is)
+        (AreOf-row (files_of g) distinct (λ (e : EdgeModel). outputs_of e.paths) (filter p (take n (edges_read entries))) stated row files new (are ∙ ap (λ (e : EdgePaths). map Some (outputs_of e)) paths-stated) known so_far is)
 
     -- and else not
     pub outputs-same : (rule : List ℕ) (files new : List FileNo)

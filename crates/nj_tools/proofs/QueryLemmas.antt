@@ -10,7 +10,7 @@ use Rattle.nj_edges.specs.declared.edges.EdgeNo.{EdgeNo}
 use Rattle.nj_edges.specs.declared.files.FileNo.{FileNo}
 use Rattle.nj_edges.specs.Edges.{EdgePaths, edge_at, outputs_of, maker_of, users_of, validation_users_of}
 use Rattle.nj_edges.specs.Files.{path_at}
-use Rattle.nj_graph.specs.Graph.{GraphText, IsGraphOf, edges_of, files_of, rule_name_at}
+use Rattle.nj_graph.specs.Graph.{GraphModel, IsGraphOf, edges_of, files_of, rule_name_at}
 use Rattle.nj_graph.proofs.Stated.{graph-edges}
 use Rattle.nj_tools.specs.Lines.{line, lines_after}
 use Rattle.nj_tools.specs.Queries.{section, inputs_by_kind, maker_text, outputs_of_all, query_in, query_text, file_query}
@@ -45,10 +45,10 @@ output_lines-are edges (edge ∷ numbers) =
     ∙ sym (flat_map-append (λ path. line (codes "    " ++ path)) (outputs_of (edge_at edges edge.0)) (outputs_of_all edges (map (λ edge. edge.0) numbers)))
 
 -- what is written of a file
-abbrev pub file_text : List ReadStatement → GraphText → FileNo → List ℕ
+abbrev pub file_text : List ReadStatement → GraphModel → FileNo → List ℕ
 file_text entries g file = query_in entries (edges_of g) (path_at (files_of g) file)
 
-pub file_strings-are : (entries : List ReadStatement) (g : GraphText) (numbers : List FileNo) → IsGraphOf g entries
+pub file_strings-are : (entries : List ReadStatement) (g : GraphModel) (numbers : List FileNo) → IsGraphOf g entries
     → flat_map (file_text entries g) numbers ≡ query_text entries (map (path_at (files_of g)) numbers)
 file_strings-are entries g numbers is =
     ap (λ edges. flat_map (λ file. query_in entries edges (path_at (files_of g) file)) numbers) (graph-edges is)
@@ -108,7 +108,7 @@ maker-parts entries edges edge name validations named are =
 abbrev pub users_part : List EdgePaths → (users : List ℕ) → List ℕ
 users_part edges users = line (codes "  outputs:") ++ lines_after (codes "    ") (outputs_of_all edges users)
 
-pub file-parts : (entries : List ReadStatement) (g : GraphText) (file : FileNo) (path : List ℕ) (maker : Option ℕ) (users validation_users : List ℕ)
+pub file-parts : (entries : List ReadStatement) (g : GraphModel) (file : FileNo) (path : List ℕ) (maker : Option ℕ) (users validation_users : List ℕ)
     → slice_get (files_of g) file.0 ≡ Some path → maker ≡ maker_of (edges_of g) (path_at (files_of g) file)
     → users ≡ users_of (edges_of g) (path_at (files_of g) file) → validation_users ≡ validation_users_of (edges_of g) (path_at (files_of g) file)
     → line (path ++ codes ":") ++ (maker_text entries (edges_of g) maker ++ (users_part (edges_of g) users ++ validated_section (edges_of g) validation_users))

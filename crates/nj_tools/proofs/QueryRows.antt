@@ -2,7 +2,7 @@
 use Rattle.std.proofs.Common.{◌≡◌, ℕ, List, [], ◌∷◌, ◌++◌, true, false, refl}
 use Rattle.std.specs.Prelude.{codes}
 use Rattle.nj_text.specs.Words.{Text, Name}
-use Rattle.nj_scope.specs.Rules.{RuleText, phony_rule}
+use Rattle.nj_scope.specs.Rules.{RuleModel, phony_rule}
 use Rattle.nj_edges.specs.Edges.{EdgePaths}
 use Rattle.nj_tools.specs.Queries.{section, inputs_by_kind}
 use Rattle.nj_tools.specs.Inside.QueriesHeld.{validations_section, validated_section}
@@ -64,7 +64,7 @@ validates_none = refl
 
 -- rule cc
 --   description = CC $out
-abbrev cc_rule : RuleText
+abbrev cc_rule : RuleModel
 cc_rule = record {
   scope = 0;
   name = codes "cc";
@@ -72,7 +72,7 @@ cc_rule = record {
 }
 
 -- with `description =`
-abbrev quiet_rule : RuleText
+abbrev quiet_rule : RuleModel
 quiet_rule = record { scope = 0; name = codes "quiet"; lines = record { key = codes "description"; value = [] } ∷ [] }
 
 described : rule_line true cc_rule ≡ text (codes "cc: CC ${out}" ∷ [])

@@ -1,23 +1,23 @@
 -- Worked rows of trees: `build a: phony`, and then `build b: phony a c`.
 use Rattle.std.proofs.Common.{◌≡◌, ℕ, None, List, [], ◌∷◌, ◌++◌, refl}
 use Rattle.std.specs.Prelude.{codes}
-use Rattle.nj_text.specs.Words.{Text, WordText}
+use Rattle.nj_text.specs.Words.{Text, WordModel}
 use Rattle.nj_text.specs.Paths.{clean_path_of, without_leftmost_pair}
-use Rattle.nj_manifest.specs.Statements.{StatementText, BuildText}
+use Rattle.nj_manifest.specs.Statements.{StatementModel, BuildModel}
 use Rattle.nj_scope.specs.ReadingList.{ReadStatement, bounds}
 use Rattle.nj_statements.specs.EdgeList.{edges_read, paths_of_edges}
 use Rattle.nj_tools.specs.Listings.{file_line, indent, levels_of, tree_text}
 
-abbrev word : (text : List ℕ) → WordText
+abbrev word : (text : List ℕ) → WordModel
 word text = record { spot = record { line = 1; column = 7 }; parts = Text text ∷ [] }
 
 -- a statement on a line of its own
-abbrev on : (line : ℕ) → StatementText → ReadStatement
+abbrev on : (line : ℕ) → StatementModel → ReadStatement
 on line item = record { file = codes "build.ninja"; spot = record { line = line; column = 1 }; depth = 0; number = 0; around = []; item = item; discovered = None }
 
-abbrev build : (output : List ℕ) → (inputs : List WordText) → StatementText
+abbrev build : (output : List ℕ) → (inputs : List WordModel) → StatementModel
 build output inputs =
-    BuildText (record { explicit = word output ∷ []; implicit = [] }) (record { spot = record { line = 1; column = 9 }; name = codes "phony" })
+    BuildModel (record { explicit = word output ∷ []; implicit = [] }) (record { spot = record { line = 1; column = 9 }; name = codes "phony" })
     (record { explicit = inputs; implicit = []; order_only = []; validations = [] }) []
 
 -- the last statement first

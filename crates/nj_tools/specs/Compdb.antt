@@ -7,14 +7,14 @@ use Rattle.serde_json.specs.Written.{compact_text}
 use Rattle.nj_text.specs.Calls.{is_empty}
 use Rattle.nj_scope.specs.ReadingList.{ReadStatement}
 use Rattle.nj_edges.specs.Edges.{edge_at, inputs_of, outputs_of, is_among, edges_from}
-use Rattle.nj_statements.specs.EdgeList.{EdgeText, edges_read, paths_of_edges}
+use Rattle.nj_statements.specs.EdgeList.{EdgeModel, edges_read, paths_of_edges}
 use Rattle.nj_graph.specs.Graph.{late_text_of, rule_name_of}
 use Rattle.nj_graph.specs.ResponseFiles.{command_with_rsp_of}
 use Rattle.nj_tools.specs.Lines.{line}
 use Rattle.nj_tools.specs.Sinks.{SinkState, Takes}
 use Rattle.nj_tools.specs.Texts.{StopsWithin}
-use Rattle.nj_tools.specs.declared.fault.ToolFault.{ToolFault}
-use Rattle.nj_tools.specs.declared.fault.ToolFault.TheVariants.{TextNotUtf8, Write, OutOfMemory}
+use Rattle.nj_tools.specs.declared.tool_fault.ToolFault.{ToolFault}
+use Rattle.nj_tools.specs.declared.tool_fault.ToolFault.TheVariants.{TextNotUtf8, Write, OutOfMemory}
 
 -- ---- which edges
 
@@ -23,7 +23,7 @@ abbrev pub is_chosen : (rules : List (List ℕ)) → (rule : List ℕ) → Bool
 is_chosen rules rule = is_empty rules || is_among rules rule
 
 -- an edge has an object if it has a command and an input, and its rule is chosen
-abbrev pub has_object : List ReadStatement → (rules : List (List ℕ)) → EdgeText → Bool
+abbrev pub has_object : List ReadStatement → (rules : List (List ℕ)) → EdgeModel → Bool
 has_object entries rules e = not e.paths.is_phony && not (is_empty (inputs_of e.paths)) && is_chosen rules (rule_name_of entries e)
 
 -- the edges that have one, by number

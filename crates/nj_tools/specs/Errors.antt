@@ -8,8 +8,8 @@ use Rattle.nj_needs.specs.declared.mark_fault.MarkFault.TheVariants as mark
 use Rattle.nj_graph.specs.Errors.{TakesFault}
 use Rattle.nj_graph.specs.declared.error.Error as graph
 use Rattle.nj_graph.specs.declared.error.Error.TheVariants as graph_error
-use Rattle.nj_tools.specs.declared.fault.ToolFault.{ToolFault}
-use Rattle.nj_tools.specs.declared.fault.ToolFault.TheVariants as tool
+use Rattle.nj_tools.specs.declared.tool_fault.ToolFault.{ToolFault}
+use Rattle.nj_tools.specs.declared.tool_fault.ToolFault.TheVariants as tool
 use Rattle.nj_tools.specs.declared.error.Error.{Error}
 use Rattle.nj_tools.specs.declared.error.Error.TheVariants.{Graph, EmptyPath, BadMark, MarkOutOfRange, TextNotUtf8, Write, OutOfMemory}
 

@@ -2,8 +2,8 @@
 use Rattle.std.specs.Prelude.{ℕ, List, Result, Ok, Err}
 use Rattle.nj_scope.specs.Readings.{IsPrefix}
 use Rattle.nj_tools.specs.Sinks.{SinkState, Takes, FailsAfter, IsCutShort}
-use Rattle.nj_tools.specs.declared.fault.ToolFault.{ToolFault}
-use Rattle.nj_tools.specs.declared.fault.ToolFault.TheVariants.{TextNotUtf8, Write, OutOfMemory}
+use Rattle.nj_tools.specs.declared.tool_fault.ToolFault.{ToolFault}
+use Rattle.nj_tools.specs.declared.tool_fault.ToolFault.TheVariants.{TextNotUtf8, Write, OutOfMemory}
 
 -- the sink took a proper prefix of the text, then failed once, and took nothing after that
 abbrev pub FailsWithin : (old new : SinkState) → (text : List ℕ) → Type 0

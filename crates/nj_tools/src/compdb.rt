@@ -20,12 +20,12 @@ ghost use Rattle.nj_tools.specs.Compdb.{
 };
 ghost use Rattle.nj_tools.specs.Inside.CompdbHeld.{held_compilation, object_of_strings};
 
-use crate::block::write_block;
-use crate::chosen::ChosenRules;
-use crate::fault::ToolFault;
+use crate::chosen_rules::ChosenRules;
 use crate::json_strings::{held_string, json_string};
+use crate::output_block::write_block;
 use crate::sinks::Sink;
-use crate::whole::write_whole;
+use crate::tool_fault::ToolFault;
+use crate::whole_text::write_whole;
 use nj_graph::{EdgeNo, FileNo, Graph};
 use std::alloc::{AllocError, Global};
 use std::marker::Model;

@@ -5,8 +5,8 @@ ghost use Rattle.nj_graph.specs.Errors.{error_of_text};
 ghost use Rattle.nj_tools.specs.Errors.{TakesGraphFault, error_of_graph, error_of_mark, error_of_tool, error_text};
 ghost use Rattle.nj_tools.specs.declared.error.Error.TheVariants.{OutOfMemory, Write};
 
-use crate::fault::ToolFault;
 use crate::sinks::SinkFault;
+use crate::tool_fault::ToolFault;
 use nj_graph::{EdgeNo, GraphFault, TextFault};
 use nj_needs::MarkFault;
 use nj_text::OUT_OF_MEMORY_TEXT;

@@ -22,10 +22,10 @@ ghost use Rattle.nj_tools.specs.Inside.QueriesHeld.{
 };
 ghost use Rattle.nj_tools.specs.Texts.{WritesText};
 
-use crate::fault::ToolFault;
-use crate::lines::write_line;
+use crate::sink_lines::write_line;
 use crate::sinks::Sink;
-use crate::whole::write_whole;
+use crate::tool_fault::ToolFault;
+use crate::whole_text::write_whole;
 use nj_graph::{EdgeNo, FileNo, Graph, Kind};
 use std::alloc::Global;
 

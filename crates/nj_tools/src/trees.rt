@@ -15,9 +15,9 @@ ghost use Rattle.nj_tools.specs.Listings.{
 };
 ghost use Rattle.nj_tools.specs.Inside.Trees.{rows_of, AreKnown, rows_after};
 
-use crate::fault::ToolFault;
-use crate::lines::write_line;
+use crate::sink_lines::write_line;
 use crate::sinks::Sink;
+use crate::tool_fault::ToolFault;
 use nj_graph::{FileNo, Graph};
 use std::alloc::{AllocError, Global};
 

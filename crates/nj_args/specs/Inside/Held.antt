@@ -11,13 +11,13 @@ use Rattle.clap.specs.declared.error.kind.ErrorKind.TheVariants as kind
 use Rattle.nj_manifest.specs.LineSteps.{◌>>=◌}
 use Rattle.nj_args.specs.FaultLines.{option_text}
 use Rattle.nj_args.specs.Fields.{is_on, words_in}
-use Rattle.nj_requests.specs.Actions.{ActionText, inputs, targets, compdb}
+use Rattle.nj_requests.specs.Actions.{ActionModel, inputs, targets, compdb}
 use Rattle.nj_args.specs.Requests.{style_of, view_of}
 use Rattle.nj_args.specs.Tools.{options_of}
-use Rattle.nj_args.specs.declared.faults.ToolOption.{ToolOption}
+use Rattle.nj_args.specs.declared.usage_fault.ToolOption.{ToolOption}
 use Rattle.nj_args.specs.declared.tools.Tool.{Tool}
-use Rattle.nj_args.specs.declared.faults.UsageFault.{UsageFault}
-use Rattle.nj_args.specs.declared.faults.UsageFault.TheVariants.{Unparsed, OutOfMemory}
+use Rattle.nj_args.specs.declared.usage_fault.UsageFault.{UsageFault}
+use Rattle.nj_args.specs.declared.usage_fault.UsageFault.TheVariants.{Unparsed, OutOfMemory}
 
 abbrev pub word_strings : Option (Bor (List (Bor (List ℕ)))) → List (List ℕ)
 word_strings words = unwrap_or (option_map (λ strings. map (λ text. text.now) strings.now) words) []
@@ -55,11 +55,11 @@ abbrev pub goes_with : Tool → (is_single : Bool) → ToolOption → Bool
 goes_with tool is_single option = list_any (λ one. bytes_eq (option_text one) (option_text option)) (options_of tool is_single)
 
 -- what `inputs`, `targets` and `compdb` are asked for
-abbrev pub inputs_of : List Row → Result ActionText UsageFault
+abbrev pub inputs_of : List Row → Result ActionModel UsageFault
 inputs_of rows = Ok (inputs (words_in rows) (is_on (codes "--validations") rows) (style_of rows))
 
-abbrev pub targets_of : (name : List ℕ) → List Row → Result ActionText UsageFault
+abbrev pub targets_of : (name : List ℕ) → List Row → Result ActionModel UsageFault
 targets_of name rows = view_of name (words_in rows) >>= (λ view. Ok (targets view))
 
-abbrev pub compdb_of : List Row → Result ActionText UsageFault
+abbrev pub compdb_of : List Row → Result ActionModel UsageFault
 compdb_of rows = Ok (compdb (words_in rows) (unwrap_or (first_of (codes "--directory") rows) (codes ".")) (is_on (codes "-x") rows))

@@ -3,7 +3,7 @@ use Rattle.std.specs.Prelude.{◌≡◌, ℕ, List, [], ◌∷◌, Option, Some,
 use Rattle.std.specs.Global.{Vec}
 use Rattle.std.specs.List.{AllByRecursion}
 use Rattle.nj_scope.specs.Readings.{Reading}
-use Rattle.nj_c.specs.declared.handed_in.HandedReading.{HandedReading}
+use Rattle.nj_c.specs.declared.supplied_files.HandedReading.{HandedReading}
 
 -- what the file of a number reads as: an empty file if there is none of this number
 abbrev pub read_bytes : List (Option (List ℕ)) → Option ℕ → Option (List ℕ)

@@ -10,7 +10,7 @@ use Rattle.nj_needs.specs.Graphs.{count_of, makers_of, row_of}
 use Rattle.nj_needs.specs.Marks.{is_valid}
 use Rattle.nj_needs.specs.Pages.{IsMarkAfter}
 use Rattle.nj_needs.specs.Walks.{WalkState}
-use Rattle.nj_graph.specs.Graph.{GraphText}
+use Rattle.nj_graph.specs.Graph.{GraphModel}
 use Rattle.nj_tools.specs.CommandStrings.{left_after, written}
 use Rattle.nj_c.specs.declared.pages.Page.{Page}
 use Rattle.nj_c.specs.declared.status.Status.{Status}
@@ -66,7 +66,7 @@ PageAt g targets text limit (Err OutOfMemory) = ⊤
 PageAt g targets text limit (Err other) = ⊥
 
 -- the page after the mark of a text, or why there is none
-abbrev pub PageOf : GraphText → (targets : List ℕ) → (text : List ℕ) → (limit : ℕ) → Result Page Status → Type 0
+abbrev pub PageOf : GraphModel → (targets : List ℕ) → (text : List ℕ) → (limit : ℕ) → Result Page Status → Type 0
 PageOf g targets text limit (Ok page) = AreKnown g targets × PageAt g.built.graph (numbered targets) text limit (Ok page)
 PageOf g targets text limit (Err BadMark) = AreKnown g targets × IsBadMark g.built.graph (numbered targets) text
 PageOf g targets text limit (Err BadNumber) = AreKnown g targets → ⊥

@@ -3,9 +3,9 @@ use Rattle.std.specs.Prelude.{◌≡◌, ◌≢◌, ◌⊎◌, ℕ, [], map, Som
 use Rattle.std.specs.Global.{Vec}
 use Rattle.nj_faults.specs.declared.fault.GraphFault.{GraphFault}
 use Rattle.nj_faults.specs.Faults.{no_memory}
-use Rattle.nj_graph.specs.Graph.{GraphText}
+use Rattle.nj_graph.specs.Graph.{GraphModel}
 use Rattle.nj_c.specs.HandedIn.{wanted_paths, ReadsAsHanded}
-use Rattle.nj_c.specs.declared.kept.Kept.{Kept}
+use Rattle.nj_c.specs.declared.session_state.Kept.{Kept}
 use Rattle.nj_c.specs.declared.status.Status.{Status}
 use Rattle.nj_c.specs.declared.status.Status.TheVariants.{Done, Fault, Wanted, OutOfMemory}
 
@@ -14,7 +14,7 @@ abbrev pub KeepsPaths : (before after : Kept) → (wanted : Vec (Vec ℕ)) → T
 KeepsPaths before after wanted = (after ≡ record before { wanted = wanted }) × (wanted.items ≢ [])
 
 -- a graph is kept, or files are wanted
-abbrev pub KeepsGraph : (before after : Kept) → GraphText → (wanted : Vec (Vec ℕ)) → Status → Type 0
+abbrev pub KeepsGraph : (before after : Kept) → GraphModel → (wanted : Vec (Vec ℕ)) → Status → Type 0
 KeepsGraph before after graph wanted Done = (after ≡ record before { graph = Some graph }) × (wanted.items ≡ [])
 KeepsGraph before after graph wanted Wanted = KeepsPaths before after wanted
 KeepsGraph before after graph wanted other = ⊥
@@ -26,12 +26,12 @@ KeepsFault before after fault wanted Wanted = KeepsPaths before after wanted
 KeepsFault before after fault wanted OutOfMemory = after ≡ before
 KeepsFault before after fault wanted other = ⊥
 
-abbrev pub KeepsResult : (before after : Kept) → Result GraphText GraphFault → (wanted : Vec (Vec ℕ)) → Status → Type 0
+abbrev pub KeepsResult : (before after : Kept) → Result GraphModel GraphFault → (wanted : Vec (Vec ℕ)) → Status → Type 0
 KeepsResult before after (Ok graph) wanted status = KeepsGraph before after graph wanted status
 KeepsResult before after (Err fault) wanted status = KeepsFault before after fault wanted status
 
 -- the paths that are wanted of what was read, and what is kept of that and of the result; or an allocation failed
-abbrev pub FinishesLoad : (before after : Kept) → Result GraphText GraphFault → Status → Type 0
+abbrev pub FinishesLoad : (before after : Kept) → Result GraphModel GraphFault → Status → Type 0
 FinishesLoad before after result status =
     ((wanted : Vec (Vec ℕ)) × (map (λ p. p.items) wanted.items ≡ wanted_paths before.files) × ReadsAsHanded before.files
     × KeepsResult before after result wanted status)

@@ -4,7 +4,7 @@ use Rattle.std.specs.Str.{is_utf8}
 use Rattle.nj_tools.specs.MemorySinks.{Memory, state_of}
 use Rattle.nj_cli.specs.declared.status.Status as run
 use Rattle.nj_cli.specs.Runs.{RunsWords, around}
-use Rattle.nj_c.specs.declared.kept.Kept.{Kept}
+use Rattle.nj_c.specs.declared.session_state.Kept.{Kept}
 use Rattle.nj_c.specs.declared.status.Status.{Status}
 use Rattle.nj_c.specs.declared.status.Status.TheVariants.{Done, Wanted, NotUtf8, OutOfMemory}
 use Rattle.nj_c.specs.HandedIn.{Handed, handed_state, wanted_paths, ReadsAsHanded}

@@ -8,24 +8,24 @@ use Rattle.nj_faults.specs.FaultLines.{fault_line}
 use Rattle.nj_faults.specs.declared.fault.Cause.TheVariants.{TextNotUtf8}
 use Rattle.nj_faults.specs.Faults.{no_memory, unplaced}
 use Rattle.nj_graph.specs.Graph.{IsGraphOf}
-use Rattle.nj_graph.specs.Loads.{LoadedText}
+use Rattle.nj_graph.specs.Loads.{LoadedModel}
 use Rattle.nj_graph.specs.Runs.{IsRead}
 use Rattle.nj_tools.specs.Lines.{line}
 use Rattle.nj_tools.specs.Sinks.{SinkState, Takes}
 use Rattle.nj_tools.specs.Texts.{FailsWithin, TakesFront}
-use Rattle.nj_requests.specs.Actions.{ActionText, RequestText}
+use Rattle.nj_requests.specs.Actions.{ActionModel, RequestModel}
 use Rattle.nj_args.specs.FaultLines as lines
-use Rattle.nj_args.specs.declared.faults.UsageFault.{UsageFault}
-use Rattle.nj_args.specs.declared.faults.UsageFault.TheVariants as usage
+use Rattle.nj_args.specs.declared.usage_fault.UsageFault.{UsageFault}
+use Rattle.nj_args.specs.declared.usage_fault.UsageFault.TheVariants as usage
 use Rattle.nj_cli.specs.Answers.{output_of, finished, stopped, faulty, out_of_range, EndsWith, mark_line}
 use Rattle.nj_cli.specs.Reported.{Reported}
 use Rattle.nj_cli.specs.Runs.{Around, out_of_memory, IsReported, OutputFails, MemoryFails, AreStatements, HaveFault}
-use Rattle.nj_cli.specs.declared.fault.RunFault.{RunFault}
-use Rattle.nj_cli.specs.declared.fault.RunFault.TheVariants as fault
+use Rattle.nj_cli.specs.declared.run_fault.RunFault.{RunFault}
+use Rattle.nj_cli.specs.declared.run_fault.RunFault.TheVariants as fault
 use Rattle.nj_needs.specs.declared.mark_fault.MarkFault.{MarkFault}
 use Rattle.nj_needs.specs.declared.mark_fault.MarkFault.TheVariants as mark
-use Rattle.nj_tools.specs.declared.fault.ToolFault.{ToolFault}
-use Rattle.nj_tools.specs.declared.fault.ToolFault.TheVariants as tool
+use Rattle.nj_tools.specs.declared.tool_fault.ToolFault.{ToolFault}
+use Rattle.nj_tools.specs.declared.tool_fault.ToolFault.TheVariants as tool
 use Rattle.nj_cli.specs.declared.status.Status.{Status}
 use Rattle.nj_cli.specs.declared.status.Status.TheVariants.{Done, Fault, Usage, Stopped, OutputFailed}
 use Rattle.std.specs.Global.{Vec}
@@ -38,14 +38,14 @@ PicksTargets files expected (Ok numbers) = (paths : List (List ℕ)) × (expecte
 PicksTargets files expected (Err fault) = (fault ≡ no_memory) ⊎ (expected ≡ Err fault)
 
 -- the graph of the statements of the files, or what is wrong with these
-abbrev pub GraphOr : RequestText → (before after : SourceState) → List Reading → Result LoadedText GraphFault → Type 0
+abbrev pub GraphOr : RequestModel → (before after : SourceState) → List Reading → Result LoadedModel GraphFault → Type 0
 GraphOr request before after files (Ok loaded) =
     (entries : List ReadStatement) × AreStatements request.file request.dyndep before after files entries × IsGraphOf loaded.graph entries
     × (loaded.files ≡ files)
 GraphOr request before after files (Err fault) = HaveFault request.file request.dyndep before after files fault
 
 -- these files were read, each path once
-abbrev pub ReadsGraph : RequestText → (before after : SourceState) → Result LoadedText GraphFault → Type 0
+abbrev pub ReadsGraph : RequestModel → (before after : SourceState) → Result LoadedModel GraphFault → Type 0
 ReadsGraph request before after result = (files : List Reading) × IsRead before after [] files × GraphOr request before after files result
 
 abbrev pub fault_of_mark : MarkFault → RunFault
@@ -59,12 +59,12 @@ fault_of_tool tool.Write = fault.Write
 fault_of_tool tool.OutOfMemory = fault.OutOfMemory
 
 -- how a run ends by its statements
-abbrev pub RunEnds : (entries : List ReadStatement) (action : ActionText) (old new : Around) → Status → Type 0
+abbrev pub RunEnds : (entries : List ReadStatement) (action : ActionModel) (old new : Around) → Status → Type 0
 RunEnds entries action old new status =
     IsReported entries action old new status ⊎ (OutputFails entries action old new status ⊎ MemoryFails entries action old new status)
 
 -- what was output, and how the run ends accordingly
-abbrev pub ReturnsFor : List ReadStatement → ActionText → (old new : SinkState) → Result (Option (List ℕ)) RunFault → Type 0
+abbrev pub ReturnsFor : List ReadStatement → ActionModel → (old new : SinkState) → Result (Option (List ℕ)) RunFault → Type 0
 ReturnsFor entries action old new (Ok None) = EndsWith entries action finished × Takes old new (output_of entries action)
 ReturnsFor entries action old new (Ok (Some mark)) = EndsWith entries action (stopped mark) × Takes old new (output_of entries action)
 ReturnsFor entries action old new (Err (fault.Graph f)) =

@@ -1,7 +1,7 @@
 -- The marks of edges, inside the check: an edge is marked if it needs one of those that had their turn. No reader
 -- of the public contracts needs this file.
 use Rattle.std.specs.Prelude.{◌≡◌, ◌⊎◌, ℕ, ◌+◌, ◌≤◌, Bool, true, false, List, Option, None, Some, length, slice_index_or, sum_by, Contains}
-use Rattle.nj_cycles.specs.declared.marks.Marks.{Marks}
+use Rattle.nj_cycles.specs.declared.on_cycle.Marks.{Marks}
 use Rattle.nj_cycles.specs.Cycles.{Needs, NeedsByChain, IsOnCycle}
 
 abbrev pub IsMarked : List Bool → ℕ → Type 0

@@ -1,9 +1,9 @@
 -- The depth-first walk over the edges, inside the check: what is true between two turns. No reader of the public
 -- contracts needs this file.
 use Rattle.std.specs.Prelude.{◌≡◌, ◌≢◌, ◌⊎◌, ℕ, ◌+◌, ◌*◌, ◌<◌, ◌≤◌, Bool, false, List, [], ◌∷◌, ◌++◌, Option, None, Some, length, take, slice_get, slice_index, slice_index_or, sum_by, Contains}
-use Rattle.nj_cycles.specs.declared.walk.Stage.{Stage}
-use Rattle.nj_cycles.specs.declared.walk.Stage.TheVariants.{Unseen, Open, Done}
-use Rattle.nj_cycles.specs.declared.walk.Walk.{Walk}
+use Rattle.nj_cycles.specs.declared.finishing_order.Stage.{Stage}
+use Rattle.nj_cycles.specs.declared.finishing_order.Stage.TheVariants.{Unseen, Open, Done}
+use Rattle.nj_cycles.specs.declared.finishing_order.Walk.{Walk}
 use Rattle.nj_cycles.specs.Cycles.{AreEdges, Needs, NeedsByChain}
 
 -- f is e, or e needs f by a chain

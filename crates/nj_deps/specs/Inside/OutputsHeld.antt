@@ -1,20 +1,20 @@
 -- How outputs are held. Nothing here has to be believed.
 use Rattle.std.specs.Prelude.{◌≡◌, ℕ, zero, suc, ◌<◌, ◌≤◌, Bool, true, false, if◌then◌else◌, nat_eq, List, [], ◌∷◌, map, length, slice_range, slice_index_or}
 use Rattle.std.specs.List.{AllByRecursion}
-use Rattle.nj_deps.specs.declared.outputs.HeldOutput.{HeldOutput}
+use Rattle.nj_deps.specs.declared.logged_outputs.HeldOutput.{HeldOutput}
 use Rattle.nj_deps.specs.LogRecords.{words}
-use Rattle.nj_deps.specs.Logs.{OutputText, IsOfPaths, with_output}
+use Rattle.nj_deps.specs.Logs.{OutputModel, IsOfPaths, with_output}
 
 -- ---- their inputs
 
-abbrev pub logged : (inputs : List ℕ) → HeldOutput → OutputText
+abbrev pub logged : (inputs : List ℕ) → HeldOutput → OutputModel
 logged inputs held = record {
   output = held.output;
   time = held.time;
   inputs = slice_range inputs held.start held.end;
 }
 
-abbrev pub all_logged : (inputs : List ℕ) → List HeldOutput → List OutputText
+abbrev pub all_logged : (inputs : List ℕ) → List HeldOutput → List OutputModel
 all_logged inputs outputs = map (logged inputs) outputs
 
 -- an output of a path, with a part of the inputs
@@ -48,10 +48,10 @@ with_held (other ∷ outputs) held =
 
 -- ---- all together
 
-pub record OutputsText : Type 0 where
+pub record OutputsModel : Type 0 where
   -- how many paths there are
   pub count : ℕ
-  pub outputs : List OutputText
+  pub outputs : List OutputModel
 
 pub record AreOutputsHeld (inputs : List ℕ) (outputs : List HeldOutput) (places : List ℕ)
     : Type 0 where
@@ -61,7 +61,7 @@ pub record AreOutputsHeld (inputs : List ℕ) (outputs : List HeldOutput) (place
 
 -- What an output depends on is kept, if the numbers are of paths. The bytes are those of the
 -- inputs.
-abbrev pub Keeps : (output time : ℕ) → (bytes : List ℕ) → (old new : OutputsText) → Bool → Type 0
+abbrev pub Keeps : (output time : ℕ) → (bytes : List ℕ) → (old new : OutputsModel) → Bool → Type 0
 Keeps output time bytes old new true = (inputs : List ℕ) × (bytes ≡ words inputs)
     × (output < old.count) × AllByRecursion (λ n. n < old.count) inputs
     × (new ≡ record {

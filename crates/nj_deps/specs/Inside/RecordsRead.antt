@@ -2,7 +2,7 @@
 use Rattle.std.specs.Prelude.{◌≡◌, ◌≤◌, ◌<◌, ◌+◌, ◌*◌, ◌%◌, ◌^◌, ℕ, Bool, true, false, List, [], ◌∷◌, ◌++◌, length, bytes_eq}
 use Rattle.std.specs.List.{flat_map, list_any, AllByRecursion}
 use Rattle.nj_deps.specs.LogRecords.{LogRecord, word, words, content_of, kind_bit, bytes_of, Counts}
-use Rattle.nj_deps.specs.Logs.{OutputText, with_path, with_dependencies, paths_of, outputs_of, CountInTurn, EndsBefore}
+use Rattle.nj_deps.specs.Logs.{OutputModel, with_path, with_dependencies, paths_of, outputs_of, CountInTurn, EndsBefore}
 
 -- a list grew at its end
 abbrev pub BeginsWith : List ℕ → List ℕ → Type 0
@@ -39,11 +39,11 @@ pub record IsTimed (content : List ℕ) (output time : ℕ) (bytes : List ℕ) :
   pub cut : content ≡ word output ++ (word low ++ (word high ++ bytes))
 
 -- what records say
-pub record TableText : Type 0 where
+pub record TableModel : Type 0 where
   pub paths : List (List ℕ)
-  pub outputs : List OutputText
+  pub outputs : List OutputModel
 
-abbrev pub with_record : TableText → LogRecord → TableText
+abbrev pub with_record : TableModel → LogRecord → TableModel
 with_record table r =
     record { paths = with_path table.paths r; outputs = with_dependencies table.outputs r }
 
@@ -59,35 +59,35 @@ pub record IsKind (head bit : ℕ) : Type 0 where
       → head ≡ kind_bit r + length (content_of r) → kind_bit r ≡ bit
 
 -- The record counts, and its content is added; or there is none that counts.
-abbrev pub Adds : (bit : ℕ) → (content : List ℕ) → (old new : TableText) → Bool → Type 0
+abbrev pub Adds : (bit : ℕ) → (content : List ℕ) → (old new : TableModel) → Bool → Type 0
 Adds bit content old new true = (r : LogRecord) × IsContent bit content r × Counts old.paths r
     × (new ≡ with_record old r)
 Adds bit content old new false =
     ((r : LogRecord) → IsContent bit content r → Counts old.paths r → ⊥) × (new ≡ old)
 
 -- by the bit in the head of a record
-abbrev pub AddsAs : (head : ℕ) → (content : List ℕ) → (old new : TableText) → Bool → Type 0
+abbrev pub AddsAs : (head : ℕ) → (content : List ℕ) → (old new : TableModel) → Bool → Type 0
 AddsAs head content old new counts = (bit : ℕ) × IsKind head bit × Adds bit content old new counts
 
 -- the path is added, if it is new
-abbrev pub AddsPath : (path : List ℕ) → (old new : TableText) → Bool → Type 0
+abbrev pub AddsPath : (path : List ℕ) → (old new : TableModel) → Bool → Type 0
 AddsPath path old new true = (list_any (bytes_eq path) old.paths ≡ false)
     × (new ≡ record { paths = old.paths ++ path ∷ []; outputs = old.outputs })
 AddsPath path old new false = (list_any (bytes_eq path) old.paths ≡ true) × (new ≡ old)
 
 -- the record at the front of the bytes counts, and is added
-abbrev pub TakesRecord : (bytes after : List ℕ) → (old new : TableText) → Type 0
+abbrev pub TakesRecord : (bytes after : List ℕ) → (old new : TableModel) → Type 0
 TakesRecord bytes after old new = (r : LogRecord) × Counts old.paths r
     × (bytes ≡ bytes_of r ++ after) × (new ≡ with_record old r)
 
 -- no record there counts
-abbrev pub TakesNone : (bytes : List ℕ) → (old new : TableText) → Type 0
+abbrev pub TakesNone : (bytes : List ℕ) → (old new : TableModel) → Type 0
 TakesNone bytes old new = EndsBefore old.paths bytes × (new ≡ old)
 
 -- ---- many
 
 -- bytes are records that count, and a rest
-pub record IsRead (bytes rest : List ℕ) (table : TableText) : Type 0 where
+pub record IsRead (bytes rest : List ℕ) (table : TableModel) : Type 0 where
   pub records : List LogRecord
   pub cut : bytes ≡ flat_map bytes_of records ++ rest
   pub in_turn : CountInTurn [] records

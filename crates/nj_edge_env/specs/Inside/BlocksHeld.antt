@@ -2,9 +2,9 @@
 use Rattle.std.specs.Prelude.{◌≡◌, ◌⊎◌, ℕ, zero, suc, ◌+◌, ◌<◌, ◌≤◌, ◌==◌, Bool, true, false, if◌then◌else◌, Option, Some, None, List, [], ◌∷◌, ◌++◌, map, length, drop, codes, bytes_eq, slice_index_or, slice_range}
 use Rattle.std.specs.Global.{Vec}
 use Rattle.std.specs.List.{AllByRecursion}
-use Rattle.nj_edge_env.specs.declared.bounds.Bound.{Bound}
+use Rattle.nj_edge_env.specs.declared.name_values.Bound.{Bound}
 use Rattle.nj_names.specs.NameTables.{is_among}
-use Rattle.nj_edge_env.specs.Blocks.{BlocksText, bound_in}
+use Rattle.nj_edge_env.specs.Blocks.{BlocksModel, bound_in}
 
 -- ---- lists of numbers
 
@@ -41,7 +41,7 @@ bounds_of values = map (λ v. v.items) values
 abbrev pub names_of : (names : List (List ℕ)) → (numbers : List ℕ) → List (List ℕ)
 names_of names numbers = map (λ number. slice_index_or names number []) numbers
 
-abbrev pub blocks_of : (text : List ℕ) → (names : List (List ℕ)) → List (List Bound) → (lists : List (List ℕ)) → (last : ℕ) → BlocksText
+abbrev pub blocks_of : (text : List ℕ) → (names : List (List ℕ)) → List (List Bound) → (lists : List (List ℕ)) → (last : ℕ) → BlocksModel
 blocks_of text names bounds lists last = record {
   values = values_by_name text names bounds;
   names = map (names_of names) lists;
@@ -75,7 +75,7 @@ abbrev pub is_pool_or_dyndep : (name : List ℕ) → Bool
 is_pool_or_dyndep name = is_among (codes "pool" ∷ codes "dyndep" ∷ []) name
 
 -- no block of an edge after this one binds one of them, and it is no edge after the last
-pub record BindNeitherAfter (assigning : ℕ) (blocks : BlocksText) : Type 0 where
+pub record BindNeitherAfter (assigning : ℕ) (blocks : BlocksModel) : Type 0 where
   pub within : assigning ≤ blocks.last
   pub none : (edge : ℕ) (name : List ℕ) → is_pool_or_dyndep name ≡ true → assigning < edge → bound_in blocks edge name ≡ None
 

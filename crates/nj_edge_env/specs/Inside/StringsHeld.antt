@@ -4,18 +4,18 @@ use Rattle.std.specs.Prelude.{List, ◌∷◌, ◌++◌, length, slice_get, slic
 use Rattle.nj_scope.specs.Declarations.{DeclaredBy}
 use Rattle.nj_scope.specs.ReadingList.{ReadStatement, value_after}
 use Rattle.nj_scope.specs.Readings.{IsPrefix}
-use Rattle.nj_scope.specs.Rules.{RuleLineText}
+use Rattle.nj_scope.specs.Rules.{RuleLineModel}
 use Rattle.nj_scope.specs.RulesHeld.{key_at, IsNumber}
 use Rattle.nj_scope.specs.Scopes.{IsScope, parent_at}
 use Rattle.nj_edge_env.specs.Blocks.{bound_in}
-use Rattle.nj_edge_env.specs.declared.edge.LateEdge.{LateEdge}
-use Rattle.nj_edge_env.specs.declared.memo.KeyText.{KeyText}
+use Rattle.nj_edge_env.specs.declared.late_edge.LateEdge.{LateEdge}
+use Rattle.nj_edge_env.specs.declared.key_memo.KeyText.{KeyText}
 use Rattle.nj_edge_env.specs.LateStrings.{LateNames, rule_value, late_in}
 use Rattle.nj_edge_env.specs.LateEdges.{late_names}
 use Rattle.nj_edge_env.specs.VariableCycles.{RefersTo}
 
 -- references from the name end within `depth` lines
-abbrev pub Settles : (block : List ℕ → Option (List ℕ)) → List RuleLineText → (depth : ℕ) → (name : List ℕ) → Type 0
+abbrev pub Settles : (block : List ℕ → Option (List ℕ)) → List RuleLineModel → (depth : ℕ) → (name : List ℕ) → Type 0
 Settles block lines zero name = ⊥
 Settles block lines (suc depth) name = (other : List ℕ) → RefersTo block lines name other → Settles block lines depth other
 

@@ -11,8 +11,6 @@ use Rattle.nj_edges.specs.Edges.{EdgePaths, first_edge}
 use Rattle.nj_edges.specs.Files.{path_at}
 use Rattle.nj_edges.specs.EdgeTables.{EdgeTable, EndWithin, edge_read}
 
--- ---- the edges, and the one that is being read
-
 -- ---- by numbers
 
 abbrev pub paths_at : (files : List (List ℕ)) → List FileNo → List (List ℕ)

@@ -5,7 +5,7 @@ use Rattle.std.specs.List.{AllByRecursion, list_any}
 use Rattle.nj_edges.specs.declared.files.FileNo.{FileNo}
 use Rattle.nj_edges.specs.declared.edges.EdgeRow.{EdgeRow}
 use Rattle.nj_edges.specs.declared.edges.Span.{Span}
-use Rattle.nj_edges.specs.declared.joining.AddedSpans.{AddedSpans}
+use Rattle.nj_edges.specs.declared.dyndep_edges.AddedSpans.{AddedSpans}
 use Rattle.nj_edges.specs.Edges.{EdgePaths, first_edge}
 use Rattle.nj_edges.specs.Inside.EdgesHeld.{EdgesAreHeld, AreNumbers, HaveMakers, IsWithin, paths_at, within, edges_of, has_number}
 use Rattle.nj_edges.specs.Inside.GraphHeld.{ends_of}

@@ -6,8 +6,8 @@ use Rattle.nj_text.specs.Lines.{Line}
 use Rattle.nj_manifest.specs.declared.entries.Entry as text
 use Rattle.nj_manifest.specs.Faults.{Fault}
 use Rattle.nj_manifest.specs.Openings.{Parse}
-use Rattle.nj_manifest.specs.Dyndeps.{EntryText, DyndepLeft, Refusing, entry_of}
-use Rattle.nj_manifest.specs.DyndepParsers.{entry_text}
+use Rattle.nj_manifest.specs.Dyndeps.{EntryModel, DyndepLeft, Refusing, entry_of}
+use Rattle.nj_manifest.specs.DyndepParsers.{entry_model}
 use Rattle.nj_manifest.specs.Inside.ParserContracts.{left_by}
 use Rattle.nj_scope.specs.Readings.{Reading, paths_of, IsPrefix}
 use Rattle.nj_scope.specs.Sources.{SourceState}
@@ -18,7 +18,7 @@ use Rattle.nj_faults.specs.declared.fault.Cause.TheVariants.{PathNotText}
 use Rattle.nj_faults.specs.Faults.{fault_in, no_memory}
 use Rattle.nj_statements.specs.EdgeList.{Pending}
 use Rattle.nj_statements.specs.Joining.{lacking_fault}
-use Rattle.nj_statements.specs.JoiningHeld.{JoiningText, HasJoined}
+use Rattle.nj_statements.specs.JoiningHeld.{JoiningModel, HasJoined}
 use Rattle.nj_graph.specs.Reading.{End, Whole, Refused, end_by}
 use Rattle.nj_graph.specs.Runs.{IsRead, IsEnd, IsLacking, paths_with, Stops}
 use Rattle.nj_graph.specs.Inside.ReaderContracts.{ReadsAll}
@@ -35,10 +35,10 @@ NamesFile place path (Err fault) =
 -- ---- the next entry
 
 -- what a parser returns if this is read from what is left; its faults are reported in the file
-abbrev pub NextEntryOf : (file : List ℕ) → Parse (Option EntryText) → (after : DyndepLeft) → Result (Option text.Entry) GraphFault
+abbrev pub NextEntryOf : (file : List ℕ) → Parse (Option EntryModel) → (after : DyndepLeft) → Result (Option text.Entry) GraphFault
     → Type 0
 NextEntryOf file expected after (Ok (Some entry)) =
-    (rest : List Line) × (expected ≡ Ok (Some (entry_text entry), rest)) × (after ≡ left_by true rest)
+    (rest : List Line) × (expected ≡ Ok (Some (entry_model entry), rest)) × (after ≡ left_by true rest)
 NextEntryOf file expected after (Ok None) = (rest : List Line) × (expected ≡ Ok (None, rest))
 NextEntryOf file expected after (Err fault) =
     (fault ≡ no_memory) ⊎ ((found : Fault) × (expected ≡ Err found) × (fault ≡ fault_in file found))
@@ -50,7 +50,7 @@ NextEntryIs file before after result = NextEntryOf file (entry_of before) after 
 -- ---- a text
 
 -- All entries are joined. It remains to check whether an edge is still pending on the file.
-pub record TextJoined (file : List ℕ) (stated : List ReadStatement) (text : List ℕ) (joined : List ReadStatement) (held : JoiningText) : Type 0 where
+pub record TextJoined (file : List ℕ) (stated : List ReadStatement) (text : List ℕ) (joined : List ReadStatement) (held : JoiningModel) : Type 0 where
   pub now : List ReadStatement
   pub has : HasJoined held stated now
   pub joins : text_joined file stated text joined ≡ record { entries = now; end = end_by (lacking_fault file now) }
@@ -60,7 +60,7 @@ pub record TextRefused (file : List ℕ) (stated : List ReadStatement) (text : L
   pub now : List ReadStatement
   pub joins : text_joined file stated text joined ≡ record { entries = now; end = Refused fault }
 
-abbrev pub JoinsText : (file : List ℕ) → (stated : List ReadStatement) → (text : List ℕ) → (joined : List ReadStatement) → JoiningText
+abbrev pub JoinsText : (file : List ℕ) → (stated : List ReadStatement) → (text : List ℕ) → (joined : List ReadStatement) → JoiningModel
     → Result (Unit {0}) GraphFault → Type 0
 JoinsText file stated text joined held (Ok done) = TextJoined file stated text joined held
 JoinsText file stated text joined held (Err fault) = (fault ≡ no_memory) ⊎ TextRefused file stated text joined fault
@@ -69,7 +69,7 @@ JoinsText file stated text joined held (Err fault) = (fault ≡ no_memory) ⊎ T
 
 -- the whole file is joined
 pub record FileJoined (stated joined : List ReadStatement) (p : Pending) (before after : SourceState) (old table : List Reading)
-    (held : JoiningText) : Type 0 where
+    (held : JoiningModel) : Type 0 where
   pub files : List Reading
   pub reads : ReadsAll before after old files table
   pub came_to : with_news (paths_of old) (path_asked p) ≡ paths_of files
@@ -99,13 +99,13 @@ pub record FileStops (stated joined : List ReadStatement) (p : Pending) (before 
   pub stops : FileLacksMemory p before after old files fault ⊎ FileEnds stated joined p before after old files fault
 
 abbrev pub JoinsFile : (stated joined : List ReadStatement) → Pending → (before after : SourceState) → (old table : List Reading)
-    → JoiningText → Result (Unit {0}) GraphFault → Type 0
+    → JoiningModel → Result (Unit {0}) GraphFault → Type 0
 JoinsFile stated joined p before after old table held (Ok done) = FileJoined stated joined p before after old table held
 JoinsFile stated joined p before after old table held (Err fault) = FileStops stated joined p before after old fault
 
 -- ---- all files
 
-pub record FilesJoined (stated : List ReadStatement) (before after : SourceState) (old table : List Reading) (held : JoiningText)
+pub record FilesJoined (stated : List ReadStatement) (before after : SourceState) (old table : List Reading) (held : JoiningModel)
     : Type 0 where
   pub files : List Reading
   pub reads : ReadsAll before after old files table
@@ -121,7 +121,7 @@ pub record FilesStop (stated : List ReadStatement) (before after : SourceState) 
   pub reads : IsRead before after old files
   pub stops : Stops before after files (come_joined old stated) fault
 
-abbrev pub JoinsFiles : (stated : List ReadStatement) → (before after : SourceState) → (old table : List Reading) → JoiningText
+abbrev pub JoinsFiles : (stated : List ReadStatement) → (before after : SourceState) → (old table : List Reading) → JoiningModel
     → Result (Unit {0}) GraphFault → Type 0
 JoinsFiles stated before after old table held (Ok done) = FilesJoined stated before after old table held
 JoinsFiles stated before after old table held (Err fault) = FilesStop stated before after old fault

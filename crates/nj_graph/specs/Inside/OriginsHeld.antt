@@ -7,7 +7,7 @@ use Rattle.nj_faults.specs.declared.fault.Place.{Place}
 use Rattle.nj_graph.specs.declared.origins.HeldPlace.{HeldPlace}
 use Rattle.nj_graph.specs.declared.origins.HeldPool.{HeldPool}
 use Rattle.nj_graph.specs.declared.origins.HeldOpening.{HeldOpening}
-use Rattle.nj_graph.specs.Origins.{PoolDetail, OpeningText, OriginsText, rule_place_given, pool_detail_given, opening_given}
+use Rattle.nj_graph.specs.Origins.{PoolDetail, OpeningModel, OriginsModel, rule_place_given, pool_detail_given, opening_given}
 use Rattle.std.specs.List.{push}
 use Rattle.std.specs.Option.{option_map_or}
 
@@ -19,10 +19,10 @@ place_held names p = record { file = name_at names p.file; spot = p.spot }
 abbrev pub pool_held : (names : List (List ℕ)) → HeldPool → PoolDetail
 pool_held names p = record { place = place_held names p.place; depth = p.depth }
 
-abbrev pub opening_held : (names : List (List ℕ)) → HeldOpening → OpeningText
+abbrev pub opening_held : (names : List (List ℕ)) → HeldOpening → OpeningModel
 opening_held names o = record { path = name_at names o.file; named_at = option_map (place_held names) o.named_at; scope = o.scope }
 
-abbrev pub origins_held : (names : List (List ℕ)) → List HeldPlace → List HeldPool → List HeldOpening → OriginsText
+abbrev pub origins_held : (names : List (List ℕ)) → List HeldPlace → List HeldPool → List HeldOpening → OriginsModel
 origins_held names rules pools openings = record {
   rules = None ∷ map (λ p. Some (place_held names p)) rules;
   pools = map (pool_held names) pools;
@@ -40,7 +40,7 @@ pub record AreNamed (names : List (List ℕ)) (rules : List HeldPlace) (pools : 
   pub openings_named : AllByRecursion (λ (o : HeldOpening). (o.file < length names) × IfSome o.named_at (IsNamed names)) openings
 
 -- what is held after one statement more
-abbrev pub origins_with : ReadStatement → (before : List ReadStatement) → OriginsText → OriginsText
+abbrev pub origins_with : ReadStatement → (before : List ReadStatement) → OriginsModel → OriginsModel
 origins_with e before o = record {
   rules = option_map_or (push o.rules) (rule_place_given e before e.item) o.rules;
   pools = option_map_or (push o.pools) (pool_detail_given e before e.item) o.pools;

@@ -4,8 +4,8 @@ use Rattle.std.specs.Option.{option_to_list}
 use Rattle.std.specs.List.{list_any}
 use Rattle.nj_scope.specs.Readings.{Reading, paths_of}
 use Rattle.nj_scope.specs.ReadingList.{ReadStatement, path_named}
-use Rattle.nj_graph.specs.Reading.{ReadingText, main_read, path_at_end}
-use Rattle.nj_graph.specs.Runs.{ReachedText}
+use Rattle.nj_graph.specs.Reading.{ReadingModel, main_read, path_at_end}
+use Rattle.nj_graph.specs.Runs.{ReachedModel}
 use Rattle.nj_graph.specs.Joining.{all_joined}
 
 -- the paths with one more at the end, unless it is there already
@@ -23,20 +23,20 @@ paths_read main [] = main ∷ []
 paths_read main (e ∷ before) = with_news (paths_read main before) (option_to_list (path_named e before e.item))
 
 -- with the path at the end of the reading
-abbrev pub come_to : (main : List ℕ) → ReadingText → List (List ℕ)
+abbrev pub come_to : (main : List ℕ) → ReadingModel → List (List ℕ)
 come_to main r = with_news (paths_read main r.entries) (path_at_end r.end)
 
-abbrev pub reached_by : (main : List ℕ) → ReadingText → ReachedText
+abbrev pub reached_by : (main : List ℕ) → ReadingModel → ReachedModel
 reached_by main r = record { read = r; paths = come_to main r }
 
 -- the reading of the main file
-abbrev pub reached_of : (main : List ℕ) → (files : List Reading) → ReachedText
+abbrev pub reached_of : (main : List ℕ) → (files : List Reading) → ReachedModel
 reached_of main files = reached_by main (main_read files main)
 
 -- ---- after other files
 
-abbrev pub come_after : (before : List (List ℕ)) → ReachedText → ReachedText
+abbrev pub come_after : (before : List (List ℕ)) → ReachedModel → ReachedModel
 come_after before joined = record { read = joined.read; paths = with_news before joined.paths }
 
-abbrev pub come_joined : (old : List Reading) → (stated : List ReadStatement) → (files : List Reading) → ReachedText
+abbrev pub come_joined : (old : List Reading) → (stated : List ReadStatement) → (files : List Reading) → ReachedModel
 come_joined old stated files = come_after (paths_of old) (all_joined files stated)

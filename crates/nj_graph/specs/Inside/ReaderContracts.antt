@@ -8,23 +8,23 @@ use Rattle.std.specs.Rc.{rc_slice_items}
 use Rattle.std.specs.declared.rc.RcSlice.{RcSlice}
 use Rattle.nj_text.specs.declared.spot.Spot.{Spot}
 use Rattle.nj_text.specs.Lines.{Line}
-use Rattle.nj_text.specs.Words.{WordText}
+use Rattle.nj_text.specs.Words.{WordModel}
 use Rattle.nj_manifest.specs.declared.statement.Placed.{Placed}
 use Rattle.nj_manifest.specs.declared.statement.Statement.{Statement}
 use Rattle.nj_manifest.specs.Faults.{Fault}
-use Rattle.nj_manifest.specs.Contents.{placed_text}
-use Rattle.nj_manifest.specs.Statements.{StatementText, IncludeText, SubninjaText, next_statement, Left, Lines, Refused}
+use Rattle.nj_manifest.specs.Contents.{placed_model}
+use Rattle.nj_manifest.specs.Statements.{StatementModel, IncludeModel, SubninjaModel, next_statement, Left, Lines, Refused}
 use Rattle.nj_scope.specs.Readings.{Reading, EachPathOnce, paths_of, IsPrefix}
 use Rattle.nj_scope.specs.Sources.{SourceState}
 use Rattle.nj_scope.specs.Opening as table
-use Rattle.nj_scope.specs.Scopes.{ScopeText, parent_at}
+use Rattle.nj_scope.specs.Scopes.{ScopeModel, parent_at}
 use Rattle.nj_scope.specs.Declarations.{DeclaredBy}
 use Rattle.nj_scope.specs.ReadingList.{ReadStatement, scope_of, scopes_opened, path_named}
 use Rattle.nj_faults.specs.declared.fault.Place.{Place}
 use Rattle.nj_faults.specs.declared.fault.GraphFault.{GraphFault}
 use Rattle.nj_faults.specs.declared.fault.Cause.TheVariants.{Missing, Io}
-use Rattle.nj_graph.specs.declared.opening.Naming.{Naming}
-use Rattle.nj_graph.specs.declared.opening.Naming.TheVariants as naming
+use Rattle.nj_graph.specs.declared.file_statements.Naming.{Naming}
+use Rattle.nj_graph.specs.declared.file_statements.Naming.TheVariants as naming
 use Rattle.nj_graph.specs.declared.reader.Reader.{Reader}
 use Rattle.nj_graph.specs.declared.reader.OpenFile.{OpenFile}
 use Rattle.nj_graph.specs.declared.reader.Opened.{Opened}
@@ -33,7 +33,7 @@ use Rattle.nj_statements.specs.Answers.{HasEdges}
 pub use Rattle.nj_statements.specs.Answers.{Checks}
 use Rattle.nj_graph.specs.Graph.{IsOpenScope}
 use Rattle.nj_graph.specs.Origins.{origins_read}
-use Rattle.nj_graph.specs.Reading.{Site, opened_site, own_fault, Whole, ReadingText, Opens, opened_in, statement_read}
+use Rattle.nj_graph.specs.Reading.{Site, opened_site, own_fault, Whole, ReadingModel, Opens, opened_in, statement_read}
 use Rattle.nj_graph.specs.Reading.{text_read}
 use Rattle.nj_graph.specs.Runs.{IsRead, Stops}
 
@@ -60,7 +60,7 @@ pub record Has (main : List ℕ) (held : Reader) (entries : List ReadStatement) 
   pub once : EachPathOnce held.files
 
 -- Scopes are opened, and the earlier ones keep their numbers and parents.
-pub record Grows (before after : List ScopeText) : Type 0 where
+pub record Grows (before after : List ScopeModel) : Type 0 where
   pub count : length before ≤ length after
   pub parents : (n : ℕ) → n < length before → parent_at after n ≡ parent_at before n
 
@@ -115,7 +115,7 @@ ReturnsText before after old new place path (Err fault) =
     ⊎ ((fault ≡ record { place = Some place; cause = Missing path }) × table.OpensFile before after old new path (Ok None)))
 
 -- a run that stops
-pub record StopsAt (main : List ℕ) (before after : SourceState) (old : List Reading) (reading : List Reading → ReadingText)
+pub record StopsAt (main : List ℕ) (before after : SourceState) (old : List Reading) (reading : List Reading → ReadingModel)
     (fault : GraphFault) : Type 0 where
   pub files : List Reading
   pub reads : IsRead before after old files
@@ -148,12 +148,12 @@ OpensPath main before after old held left place path entries (Err fault) =
 
 -- ---- a statement
 
-abbrev pub named_item : Naming → WordText → StatementText
-named_item naming.Include word = IncludeText word
-named_item naming.Subninja word = SubninjaText word
+abbrev pub named_item : Naming → WordModel → StatementModel
+named_item naming.Include word = IncludeModel word
+named_item naming.Subninja word = SubninjaModel word
 
 -- the site of the statements of the file that a statement names
-abbrev pub named_site : Naming → ReadStatement → (before : List ReadStatement) → WordText → Site
+abbrev pub named_site : Naming → ReadStatement → (before : List ReadStatement) → WordModel → Site
 named_site naming.Include e before word = opened_site e before word e.number e.around
 named_site naming.Subninja e before word = opened_site e before word (scopes_opened before) (scope_of e)
 
@@ -208,7 +208,7 @@ ReadsItem main before after old held left e entries (Err fault) =
 -- ---- byte strings
 
 -- all was read, and is held
-pub record ReadsText (main : List ℕ) (before after : SourceState) (old held : Reader) (reading : List Reading → ReadingText)
+pub record ReadsText (main : List ℕ) (before after : SourceState) (old held : Reader) (reading : List Reading → ReadingModel)
     : Type 0 where
   pub files : List Reading
   pub reads : ReadsAll before after old.files files held.files
@@ -216,7 +216,7 @@ pub record ReadsText (main : List ℕ) (before after : SourceState) (old held : 
   pub has : Has main held entries
   pub read : (all : List Reading) → IsPrefix files all → reading all ≡ record { entries = entries; end = Whole }
 
-abbrev pub ReadsOrStops : (main : List ℕ) → (before after : SourceState) → (old held : Reader) → (reading : List Reading → ReadingText)
+abbrev pub ReadsOrStops : (main : List ℕ) → (before after : SourceState) → (old held : Reader) → (reading : List Reading → ReadingModel)
     → Result (Unit {0}) GraphFault → Type 0
 ReadsOrStops main before after old held reading (Ok done) = ReadsText main before after old held reading
 ReadsOrStops main before after old held reading (Err fault) = StopsAt main before after old.files reading fault
@@ -226,7 +226,7 @@ ReadsOrStops main before after old held reading (Err fault) = StopsAt main befor
 -- what a parser returns; its faults are reported in a file
 abbrev pub NextOf : (file : List ℕ) → List Line → (after : Left) → Result (Option (Placed Statement)) GraphFault → Type 0
 NextOf file lines after (Ok (Some s)) =
-    (rest : List Line) × (next_statement lines ≡ Ok (Some (placed_text s), rest)) × (after ≡ Lines rest)
+    (rest : List Line) × (next_statement lines ≡ Ok (Some (placed_model s), rest)) × (after ≡ Lines rest)
 NextOf file lines after (Ok None) = (rest : List Line) × (next_statement lines ≡ Ok (None, rest))
 NextOf file lines after (Err fault) =
     (fault ≡ no_memory) ⊎ ((found : Fault) × (next_statement lines ≡ Err found) × (fault ≡ fault_in file found))

@@ -2,21 +2,21 @@
 use Rattle.std.specs.Prelude.{◌≡◌, Bool, true, false, Option, Some, None, Result, Ok, Err, List}
 use Rattle.nj_text.specs.Lines as lines
 use Rattle.nj_text.specs.Calls.{State, Between, Inside, Failed, is_inside}
-use Rattle.nj_manifest.specs.declared.fault.ParseFault.{ParseFault}
+use Rattle.nj_manifest.specs.declared.parse_fault.ParseFault.{ParseFault}
 use Rattle.nj_manifest.specs.Faults.{Fault, fault_text}
 use Rattle.nj_manifest.specs.LineSteps.{Step}
-use Rattle.nj_manifest.specs.Statements.{LineText, lines_from, Left, Lines, Refused}
+use Rattle.nj_manifest.specs.Statements.{LineModel, lines_from, Left, Lines, Refused}
 use Rattle.nj_manifest.specs.Openings.{Parse, opening}
 use Rattle.nj_manifest.specs.Parsers.{Fails}
 use Rattle.nj_text.specs.declared.word.Word.{Word}
 use Rattle.nj_manifest.specs.declared.steps.PlacedName.{PlacedName}
 use Rattle.nj_manifest.specs.declared.statement.Statement.{Statement}
 use Rattle.nj_manifest.specs.declared.statement.Statement.TheVariants as statement
-use Rattle.nj_manifest.specs.LineSteps.{NameText}
-use Rattle.nj_manifest.specs.Statements.{OutputsText}
-use Rattle.nj_manifest.specs.Grammar.{HeadText, Alone, RuleHead, PoolHead, BuildHead}
-use Rattle.nj_manifest.specs.Contents.{words_text, outputs_text, used_rule, inputs_text, statement_text}
-use Rattle.nj_manifest.specs.Dyndeps.{version_next, EntryText, entry_from, DyndepLeft, WholeFile, Entries, Refusing}
+use Rattle.nj_manifest.specs.LineSteps.{NameModel}
+use Rattle.nj_manifest.specs.Statements.{OutputsModel}
+use Rattle.nj_manifest.specs.Grammar.{HeadModel, Alone, RuleHead, PoolHead, BuildHead}
+use Rattle.nj_manifest.specs.Contents.{words_model, outputs_model, used_rule, inputs_model, statement_model}
+use Rattle.nj_manifest.specs.Dyndeps.{version_next, EntryModel, entry_from, DyndepLeft, WholeFile, Entries, Refusing}
 
 abbrev pub left_by : (version_read : Bool) → List lines.Line → DyndepLeft
 left_by true ls = Entries ls
@@ -28,18 +28,18 @@ dyndep_left (Some f) version_read s = Refusing (fault_text f)
 
 -- ---- first lines
 
-abbrev pub name_text : PlacedName → NameText
-name_text n = record { spot = n.spot; name = n.name.now }
+abbrev pub name_model : PlacedName → NameModel
+name_model n = record { spot = n.spot; name = n.name.now }
 
-abbrev pub outs_text : (explicit implicit : List Word) → OutputsText
-outs_text explicit implicit = record { explicit = words_text explicit; implicit = words_text implicit }
+abbrev pub outs_model : (explicit implicit : List Word) → OutputsModel
+outs_model explicit implicit = record { explicit = words_model explicit; implicit = words_model implicit }
 
 -- what a statement gives on its first line
-abbrev pub head_text : Statement → HeadText
-head_text (statement.Rule r) = RuleHead (record { spot = r.name_spot; name = r.name.now })
-head_text (statement.Pool p) = PoolHead (record { spot = p.name_spot; name = p.name.now })
-head_text (statement.Build b) = BuildHead (outputs_text b) (used_rule b) (inputs_text b)
-head_text alone = Alone (statement_text alone)
+abbrev pub head_model : Statement → HeadModel
+head_model (statement.Rule r) = RuleHead (record { spot = r.name_spot; name = r.name.now })
+head_model (statement.Pool p) = PoolHead (record { spot = p.name_spot; name = p.name.now })
+head_model (statement.Build b) = BuildHead (outputs_model b) (used_rule b) (inputs_model b)
+head_model alone = Alone (statement_model alone)
 
 -- ---- along a line
 
@@ -80,7 +80,7 @@ ParsesAt view (Inside l ls) after parse (Err f) = Fails f (parse l ls)
 ParsesAt view other after parse result = Unit {0}
 
 -- the entry that begins here
-abbrev pub entry_here : lines.Line → List lines.Line → Parse (Option EntryText)
+abbrev pub entry_here : lines.Line → List lines.Line → Parse (Option EntryModel)
 entry_here l ls = entry_from (Some l, ls)
 
 -- where the next statement begins, if the lexer is there
@@ -100,7 +100,7 @@ ParsesNext view before after parse (Ok x) = (parse (lines_from before) ≡ Ok (v
 ParsesNext view before after parse (Err f) = Fails f (parse (lines_from before))
 
 -- the check of a block's lines
-abbrev pub Wholes : List LineText → Result (List LineText) Fault → Result (Unit {0}) ParseFault → Type 0
+abbrev pub Wholes : List LineModel → Result (List LineModel) Fault → Result (Unit {0}) ParseFault → Type 0
 Wholes lines expected (Ok done) = expected ≡ Ok lines
 Wholes lines expected (Err f) = Fails f expected
 

@@ -2,7 +2,7 @@
 use Rattle.std.specs.Prelude.{◌≡◌, ◌≤◌, List, length, take}
 use Rattle.nj_needs.specs.Inside.Paths.{places}
 use Rattle.nj_needs.specs.declared.frame.Frame.{Frame}
-use Rattle.nj_needs.specs.declared.saved.Saved.{Saved}
+use Rattle.nj_needs.specs.declared.resume_point.Saved.{Saved}
 
 -- the numbers that are kept are the numbers of the path
 pub record KeepsFront (s : Saved) (path : List Frame) : Type 0 where

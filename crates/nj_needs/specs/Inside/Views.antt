@@ -5,7 +5,7 @@ use Rattle.nj_needs.specs.Walks.{WalkState, rest_of, bound_of}
 use Rattle.nj_needs.specs.Inside.Standing.{IsWalk, left_of, turns_left_of}
 use Rattle.nj_needs.specs.Inside.Saved.{KeepsFront}
 use Rattle.nj_needs.specs.declared.walk.Walk.{Walk}
-use Rattle.nj_needs.specs.declared.saved.Saved.{Saved}
+use Rattle.nj_needs.specs.declared.resume_point.Saved.{Saved}
 
 abbrev pub state_of : Walk → Saved → WalkState
 state_of w s = record {

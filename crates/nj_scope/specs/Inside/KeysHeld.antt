@@ -1,13 +1,13 @@
 -- How the lines of a rule are held by their keys.
 use Rattle.std.specs.Prelude.{◌≡◌, ℕ, Some, List, map, slice_get}
 use Rattle.nj_scope.specs.declared.rule.RuleLine.{RuleLine}
-use Rattle.nj_scope.specs.Rules.{RuleLineText}
+use Rattle.nj_scope.specs.Rules.{RuleLineModel}
 
-abbrev pub line_held : RuleLine → RuleLineText
+abbrev pub line_held : RuleLine → RuleLineModel
 line_held l = record { key = l.key.items; value = l.value }
 
 -- these are the indexes of lines
-abbrev pub AreIndexes : List RuleLineText → (indexes : List ℕ) → (lines : List RuleLineText) → Type 0
+abbrev pub AreIndexes : List RuleLineModel → (indexes : List ℕ) → (lines : List RuleLineModel) → Type 0
 AreIndexes all indexes lines = map (slice_get all) indexes ≡ map Some lines
 
 -- the line at an index has the key

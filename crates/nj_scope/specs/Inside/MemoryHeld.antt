@@ -1,7 +1,7 @@
 -- How files in memory, and readings of them, are held.
 use Rattle.std.specs.Prelude.{string_bytes}
-use Rattle.nj_scope.specs.declared.memory.MemoryFile.{MemoryFile}
-use Rattle.nj_scope.specs.declared.memory.MemoryReading.{MemoryReading}
+use Rattle.nj_scope.specs.declared.memory_files.MemoryFile.{MemoryFile}
+use Rattle.nj_scope.specs.declared.memory_files.MemoryReading.{MemoryReading}
 use Rattle.nj_scope.specs.Memory.{Added}
 use Rattle.nj_scope.specs.Readings.{Reading}
 use Rattle.nj_scope.specs.Sources.{outcome_bytes}

@@ -2,18 +2,18 @@
 use Rattle.std.specs.Prelude.{ℕ, ◌<◌, List, map, IfSome}
 use Rattle.std.specs.Global.{Vec}
 use Rattle.nj_scope.specs.declared.scopes.Scope.{Scope}
-use Rattle.nj_scope.specs.Scopes.{ScopeText, parent_at}
+use Rattle.nj_scope.specs.Scopes.{ScopeModel, parent_at}
 
 abbrev pub values_text : List (Vec ℕ × Vec ℕ) → List (List ℕ × List ℕ)
 values_text entries = map (λ e. (e.0.items, e.1.items)) entries
 
-abbrev pub scope_text : Scope → ScopeText
-scope_text s = record {
+abbrev pub scope_model : Scope → ScopeModel
+scope_model s = record {
   parent = s.parent;
   values = values_text s.values.entries;
   rules = map (λ e. (e.0.items, e.1)) s.rules.entries;
 }
 
 -- each scope was opened after the one around it
-abbrev pub ParentsAreEarlier : List ScopeText → Type 0
+abbrev pub ParentsAreEarlier : List ScopeModel → Type 0
 ParentsAreEarlier scopes = (n : ℕ) → IfSome (parent_at scopes n) (λ p. p < n)

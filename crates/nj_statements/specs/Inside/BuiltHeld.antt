@@ -1,28 +1,28 @@
 -- How what the statements yield is held. Nothing here has to be believed.
 use Rattle.std.specs.Prelude.{◌≡◌, ℕ, ◌<◌, List, map, length}
 use Rattle.std.specs.List.{AllByRecursion}
-use Rattle.nj_edge_env.specs.Blocks.{BlocksText}
+use Rattle.nj_edge_env.specs.Blocks.{BlocksModel}
 use Rattle.nj_edges.specs.declared.files.FileNo.{FileNo}
 use Rattle.nj_edges.specs.EdgeGraphs.{EdgeGraph}
 use Rattle.nj_edges.specs.Inside.EdgesHeld.{AreNumbers, paths_at}
 use Rattle.nj_edges.specs.Files.{path_at}
-use Rattle.nj_statements.specs.declared.detail.Detail.{Detail}
+use Rattle.nj_statements.specs.declared.edge_record.Detail.{Detail}
 use Rattle.nj_statements.specs.declared.building.DyndepEdge.{DyndepEdge}
-use Rattle.nj_statements.specs.EdgeList.{Pending, AssignedText}
-use Rattle.nj_statements.specs.Built.{EdgeDetail, BuiltText}
+use Rattle.nj_statements.specs.EdgeList.{Pending, AssignedModel}
+use Rattle.nj_statements.specs.Built.{EdgeDetail, BuiltModel}
 use Rattle.nj_statements.specs.Inside.Details.{text_at, spot_of, numbered_at, IsNumbered}
 
 abbrev pub detail_named : (names : List (List ℕ)) → Detail → EdgeDetail
 detail_named names d = record { file = text_at names d.file; spot = spot_of d; scope = d.scope; rule = d.rule }
 
-abbrev pub assigned_named : (names : List (List ℕ)) → Detail → AssignedText
+abbrev pub assigned_named : (names : List (List ℕ)) → Detail → AssignedModel
 assigned_named names d = record { pool = numbered_at names d.pool; dyndep = numbered_at names d.dyndep }
 
 abbrev pub pending_named : (files : List (List ℕ)) → DyndepEdge → Pending
 pending_named files d = record { edge = d.edge; file = path_at files d.file }
 
-abbrev pub built_of : EdgeGraph → BlocksText → (names : List (List ℕ)) → List Detail → (defaults : List FileNo) → List DyndepEdge
-    → BuiltText
+abbrev pub built_of : EdgeGraph → BlocksModel → (names : List (List ℕ)) → List Detail → (defaults : List FileNo) → List DyndepEdge
+    → BuiltModel
 built_of graph blocks names details defaults dyndeps = record {
   graph = graph;
   details = map (detail_named names) details;

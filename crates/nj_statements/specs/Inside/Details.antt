@@ -1,9 +1,9 @@
 -- How an edge is kept without its paths and its block. Nothing here has to be believed.
 use Rattle.std.specs.Prelude.{◌≡◌, ℕ, ◌<◌, Option, Some, None, unwrap_or, List, [], length, slice_get, slice_index_or}
 use Rattle.nj_text.specs.declared.spot.Spot.{Spot}
-use Rattle.nj_statements.specs.declared.detail.Assigned.{Assigned}
-use Rattle.nj_statements.specs.declared.detail.Detail.{Detail}
-use Rattle.nj_statements.specs.EdgeList.{AssignedText}
+use Rattle.nj_statements.specs.declared.edge_record.Assigned.{Assigned}
+use Rattle.nj_statements.specs.declared.edge_record.Detail.{Detail}
+use Rattle.nj_statements.specs.EdgeList.{AssignedModel}
 use Rattle.nj_statements.specs.Answers.{numbered}
 
 -- the text of a number; past the last one it is empty
@@ -29,6 +29,6 @@ abbrev pub IsNumbered : (strings : List (List ℕ)) → (number : ℕ) → Type 
 IsNumbered strings number = number < length (numbered strings)
 
 -- the numbers of what is assigned
-pub record AreNumbersOf (names : List (List ℕ)) (a : Assigned) (meant : AssignedText) : Type 0 where
+pub record AreNumbersOf (names : List (List ℕ)) (a : Assigned) (meant : AssignedModel) : Type 0 where
   pub pool : slice_get (numbered names) a.pool ≡ Some meant.pool
   pub dyndep : slice_get (numbered names) a.dyndep ≡ Some meant.dyndep

@@ -5,28 +5,28 @@ use Rattle.std.specs.Option.{option_or}
 use Rattle.std.specs.List.{AllByRecursion}
 use Rattle.nj_text.specs.declared.spot.Spot.{Spot}
 use Rattle.nj_text.specs.Paths.{clean_path_of}
-use Rattle.nj_manifest.specs.Statements.{InputsText}
-use Rattle.nj_scope.specs.Rules.{RuleText, RuleLineText, phony}
+use Rattle.nj_manifest.specs.Statements.{InputsModel}
+use Rattle.nj_scope.specs.Rules.{RuleModel, RuleLineModel, phony}
 use Rattle.nj_scope.specs.Readings.{IsPrefix}
 use Rattle.nj_scope.specs.Scopes.{IsScope, parent_at}
-use Rattle.nj_scope.specs.Declarations.{DeclarationsText, DeclaredBy}
+use Rattle.nj_scope.specs.Declarations.{DeclarationsModel, DeclaredBy}
 use Rattle.nj_scope.specs.ReadingList.{ReadStatement, value_after}
 use Rattle.nj_edge_env.specs.Blocks.{bound_in}
 use Rattle.nj_edges.specs.declared.files.FileNo.{FileNo}
 use Rattle.nj_edges.specs.Edges.{EdgePaths, is_among}
 use Rattle.nj_edges.specs.EdgeTables.{EdgeTable, no_files, with_output, with_input, with_validation}
 use Rattle.nj_edges.specs.Files.{AreFiles}
-use Rattle.nj_edge_env.specs.declared.edge.LateEdge.{LateEdge}
+use Rattle.nj_edge_env.specs.declared.late_edge.LateEdge.{LateEdge}
 use Rattle.nj_edge_env.specs.LateStrings.{LateNames, asked_text}
 use Rattle.nj_edge_env.specs.LateEdges.{late_names}
-use Rattle.nj_edge_env.specs.ReferencesHeld.{ReferringKeyText}
+use Rattle.nj_edge_env.specs.ReferencesHeld.{ReferringKeyModel}
 use Rattle.nj_statements.specs.declared.context.Context.{Context}
-use Rattle.nj_statements.specs.declared.detail.Detail.{Detail}
+use Rattle.nj_statements.specs.declared.edge_record.Detail.{Detail}
 use Rattle.nj_statements.specs.declared.building.DyndepEdge.{DyndepEdge}
-use Rattle.nj_statements.specs.EdgeList.{Values, Block, AssignedText, on_line, paths_given, name_given, file_given}
+use Rattle.nj_statements.specs.EdgeList.{Values, Block, AssignedModel, on_line, paths_given, name_given, file_given}
 use Rattle.nj_faults.specs.declared.fault.GraphFault.{GraphFault}
 use Rattle.nj_statements.specs.BuildFaults.{variable_cycle_fault, unknown_pool, dyndep_not_input}
-use Rattle.nj_statements.specs.Answers.{DetailText, KeepsRead}
+use Rattle.nj_statements.specs.Answers.{DetailModel, KeepsRead}
 use Rattle.nj_statements.specs.Inside.Details.{spot_of}
 
 -- the faults of an edge's names in their order, where these pools are declared and the edge has these inputs
@@ -36,11 +36,11 @@ names_fault file spot declared inputs n =
     (option_or (unknown_pool file spot declared (asked_text n (codes "pool")))
     (dyndep_not_input file spot inputs (asked_text n (codes "dyndep"))))
 
-abbrev pub lines_of_rule : Option RuleText → List RuleLineText
+abbrev pub lines_of_rule : Option RuleModel → List RuleLineModel
 lines_of_rule r = unwrap_or (option_map (λ r. r.lines) r) []
 
 -- Names have these values in a scope, by what the earlier statements declare and the block binds.
-pub record Sees (held : DeclarationsText) (scope : ℕ) (block : Block) (values : Values) : Type 0 where
+pub record Sees (held : DeclarationsModel) (scope : ℕ) (block : Block) (values : Values) : Type 0 where
   pub entries : List ReadStatement
   pub around : List ℕ
   pub declared : DeclaredBy held entries
@@ -85,7 +85,7 @@ pub record Grows (outputs : ℕ) (before after : EdgeTable) : Type 0 where
   pub inputs : length before.«open».inputs ≤ length after.«open».inputs
 
 -- the inputs and validations of a statement are appended; its explicit and its implicit inputs end at `ends`
-pub record AddsInputs (loses_own : Bool) (values : Values) (inputs : InputsText) (before after : EdgeTable) (ends : ℕ × ℕ)
+pub record AddsInputs (loses_own : Bool) (values : Values) (inputs : InputsModel) (before after : EdgeTable) (ends : ℕ × ℕ)
     : Type 0 where
   pub explicit : EdgeTable
   pub explicit_is : explicit ≡ with_inputs loses_own before (paths_given values inputs.explicit)
@@ -109,7 +109,7 @@ pub record AddsTargets (files : List (List ℕ)) (before after : List FileNo) (p
   pub are : AreFiles files added paths
 
 -- the names of an edge with these paths and this block, where its file has these values
-abbrev pub names_read : EdgePaths → Block → RuleText → (file : Values) → LateNames
+abbrev pub names_read : EdgePaths → Block → RuleModel → (file : Values) → LateNames
 names_read paths block rule file = record {
   inputs = paths.explicit_inputs;
   outputs = paths.explicit_outputs;
@@ -127,7 +127,7 @@ pub record SeesLate (edge : LateEdge) (entries : List ReadStatement) (n : LateNa
   pub are : n ≡ late_names edge (value_after entries (edge.scope ∷ around))
 
 -- what is assigned to an edge whose names depend on these
-abbrev pub assigned_by : LateNames → AssignedText
+abbrev pub assigned_by : LateNames → AssignedModel
 assigned_by n = record { pool = name_given (asked_text n (codes "pool")); dyndep = file_given (asked_text n (codes "dyndep")) }
 
 -- the number of the file at this path, if there is one
@@ -135,11 +135,11 @@ abbrev pub IsFileGiven : (files : List (List ℕ)) → Option FileNo → Option 
 IsFileGiven files number path = option_map (λ f. slice_get files f.0) number ≡ option_map Some path
 
 -- the same is kept of each rule
-abbrev pub SameReferences : (kept others : List (Option (List ReferringKeyText))) → Type 0
+abbrev pub SameReferences : (kept others : List (Option (List ReferringKeyModel))) → Type 0
 SameReferences kept others = (number : ℕ) → slice_index_or kept number None ≡ slice_index_or others number None
 
-abbrev pub detail_text : Detail → DetailText
-detail_text d = record { file = d.file; spot = spot_of d; scope = d.scope; rule = d.rule; pool = d.pool; dyndep = d.dyndep }
+abbrev pub detail_model : Detail → DetailModel
+detail_model d = record { file = d.file; spot = spot_of d; scope = d.scope; rule = d.rule; pool = d.pool; dyndep = d.dyndep }
 
 -- with the edge of this number, if it is bound to a dyndep file
 abbrev pub with_dyndep : (edge : ℕ) → Option FileNo → List DyndepEdge → List DyndepEdge

@@ -3,8 +3,8 @@ use Rattle.std.specs.Prelude.{◌≡◌, ℕ, ◌+◌, ◌<◌, ◌≤◌, ◌==
 use Rattle.std.specs.Bool.{then_some}
 use Rattle.std.specs.Prelude.{List, [], ◌∷◌, map, filter, length, set, slice_get, slice_index_or, bytes_eq}
 use Rattle.std.specs.List.{AllByRecursion, IsDistinct}
-use Rattle.nj_text.specs.Words.{WordText}
-use Rattle.nj_edge_env.specs.Blocks.{BlocksText}
+use Rattle.nj_text.specs.Words.{WordModel}
+use Rattle.nj_edge_env.specs.Blocks.{BlocksModel}
 use Rattle.nj_edges.specs.declared.files.FileNo.{FileNo}
 use Rattle.nj_edges.specs.Edges.{EdgePaths, first_output, maker_of}
 use Rattle.nj_edges.specs.Inside.EdgesHeld.{AreNumbers, paths_at}
@@ -13,7 +13,7 @@ use Rattle.nj_edges.specs.Joining.{JoinTable, with_added_output, with_added_inpu
 use Rattle.nj_faults.specs.declared.fault.GraphFault.{GraphFault}
 use Rattle.nj_faults.specs.declared.fault.Cause.TheVariants.{DyndepExtra, DyndepTwice, DyndepNoStatement}
 use Rattle.nj_faults.specs.Faults.{fault_at}
-use Rattle.nj_statements.specs.declared.detail.Detail.{Detail}
+use Rattle.nj_statements.specs.declared.edge_record.Detail.{Detail}
 use Rattle.nj_statements.specs.declared.building.DyndepEdge.{DyndepEdge}
 use Rattle.nj_statements.specs.EdgeList.{path_given}
 use Rattle.nj_statements.specs.Built.{EdgeDetail}
@@ -21,7 +21,7 @@ use Rattle.nj_statements.specs.Inside.BuiltHeld.{detail_named, assigned_named, p
 use Rattle.nj_statements.specs.Inside.Details.{IsNumbered}
 use Rattle.nj_statements.specs.Joining.{no_values, discover, dyndep_files}
 use Rattle.nj_scope.specs.ReadingList.{Discovered, ReadStatement}
-use Rattle.nj_statements.specs.JoiningHeld.{still_pending, JoiningText}
+use Rattle.nj_statements.specs.JoiningHeld.{still_pending, JoiningModel}
 
 abbrev pub discover_for : Option ℕ → Discovered → List ReadStatement → List ReadStatement
 discover_for edge found joined = unwrap_or (option_map (λ edge. discover edge found joined) edge) joined
@@ -62,17 +62,17 @@ abbrev pub if_bound : (bound : List (Option FileNo)) → FileNo → Option ℕ �
 if_bound bound file None = None
 if_bound bound file (Some edge) = if is_bound_to (slice_index_or bound edge None) file then Some edge else None
 
-abbrev pub maker_fault : (name : List ℕ) → WordText → JoinTable → Option ℕ → Option GraphFault
+abbrev pub maker_fault : (name : List ℕ) → WordModel → JoinTable → Option ℕ → Option GraphFault
 maker_fault name word table None = Some (fault_at name word.spot (DyndepExtra (path_given no_values word)))
 maker_fault name word table (Some edge) =
     then_some (is_joined table edge) (fault_at name word.spot (DyndepTwice (path_given no_values word)))
 
 -- the edge that makes what a word gives, if it is bound to a file
-abbrev pub edge_bound : JoinTable → (bound : List (Option FileNo)) → FileNo → WordText → Option ℕ
+abbrev pub edge_bound : JoinTable → (bound : List (Option FileNo)) → FileNo → WordModel → Option ℕ
 edge_bound table bound file word = if_bound bound file (maker_of table.stated (path_given no_values word))
 
 -- this edge, to which nothing was joined yet
-pub record IsMeant (table : JoinTable) (bound : List (Option FileNo)) (file : FileNo) (word : WordText) (edge : ℕ) : Type 0 where
+pub record IsMeant (table : JoinTable) (bound : List (Option FileNo)) (file : FileNo) (word : WordModel) (edge : ℕ) : Type 0 where
   pub is : edge_bound table bound file word ≡ Some edge
   pub known : edge < length table.stated
   pub first : is_joined table edge ≡ false
@@ -90,8 +90,8 @@ abbrev pub with_added_inputs : JoinTable → (paths : List (List ℕ)) → JoinT
 with_added_inputs t [] = t
 with_added_inputs t (path ∷ paths) = with_added_inputs (with_added_input t path) paths
 
-abbrev pub joining_of : JoinTable → BlocksText → (names : List (List ℕ)) → List Detail → (defaults : List FileNo)
-    → (dyndep_files : List DyndepEdge) → (bound : List (Option FileNo)) → JoiningText
+abbrev pub joining_of : JoinTable → BlocksModel → (names : List (List ℕ)) → List Detail → (defaults : List FileNo)
+    → (dyndep_files : List DyndepEdge) → (bound : List (Option FileNo)) → JoiningModel
 joining_of table blocks names details defaults dyndep_files bound = record {
   table = table;
   blocks = blocks;

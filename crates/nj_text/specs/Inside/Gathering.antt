@@ -17,7 +17,7 @@ use Rattle.nj_text.specs.Bytes.{drop_while}
 use Rattle.nj_text.specs.Inside.Runs.{in_run}
 use Rattle.nj_text.specs.Units.{Meaning, LeadingTab, LineEnd, TextEnd, BadByte, BadEscape, TextUnit}
 use Rattle.nj_text.specs.Inside.Scans.{units_within}
-use Rattle.nj_text.specs.Words.{in_word, next_fault, parts_of, part_text, PartText}
+use Rattle.nj_text.specs.Words.{in_word, next_fault, parts_of, part_model, PartModel}
 
 abbrev pub run_of : TextKind → Run
 run_of kind.Word = run.Word
@@ -40,7 +40,7 @@ abbrev pub units_at : Cursor → List TextUnit
 units_at c = units_within c.spot c.rest.now
 
 -- the parts of the text that the units begin with, and the units after it
-abbrev pub gathered : TextKind → List TextUnit → List PartText
+abbrev pub gathered : TextKind → List TextUnit → List PartModel
 gathered kind us = parts_of (take_while (in_text kind) us)
 
 abbrev pub after_text : TextKind → List TextUnit → List TextUnit
@@ -49,7 +49,7 @@ after_text kind us = drop_while (in_text kind) us
 -- what comes next in a text
 abbrev pub NextPartIs : TextKind → List TextUnit → NextPart → Type 0
 NextPartIs kind us (next.Part p after) =
-    (gathered kind us ≡ part_text p ∷ gathered kind (units_at after)) × (after_text kind us ≡ after_text kind (units_at after))
+    (gathered kind us ≡ part_model p ∷ gathered kind (units_at after)) × (after_text kind us ≡ after_text kind (units_at after))
 NextPartIs kind us (next.Join after) =
     (gathered kind us ≡ gathered kind (units_at after)) × (after_text kind us ≡ after_text kind (units_at after))
 NextPartIs kind us next.End = (gathered kind us ≡ []) × (after_text kind us ≡ us) × (next_fault us ≡ None)
@@ -69,7 +69,7 @@ NoneInRun p (b ∷ bs) = p b ≡ false
 -- The run of ordinary bytes at the front is taken, and none follows it.
 abbrev pub TakesRun : TextKind → (old new : List Part) → Cursor → Result Cursor WordFault → Type 0
 TakesRun kind old new c (Ok after) =
-    (map part_text new ++ gathered kind (units_at after) ≡ map part_text old ++ gathered kind (units_at c))
+    (map part_model new ++ gathered kind (units_at after) ≡ map part_model old ++ gathered kind (units_at c))
     × (after_text kind (units_at after) ≡ after_text kind (units_at c))
     × NoneInRun (in_run (run_of kind)) after.rest.now
     × (length after.rest.now ≤ length c.rest.now)
@@ -82,5 +82,5 @@ FailsText (word_fault.Unit f) next = next ≡ Some f
 
 abbrev pub Gathers : TextKind → List TextUnit → Result (SmallVec Part × Cursor) WordFault → Type 0
 Gathers kind us (Ok r) =
-    (map part_text r.0.items ≡ gathered kind us) × (units_at r.1 ≡ after_text kind us) × (next_fault (after_text kind us) ≡ None)
+    (map part_model r.0.items ≡ gathered kind us) × (units_at r.1 ≡ after_text kind us) × (next_fault (after_text kind us) ≡ None)
 Gathers kind us (Err f) = FailsText f (next_fault (after_text kind us))

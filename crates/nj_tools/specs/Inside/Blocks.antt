@@ -3,7 +3,7 @@ use Rattle.std.specs.Prelude.{◌≡◌, ℕ, List, ◌++◌, Result, Ok, Err}
 use Rattle.nj_tools.specs.Sinks.{SinkState, Takes}
 use Rattle.nj_tools.specs.Texts.{FailsWithin, StopsWithin}
 use Rattle.nj_tools.specs.declared.sinks.SinkFault.{SinkFault}
-use Rattle.nj_tools.specs.declared.fault.ToolFault.{ToolFault}
+use Rattle.nj_tools.specs.declared.tool_fault.ToolFault.{ToolFault}
 
 -- the sink took a prefix of the text since the old state, and the rest is pending
 abbrev pub IsUnderway : (old new : SinkState) → (text unjoined : List ℕ) → Type 0

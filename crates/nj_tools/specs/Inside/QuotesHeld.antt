@@ -1,6 +1,6 @@
 -- How the quotes of paths are held while they are sorted.
 use Rattle.std.specs.Prelude.{ℕ, Bool, true, nat_le, List, [], ◌∷◌, ◌++◌, map}
-use Rattle.nj_tools.specs.declared.paths.Quotes.{Quotes}
+use Rattle.nj_tools.specs.declared.sorted_paths.Quotes.{Quotes}
 
 -- whether a quote comes before all that begin with a byte after `'`
 abbrev pub precedes_plain : List ℕ → Bool

@@ -5,13 +5,13 @@ use Rattle.std.proofs.lemmas.List.{take_all}
 use Rattle.std.proofs.lemmas.List.Elements.{All-push}
 use Rattle.std.proofs.lemmas.Option.{slice_get-get_or}
 use Rattle.nj_graph.specs.Graph.{files_of}
-use Rattle.nj_graph.specs.Origins.{OpeningText}
+use Rattle.nj_graph.specs.Origins.{OpeningModel}
 use Rattle.affected_tests.specs.AffectedTests.{number_at}
 use Rattle.affected_tests.proofs.LineLemmas.{files-more, files-same}
 use Rattle.affected_tests.proofs.manifest.opened_files.Goals as goal
 use Rattle.affected_tests.proofs.manifest.opened_files.Goals.{in-Some+in_ok-push-in-Some, in-None}
 
-no-opening : OpeningText
+no-opening : OpeningModel
 no-opening = record { path = []; named_at = None; scope = 0 }
 
 pub openings-preserved : goal.openings-preserved

@@ -2,8 +2,8 @@ use Rattle.std.proofs.Common.{◌≡◌, ◌&&◌, ◌+◌, ℕ, List, [], appen
 use Rattle.std.specs.List.{filter, flat_map}
 use Rattle.std.proofs.lemmas.Grind.{flat_map-append}
 use Rattle.nj_scope.specs.ReadingList.{ReadStatement}
-use Rattle.nj_graph.specs.Graph.{GraphText, edges_of}
-use Rattle.audit_build.specs.Findings.{FindingText, edge_finding}
+use Rattle.nj_graph.specs.Graph.{GraphModel, edges_of}
+use Rattle.audit_build.specs.Findings.{FindingModel, edge_finding}
 use Rattle.audit_build.specs.declared.kinds.Kind.TheVariants.{RepeatedCommand}
 use Rattle.audit_build.specs.AuditBuild.{command_of, commands_at, commands_before, first_output_at, has_command, repeats_command}
 use Rattle.audit_build.proofs.ListLemmas.{all-numbers, filter-map-append, more-numbers, none-picked, numbers-append, one-picked, same}
@@ -11,12 +11,12 @@ use Rattle.audit_build.proofs.NameLemmas.{AreNames, all-more}
 use Rattle.audit_build.proofs.commands.find_repeated_commands.Goals as goal
 use Rattle.audit_build.proofs.commands.find_repeated_commands.Goals.{then-branch+in_ok-push_at, else-branch}
 
-commands-more : (g : GraphText) (entries : List ReadStatement) (n : ℕ) → commands_before g entries n ++ commands_at g entries n ≡ commands_before g entries (n + 1)
+commands-more : (g : GraphModel) (entries : List ReadStatement) (n : ℕ) → commands_before g entries n ++ commands_at g entries n ≡ commands_before g entries (n + 1)
 commands-more g entries n =
     ap (λ t. commands_before g entries n ++ t) (sym (append-nil (commands_at g entries n)))
     ∙ numbers-append (flat_map (commands_at g entries)) (flat_map-append (commands_at g entries)) n
 
-abbrev finding : GraphText → ℕ → FindingText
+abbrev finding : GraphModel → ℕ → FindingModel
 finding g edge = edge_finding g edge RepeatedCommand (first_output_at g edge)
 
 pub edges-preserved : goal.edges-preserved

@@ -1,14 +1,14 @@
 use Rattle.std.proofs.Common.{ℕ, [], ◌∷◌, ◌++◌, length, sym, ap, ◌∙◌, arith, map}
 use Rattle.std.specs.List.{filter}
-use Rattle.nj_graph.specs.Graph.{GraphText, edges_of}
-use Rattle.audit_build.specs.Findings.{FindingText, edge_finding}
+use Rattle.nj_graph.specs.Graph.{GraphModel, edges_of}
+use Rattle.audit_build.specs.Findings.{FindingModel, edge_finding}
 use Rattle.audit_build.specs.declared.kinds.Kind.TheVariants.{DepfileWithoutDeps}
 use Rattle.audit_build.specs.AuditBuild.{first_output_at, has_depfile_without_deps}
 use Rattle.audit_build.proofs.ListLemmas.{all-numbers, filter-map-append, more-numbers, none-picked, one-picked, same}
 use Rattle.audit_build.proofs.depfiles.find_depfiles_without_deps.Goals as goal
 use Rattle.audit_build.proofs.depfiles.find_depfiles_without_deps.Goals.{then-branch+in_ok-push_at, else-branch}
 
-abbrev finding : GraphText → ℕ → FindingText
+abbrev finding : GraphModel → ℕ → FindingModel
 finding g edge = edge_finding g edge DepfileWithoutDeps (first_output_at g edge)
 
 pub edges-preserved : goal.edges-preserved

@@ -5,8 +5,8 @@ use Rattle.std.proofs.lemmas.List.{length-map}
 use Rattle.std.proofs.lemmas.List.Elements.{filter_map-append}
 use Rattle.std.proofs.lemmas.Option.{slice_get-get_or, slice_get-map}
 use Rattle.nj_graph.specs.Edges.{inputs_of, is_among}
-use Rattle.nj_graph.specs.Graph.{GraphText, files_of}
-use Rattle.audit_build.specs.Findings.{FindingText, edge_finding}
+use Rattle.nj_graph.specs.Graph.{GraphModel, files_of}
+use Rattle.audit_build.specs.Findings.{FindingModel, edge_finding}
 use Rattle.audit_build.specs.declared.kinds.Kind.TheVariants.{RepeatedInput}
 use Rattle.audit_build.specs.AuditBuild.{paths_at, repeated_path}
 use Rattle.audit_build.proofs.ListLemmas.{all-numbers, files-paths, map-append, more-numbers, none-found, one-found, same, take-next}
@@ -33,10 +33,10 @@ repeated-is : (paths : List (List ℕ)) (i : ℕ) (p : List ℕ) (b : Bool) → 
 repeated-is paths i p b here among =
     ap (option_and_then (λ path. if is_among (take i paths) path then Some path else None)) here ∙ ap (λ b. if b then Some p else None) among
 
-abbrev all : GraphText → ℕ → List (List ℕ) → List ℕ → List FindingText
+abbrev all : GraphModel → ℕ → List (List ℕ) → List ℕ → List FindingModel
 all g edge paths ns = map (edge_finding g edge RepeatedInput) (filter_map (repeated_path paths) ns)
 
-whole : (g : GraphText) (edge : ℕ) (paths : List (List ℕ)) (xs ys : List ℕ) → all g edge paths (xs ++ ys) ≡ all g edge paths xs ++ all g edge paths ys
+whole : (g : GraphModel) (edge : ℕ) (paths : List (List ℕ)) (xs ys : List ℕ) → all g edge paths (xs ++ ys) ≡ all g edge paths xs ++ all g edge paths ys
 whole g edge paths xs ys =
     ap (map (edge_finding g edge RepeatedInput)) (filter_map-append (repeated_path paths) xs ys)
     ∙ map-append (edge_finding g edge RepeatedInput) (filter_map (repeated_path paths) xs) (filter_map (repeated_path paths) ys)

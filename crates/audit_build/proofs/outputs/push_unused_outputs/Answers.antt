@@ -3,21 +3,21 @@ use Rattle.std.specs.List.{filter}
 use Rattle.nj_graph.specs.declared.FileNo.{FileNo}
 use Rattle.nj_graph.specs.Edges.{outputs_of}
 use Rattle.nj_graph.specs.Files.{path_at}
-use Rattle.nj_graph.specs.Graph.{GraphText, files_of}
-use Rattle.audit_build.specs.Findings.{FindingText, edge_finding}
+use Rattle.nj_graph.specs.Graph.{GraphModel, files_of}
+use Rattle.audit_build.specs.Findings.{FindingModel, edge_finding}
 use Rattle.audit_build.specs.declared.kinds.Kind.TheVariants.{UnusedOutput}
 use Rattle.audit_build.specs.AuditBuild.{is_unused_output, paths_at}
 use Rattle.audit_build.proofs.ListLemmas.{all-items, files-paths, filter-map-append, mapped-append, more-items, none-picked, one-picked, same}
 use Rattle.audit_build.proofs.outputs.push_unused_outputs.Goals as goal
 use Rattle.audit_build.proofs.outputs.push_unused_outputs.Goals.{then-is_unused+in_ok-push_at, else-is_unused}
 
-abbrev picked : GraphText → ℕ → List (List ℕ) → List FindingText
+abbrev picked : GraphModel → ℕ → List (List ℕ) → List FindingModel
 picked g edge paths = map (edge_finding g edge UnusedOutput) (filter (is_unused_output g) paths)
 
-abbrev all : GraphText → ℕ → List FileNo → List FindingText
+abbrev all : GraphModel → ℕ → List FileNo → List FindingModel
 all g edge files = picked g edge (map (path_at (files_of g)) files)
 
-whole : (g : GraphText) (edge : ℕ) (xs ys : List FileNo) → all g edge (xs ++ ys) ≡ all g edge xs ++ all g edge ys
+whole : (g : GraphModel) (edge : ℕ) (xs ys : List FileNo) → all g edge (xs ++ ys) ≡ all g edge xs ++ all g edge ys
 whole g edge = mapped-append (path_at (files_of g)) (picked g edge) (filter-map-append (edge_finding g edge UnusedOutput) (is_unused_output g))
 
 pub outputs-preserved : goal.outputs-preserved

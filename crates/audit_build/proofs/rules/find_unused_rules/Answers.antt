@@ -2,13 +2,13 @@ use Rattle.std.proofs.Common.{◌≡◌, ◌<◌, ℕ, true, false, None, refl, 
 use Rattle.std.specs.List.{filter_map}
 use Rattle.std.proofs.lemmas.List.Elements.{filter_map-append}
 use Rattle.std.proofs.lemmas.List.{get_or_read}
-use Rattle.nj_graph.specs.Graph.{GraphText}
+use Rattle.nj_graph.specs.Graph.{GraphModel}
 use Rattle.audit_build.specs.AuditBuild.{is_used_rule, unused_rule}
 use Rattle.audit_build.proofs.ListLemmas.{all-numbers, more-numbers, none-found, same}
 use Rattle.audit_build.proofs.rules.find_unused_rules.Goals as goal
 use Rattle.audit_build.proofs.rules.find_unused_rules.Goals.{then-not-index+in_ok-push_rule, else-not-index}
 
-used-none : (g : GraphText) (n : ℕ) → is_used_rule g n ≡ true → unused_rule g n ≡ None
+used-none : (g : GraphModel) (n : ℕ) → is_used_rule g n ≡ true → unused_rule g n ≡ None
 used-none g n used = rw used refl
 
 pub rules-preserved : goal.rules-preserved

@@ -1,7 +1,7 @@
 use Rattle.std.proofs.Common.{[], ◌∷◌, ◌++◌, ◌+◌, take, refl, sym, ap, subst}
 use Rattle.std.specs.List.{filter_map}
 use Rattle.std.proofs.lemmas.List.Elements.{filter_map-append}
-use Rattle.nj_text.specs.Words.{part_text}
+use Rattle.nj_text.specs.Words.{part_model}
 use Rattle.audit_build.specs.AuditBuild.{name_in, names_in}
 use Rattle.audit_build.proofs.ListLemmas.{more-at, none-found, one-found, same}
 use Rattle.audit_build.proofs.NameLemmas.{AreNames, one-more}
@@ -13,7 +13,7 @@ parts-preserved c =
     let old = c.args.references.now in
     let value = c.args.value.now in
     let i = c.parts.index in
-    let part = part_text c.part.result in
+    let part = part_model c.part.result in
     let text = old ++ names_in (take i value) in
     elim c.match-part.branch [
       | in-Name+in_ok-add-in-Name w ↦
@@ -21,12 +21,12 @@ parts-preserved c =
           subst (λ names. AreNames names (old ++ names_in (take (i + 1) value))) (sym w.references-is)
           (subst (AreNames w.add.new.self)
           (more-at (filter_map name_in) (filter_map-append name_in) old text (text ++ name ∷ []) value i part c.part.ensures refl
-          (ap (λ t. text ++ t) (sym (one-found name_in part name (ap (λ p. name_in (part_text p)) w.in-Name.is)))))
+          (ap (λ t. text ++ t) (sym (one-found name_in part name (ap (λ p. name_in (part_model p)) w.in-Name.is)))))
           (one-more c.parts.references w.add.new.self text name w.in_ok-add-in-Name.ensures.names c.parts.invariant))
       | in-Bytes w ↦
           subst (λ names. AreNames names (old ++ names_in (take (i + 1) value))) (sym w.references-is)
           (subst (AreNames c.parts.references)
           (more-at (filter_map name_in) (filter_map-append name_in) old text text value i part c.part.ensures refl
-          (same (filter_map name_in) part text (none-found name_in part (ap (λ p. name_in (part_text p)) w.in-Bytes.is))))
+          (same (filter_map name_in) part text (none-found name_in part (ap (λ p. name_in (part_model p)) w.in-Bytes.is))))
           c.parts.invariant)
     ]

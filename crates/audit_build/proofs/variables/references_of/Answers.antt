@@ -3,19 +3,19 @@ use Rattle.std.specs.List.{flat_map}
 use Rattle.std.proofs.lemmas.Grind.{flat_map-append}
 use Rattle.std.proofs.lemmas.List.{take_more}
 use Rattle.std.proofs.lemmas.Option.{slice_get-get_or}
-use Rattle.nj_text.specs.Words.{PartText}
-use Rattle.nj_scope.specs.Rules.{RuleLineText}
+use Rattle.nj_text.specs.Words.{PartModel}
+use Rattle.nj_scope.specs.Rules.{RuleLineModel}
 use Rattle.audit_build.specs.AuditBuild.{names_in}
 use Rattle.audit_build.proofs.NameLemmas.{AreNames, all-more}
 use Rattle.audit_build.proofs.variables.references_of.Goals as goal
 
-abbrev names_of : List RuleLineText → List (List ℕ)
+abbrev names_of : List RuleLineModel → List (List ℕ)
 names_of lines = flat_map (λ line. names_in line.value) lines
 
-lines-more : (lines : List RuleLineText) (i : ℕ) (v : List PartText) → i < length lines → option_map (λ line. line.value) (slice_get lines i) ≡ Some v
+lines-more : (lines : List RuleLineModel) (i : ℕ) (v : List PartModel) → i < length lines → option_map (λ line. line.value) (slice_get lines i) ≡ Some v
     → names_of (take i lines) ++ names_in v ≡ names_of (take (i + 1) lines)
 lines-more lines i v below is =
-    let none : RuleLineText = record { key = []; value = [] } in
+    let none : RuleLineModel = record { key = []; value = [] } in
     let line = get_or lines i none in
     let valued : line.value ≡ v = ap (λ o. unwrap_or o []) (sym (ap (option_map (λ line. line.value)) (slice_get-get_or lines i none below)) ∙ is) in
     ap (λ t. names_of (take i lines) ++ names_in t) (sym valued) ∙ ap (λ t. names_of (take i lines) ++ t) (sym (append-nil (names_in line.value)))

@@ -1,12 +1,12 @@
 use Rattle.std.proofs.Common.{Ok, subst}
 use Rattle.nj_graph.specs.Loads.{Loads}
-use Rattle.nj_requests.specs.Actions.{request_text}
+use Rattle.nj_requests.specs.Actions.{request_model}
 use Rattle.nj_cli.proofs.JoinedRuns.{ReadsGraph-joined}
 use Rattle.nj_cli.proofs.run.read_graph.Goals as goal
 
 pub returns-then-request : goal.returns-then-request
 returns-then-request g c =
-    let request = request_text c.args.request.now in
+    let request = request_model c.args.request.now in
     let before = g.S.FileSource.state c.args.source.now in
     let between = g.S.FileSource.state c.load.new.source in
     let after = g.S.FileSource.state c.join_dyndeps.new.source in

@@ -1,6 +1,6 @@
 use Rattle.std.proofs.Common.{Bool, sym, subst}
 use Rattle.nj_graph.specs.Graph.{IsGraphOf}
-use Rattle.nj_requests.specs.Actions.{request_text}
+use Rattle.nj_requests.specs.Actions.{request_model}
 use Rattle.nj_cli.specs.Inside.RunSteps.{Concludes}
 use Rattle.nj_cli.specs.Runs.{around}
 use Rattle.nj_cli.proofs.RunLemmas.{Answers-from, Keeps-answered}
@@ -8,7 +8,7 @@ use Rattle.nj_cli.proofs.run.run_tool_and_keep.Goals as goal
 
 pub returns : goal.returns
 returns g c =
-    let request = request_text c.args.request.now in
+    let request = request_model c.args.request.now in
     let before = g.S.FileSource.state c.args.source.now in
     let after = g.S.FileSource.state c.read_graph.new.source in
     let old = around before (g.O.Sink.state c.args.out.now) (g.E.Sink.state c.args.err.now) in

@@ -1,7 +1,7 @@
 use Rattle.std.proofs.Common.{◌≡◌, Err, inl, ap, subst, refl, ◌∙◌}
 use Rattle.nj_graph.proofs.FirstTimes.{loads}
 use Rattle.nj_faults.specs.Faults.{no_memory}
-use Rattle.nj_graph.specs.Graph.{GraphText}
+use Rattle.nj_graph.specs.Graph.{GraphModel}
 use Rattle.nj_graph.specs.Origins.{main_of}
 use Rattle.nj_graph.specs.Reading.{main_read}
 use Rattle.nj_graph.specs.Inside.ReaderContracts.{StopsAt}
@@ -64,5 +64,5 @@ invariant_of-result g c =
 pub returns-clause-main : goal.returns-clause-main
 returns-clause-main g c =
     let reads = c.in_ok-read_main.ensures.reads in
-    ap (λ (graph : GraphText). main_of graph.origins) c.in_ok-graph.ensures
+    ap (λ (graph : GraphModel). main_of graph.origins) c.in_ok-graph.ensures
     ∙ main-is c.args.main.now (g.S.FileSource.state c.args.source.now) (g.S.FileSource.state c.read_main.new.source) c.in_ok-reader.reader c.read_main.new.self reads

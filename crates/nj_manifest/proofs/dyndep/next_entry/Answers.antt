@@ -1,7 +1,7 @@
 use Rattle.std.proofs.Common.{subst, refl, option_map, Ok}
 use Rattle.nj_manifest.specs.Inside.ParserContracts.{FindsOpening, entry_here}
 use Rattle.nj_manifest.specs.Dyndeps.{entry_from, next_entry}
-use Rattle.nj_manifest.specs.DyndepParsers.{entry_text}
+use Rattle.nj_manifest.specs.DyndepParsers.{entry_model}
 use Rattle.nj_manifest.proofs.Handed.{handed}
 use Rattle.nj_manifest.proofs.Nexts.{fails-opening, none-left, read-on}
 use Rattle.nj_manifest.proofs.DyndepCalls.{entry-is}
@@ -15,7 +15,7 @@ returns-in_err-find_statement c =
 pub returns-then-branch : goal.returns-then-branch
 returns-then-branch c =
     let found = subst (λ t. FindsOpening c.args.lexer.now c.find_statement.new.lexer (Ok t)) c.if-branch.true c.in_ok-find_statement.ensures in
-    read-on entry_from next_entry entry-is (option_map entry_text) entry_here (λ l ls. refl) c.args.lexer.now c.find_statement.new.lexer c.entry_at.new.lexer c.entry_at.result found c.entry_at.ensures
+    read-on entry_from next_entry entry-is (option_map entry_model) entry_here (λ l ls. refl) c.args.lexer.now c.find_statement.new.lexer c.entry_at.new.lexer c.entry_at.result found c.entry_at.ensures
 
 pub returns : goal.returns
 returns c =

@@ -1,5 +1,5 @@
 use Rattle.std.proofs.Common.{sym, subst, ◌∙◌}
-use Rattle.nj_text.specs.Words.{WordText}
+use Rattle.nj_text.specs.Words.{WordModel}
 use Rattle.nj_text.specs.Calls.{Between, TakesBinding}
 use Rattle.nj_text.specs.Inside.States.{inside, lines_within, lines_at}
 use Rattle.nj_text.proofs.PlainBindings.{binding_seen}
@@ -21,4 +21,4 @@ returns c =
     c.in-Some.ensures.rest c.in-Some.ensures.spot
     value.ensures.whole value.ensures.run value.ensures.after value.ensures.spot first.ensures c.if-first-eq32.false
     feed.ensures feed.field-0-0-test after.ensures.spot after.ensures.rest in
-    subst (λ (w : WordText). TakesBinding (inside (lines_within start.spot start.rest.now)) (Between (lines_at after.result)) start.spot name.result.0.now w) (sym c.plain-value.ensures) seen
+    subst (λ (w : WordModel). TakesBinding (inside (lines_within start.spot start.rest.now)) (Between (lines_at after.result)) start.spot name.result.0.now w) (sym c.plain-value.ensures) seen

@@ -1,7 +1,7 @@
 use Rattle.std.proofs.Common.{length, map, string_bytes, option_map, ap, sym, ◌∙◌}
 use Rattle.nj_edges.specs.declared.edges.EdgeNo.{EdgeNo}
 use Rattle.nj_graph.specs.Graph.{edges_of}
-use Rattle.nj_tools.specs.declared.fault.ToolFault.TheVariants.{Write}
+use Rattle.nj_tools.specs.declared.tool_fault.ToolFault.TheVariants.{Write}
 use Rattle.nj_tools.proofs.BlockLemmas.{FailsWithin-unjoined}
 use Rattle.nj_tools.proofs.CompdbLemmas.{compdb-no_memory, compdb-stops, compdb-no_capacity, compdb-unheld, compdb-fails, compdb-done, names-with}
 use Rattle.nj_tools.proofs.compdb.write_compdb.Goals as goal

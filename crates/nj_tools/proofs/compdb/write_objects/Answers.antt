@@ -2,7 +2,7 @@ use Rattle.std.proofs.Common.{◌≡◌, ◌<◌, Some, None, length, ap, sym, �
 use Rattle.nj_statements.specs.EdgeList.{edges_read}
 use Rattle.nj_edges.specs.EdgeGraphs.{EdgeGraph}
 use Rattle.nj_graph.specs.Graph.{edges_of}
-use Rattle.nj_tools.specs.declared.fault.ToolFault.TheVariants.{OutOfMemory}
+use Rattle.nj_tools.specs.declared.tool_fault.ToolFault.TheVariants.{OutOfMemory}
 use Rattle.nj_tools.specs.Compdb.{compilation_of, objects_text, held_before}
 use Rattle.nj_tools.specs.Inside.CompdbHeld.{held_compilation}
 use Rattle.nj_tools.proofs.BlockLemmas.{puts-nothing, puts-with}

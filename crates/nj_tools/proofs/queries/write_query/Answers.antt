@@ -1,5 +1,5 @@
 use Rattle.std.proofs.Common.{[], refl, arith}
-use Rattle.nj_tools.specs.declared.fault.ToolFault.TheVariants.{Write}
+use Rattle.nj_tools.specs.declared.tool_fault.ToolFault.TheVariants.{Write}
 use Rattle.nj_tools.proofs.BlockLemmas.{stops-with, FailsWithin-unjoined, Takes-unjoined}
 use Rattle.nj_tools.proofs.SequenceLemmas.{puts-item, stops-item, puts-items}
 use Rattle.nj_tools.proofs.QueryLemmas.{file_text, file_strings-are}

@@ -5,7 +5,7 @@ use Rattle.nj_edges.specs.Files.{path_at}
 use Rattle.nj_edges.specs.declared.files.FileNo.{FileNo}
 use Rattle.nj_graph.specs.Graph.{edges_of, files_of}
 use Rattle.nj_graph.proofs.Stated.{graph-edges}
-use Rattle.nj_tools.specs.declared.fault.ToolFault.TheVariants.{OutOfMemory}
+use Rattle.nj_tools.specs.declared.tool_fault.ToolFault.TheVariants.{OutOfMemory}
 use Rattle.nj_tools.specs.Inside.Blocks.{IsUnderway}
 use Rattle.nj_tools.specs.Listings.{file_line, indent, trees_text}
 use Rattle.nj_tools.specs.Inside.Trees.{AreKnown, rows_after, rows_of, rows_text}

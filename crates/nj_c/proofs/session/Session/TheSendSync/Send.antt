@@ -13,7 +13,7 @@ use Rattle.std.specs.Global.{Global}
 use Rattle.std.specs.declared.option.Option.{Option}
 use Rattle.nj_c.specs.Inside.Keeps.{keeps}
 use Rattle.nj_c.specs.contracts.kept.Kept as Kept
-use Rattle.nj_c.proofs.kept.Kept.TheSendSync.{the_send as kept}
+use Rattle.nj_c.proofs.session_state.Kept.TheSendSync.{the_send as kept}
 use Rattle.nj_c.specs.contracts.session.Session.{the_row, the_type}
 
 keyless : (a : Global) (p : Ptr) (k : Option Kept.the_row.Denot) → Keyless (keeps a p k)

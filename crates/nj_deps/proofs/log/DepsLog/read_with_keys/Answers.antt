@@ -1,12 +1,12 @@
 use Rattle.std.proofs.Common.{◌≡◌, ◌≤◌, ◌+◌, ◌-◌, Option, List, ℕ, MatchOption, Bor, length, arith, subst, sym}
 use Rattle.nj_deps.specs.Logs.{EndsBefore}
-use Rattle.nj_deps.specs.Inside.RecordsRead.{IsRead, TableText, TakesNone, TakesRecord}
+use Rattle.nj_deps.specs.Inside.RecordsRead.{IsRead, TableModel, TakesNone, TakesRecord}
 use Rattle.nj_deps.proofs.RecordLemmas.{shorter}
 use Rattle.nj_deps.proofs.TableLemmas.{log-read, one-taken, rest-within}
 use Rattle.nj_deps.proofs.log.DepsLog.read_with_keys.Goals as goal
 
 -- what reading a record gave
-Gave : (rest : List ℕ) (old new : TableText) → Option (Bor (List ℕ)) → Type 0
+Gave : (rest : List ℕ) (old new : TableModel) → Option (Bor (List ℕ)) → Type 0
 Gave rest old new found = MatchOption found (TakesNone rest old new) (λ after. TakesRecord rest after.now old new)
 
 pub records-smaller : goal.records-smaller
@@ -32,4 +32,4 @@ returns-clause-log c =
     let size : length bytes - length rest + length rest ≡ length bytes = omega arith in
     log-read bytes c.in_ok-rest.rest.now rest new (length bytes - length rest) c.is_empty.result c.in_ok-rest.ensures.records
     (subst (IsRead c.in_ok-rest.rest.now rest) (sym none.1) c.records.invariant)
-    (subst (λ (t : TableText). EndsBefore t.paths rest) (sym none.1) none.0) size c.is_empty.ensures
+    (subst (λ (t : TableModel). EndsBefore t.paths rest) (sym none.1) none.0) size c.is_empty.ensures

@@ -5,32 +5,32 @@ use Rattle.nj_statements.proofs.Holding.{on-ok}
 use Rattle.nj_edges.specs.EdgeGraphs.{EdgeGraph}
 use Rattle.nj_edges.specs.Edges.{edge_at}
 use Rattle.nj_edges.specs.Files.{AreFiles}
-use Rattle.nj_scope.specs.Declarations.{DeclarationsText, DeclaredBy}
-use Rattle.nj_statements.specs.Built.{BuiltText, detail_at}
-use Rattle.nj_graph.specs.Graph.{GraphText}
+use Rattle.nj_scope.specs.Declarations.{DeclarationsModel, DeclaredBy}
+use Rattle.nj_statements.specs.Built.{BuiltModel, detail_at}
+use Rattle.nj_graph.specs.Graph.{GraphModel}
 use Rattle.nj_graph.proofs.EdgeStrings.{edge, edge-open, detail-is, names-same, text-same}
 use Rattle.nj_graph.proofs.graph.Graph.append_variable.Goals as goal
 
 pub returns-clause-appended : goal.returns-clause-appended
 returns-clause-appended c = λ entries is.
-    let g : GraphText = c.args.self.now in
+    let g : GraphModel = c.args.self.now in
     let n = c.args.edge.0 in
-    let inside : c.self.inside.declarations ≡ g.declarations = ap (λ (x : GraphText). x.declarations) c.self.view_is in
-    let built : c.self.inside.built ≡ g.built = ap (λ (x : GraphText). x.built) c.self.view_is in
+    let inside : c.self.inside.declarations ≡ g.declarations = ap (λ (x : GraphModel). x.declarations) c.self.view_is in
+    let built : c.self.inside.built ≡ g.built = ap (λ (x : GraphModel). x.built) c.self.view_is in
     let rule = c.rule.result.now in
     let e = edge g entries is n c.requires in
     let edges : c.edge_graph-edges.result.now ≡ g.built.graph = c.edge_graph-edges.ensures in
     let number = c.detail.result.scope in
-    let scope = c.detail.ensures.scope ∙ ap (λ (b : BuiltText). (detail_at b.details n).scope) built in
+    let scope = c.detail.ensures.scope ∙ ap (λ (b : BuiltModel). (detail_at b.details n).scope) built in
     let same = names-same g entries is n c.requires c.files.result.now c.explicit_input_files.result.now c.explicit_output_files.result.now c.blocks-2.result.now rule number
     (c.files.ensures ∙ ap (λ (v : EdgeGraph). v.files) edges)
     (subst (λ (v : EdgeGraph). AreFiles v.files c.explicit_input_files.result.now (edge_at v.edges n).explicit_inputs) edges c.explicit_input_files.ensures.files)
     (subst (λ (v : EdgeGraph). AreFiles v.files c.explicit_output_files.result.now (edge_at v.edges n).explicit_outputs) edges c.explicit_output_files.ensures.files)
-    (c.blocks-2.ensures ∙ ap (λ (b : BuiltText). b.blocks) built)
+    (c.blocks-2.ensures ∙ ap (λ (b : BuiltModel). b.blocks) built)
     (sym (get_or_from_slice_get g.declarations.rules (detail_at g.built.details n).rule rule rule c.rule.ensures))
     scope
     in
     on-ok c.append_late_text.result
-    (c.append_late_text.ensures.appended entries e.around (subst (λ (d : DeclarationsText). DeclaredBy d entries) (sym inside) is.declares)
-    (subst (λ (d : DeclarationsText). IsScope (parent_at d.scopes) number (number ∷ e.around)) (sym inside) (subst (λ s. IsScope (parent_at g.declarations.scopes) s (s ∷ e.around)) (sym (scope ∙ ap (λ d. d.scope) (detail-is g entries is n c.requires))) (edge-open g entries is n c.requires).within)))
+    (c.append_late_text.ensures.appended entries e.around (subst (λ (d : DeclarationsModel). DeclaredBy d entries) (sym inside) is.declares)
+    (subst (λ (d : DeclarationsModel). IsScope (parent_at d.scopes) number (number ∷ e.around)) (sym inside) (subst (λ s. IsScope (parent_at g.declarations.scopes) s (s ∷ e.around)) (sym (scope ∙ ap (λ d. d.scope) (detail-is g entries is n c.requires))) (edge-open g entries is n c.requires).within)))
     (λ appended. appended ∙ ap (λ t. c.args.out.now.items ++ t) (text-same g entries is n c.requires c.args.name.now _ same))

@@ -1,10 +1,10 @@
 use Rattle.std.proofs.Common.{◌≡◌, length, ap, ◌∙◌}
-use Rattle.nj_graph.specs.Graph.{GraphText}
-use Rattle.nj_graph.specs.Origins.{OriginsText, main_of}
+use Rattle.nj_graph.specs.Graph.{GraphModel}
+use Rattle.nj_graph.specs.Origins.{OriginsModel, main_of}
 use Rattle.nj_graph.proofs.OriginLemmas.{openings-count}
 use Rattle.nj_graph.proofs.graph.Graph.opening_count.Goals as goal
 
 pub returns-clause-stated : goal.returns-clause-stated
 returns-clause-stated c entries is =
-    let inside : c.self.inside.origins ≡ c.args.self.now.origins = ap (λ (x : GraphText). x.origins) c.self.view_is in
-    c.opening_count.ensures ∙ ap (λ (o : OriginsText). length o.openings) (inside ∙ is.origins) ∙ openings-count (main_of c.args.self.now.origins) entries
+    let inside : c.self.inside.origins ≡ c.args.self.now.origins = ap (λ (x : GraphModel). x.origins) c.self.view_is in
+    c.opening_count.ensures ∙ ap (λ (o : OriginsModel). length o.openings) (inside ∙ is.origins) ∙ openings-count (main_of c.args.self.now.origins) entries

@@ -3,7 +3,7 @@ use Rattle.std.proofs.lemmas.Option.{slice_get_within}
 use Rattle.nj_scope.specs.Readings.{IsPrefix}
 use Rattle.nj_statements.proofs.Tables.{named-prefix, prefix-trans}
 use Rattle.nj_graph.specs.declared.origins.HeldOpening.{HeldOpening}
-use Rattle.nj_graph.specs.Origins.{OriginsText, place_text}
+use Rattle.nj_graph.specs.Origins.{OriginsModel, place_text}
 use Rattle.nj_graph.specs.Inside.OriginsHeld.{place_held, origins_held}
 use Rattle.nj_graph.proofs.OriginLemmas.{name-is, place-grown, below-grown, named-grown, opening-added, opening-named}
 use Rattle.nj_graph.proofs.origins.Origins.add_opening.Goals as goal
@@ -49,4 +49,4 @@ returns c =
     let there = slice_get_within later file c.args.path.now at in
     ap (λ (openings : List HeldOpening). origins_held later i.rules.items i.pools.items openings) c.in_ok-push.ensures.items
     ∙ opening-added i.names later grows i.rules.items i.pools.items i.openings.items c.self.invariant p place held below file c.args.path.now gives there c.args.scope
-    ∙ ap (λ (o : OriginsText). record o { openings = o.openings ++ record { path = c.args.path.now; named_at = Some place; scope = c.args.scope } ∷ [] }) c.self.view_is
+    ∙ ap (λ (o : OriginsModel). record o { openings = o.openings ++ record { path = c.args.path.now; named_at = Some place; scope = c.args.scope } ∷ [] }) c.self.view_is

@@ -1,7 +1,7 @@
 use Rattle.std.proofs.Common.{◌-◌, suc, Ok, ◌∷◌, length, refl, sym, subst, ◌∙◌}
 use Rattle.std.specs.Rc.{rc_slice_items}
 use Rattle.nj_text.specs.Lines.{text_lines}
-use Rattle.nj_manifest.specs.Contents.{placed_text}
+use Rattle.nj_manifest.specs.Contents.{placed_model}
 use Rattle.nj_graph.specs.Reading.{Site, entry_at, opened_in, text_read}
 use Rattle.nj_graph.specs.Inside.ReaderContracts.{ReadsItem, ReadsOrStops, site_of}
 use Rattle.nj_graph.proofs.OpenScopes.{grows-self, grows-then, open-grown}
@@ -18,7 +18,7 @@ read_statement-returns-in-Some-clause-reads g t c = λ main entries around depth
     let after = g.S.FileSource.state c.read_text.new.source in
     let opened = c.read_item.new.self in
     let named = c.in-Some.named in
-    let e = entry_at (site_of c.args.file around depth) (placed_text c.args.statement.now) in
+    let e = entry_at (site_of c.args.file around depth) (placed_model c.args.statement.now) in
     let reads = subst (λ o. ReadsItem main before mid c.args.self.now opened c.args.file.left e entries (Ok o)) c.in-Some.is (c.in_ok-read_item.ensures.reads main entries around depth has inside) in
     let inner : Site = reads.0 in
     let at = site-same inner c.as_str.result.now named.scope (reads.1.file ∙ sym c.as_str.ensures.value) reads.1.number in
@@ -35,7 +35,7 @@ pub read_statement-returns-in-None-clause-reads : goal.read_statement-returns-in
 read_statement-returns-in-None-clause-reads g t c = λ main entries around depth has inside.
     let before = g.S.FileSource.state c.args.source.now in
     let after = g.S.FileSource.state c.read_item.new.source in
-    let e = entry_at (site_of c.args.file around depth) (placed_text c.args.statement.now) in
+    let e = entry_at (site_of c.args.file around depth) (placed_model c.args.statement.now) in
     one-read main before after c.args.self.now c.read_item.new.self c.args.file.left e entries
     (subst (λ o. ReadsItem main before after c.args.self.now c.read_item.new.self c.args.file.left e entries (Ok o)) c.in-None.is (c.in_ok-read_item.ensures.reads main entries around depth has inside))
 
@@ -74,13 +74,13 @@ read_text-returns-in_err-read_statement-clause-reads g t c = λ main entries aro
     let fault = c.in_err-read_statement.field-0.0 in
     rw (handed fault c.from_residual-in_err-read_statement.result c.from_residual-in_err-read_statement.ensures)
     (turn-stops main before mid c.args.self.now c.statements.self c.args.file.left (site_of c.args.file around depth) c.args.text.now entries c.statements.invariant.1
-    after c.read_statement.new.self (placed_text c.in-Some.statement) next.0 next.1 fault u
+    after c.read_statement.new.self (placed_model c.in-Some.statement) next.0 next.1 fault u
     (c.in_err-read_statement.ensures.reads main u.now around depth u.has there))
 
 pub read_text-statements-smaller : goal.read_text-statements-smaller
 read_text-statements-smaller g t c =
     let next = next-some c.args.file.name.now c.statements.parser c.next_statement.new.parser c.statements.invariant.1 c.in_ok-statement.field-0 c.in-Some.statement c.statements.invariant.2 c.in-Some.is c.in_ok-statement.ensures in
-    rw c.reuse.ensures (fewer-left c.statements.parser c.next_statement.new.parser c.statements.invariant.1 next.0 (placed_text c.in-Some.statement) c.statements.invariant.2 next.2 next.1)
+    rw c.reuse.ensures (fewer-left c.statements.parser c.next_statement.new.parser c.statements.invariant.1 next.0 (placed_model c.in-Some.statement) c.statements.invariant.2 next.2 next.1)
 
 pub read_text-statements-preserved : goal.read_text-statements-preserved
 read_text-statements-preserved g t c =
@@ -95,7 +95,7 @@ read_text-statements-preserved g t c =
           let u = c.statements.invariant.3 main entries around depth has inside in
           let there = open-grown c.args.self.now.declarations.scopes c.statements.self.declarations.scopes c.args.file.scope around c.statements.invariant.0 inside in
           turn main before mid c.args.self.now c.statements.self c.args.file.left (site_of c.args.file around depth) c.args.text.now entries c.statements.invariant.1
-          after c.read_statement.new.self (placed_text c.in-Some.statement) next.0 next.1 u
+          after c.read_statement.new.self (placed_model c.in-Some.statement) next.0 next.1 u
           (c.in_ok-read_statement.ensures.reads main u.now around depth u.has there),
     )
 

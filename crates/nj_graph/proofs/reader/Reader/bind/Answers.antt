@@ -1,6 +1,6 @@
 use Rattle.std.proofs.Common.{bytes_eq, refl, sym, ap, ◌∙◌}
-use Rattle.nj_text.specs.Words.{word_text}
-use Rattle.nj_manifest.specs.Statements.{BindingText}
+use Rattle.nj_text.specs.Words.{word_model}
+use Rattle.nj_manifest.specs.Statements.{BindingModel}
 use Rattle.nj_scope.specs.ReadingList.{ReadStatement}
 use Rattle.nj_faults.specs.Versions.{is_newer}
 use Rattle.nj_graph.specs.declared.reader.Reader.{Reader}
@@ -13,7 +13,7 @@ use Rattle.nj_graph.proofs.reader.Reader.bind.Goals.{then-eq+in_ok-version+else-
 
 pub returns-clause-declares : goal.returns-clause-declares
 returns-clause-declares c = λ main entries around depth has inside.
-    let e : ReadStatement = entry_at (site_of c.args.file around depth) (record { spot = c.args.spot; item = BindingText c.args.name.now (word_text c.args.value.now) }) in
+    let e : ReadStatement = entry_at (site_of c.args.file around depth) (record { spot = c.args.spot; item = BindingModel c.args.name.now (word_model c.args.value.now) }) in
     let held : Reader = record { declarations = c.bind.new.self; building = c.args.self.now.building; files = c.args.self.now.files; origins = c.args.self.now.origins } in
     let takes = c.in_ok-bind.ensures.bound around inside.within entries c.args.file.name.now c.args.spot depth has.declares in (
       elim c.if-eq.branch [

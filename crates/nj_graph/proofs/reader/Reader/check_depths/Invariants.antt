@@ -1,5 +1,5 @@
 use Rattle.std.proofs.Common.{◌≡◌, ℕ, List, ◌∷◌, drop}
-use Rattle.nj_manifest.specs.Contents.{lines_text}
+use Rattle.nj_manifest.specs.Contents.{lines_model}
 use Rattle.nj_scope.specs.Declarations.{DeclaredBy}
 use Rattle.nj_scope.specs.ReadingList.{ReadStatement}
 use Rattle.nj_graph.specs.Reading.{depth_fault}
@@ -9,4 +9,4 @@ use Rattle.nj_graph.proofs.reader.Reader.check_depths.Given as goal
 abbrev pub invariant-lines : goal.invariant-lines
 invariant-lines l =
     (entries : List ReadStatement) (around : List ℕ) → DeclaredBy l.self.declarations entries → IsOpenIn l.self l.file around
-    → depth_fault l.file.name.now (l.file.scope ∷ around) entries (lines_text l.lines) ≡ depth_fault l.file.name.now (l.file.scope ∷ around) entries (lines_text (drop l.line-index l.lines))
+    → depth_fault l.file.name.now (l.file.scope ∷ around) entries (lines_model l.lines) ≡ depth_fault l.file.name.now (l.file.scope ∷ around) entries (lines_model (drop l.line-index l.lines))

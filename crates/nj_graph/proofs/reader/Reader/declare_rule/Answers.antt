@@ -1,13 +1,13 @@
 use Rattle.std.proofs.Common.{List, [], ◌∷◌, ◌++◌, Some, refl, sym, ap, subst, ◌∙◌}
 use Rattle.nj_manifest.specs.declared.statement.Line.{Line}
-use Rattle.nj_manifest.specs.LineSteps.{NameText}
-use Rattle.nj_manifest.specs.Statements.{RuleText}
-use Rattle.nj_manifest.specs.Contents.{lines_text}
+use Rattle.nj_manifest.specs.LineSteps.{NameModel}
+use Rattle.nj_manifest.specs.Statements.{RuleModel}
+use Rattle.nj_manifest.specs.Contents.{lines_model}
 use Rattle.nj_scope.specs.Declarations.{DeclaredBy}
 use Rattle.nj_scope.specs.ReadingList.{ReadStatement}
 use Rattle.nj_faults.specs.declared.fault.Place.{Place}
 use Rattle.nj_statements.proofs.Holding.{kept-other}
-use Rattle.nj_graph.specs.Origins.{OriginsText}
+use Rattle.nj_graph.specs.Origins.{OriginsModel}
 use Rattle.nj_graph.specs.Reading.{entry_at}
 use Rattle.nj_graph.specs.Inside.ReaderContracts.{site_of}
 use Rattle.nj_graph.proofs.Holding.{has-next, same-grows, rule-new, placed-text}
@@ -17,10 +17,10 @@ pub returns-then-branch-clause-declares : goal.returns-then-branch-clause-declar
 returns-then-branch-clause-declares c = λ main entries around depth has inside.
     let site = site_of c.args.file around depth in
     let start = c.args.spot in
-    let name : NameText = record { spot = c.args.rule.now.name_spot; name = c.args.rule.now.name.now } in
-    let at : List Line → ReadStatement = λ lines. entry_at site (record { spot = start; item = RuleText name (lines_text lines) }) in
+    let name : NameModel = record { spot = c.args.rule.now.name_spot; name = c.args.rule.now.name.now } in
+    let at : List Line → ReadStatement = λ lines. entry_at site (record { spot = start; item = RuleModel name (lines_model lines) }) in
     let e = at c.args.rule.now.lines.items in
-    let old : OriginsText = c.args.self.now.origins in
+    let old : OriginsModel = c.args.self.now.origins in
     let declared = subst (λ lines. DeclaredBy c.declare_rule.new.self (at lines ∷ entries)) c.deref.ensures.value (c.in_ok-declare_rule.ensures.declared around c.args.rule.now.name_spot c.if-branch.true entries site.file start depth has.declares) in
     let origins = c.in_ok-add_rule.ensures ∙ ap (λ (place : Place). record old { rules = old.rules ++ Some place ∷ [] }) (placed-text c.place.result site.file start c.place.ensures.file c.place.ensures.spot) in (
       rule-new main c.args.self.now entries site.file site.number name has (sym c.if-branch.true ∙ c.in_ok-declare_rule.ensures.is_new),

@@ -1,11 +1,11 @@
 use Rattle.std.proofs.Common.{◌≡◌, ◌∷◌, ℕ, Option, Some, option_map, not, is_some, sym, ap, subst, ◌∙◌}
 use Rattle.std.specs.Bool.{then_some}
 use Rattle.std.specs.Option.{option_or}
-use Rattle.nj_manifest.specs.Contents.{outputs_text, used_rule, inputs_text, lines_text, build_text}
+use Rattle.nj_manifest.specs.Contents.{outputs_model, used_rule, inputs_model, lines_model, build_model}
 use Rattle.nj_scope.specs.ReadingList.{rule_in_force}
 use Rattle.nj_faults.specs.declared.fault.Cause.TheVariants.{UnknownRule}
 use Rattle.nj_faults.specs.Faults.{fault_at}
-use Rattle.nj_statements.specs.declared.references.UsedRule.{UsedRule}
+use Rattle.nj_statements.specs.declared.rule_references.UsedRule.{UsedRule}
 use Rattle.nj_statements.specs.EdgeList.{line_values, edge_of_build, edges_read, paths_of_edges}
 use Rattle.nj_statements.specs.BuildFaults.{paths_fault, late_fault}
 use Rattle.nj_statements.specs.Answers.{ReadsStatement, entry_at_place}
@@ -13,10 +13,10 @@ use Rattle.nj_statements.proofs.building.Building.read_build.Goals as goal
 
 pub returns-clause-reads : goal.returns-clause-reads
 returns-clause-reads c = λ entries around depth by within has.
-    let lines = lines_text c.args.build.now.lines.items in
-    let outputs = outputs_text c.args.build.now in
-    let inputs = inputs_text c.args.build.now in
-    let e = entry_at_place c.args.place c.args.scope around depth (build_text c.args.build.now) in
+    let lines = lines_model c.args.build.now.lines.items in
+    let outputs = outputs_model c.args.build.now in
+    let inputs = inputs_model c.args.build.now in
+    let e = entry_at_place c.args.place c.args.scope around depth (build_model c.args.build.now) in
     let rule_is : rule_in_force entries (c.args.scope ∷ around) c.args.build.now.rule.now ≡ Some c.in-Some.rule.number = sym (c.rule_named.ensures.number entries around by within) ∙ ap (option_map (λ (r : UsedRule). r.number)) c.in-Some.is in
     let other = option_or (paths_fault c.args.place.file.now (line_values e entries lines) (paths_of_edges (edges_read entries)) outputs inputs)
     (late_fault entries (edge_of_build e entries outputs (used_rule c.args.build.now) inputs lines)) in

@@ -3,7 +3,7 @@ use Rattle.std.specs.List.{IsDistinct}
 use Rattle.nj_edges.specs.declared.files.FileNo.{FileNo}
 use Rattle.nj_edges.specs.Joining.{JoinTable, join_of}
 use Rattle.nj_statements.specs.declared.building.DyndepEdge.{DyndepEdge}
-use Rattle.nj_statements.specs.Built.{BuiltText, IsBuiltOf}
+use Rattle.nj_statements.specs.Built.{BuiltModel, IsBuiltOf}
 use Rattle.nj_statements.specs.Inside.JoiningSteps.{first_edges, bind_all, count_bound}
 use Rattle.nj_statements.proofs.StartLemmas.{start-held, start-keeps}
 use Rattle.nj_statements.proofs.built.Built.join.Goals as goal
@@ -38,4 +38,4 @@ returns c = λ stated is.
     let unjoined = c.in_ok-dyndep_files.field-0.unjoined.items in
     let count : length unjoined ≡ length graph.files = c.in_ok-dyndep_files.ensures.count ∙ c.count.ensures.count ∙ ap length c.files.ensures.files ∙ ap (λ (t : JoinTable). length t.files) table_is in
     let pending_are : (file : FileNo) → get_or unjoined file.0 0 ≡ count_bound file ds = λ file. c.in_ok-dyndep_files.ensures.unjoined file ∙ ap (count_bound file) c.deref-2.ensures.value in
-    start-keeps graph c.self.inside.blocks c.self.inside.names c.self.inside.details.items c.self.inside.defaults.items ds c.self.invariant once c.in_ok-edges.edges table_is firsts firsts_are bound bound_are unjoined count pending_are stated (subst (λ (b : BuiltText). IsBuiltOf b stated) (sym c.self.view_is) is)
+    start-keeps graph c.self.inside.blocks c.self.inside.names c.self.inside.details.items c.self.inside.defaults.items ds c.self.invariant once c.in_ok-edges.edges table_is firsts firsts_are bound bound_are unjoined count pending_are stated (subst (λ (b : BuiltModel). IsBuiltOf b stated) (sym c.self.view_is) is)

@@ -1,7 +1,7 @@
 use Rattle.std.proofs.Common.{ap, ◌∙◌}
 use Rattle.std.specs.Bool.{then_some}
 use Rattle.std.proofs.lemmas.Option.{slice_get_within}
-use Rattle.nj_text.specs.Words.{word_text}
+use Rattle.nj_text.specs.Words.{word_model}
 use Rattle.nj_text.proofs.CleanPaths.{clean-twice}
 use Rattle.nj_scope.specs.Scopes.{expanded}
 use Rattle.nj_faults.specs.declared.fault.Cause.TheVariants.{EmptyPath}
@@ -23,12 +23,12 @@ pub returns-in-Some-clause-added : goal.returns-in-Some-clause-added
 returns-in-Some-clause-added c = λ values sees. c.in_ok-add_known_input.ensures.added _ (c.in-Some.ensures.file values)
 
 pub returns-in-Some-clause-named : goal.returns-in-Some-clause-named
-returns-in-Some-clause-named c = (path_given no_values (word_text c.args.word.now), clean-twice (expanded no_values (word_text c.args.word.now).parts), c.in_ok-add_known_input.ensures.added _ (c.in-Some.ensures.file no_values))
+returns-in-Some-clause-named c = (path_given no_values (word_model c.args.word.now), clean-twice (expanded no_values (word_model c.args.word.now).parts), c.in_ok-add_known_input.ensures.added _ (c.in-Some.ensures.file no_values))
 
 pub returns-in_err-path-clause-fault : goal.returns-in_err-path-clause-fault
 returns-in_err-path-clause-fault c = λ values sees.
     let f = c.in_err-path.field-0.0 in
-    err-checks c.from_residual-in_err-path.result f (empty_path c.args.self.place.file.now values (word_text c.args.word.now)) c.from_residual-in_err-path.ensures.1 (c.in_err-path.ensures.fault values sees)
+    err-checks c.from_residual-in_err-path.result f (empty_path c.args.self.place.file.now values (word_model c.args.word.now)) c.from_residual-in_err-path.ensures.1 (c.in_err-path.ensures.fault values sees)
 
 pub returns-clause-fault : goal.returns-clause-fault
 returns-clause-fault c = λ values sees. c.in_ok-path.ensures.fault values sees

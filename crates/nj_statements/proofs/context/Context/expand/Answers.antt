@@ -1,7 +1,7 @@
 use Rattle.std.proofs.Common.{◌++◌, List, map, sym, ap, ◌∙◌}
 use Rattle.std.proofs.lemmas.List.{append-nil, at_drop_all}
 use Rattle.nj_text.specs.declared.word.Part.{Part}
-use Rattle.nj_text.specs.Words.{part_text}
+use Rattle.nj_text.specs.Words.{part_model}
 use Rattle.nj_scope.specs.Scopes.{expanded}
 use Rattle.nj_statements.proofs.Texts.{text-turn}
 use Rattle.nj_statements.proofs.context.Context.expand.Goals as goal
@@ -14,6 +14,6 @@ parts-preserved c = λ values sees.
 pub returns : goal.returns
 returns c = λ values sees.
     sym (append-nil c.parts.text.items)
-    ∙ sym (at_drop_all (λ (ps : List Part). c.parts.text.items ++ expanded values (map part_text ps)) c.as_slice-part-items.result.now c.parts.part-index c.parts-test.false)
+    ∙ sym (at_drop_all (λ (ps : List Part). c.parts.text.items ++ expanded values (map part_model ps)) c.as_slice-part-items.result.now c.parts.part-index c.parts-test.false)
     ∙ c.parts.invariant values sees
-    ∙ ap (λ (ps : List Part). expanded values (map part_text ps)) c.as_slice-part-items.ensures
+    ∙ ap (λ (ps : List Part). expanded values (map part_model ps)) c.as_slice-part-items.ensures

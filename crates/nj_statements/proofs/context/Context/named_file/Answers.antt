@@ -1,6 +1,6 @@
 use Rattle.std.proofs.Common.{◌≡◌, ℕ, List, not, false, Some, sym, ap, subst, ◌∙◌}
 use Rattle.std.specs.Bool.{then_some}
-use Rattle.nj_text.specs.Words.{word_text}
+use Rattle.nj_text.specs.Words.{word_model}
 use Rattle.nj_faults.specs.declared.fault.GraphFault.{GraphFault}
 use Rattle.nj_faults.specs.declared.fault.Cause.TheVariants.{UnknownTarget}
 use Rattle.nj_faults.specs.Faults.{IsFault, fault_at}
@@ -14,7 +14,7 @@ use Rattle.nj_statements.proofs.context.Context.named_file.Goals as goal
 pub returns-in_err-path-clause-fault : goal.returns-in_err-path-clause-fault
 returns-in_err-path-clause-fault c = λ values sees none.
     let file = c.args.self.place.file.now in
-    let word = word_text c.args.word.now in
+    let word = word_model c.args.word.now in
     let edges = c.args.edges.now.edges in
     err-checks c.from_residual.result _ (target_fault file values edges word) c.from_residual.ensures.1
     (fault-first (empty_path file values word) (unknown_target file values edges word) _ (c.in_err-path.ensures.fault values sees))
@@ -22,7 +22,7 @@ returns-in_err-path-clause-fault c = λ values sees none.
 pub returns-in-Some-clause-fault : goal.returns-in-Some-clause-fault
 returns-in-Some-clause-fault c = λ values sees none.
     let file = c.args.self.place.file.now in
-    let word = word_text c.args.word.now in
+    let word = word_model c.args.word.now in
     let edges = c.args.edges.now.edges in
     both-none (empty_path file values word) (unknown_target file values edges word) (c.in_ok-path.ensures.fault values sees)
     (ap (λ b. then_some (not b) (fault_at file word.spot (UnknownTarget (path_given values word)))) (sym (c.in-Some.ensures.named none ∙ ap (is_named edges) (c.in_ok-path.ensures.path values sees))))
@@ -34,7 +34,7 @@ returns-in-Some-clause-file c = λ values sees.
 pub returns-in_ok-new-in-None-clause-fault : goal.returns-in_ok-new-in-None-clause-fault
 returns-in_ok-new-in-None-clause-fault c = λ values sees none.
     let file = c.args.self.place.file.now in
-    let word = word_text c.args.word.now in
+    let word = word_model c.args.word.now in
     let edges = c.args.edges.now.edges in
     let meant = path_given values word in
     let path_is = c.in_ok-path.ensures.path values sees in

@@ -5,7 +5,7 @@ use Rattle.nj_text.specs.Paths.{clean_path_of}
 use Rattle.nj_faults.specs.declared.fault.Cause.TheVariants.{EmptyPath}
 use Rattle.nj_faults.specs.Faults.{IsFault, fault_at}
 use Rattle.nj_scope.specs.Scopes.{expanded}
-use Rattle.nj_text.specs.Words.{word_text}
+use Rattle.nj_text.specs.Words.{word_model}
 use Rattle.nj_statements.specs.Joining.{no_values}
 use Rattle.nj_statements.proofs.Keeps.{cleaned}
 use Rattle.nj_statements.proofs.context.Context.path.Goals as goal
@@ -30,7 +30,7 @@ returns-in-Err-EmptyPath-clause-fault c = λ values sees.
     subst (λ (text : List ℕ). IsFault (then_some (is_empty text) (fault_at c.args.self.place.file.now c.args.word.now.spot EmptyPath)) c.fault.result) (sym meant) c.fault.ensures
 
 pub returns-in-Some-clause-clean : goal.returns-in-Some-clause-clean
-returns-in-Some-clause-clean c = cleaned c.in-Some.path.now (expanded no_values (word_text c.args.word.now).parts) (c.in-Some.ensures.path no_values)
+returns-in-Some-clause-clean c = cleaned c.in-Some.path.now (expanded no_values (word_model c.args.word.now).parts) (c.in-Some.ensures.path no_values)
 
 pub returns-in-Ok-clause-clean : goal.returns-in-Ok-clause-clean
 returns-in-Ok-clause-clean c = cleaned c.in-Ok.path.now c.expand.new.text.items c.in-Ok.ensures.path

@@ -1,5 +1,5 @@
 use Rattle.std.proofs.Common.{map, sym, ap, ◌∙◌}
-use Rattle.nj_text.specs.Words.{part_text}
+use Rattle.nj_text.specs.Words.{part_model}
 use Rattle.nj_text.specs.Calls.{value_of, after_blanks, value_at, is_inside}
 use Rattle.nj_text.specs.Inside.States.{reply, state_at, line_at, other_lines_at}
 use Rattle.nj_text.proofs.States.{value_between, value_opening, value_inside, finished_value}
@@ -10,7 +10,7 @@ returns-in-Between c =
     let cursor = c.self.inside.cursor in
     let state = sym c.self.view_is ∙ ap (λ st. state_at st cursor.spot cursor.rest.now) c.in-Between.is in
     let found = ap value_of state ∙ value_between cursor.spot cursor.rest.now c.new-parts.result.items c.new-parts.ensures.items in
-    found ∙ ap (λ s. reply (record { spot = cursor.spot; parts = map part_text c.new-parts.result.items }) s) (sym state)
+    found ∙ ap (λ s. reply (record { spot = cursor.spot; parts = map part_model c.new-parts.result.items }) s) (sym state)
 
 pub returns-in-OpeningJoin : goal.returns-in-OpeningJoin
 returns-in-OpeningJoin c =

@@ -1,0 +1,22 @@
+//! The line that reports why words are not a valid request.
+
+ghost use Rattle.std.specs.Prelude.{◌≡◌, IfOk};
+ghost use Rattle.nj_args.specs.FaultLines.{fault_line};
+
+use crate::usage_fault::UsageFault;
+use std::alloc::{AllocError, Global};
+
+impl UsageFault {
+    /// The line that reports the fault, without a line end: `ninja-explain: TEXT`. Words are written
+    /// as they are.
+    ///
+    /// # Errors
+    ///
+    /// An allocation failed.
+    pub fn line(&self, alloc: Global) -> Result<Vec<u8>, AllocError>
+        ensures { IfOk result (λ line. line.items ≡ fault_line self.now) }
+    {
+        let line = format!(in alloc; "ninja-explain: {self}")?;
+        Ok(line.into_bytes())
+    }
+}

@@ -1,5 +1,0 @@
-use Rattle.std.proofs.Common.{refl}
-use Rattle.nj_c.proofs.opening.add_text.Goals as goal
-
-pub returns-in-Err : goal.returns-in-Err
-returns-in-Err c = (c.args.seal.kept.files, refl, refl)

@@ -1,0 +1,210 @@
+//! Runs of the program, over the files that were handed in.
+
+ghost use Rattle.std.specs.Prelude.{◌≡◌, false, [], map, string_bytes};
+ghost use Rattle.nj_c.specs.Asking.{GivesText, IfOpen, KeptUnlessDone};
+ghost use Rattle.nj_c.specs.HandedIn.{wanted_paths, SameFiles};
+ghost use Rattle.nj_c.specs.Loading.{unread, Changes};
+ghost use Rattle.nj_c.specs.Runs.{LeavesRun, RunsKept, SameLoad};
+ghost use Rattle.nj_c.specs.Statuses.{code_of};
+ghost use Rattle.nj_c.specs.Inside.RunsHeld.{empty_memory, FinishesRun, KeepsRun, NoFailures, NoRun, Ran};
+
+use crate::buffers::copy_text;
+use crate::run_words::words_in;
+use crate::sealed_box::Seal;
+use crate::session::Session;
+use crate::session_state::Kept;
+use crate::status::Status;
+use nj_cli::run_words;
+use nj_tools::MemorySink;
+use std::alloc::Global;
+use std::mem;
+
+/// Runs the program with the words of a text, over the files that were handed in: as
+/// `ninja-explain` does, with its exit status, but both outputs are kept in the session. Each word
+/// ends before a zero byte or at the end of the text. If files are wanted that were not handed in,
+/// `nx_wanted` gives their paths, and nothing is kept of the outputs.
+#[unsafe(no_mangle)]
+pub extern "C" fn nx_run(alloc: Global, session: &mut Session, words: &[u8], exit: &mut i32) -> i32
+    ensures { Changes session.old.kept session.new.kept result (λ kept after.
+        RunsKept kept after words.now exit.old exit.new) }
+{
+    let Some(seal) = session.take(alloc) else {
+        return Status::NotOpen.code();
+    };
+    let (seal, status) = run_in(alloc, seal, words, exit);
+    session.put(seal);
+    status.code()
+}
+
+/// What the last run wrote to its output.
+#[unsafe(no_mangle)]
+pub extern "C" fn nx_run_output(
+    alloc: Global,
+    session: &mut Session,
+    buffer: &mut [u8],
+    needed: &mut usize,
+) -> i32
+    ensures kept { session.new.kept ≡ session.old.kept }
+    ensures text { IfOpen session.old.kept result (λ kept.
+        GivesText kept.output.bytes buffer.old buffer.new needed.new result) }
+    ensures buffer { KeptUnlessDone buffer.old buffer.new result }
+{
+    let Some(seal) = session.take(alloc) else {
+        return Status::NotOpen.code();
+    };
+    let status = output(&seal, buffer, needed);
+    session.put(seal);
+    status.code()
+}
+
+/// What the last run wrote to its error output.
+#[unsafe(no_mangle)]
+pub extern "C" fn nx_run_errors(
+    alloc: Global,
+    session: &mut Session,
+    buffer: &mut [u8],
+    needed: &mut usize,
+) -> i32
+    ensures kept { session.new.kept ≡ session.old.kept }
+    ensures text { IfOpen session.old.kept result (λ kept.
+        GivesText kept.errors.bytes buffer.old buffer.new needed.new result) }
+    ensures buffer { KeptUnlessDone buffer.old buffer.new result }
+{
+    let Some(seal) = session.take(alloc) else {
+        return Status::NotOpen.code();
+    };
+    let status = errors(&seal, buffer, needed);
+    session.put(seal);
+    status.code()
+}
+
+fn output(seal: &Seal, buffer: &mut [u8], needed: &mut usize) -> Status
+    ensures gives { GivesText seal.now.kept.output.bytes buffer.old buffer.new needed.new
+        (code_of result) }
+    ensures buffer { KeptUnlessDone buffer.old buffer.new (code_of result) }
+{
+    copy_text(seal.get().output.bytes(), buffer, needed)
+}
+
+fn errors(seal: &Seal, buffer: &mut [u8], needed: &mut usize) -> Status
+    ensures gives { GivesText seal.now.kept.errors.bytes buffer.old buffer.new needed.new
+        (code_of result) }
+    ensures buffer { KeptUnlessDone buffer.old buffer.new (code_of result) }
+{
+    copy_text(seal.get().errors.bytes(), buffer, needed)
+}
+
+fn run_in(alloc: Global, seal: Seal, words: &[u8], exit: &mut i32) -> (Seal, Status)
+    ensures { RunsKept seal.kept result.0.kept words.now exit.old exit.new result.1 }
+{
+    let mut kept = seal.into_box();
+    let status = run_text(alloc, &mut kept, words, exit);
+    (Seal::new(kept), status)
+}
+
+fn run_text(alloc: Global, kept: &mut Kept, text: &[u8], exit: &mut i32) -> Status
+    ensures { RunsKept kept.old kept.new text.now exit.old exit.new result }
+{
+    forget_run(alloc, kept);
+    match words_in(alloc, text) {
+        Ok(words) => run_over(alloc, kept, &words, exit),
+        Err(status) => status,
+    }
+}
+
+// Forgets what was read, and what the last run wrote.
+fn forget_run(alloc: Global, kept: &mut Kept)
+    ensures files { kept.new.files ≡ unread kept.old.files }
+    ensures wanted { kept.new.wanted.items ≡ [] }
+    ensures run { NoRun kept.new }
+    ensures load { SameLoad kept.old kept.new }
+{
+    kept.files.begin();
+    kept.wanted.clear();
+    forget_outputs(alloc, kept);
+}
+
+fn forget_outputs(alloc: Global, kept: &mut Kept)
+    ensures { kept.new ≡ record kept.old { output = empty_memory; errors = empty_memory } }
+{
+    drop(mem::replace(&mut kept.output, MemorySink::new(alloc, None)));
+    drop(mem::replace(&mut kept.errors, MemorySink::new(alloc, None)));
+}
+
+// Runs the program with these words, and keeps what it wrote.
+fn run_over(alloc: Global, kept: &mut Kept, words: &[String], exit: &mut i32) -> Status
+    requires wanted { kept.old.wanted.items ≡ [] }
+    requires run { NoRun kept.old }
+    ensures files { SameFiles kept.old.files kept.new.files }
+    ensures load { SameLoad kept.old kept.new }
+    ensures ends { LeavesRun kept.old.files kept.new (map string_bytes words.now)
+        exit.old exit.new result }
+{
+    let ended = run_program(alloc, kept, words);
+    match finish_run(alloc, kept) {
+        Status::Done => {
+            *exit = i32::from(ended.code());
+            Status::Done
+        }
+        status => status,
+    }
+}
+
+fn run_program(alloc: Global, kept: &mut Kept, words: &[String]) -> nj_cli::Status
+    requires { NoRun kept.old }
+    ensures files { SameFiles kept.old.files kept.new.files }
+    ensures wanted { kept.new.wanted ≡ kept.old.wanted }
+    ensures load { SameLoad kept.old kept.new }
+    ensures runs { Ran kept.old.files kept.new (map string_bytes words.now) result }
+{
+    run_words(
+        alloc,
+        &mut kept.files,
+        words,
+        &mut kept.output,
+        &mut kept.errors,
+    )
+}
+
+// Keeps what a run wrote, unless an allocation failed or files are wanted.
+fn finish_run(alloc: Global, kept: &mut Kept) -> Status
+    requires { kept.old.wanted.items ≡ [] }
+    ensures files { kept.new.files ≡ kept.old.files }
+    ensures load { SameLoad kept.old kept.new }
+    ensures finishes { FinishesRun kept.old kept.new result }
+{
+    if has_failed(kept) {
+        forget_outputs(alloc, kept);
+        return Status::OutOfMemory;
+    }
+    match kept.files.wanted(alloc) {
+        Ok(wanted) => keep_wanted(alloc, kept, wanted),
+        Err(_) => {
+            forget_outputs(alloc, kept);
+            Status::OutOfMemory
+        }
+    }
+}
+
+// Whether a sink failed, as an allocation did.
+fn has_failed(kept: &Kept) -> bool
+    ensures { result ≡ false → NoFailures kept.now }
+{
+    kept.output.failures() > 0 || kept.errors.failures() > 0
+}
+
+// Keeps the paths that a run wanted, and if there are any, nothing of what it wrote.
+fn keep_wanted(alloc: Global, kept: &mut Kept, wanted: Vec<Vec<u8>>) -> Status
+    requires { map (λ p. p.items) wanted.items ≡ wanted_paths kept.old.files }
+    ensures files { kept.new.files ≡ kept.old.files }
+    ensures load { SameLoad kept.old kept.new }
+    ensures keeps { KeepsRun kept.old kept.new result }
+{
+    let is_whole = wanted.as_slice().is_empty();
+    drop(mem::replace(&mut kept.wanted, wanted));
+    if is_whole {
+        return Status::Done;
+    }
+    forget_outputs(alloc, kept);
+    Status::Wanted
+}

@@ -1,0 +1,130 @@
+//! The defaults, the roots, and the names of rules.
+
+ghost use Rattle.std.specs.Prelude.{◌≡◌, map, slice_get};
+ghost use Rattle.nj_edges.specs.Edges.{roots_of};
+ghost use Rattle.nj_statements.specs.Built.{defaults_in_force};
+ghost use Rattle.nj_graph.specs.Graph.{edges_of, files_of, main_rules};
+ghost use Rattle.nj_c.specs.Asking.{GivesFile, GivesTextAt, IfLoaded, KeptUnlessDone, OfGraph};
+ghost use Rattle.nj_c.specs.Statuses.{code_of};
+
+use crate::buffers::copy_text;
+use crate::items::give_file;
+use crate::sealed_box::Seal;
+use crate::session::Session;
+use crate::status::Status;
+use nj_graph::Graph;
+use std::alloc::Global;
+
+/// The file at an index among the defaults in force: those of the `default` lines in their order,
+/// or the roots where there is no such line ("Default target statements" in the Ninja manual).
+#[unsafe(no_mangle)]
+pub extern "C" fn nx_default(
+    alloc: Global,
+    session: &mut Session,
+    index: usize,
+    file: &mut usize,
+) -> i32
+    ensures kept { session.new.kept ≡ session.old.kept }
+    ensures file { OfGraph session.old.kept result (λ g.
+        GivesFile (files_of g)
+        (slice_get (defaults_in_force g.built.defaults (edges_of g)) index) result file.new) }
+{
+    let Some(seal) = session.take(alloc) else {
+        return Status::NotOpen.code();
+    };
+    let status = default(&seal, index, file);
+    session.put(seal);
+    status.code()
+}
+
+fn default(seal: &Seal, index: usize, file: &mut usize) -> Status
+    ensures { IfLoaded seal.now.kept.graph (code_of result) (λ g.
+        GivesFile (files_of g)
+        (slice_get (defaults_in_force g.built.defaults (edges_of g)) index)
+        (code_of result) file.new) }
+{
+    let Some(graph) = &seal.get().graph else {
+        return Status::NotLoaded;
+    };
+    give_file(graph.defaults(), index, file)
+}
+
+/// The file at an index among the roots: the outputs that no edge has as an input.
+#[unsafe(no_mangle)]
+pub extern "C" fn nx_root(
+    alloc: Global,
+    session: &mut Session,
+    index: usize,
+    file: &mut usize,
+) -> i32
+    ensures kept { session.new.kept ≡ session.old.kept }
+    ensures file { OfGraph session.old.kept result (λ g.
+        GivesFile (files_of g)
+        (slice_get (roots_of (edges_of g)) index) result file.new) }
+{
+    let Some(seal) = session.take(alloc) else {
+        return Status::NotOpen.code();
+    };
+    let status = root(&seal, index, file);
+    session.put(seal);
+    status.code()
+}
+
+fn root(seal: &Seal, index: usize, file: &mut usize) -> Status
+    ensures { IfLoaded seal.now.kept.graph (code_of result) (λ g.
+        GivesFile (files_of g)
+        (slice_get (roots_of (edges_of g)) index) (code_of result) file.new) }
+{
+    let Some(graph) = &seal.get().graph else {
+        return Status::NotLoaded;
+    };
+    give_file(graph.roots(), index, file)
+}
+
+/// The name of the rule at an index among those of the main file's scope, which are in byte order
+/// and `phony` among them, as `nx_rule_count` counts them.
+#[unsafe(no_mangle)]
+pub extern "C" fn nx_rule_name_at(
+    alloc: Global,
+    session: &mut Session,
+    index: usize,
+    buffer: &mut [u8],
+    needed: &mut usize,
+) -> i32
+    ensures kept { session.new.kept ≡ session.old.kept }
+    ensures name { OfGraph session.old.kept result (λ g.
+        GivesTextAt (map (λ r. r.name) (main_rules g)) index
+        buffer.old buffer.new needed.new result) }
+    ensures buffer { KeptUnlessDone buffer.old buffer.new result }
+{
+    let Some(seal) = session.take(alloc) else {
+        return Status::NotOpen.code();
+    };
+    let status = rule_name_at(&seal, index, buffer, needed);
+    session.put(seal);
+    status.code()
+}
+
+fn rule_name_at(seal: &Seal, index: usize, buffer: &mut [u8], needed: &mut usize) -> Status
+    ensures gives { IfLoaded seal.now.kept.graph (code_of result) (λ g.
+        GivesTextAt (map (λ r. r.name) (main_rules g)) index
+        buffer.old buffer.new needed.new (code_of result)) }
+    ensures buffer { KeptUnlessDone buffer.old buffer.new (code_of result) }
+{
+    let Some(graph) = &seal.get().graph else {
+        return Status::NotLoaded;
+    };
+    give_rule_name(graph, index, buffer, needed)
+}
+
+// Gives the name of the rule at an index.
+fn give_rule_name(graph: &Graph, index: usize, buffer: &mut [u8], needed: &mut usize) -> Status
+    ensures gives { GivesTextAt (map (λ r. r.name) (main_rules graph.now)) index
+        buffer.old buffer.new needed.new (code_of result) }
+    ensures buffer { KeptUnlessDone buffer.old buffer.new (code_of result) }
+{
+    if index >= graph.main_rule_count() {
+        return Status::Nothing;
+    }
+    copy_text(graph.main_rule(index), buffer, needed)
+}

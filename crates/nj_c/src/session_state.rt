@@ -1,0 +1,48 @@
+//! What a session keeps.
+
+ghost use Rattle.nj_c.specs.Loading.{IsEmpty};
+
+use crate::supplied_files::HandedIn;
+use nj_graph::{EdgeNo, Graph, GraphFault};
+use nj_scope::HashKeys;
+use nj_tools::MemorySink;
+use std::alloc::Global;
+
+/// What an open session keeps.
+#[derive(Drop)]
+pub struct Kept {
+    /// The files that were handed in.
+    pub(crate) files: HandedIn,
+    /// The paths that the last load or run wanted and that were not handed in.
+    pub(crate) wanted: Vec<Vec<u8>>,
+    /// The graph, after a load that went well.
+    pub(crate) graph: Option<Graph>,
+    /// The fault of the last load, or of the last target that was picked.
+    pub(crate) fault: Option<GraphFault>,
+    /// The edges of the last list or page that was asked for.
+    pub(crate) found: Vec<EdgeNo>,
+    /// The text of the mark at which the last page ends; empty if nothing is left after it.
+    pub(crate) mark: Vec<u8>,
+    /// What the last run wrote to its output.
+    pub(crate) output: MemorySink,
+    /// What the last run wrote to its error output.
+    pub(crate) errors: MemorySink,
+}
+
+impl Kept {
+    /// Nothing yet. It allocates nothing.
+    pub(crate) fn new(alloc: Global, keys: HashKeys) -> Kept
+        ensures { IsEmpty result }
+    {
+        Kept {
+            files: HandedIn::new(alloc, keys),
+            wanted: Vec::new(alloc),
+            graph: None,
+            fault: None,
+            found: Vec::new(alloc),
+            mark: Vec::new(alloc),
+            output: MemorySink::new(alloc, None),
+            errors: MemorySink::new(alloc, None),
+        }
+    }
+}

@@ -1,0 +1,122 @@
+//! Sessions, and the files that are handed in.
+
+ghost use Rattle.std.specs.Prelude.{◌≡◌, None, Some, IfOk};
+ghost use Rattle.nj_scope.specs.Sources.{outcome_bytes};
+ghost use Rattle.nj_c.specs.declared.status.Status.TheVariants.{Done};
+ghost use Rattle.nj_c.specs.Loading.{Changes, IsEmpty, Opens, TakesFile, TakesPath};
+ghost use Rattle.nj_c.specs.Statuses.{code_of};
+
+use crate::sealed_box::Seal;
+use crate::session::Session;
+use crate::session_state::Kept;
+use crate::status::Status;
+use crate::supplied_files::HandedIn;
+use nj_scope::HashKeys;
+use std::alloc::{AllocError, Global};
+
+/// The version of the interface. What a program was written for still works with a greater minor
+/// number; with another major one it may not.
+#[unsafe(no_mangle)]
+pub extern "C" fn nx_version(major: &mut usize, minor: &mut usize) -> i32
+    ensures { (result ≡ code_of Done) × (major.new ≡ 1) × (minor.new ≡ 1) }
+{
+    *major = 1;
+    *minor = 1;
+    Status::Done.code()
+}
+
+/// Opens a session that keeps nothing yet; what it kept before is freed. The key is for hashes: a
+/// number that strangers cannot guess keeps their files from slowing a load down.
+#[unsafe(no_mangle)]
+pub extern "C" fn nx_open(alloc: Global, session: &mut Session, key: u64) -> i32
+    ensures { Opens session.old.kept session.new.kept result }
+{
+    match new_session(alloc, key) {
+        Ok(seal) => {
+            session.put(seal);
+            Status::Done.code()
+        }
+        Err(_) => Status::OutOfMemory.code(),
+    }
+}
+
+fn new_session(alloc: Global, key: u64) -> Result<Seal, AllocError>
+    ensures { IfOk result (λ seal. IsEmpty seal.kept) }
+{
+    match Box::new(alloc, Kept::new(alloc, HashKeys::new(key))) {
+        Ok(kept) => Ok(Seal::new(kept)),
+        Err(_) => Err(AllocError),
+    }
+}
+
+/// Closes a session, and frees all that it keeps. One that is not open stays so.
+#[unsafe(no_mangle)]
+pub extern "C" fn nx_close(alloc: Global, session: &mut Session) -> i32
+    ensures closed { session.new.kept ≡ None }
+    ensures done { result ≡ code_of Done }
+{
+    drop(session.take(alloc));
+    Status::Done.code()
+}
+
+/// Hands in the bytes of the file at a path, in place of what was handed in for it before. A graph
+/// that is loaded stays as it is.
+#[unsafe(no_mangle)]
+pub extern "C" fn nx_add_file(
+    alloc: Global,
+    session: &mut Session,
+    path: &[u8],
+    bytes: &[u8],
+) -> i32
+    ensures { Changes session.old.kept session.new.kept result (λ kept after.
+        TakesPath kept after path.now (Some bytes.now)) }
+{
+    let Some(seal) = session.take(alloc) else {
+        return Status::NotOpen.code();
+    };
+    let (seal, status) = add_text(alloc, seal, path, bytes);
+    session.put(seal);
+    status.code()
+}
+
+/// Records that no file is at a path.
+#[unsafe(no_mangle)]
+pub extern "C" fn nx_add_absent(alloc: Global, session: &mut Session, path: &[u8]) -> i32
+    ensures { Changes session.old.kept session.new.kept result (λ kept after.
+        TakesPath kept after path.now None) }
+{
+    let Some(seal) = session.take(alloc) else {
+        return Status::NotOpen.code();
+    };
+    let (seal, status) = set_file(seal, path, None);
+    session.put(seal);
+    status.code()
+}
+
+// Hands in the bytes of a file.
+fn add_text(alloc: Global, seal: Seal, path: &[u8], bytes: &[u8]) -> (Seal, Status)
+    ensures { TakesPath seal.kept result.0.kept path.now (Some bytes.now) result.1 }
+{
+    match Vec::from_slice(alloc, bytes) {
+        Ok(bytes) => set_file(seal, path, Some(bytes)),
+        Err(_) => (seal, Status::OutOfMemory),
+    }
+}
+
+// Sets what the file at a path is.
+fn set_file(seal: Seal, path: &[u8], file: Option<Vec<u8>>) -> (Seal, Status)
+    ensures { TakesPath seal.kept result.0.kept path.now (outcome_bytes file) result.1 }
+{
+    let mut kept = seal.into_box();
+    let status = set_in(&mut kept.files, path, file);
+    (Seal::new(kept), status)
+}
+
+fn set_in(files: &mut HandedIn, path: &[u8], file: Option<Vec<u8>>) -> Status
+    ensures { TakesFile files.old files.new path.now (outcome_bytes file) result }
+{
+    match files.set(path, file) {
+        Ok(()) => Status::Done,
+        Err(_) => Status::OutOfMemory,
+    }
+}

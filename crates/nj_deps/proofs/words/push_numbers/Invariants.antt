@@ -1,9 +1,0 @@
-use Rattle.std.proofs.Common.{length}
-use Rattle.nj_deps.proofs.WordLemmas.{NumbersRead}
-use Rattle.nj_deps.proofs.words.push_numbers.Given as goal
-
-abbrev pub invariant-numbers : goal.invariant-numbers
-invariant-numbers l = NumbersRead l.count l.bytes l.rest l.fn.numbers.items l.numbers.items
-
-abbrev pub decreases-numbers : goal.decreases-numbers
-decreases-numbers l = length l.rest

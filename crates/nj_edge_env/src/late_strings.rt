@@ -1,0 +1,181 @@
+//! Late strings.
+
+ghost use Rattle.std.specs.Prelude.{◌≡◌, ◌<◌, ◌++◌, ◌∷◌, [], true, ℕ, List, length, All, IfOk, IfSome, OnOk, OnErr, is_some};
+ghost use Rattle.nj_scope.specs.Declarations.{DeclaredBy};
+ghost use Rattle.nj_scope.specs.ReadingList.{ReadStatement, value_after};
+ghost use Rattle.nj_scope.specs.Readings.{IsPrefix};
+ghost use Rattle.nj_scope.specs.RulesHeld.{IsNumber};
+ghost use Rattle.nj_scope.specs.Scopes.{IsScope, parent_at};
+ghost use Rattle.nj_edge_env.specs.LateStrings.{value_given, file_value, asked_text};
+ghost use Rattle.nj_edge_env.specs.LateEdges.{late_names};
+ghost use Rattle.nj_edge_env.specs.Inside.StringsHeld.{AreKeyStrings, AppendsLate, AppendsPlain};
+
+use crate::edge_paths::append_paths;
+use crate::key_memo::{KeyText, keep_text, taller, text_known};
+use crate::late_edge::LateEdge;
+use crate::path_names::{is_of_command, is_quoted, names_paths};
+use nj_scope::Rule;
+use nj_text::Part;
+use std::alloc::AllocError;
+
+// How many keys a rule of a manifest has at most. If a rule had more, the others would be expanded
+// at each reference.
+const KEYS: usize = 11;
+
+impl<'a> LateEdge<'a> {
+    /// Appends the late string of a name: its value where it is asked for ("Rule variables" in the
+    /// Ninja manual). An edge with a cycle of its rule's variables has no late strings: ask
+    /// `variable_cycle` first. For any other edge each line of the rule is expanded once, and its
+    /// text is copied at each further reference. So the time grows with the text and the lines, and
+    /// calls nest no deeper than the rule has keys, of which there are few.
+    ///
+    /// # Errors
+    ///
+    /// If an allocation failed; `out` is then unchanged.
+    pub fn append_late_text(&self, out: &mut Vec<u8>, asked: &[u8]) -> Result<(), AllocError>
+        ensures appended { (entries : List ReadStatement) (around : List ℕ)
+            → DeclaredBy self.now.declarations.now entries
+            → IsScope (parent_at self.now.declarations.now.scopes) self.now.scope
+            (self.now.scope ∷ around)
+            → OnOk result (out.new.items ≡ out.old.items ++ asked_text
+            (late_names self.now (value_after entries (self.now.scope ∷ around))) asked.now) }
+        ensures refused { OnErr result (out.new.items ≡ out.old.items) }
+    {
+        if self.gives_nothing(asked) {
+            return Ok(());
+        }
+        let start = out.len();
+        let mut known = [None; KEYS];
+        let depth = self.rule.line_count();
+        match self.append_within(out, &mut known, asked, is_quoted(asked), depth) {
+            Ok(_) => Ok(()),
+            Err(refused) => {
+                out.truncate(start);
+                Err(refused)
+            }
+        }
+    }
+
+    // Whether nothing gives the name a value: it may be empty nevertheless where this is `false`.
+    fn gives_nothing(&self, name: &[u8]) -> bool
+        ensures { (entries : List ReadStatement) (around : List ℕ)
+            → DeclaredBy self.now.declarations.now entries
+            → IsScope (parent_at self.now.declarations.now.scopes) self.now.scope
+            (self.now.scope ∷ around)
+            → result ≡ true → asked_text
+            (late_names self.now (value_after entries (self.now.scope ∷ around))) name.now ≡ [] }
+    {
+        if names_paths(name) || self.rule.key_number(name).is_some() {
+            return false;
+        }
+        if self.blocks.value(self.edge, name).is_some() {
+            return false;
+        }
+        self.file_value(name).is_empty()
+    }
+
+    // Appends the value of the name, through at most `depth` lines of the rule after its own.
+    // Returns its height, or `None` if a reference was cut off.
+    fn append_within(
+        &self,
+        out: &mut Vec<u8>,
+        known: &mut [Option<KeyText>],
+        name: &[u8],
+        quoting: bool,
+        depth: usize,
+    ) -> Result<Option<usize>, AllocError>
+        requires { AreKeyStrings quoting self.now known.old out.old.items }
+        ensures appended { IfOk result (AppendsLate quoting self.now depth name.now out.old.items
+            known.new out.new.items) }
+        ensures refused { OnErr result (IsPrefix out.old.items out.new.items) }
+    {
+        let Some(number) = self.append_plain(out, name, quoting)? else {
+            return Ok(Some(0));
+        };
+        if let Some(text) = text_known(known, number, depth) {
+            out.extend_from_within(text.start..text.end)?;
+            return Ok(Some(text.height));
+        }
+        let start = out.len();
+        let value = self.rule.key_value(number);
+        let mut height = Some(0);
+        'parts: for index in 0..value.len() {
+            match value.part(index) {
+                Part::Bytes(bytes) => out.extend_from_slice(bytes)?,
+                Part::Name(other) => {
+                    if depth > 0 {
+                        let below = self.append_within(out, known, other, quoting, depth - 1)?;
+                        height = taller(height, below, depth);
+                    } else {
+                        height = None;
+                    }
+                }
+            }
+        }
+        keep_text(known, number, start, out.len(), height);
+        Ok(height)
+    }
+
+    // Appends the value of the name, unless a line of the rule binds it: then returns the number of
+    // the line's key.
+    fn append_plain(
+        &self,
+        out: &mut Vec<u8>,
+        name: &[u8],
+        quoting: bool,
+    ) -> Result<Option<usize>, AllocError>
+        ensures appended { IfOk result (AppendsPlain quoting self.now name.now out.old.items
+            out.new.items) }
+        ensures refused { OnErr result (IsPrefix out.old.items out.new.items) }
+    {
+        if name == b"in".as_slice() {
+            append_paths(out, self.files, self.inputs, b' ', quoting)?;
+            return Ok(None);
+        }
+        if name == b"in_newline".as_slice() {
+            append_paths(out, self.files, self.inputs, b'\n', quoting)?;
+            return Ok(None);
+        }
+        if name == b"out".as_slice() {
+            append_paths(out, self.files, self.outputs, b' ', quoting)?;
+            return Ok(None);
+        }
+        if let Some(value) = self.blocks.value(self.edge, name) {
+            out.extend_from_slice(value)?;
+            return Ok(None);
+        }
+        if let Some(number) = given_key(self.rule, name) {
+            return Ok(Some(number));
+        }
+        out.extend_from_slice(self.file_value(name))?;
+        Ok(None)
+    }
+
+    // The value of the name in the file; a phony edge runs nothing.
+    fn file_value(&self, name: &[u8]) -> &[u8]
+        ensures { (entries : List ReadStatement) (around : List ℕ)
+            → DeclaredBy self.now.declarations.now entries
+            → IsScope (parent_at self.now.declarations.now.scopes) self.now.scope
+            (self.now.scope ∷ around)
+            → result.now ≡ file_value
+            (late_names self.now (value_after entries (self.now.scope ∷ around))) name.now }
+    {
+        if self.rule.name() == b"phony".as_slice() && is_of_command(name) {
+            return &[];
+        }
+        self.declarations.value(self.scope, name)
+    }
+}
+
+// The number of a key to which the rule gives a value: for a name that determines what an edge
+// runs, a value without parts is not given.
+fn given_key(rule: &Rule, key: &[u8]) -> Option<usize>
+    ensures number { IfSome result (IsNumber rule.now.lines key.now) }
+    ensures given { is_some result ≡ is_some (value_given rule.now.lines key.now) }
+{
+    let number = rule.key_number(key)?;
+    if is_of_command(key) && rule.key_value(number).len() == 0 {
+        return None;
+    }
+    Some(number)
+}

@@ -1,0 +1,160 @@
+//! Joins dyndep files to the graph of a run.
+
+ghost use Rattle.std.specs.Prelude.{◌≡◌, ◌<◌, List, Some, length, slice_get, IfOk, OnOk};
+ghost use Rattle.nj_scope.specs.Readings.{EachPathOnce, IsPrefix};
+ghost use Rattle.nj_scope.specs.ReadingList.{ReadStatement};
+ghost use Rattle.nj_statements.specs.EdgeList.{Pending};
+ghost use Rattle.nj_statements.specs.JoiningHeld.{HasJoined};
+ghost use Rattle.nj_graph.specs.Graph.{IsGraphOf};
+ghost use Rattle.nj_graph.specs.Joining.{Joins};
+ghost use Rattle.nj_graph.specs.Inside.JoiningContracts.{NamesFile, JoinsText, JoinsFile, JoinsFiles, NextEntryIs};
+
+use crate::file_statements::text_at;
+use crate::graph::Graph;
+use crate::loading::Loaded;
+use nj_edges::FileNo;
+use nj_faults::{Cause, GraphFault, PlaceRef};
+use nj_manifest::{DyndepParser, Entry};
+use nj_scope::{FileSource, FileTable};
+use nj_statements::{DyndepFile, Joining};
+use std::alloc::Global;
+
+/// Joins the dyndep files to which edges are bound ("Dynamic Dependencies" in the Ninja manual):
+/// the outputs and inputs that they discover become implicit ones. A value to which they were
+/// already joined stays as it is. Files are joined in the order of the first edges that are bound
+/// to them, and read under their clean paths, unless they were read before. Takes time in
+/// proportion to the graph and these files.
+///
+/// # Errors
+///
+/// The first fault, with its place: of a dyndep file, of one that cannot be found or read, or of an
+/// edge that its dyndep file does not mention; after all files, a dependency cycle; or an
+/// allocation failed.
+pub fn join_dyndeps<S: FileSource>(
+    alloc: Global,
+    loaded: Loaded,
+    source: &mut S,
+) -> Result<Loaded, GraphFault>
+    ensures joins { (stated : List ReadStatement) → IsGraphOf loaded.graph stated
+        → Joins stated loaded.files (S.state source.old) (S.state source.new) result }
+    ensures origins { IfOk result (λ joined. joined.graph.origins ≡ loaded.graph.origins) }
+{
+    let Loaded { mut files, graph } = loaded;
+    let Graph {
+        declarations,
+        built,
+        origins,
+        main_rules,
+    } = graph;
+    if !built.has_pending() {
+        let graph = Graph {
+            declarations,
+            built,
+            origins,
+            main_rules,
+        };
+        return Ok(Loaded { files, graph });
+    }
+    let mut joining = built.join(alloc)?;
+    join_files(alloc, source, &mut files, &mut joining)?;
+    let built = joining.finish(alloc)?;
+    let graph = Graph {
+        declarations,
+        built,
+        origins,
+        main_rules,
+    };
+    Ok(Loaded { files, graph })
+}
+
+// Joins all dyndep files.
+fn join_files<S: FileSource>(
+    alloc: Global,
+    source: &mut S,
+    files: &mut FileTable,
+    joining: &mut Joining,
+) -> Result<(), GraphFault>
+    requires { EachPathOnce files.old }
+    ensures joins { (stated : List ReadStatement) → HasJoined joining.old stated stated
+        → JoinsFiles stated (S.state source.old) (S.state source.new) files.old files.new
+        joining.new result }
+{
+    'files: for index in 0..joining.file_count() {
+        join_file(alloc, source, files, joining, index)?;
+    }
+    Ok(())
+}
+
+// Joins the dyndep file at this index.
+fn join_file<S: FileSource>(
+    alloc: Global,
+    source: &mut S,
+    files: &mut FileTable,
+    joining: &mut Joining,
+    index: usize,
+) -> Result<(), GraphFault>
+    requires there { index < length joining.old.dyndep_files }
+    requires once { EachPathOnce files.old }
+    ensures joins { (stated joined : List ReadStatement) (p : Pending)
+        → HasJoined joining.old stated joined
+        → slice_get joining.old.dyndep_files index ≡ Some p
+        → JoinsFile stated joined p (S.state source.old) (S.state source.new)
+        files.old files.new joining.new result }
+    ensures dyndeps { OnOk result (joining.new.dyndep_files ≡ joining.old.dyndep_files) }
+    ensures once { OnOk result (EachPathOnce files.new) }
+{
+    let DyndepFile { number, path, edge } = joining.file(index);
+    let place = joining.edge_place(edge);
+    let path = file_name(alloc, place, path)?;
+    let text = text_at(alloc, source, files, place, &path)?;
+    join_text(alloc, joining, number, &path, &text)?;
+    joining.end_file(alloc, number)
+}
+
+// The path of a dyndep file, which has to be UTF-8; the place is its first edge's.
+fn file_name(alloc: Global, place: PlaceRef<'_>, path: &[u8]) -> Result<String, GraphFault>
+    ensures { NamesFile (record { file = place.entry.file.now; spot = place.entry.spot })
+        path.now result }
+{
+    let bytes = Vec::from_slice(alloc, path)?;
+    match String::from_utf8(bytes) {
+        Ok(path) => Ok(path),
+        Err(_) => Err(place.fault(alloc, Cause::PathNotText)),
+    }
+}
+
+// Joins the entries of a dyndep file with this text.
+fn join_text(
+    alloc: Global,
+    joining: &mut Joining,
+    file: FileNo,
+    name: &str,
+    text: &[u8],
+) -> Result<(), GraphFault>
+    requires { slice_get joining.old.table.files file.0 ≡ Some name.now }
+    ensures joins { (stated joined : List ReadStatement) → HasJoined joining.old stated joined
+        → JoinsText name.now stated text.now joined joining.new result }
+    ensures files { OnOk result (IsPrefix joining.old.table.files joining.new.table.files) }
+    ensures dyndeps { OnOk result (joining.new.dyndep_files ≡ joining.old.dyndep_files) }
+{
+    let mut parser = DyndepParser::new(text);
+    'entries: while let Some(entry) = next_entry(alloc, &mut parser, name)? {
+        joining.join_entry(alloc, file, name, &entry)?;
+        drop(entry);
+    }
+    Ok(())
+}
+
+// The next entry of a dyndep file of this name.
+fn next_entry<'a>(
+    alloc: Global,
+    parser: &mut DyndepParser<'a>,
+    name: &str,
+) -> Result<Option<Entry<'a>>, GraphFault>
+    ensures { NextEntryIs name.now parser.old parser.new result }
+{
+    match parser.next_entry(alloc) {
+        Ok(found) => Ok(found),
+        Err(fault) => Err(GraphFault::of_text(alloc, name, fault)?),
+    }
+}

@@ -1,7 +1,0 @@
-use Rattle.std.proofs.Common.{◌≡◌, take}
-use Rattle.nj_manifest.specs.Statements.{gives}
-use Rattle.nj_manifest.specs.Contents.{lines_text}
-use Rattle.nj_manifest.proofs.block.gives.Given as goal
-
-abbrev pub invariant-lines : goal.invariant-lines
-invariant-lines l = l.given ≡ gives l.key (lines_text (take l.line-index l.lines))

@@ -1,0 +1,484 @@
+//! What dyndep files add to the edges of a run.
+
+ghost use Rattle.std.specs.Prelude.{◌≡◌, ℕ, ◌<◌, ◌==◌, List, [], Some, None, option_map, unwrap_or, map, length, slice_get, replicate, slice_index_or, IfOk, IfSome, OnOk, OnErr};
+ghost use Rattle.nj_scope.specs.Scopes.{first_given};
+ghost use Rattle.std.specs.Option.{option_or};
+ghost use Rattle.std.specs.List.{AllByRecursion};
+ghost use Rattle.nj_text.specs.Words.{word_model};
+ghost use Rattle.nj_manifest.specs.Contents.{words_model};
+ghost use Rattle.nj_manifest.specs.DyndepParsers.{entry_model};
+ghost use Rattle.nj_scope.specs.Readings.{IsPrefix};
+ghost use Rattle.nj_scope.specs.ReadingList.{ReadStatement};
+ghost use Rattle.nj_edges.specs.Edges.{edge_at, first_output, first_edge, maker_of};
+ghost use Rattle.nj_edges.specs.Files.{path_at};
+ghost use Rattle.nj_edges.specs.Joining.{none_added};
+ghost use Rattle.nj_faults.specs.Faults.{IsFault, fault_at};
+ghost use Rattle.nj_statements.specs.EdgeList.{path_given, paths_given, pending_read};
+ghost use Rattle.nj_statements.specs.BuildFaults.{empty_path, outputs_fault};
+ghost use Rattle.nj_statements.specs.Built.{ComesTo, IsBuiltOf, detail_at};
+ghost use Rattle.nj_statements.specs.Joining.{no_values, entry_fault, with_entry, lacking_fault};
+ghost use Rattle.nj_statements.specs.Answers.{Checks};
+ghost use Rattle.nj_statements.specs.JoiningHeld.{HasJoined, JoinsEntry, JoinsNothing, KeepsEdges, has_pending, still_pending};
+ghost use Rattle.nj_statements.specs.Inside.JoiningSteps.{IsMeant, fault_of_pending, bind_all, first_edges, count_bound, is_bound_to, if_bound, maker_fault, edge_bound, with_added_outputs, with_added_inputs};
+
+use crate::building::DyndepEdge;
+use crate::built::{Built, cycle_fault, place_of};
+use crate::edge_record::Detail;
+use crate::scratch::Capacity;
+use crate::text_table::Texts;
+use nj_edge_env::Blocks;
+use nj_edges::{EdgeNo, FileNo, Finished, JoiningEdges};
+use nj_faults::{Cause, GraphFault, Name, PlaceRef};
+use nj_manifest::{Entry, Word};
+use nj_text::{Spot, TextFault};
+use std::alloc::{AllocError, Global};
+use std::marker::Model;
+
+/// A dyndep file ("Dynamic Dependencies" in the Ninja manual).
+#[derive(Clone, Copy)]
+pub struct DyndepFile<'a> {
+    pub number: FileNo,
+    /// Its clean path.
+    pub path: &'a [u8],
+    /// The first edge that is bound to it.
+    pub edge: EdgeNo,
+}
+
+/// The edges of a run, and what dyndep files add to them.
+#[derive(Drop)]
+pub struct Joining {
+    edges: JoiningEdges,
+    blocks: Blocks,
+    names: Texts,
+    details: Vec<Detail>,
+    defaults: Vec<FileNo>,
+    // the dyndep files, each with its first edge
+    dyndep_files: Vec<DyndepEdge>,
+    // for each edge, the dyndep file to which it is bound
+    bound: Vec<Option<FileNo>>,
+    // for each file, how many edges are pending on it
+    unjoined: Vec<usize>,
+    capacity: Capacity,
+}
+
+impl Model for Joining {
+    ghost use Rattle.nj_statements.specs.JoiningHeld.{JoiningModel};
+    ghost use Rattle.nj_statements.specs.Inside.JoiningSteps.{JoiningIsHeld, joining_of};
+
+    ghost Value = { JoiningModel };
+
+    ghost view = { λ j. joining_of j.edges j.blocks j.names j.details.items j.defaults.items
+        j.dyndep_files.items j.bound.items };
+
+    ghost invariant = { λ j. JoiningIsHeld j.edges j.names j.details.items j.defaults.items
+        j.dyndep_files.items j.bound.items j.unjoined.items };
+}
+
+impl Built {
+    /// Whether edges are pending on dyndep files.
+    pub fn has_pending(&self) -> bool
+        ensures { result ≡ has_pending self.now.pending }
+    {
+        !self.dyndeps.as_slice().is_empty()
+    }
+
+    /// The edges, to which dyndep files can be joined.
+    pub fn join(self, alloc: Global) -> Result<Joining, AllocError>
+        ensures { (stated : List ReadStatement) → IsBuiltOf self stated
+            → IfOk result (λ joining. HasJoined joining stated stated) }
+    {
+        let Built {
+            graph,
+            blocks,
+            names,
+            details,
+            defaults,
+            dyndeps,
+        } = self;
+        let bound = bound_files(alloc, graph.edge_count(), &dyndeps)?;
+        let edges = graph.join(alloc)?;
+        let Awaited {
+            dyndep_files,
+            unjoined,
+        } = awaited_files(alloc, edges.files().count(), &dyndeps)?;
+        Ok(Joining {
+            edges,
+            blocks,
+            names,
+            details,
+            defaults,
+            dyndep_files,
+            bound,
+            unjoined,
+            capacity: Capacity::new(alloc),
+        })
+    }
+}
+
+// For each edge, the dyndep file to which it is bound.
+fn bound_files(
+    alloc: Global,
+    edge_count: usize,
+    dyndeps: &[DyndepEdge],
+) -> Result<Vec<Option<FileNo>>, AllocError>
+    requires { AllByRecursion (λ d. d.edge < edge_count) dyndeps.now }
+    ensures { IfOk result (λ bound. bound.items
+        ≡ bind_all dyndeps.now (replicate edge_count None)) }
+{
+    let mut bound = vec![in alloc; None; edge_count]?;
+    'dyndeps: for dyndep in dyndeps {
+        bound[dyndep.edge] = Some(dyndep.file);
+    }
+    Ok(bound)
+}
+
+// The dyndep files, each with its first edge; and for each file, how many edges are bound to it.
+#[derive(Drop)]
+struct Awaited {
+    dyndep_files: Vec<DyndepEdge>,
+    unjoined: Vec<usize>,
+}
+
+// The dyndep files of edges, where there are this many files.
+fn awaited_files(
+    alloc: Global,
+    file_count: usize,
+    dyndeps: &[DyndepEdge],
+) -> Result<Awaited, AllocError>
+    requires { AllByRecursion (λ d. d.file.0 < file_count) dyndeps.now }
+    ensures dyndep_files { IfOk result (λ a. a.dyndep_files.items ≡ first_edges dyndeps.now) }
+    ensures count { IfOk result (λ a. length a.unjoined.items ≡ file_count) }
+    ensures unjoined { IfOk result (λ a. (file : FileNo)
+        → slice_index_or a.unjoined.items file.0 0 ≡ count_bound file dyndeps.now) }
+{
+    let mut dyndep_files = Vec::new(alloc);
+    let mut unjoined = vec![in alloc; 0; file_count]?;
+    'dyndeps: for dyndep in dyndeps {
+        let file = dyndep.file.0;
+        if unjoined[file] == 0 {
+            dyndep_files.push(*dyndep)?;
+        }
+        unjoined[file] += 1;
+    }
+    Ok(Awaited {
+        dyndep_files,
+        unjoined,
+    })
+}
+
+impl Joining {
+    /// How many dyndep files there are.
+    pub fn file_count(&self) -> usize
+        ensures { result ≡ length self.now.dyndep_files }
+    {
+        self.dyndep_files.as_slice().len()
+    }
+
+    /// The dyndep file at this index, in the order of their first edges.
+    pub fn file(&self, index: usize) -> DyndepFile<'_>
+        requires { index < length self.now.dyndep_files }
+        ensures is { slice_get self.now.dyndep_files index
+            ≡ Some (record { edge = result.edge.0; file = result.path.now }) }
+        ensures number { slice_get self.now.table.files result.number.0 ≡ Some result.path.now }
+        ensures edge { result.edge.0 < length self.now.details }
+    {
+        let dyndep = self.dyndep_files[index];
+        DyndepFile {
+            number: dyndep.file,
+            path: self.edges.files().path(dyndep.file),
+            edge: EdgeNo(dyndep.edge),
+        }
+    }
+
+    /// The place of the build statement of an edge.
+    pub fn edge_place(&self, edge: EdgeNo) -> PlaceRef<'_>
+        requires { edge.0 < length self.now.details }
+        ensures file { result.file.now ≡ (detail_at self.now.details edge.0).file }
+        ensures spot { result.spot ≡ (detail_at self.now.details edge.0).spot }
+    {
+        place_of(&self.names, self.details[edge.0])
+    }
+
+    /// Joins an entry of this dyndep file, which was opened under this name.
+    ///
+    /// # Errors
+    ///
+    /// The first fault of the entry: an empty path, or one whose build statement is not bound to
+    /// the file, or is meant by an earlier entry; then the outputs that it discovers from left to
+    /// right, each an empty path or one that has a maker, and an empty path among its inputs. After
+    /// a fault no edge has changed, but nothing more may be joined.
+    pub fn join_entry(
+        &mut self,
+        alloc: Global,
+        file: FileNo,
+        name: &str,
+        entry: &Entry<'_>,
+    ) -> Result<(), GraphFault>
+        requires { slice_get self.old.table.files file.0 ≡ Some name.now }
+        ensures joins { (stated joined : List ReadStatement) → HasJoined self.old stated joined
+            → JoinsEntry self.new (entry_fault name.now stated joined (entry_model entry.now))
+            stated (with_entry stated joined (entry_model entry.now)) result }
+        ensures refused { OnErr result (JoinsNothing self.old self.new) }
+        ensures files { IsPrefix self.old.table.files self.new.table.files }
+        ensures dyndep_files { self.new.dyndep_files ≡ self.old.dyndep_files }
+        ensures details { self.new.details ≡ self.old.details }
+    {
+        let line = DyndepLine { alloc, file, name };
+        let edge = line.edge_meant(&mut self.capacity, &self.edges, &self.bound, &entry.out)?;
+        line.add_outputs(&mut self.capacity, &mut self.edges, entry.outs.as_slice())?;
+        line.add_inputs(&mut self.capacity, &mut self.edges, entry.ins.as_slice())?;
+        self.edges.end_join(edge);
+        self.unjoined[file.0] -= 1;
+        Ok(())
+    }
+
+    /// Checks after the last entry of this dyndep file that no edge is pending on it.
+    ///
+    /// # Errors
+    ///
+    /// The lowest-numbered edge that does, at its build statement; or an allocation failed.
+    pub fn end_file(&self, alloc: Global, file: FileNo) -> Result<(), GraphFault>
+        requires { file.0 < length self.now.table.files }
+        ensures { (stated joined : List ReadStatement) → HasJoined self.now stated joined
+            → Checks (lacking_fault (path_at self.now.table.files file) joined) result }
+    {
+        if is_zero(&self.unjoined, file.0) {
+            return Ok(());
+        }
+        match pending_edge(&self.edges, &self.bound, file) {
+            Some(edge) => Err(self.no_statement(alloc, file, edge)?),
+            None => Ok(()),
+        }
+    }
+
+    // The fault of an edge that its dyndep file does not mention.
+    fn no_statement(
+        &self,
+        alloc: Global,
+        file: FileNo,
+        edge: EdgeNo,
+    ) -> Result<GraphFault, AllocError>
+        requires file { file.0 < length self.now.table.files }
+        requires edge { edge.0 < length self.now.table.stated }
+        ensures { IfOk result (λ fault. IsFault (Some (fault_of_pending
+            (path_at self.now.table.files file) (detail_at self.now.details edge.0)
+            (edge_at self.now.table.stated edge.0))) fault) }
+    {
+        let output = Name::new(alloc, first_output(&self.edges, edge))?;
+        let path = Name::new(alloc, self.edges.files().path(file))?;
+        let place = self.edge_place(edge);
+        Ok(place.fault(alloc, Cause::DyndepNoStatement(output, path)))
+    }
+
+    /// What the edges yield with what was joined to them, once no edge is pending. Takes time in
+    /// proportion to the edges and their files.
+    ///
+    /// # Errors
+    ///
+    /// A dependency cycle, as before dyndep files were joined.
+    pub fn finish(self, alloc: Global) -> Result<Built, GraphFault>
+        requires { self.table.«open» ≡ none_added }
+        ensures { (stated joined : List ReadStatement) → HasJoined self stated joined
+            → pending_read joined ≡ [] → ComesTo joined result }
+    {
+        let Joining {
+            edges,
+            blocks,
+            names,
+            details,
+            defaults,
+            ..
+        } = self;
+        match edges.finish(alloc)? {
+            Finished::Graph(graph) => Ok(Built {
+                graph,
+                blocks,
+                names,
+                details,
+                defaults,
+                dyndeps: Vec::new(alloc),
+            }),
+            Finished::Cycle(cycle) => {
+                let detail = details[cycle.edge.0];
+                let output = Name::from(cycle.output);
+                Err(cycle_fault(alloc, &names, detail, output))
+            }
+        }
+    }
+}
+
+// The lowest-numbered edge that is pending on a dyndep file.
+fn pending_edge(edges: &JoiningEdges, bound: &[Option<FileNo>], file: FileNo) -> Option<EdgeNo>
+    requires { length bound.now ≡ length edges.now.stated }
+    ensures { option_map (λ edge. edge.0) result ≡ first_edge (λ w. is_bound_to w file)
+        (still_pending bound.now edges.now.was_joined) }
+{
+    'edges: for (number, other) in bound.iter().enumerate() {
+        let edge = EdgeNo(number);
+        if is_bound_to(*other, file) && !edges.is_joined(edge) {
+            return Some(edge);
+        }
+    }
+    None
+}
+
+// The first output that an edge has in the graph; nothing if it has none.
+fn first_output(edges: &JoiningEdges, edge: EdgeNo) -> &[u8]
+    requires { edge.0 < length edges.now.stated }
+    ensures { result.now
+        ≡ unwrap_or (first_output (edge_at edges.now.stated edge.0)) [] }
+{
+    match edges.stated_outputs(edge).first() {
+        Some(output) => edges.files().path(*output),
+        None => b"",
+    }
+}
+
+// A line of the dyndep file of this number, which was opened under this name.
+#[derive(Clone, Copy)]
+struct DyndepLine<'a> {
+    alloc: Global,
+    file: FileNo,
+    name: &'a str,
+}
+
+impl DyndepLine<'_> {
+    // The path that a word gives.
+    fn path<'w>(
+        self,
+        capacity: &'w mut Capacity,
+        word: &'w Word<'_>,
+    ) -> Result<&'w [u8], GraphFault>
+        ensures path { IfOk result (λ path. path.now ≡ path_given no_values (word_model word.now)) }
+        ensures fault { Checks (empty_path self.entry.name.now no_values (word_model word.now))
+            result }
+    {
+        match capacity.plain_path(word) {
+            Ok(path) => Ok(path),
+            Err(TextFault::EmptyPath) => Err(self.fault(word.spot, Cause::EmptyPath)),
+            Err(TextFault::OutOfMemory) => Err(GraphFault::out_of_memory()),
+        }
+    }
+
+    // The edge that makes a file in the graph, if it is bound to the dyndep file.
+    fn bound_maker(
+        self,
+        edges: &JoiningEdges,
+        bound: &[Option<FileNo>],
+        path: &[u8],
+    ) -> Option<EdgeNo>
+        requires { length bound.now ≡ length edges.now.stated }
+        ensures maker { option_map (λ edge. edge.0) result
+            ≡ if_bound bound.now self.entry.file (maker_of edges.now.stated path.now) }
+        ensures known { IfSome result (λ edge. edge.0 < length edges.now.stated) }
+    {
+        let edge = edges.stated_maker(path)?;
+        if is_bound_to(bound[edge.0], self.file) {
+            Some(edge)
+        } else {
+            None
+        }
+    }
+
+    // The edge that has the output of an entry.
+    fn edge_meant(
+        self,
+        capacity: &mut Capacity,
+        edges: &JoiningEdges,
+        bound: &[Option<FileNo>],
+        word: &Word<'_>,
+    ) -> Result<EdgeNo, GraphFault>
+        requires { length bound.now ≡ length edges.now.stated }
+        ensures fault { Checks (option_or
+            (empty_path self.entry.name.now no_values (word_model word.now))
+            (maker_fault self.entry.name.now (word_model word.now) edges.now
+            (edge_bound edges.now bound.now self.entry.file (word_model word.now)))) result }
+        ensures edge { IfOk result (λ edge. IsMeant edges.now bound.now self.entry.file
+            (word_model word.now) edge.0) }
+    {
+        let path = self.path(capacity, word)?;
+        let edge = match self.bound_maker(edges, bound, path) {
+            Some(edge) => edge,
+            None => {
+                let cause = Cause::DyndepExtra(Name::new(self.alloc, path)?);
+                return Err(self.fault(word.spot, cause));
+            }
+        };
+        if edges.is_joined(edge) {
+            let cause = Cause::DyndepTwice(Name::new(self.alloc, path)?);
+            return Err(self.fault(word.spot, cause));
+        }
+        Ok(edge)
+    }
+
+    // Collects the outputs that an entry discovers.
+    fn add_outputs(
+        self,
+        capacity: &mut Capacity,
+        edges: &mut JoiningEdges,
+        words: &[Word<'_>],
+    ) -> Result<(), GraphFault>
+        ensures fault { Checks (outputs_fault self.entry.name.now no_values edges.old.joined
+            edges.old.«open».outputs (words_model words.now)) result }
+        ensures added { OnOk result (edges.new
+            ≡ with_added_outputs edges.old (paths_given no_values (words_model words.now))) }
+        ensures keeps { KeepsEdges edges.old edges.new }
+    {
+        'words: for word in words {
+            let path = self.path(capacity, word)?;
+            if !edges.add_output(path)? {
+                let cause = Cause::TwoMakers(Name::new(self.alloc, path)?);
+                return Err(self.fault(word.spot, cause));
+            }
+        }
+        Ok(())
+    }
+
+    // Collects the inputs that an entry discovers.
+    fn add_inputs(
+        self,
+        capacity: &mut Capacity,
+        edges: &mut JoiningEdges,
+        words: &[Word<'_>],
+    ) -> Result<(), GraphFault>
+        ensures fault { Checks (first_given (empty_path self.entry.name.now no_values)
+            (words_model words.now)) result }
+        ensures added { OnOk result (edges.new
+            ≡ with_added_inputs edges.old (paths_given no_values (words_model words.now))) }
+        ensures keeps { KeepsEdges edges.old edges.new }
+    {
+        'words: for word in words {
+            let path = self.path(capacity, word)?;
+            edges.add_input(path)?;
+        }
+        Ok(())
+    }
+
+    // The fault of this cause at a place of the file, or out of memory.
+    fn fault(self, spot: Spot, cause: Cause) -> GraphFault
+        ensures { IsFault (Some (fault_at self.entry.name.now spot cause)) result }
+    {
+        let file = self.name.as_bytes();
+        PlaceRef { file, spot }.fault(self.alloc, cause)
+    }
+}
+
+// Whether an edge is bound to this dyndep file.
+fn is_bound_to(bound: Option<FileNo>, file: FileNo) -> bool
+    ensures { result ≡ is_bound_to bound file }
+{
+    match bound {
+        Some(other) => other.0 == file.0,
+        None => false,
+    }
+}
+
+// Whether the count at this index is 0; past the end it is.
+fn is_zero(counts: &[usize], index: usize) -> bool
+    ensures { result ≡ (slice_index_or counts.now index 0 == 0) }
+{
+    match counts.get(index) {
+        Some(count) => *count == 0,
+        None => true,
+    }
+}

@@ -1,0 +1,75 @@
+//! The blocks of build statements.
+
+ghost use Rattle.std.specs.Prelude.{◌≡◌, ℕ, ◌<◌, ◌≤◌, ◌==◌, if◌then◌else◌, false, List, [], ◌∷◌, None, length, IfOk, OnOk};
+ghost use Rattle.std.specs.Option.{option_or};
+ghost use Rattle.nj_manifest.specs.Contents.{lines_model};
+ghost use Rattle.nj_text.specs.Words.{word_model};
+ghost use Rattle.nj_scope.specs.Scopes.{IsScope, expanded, parent_at};
+ghost use Rattle.nj_scope.specs.Declarations.{DeclaredBy};
+ghost use Rattle.nj_scope.specs.ReadingList.{ReadStatement, value_after};
+ghost use Rattle.nj_edge_env.specs.Blocks.{bound_in, names_in};
+ghost use Rattle.nj_statements.specs.EdgeList.{block_of, names_bound};
+
+use crate::scratch::only_bytes;
+use nj_edge_env::Blocks;
+use nj_manifest::Line;
+use nj_scope::Declarations;
+use nj_text::Word;
+use std::alloc::AllocError;
+
+/// Binds what the lines of an edge's block give; `text` is a buffer for their values.
+pub(crate) fn bind_block(
+    blocks: &mut Blocks,
+    text: &mut Vec<u8>,
+    declarations: &Declarations,
+    scope: usize,
+    edge: usize,
+    lines: &[Line<'_>],
+) -> Result<(), AllocError>
+    requires scope { scope < length declarations.now.scopes }
+    requires last { blocks.old.last ≤ edge }
+    ensures bound { (entries : List ReadStatement) (around : List ℕ)
+        → DeclaredBy declarations.now entries
+        → IsScope (parent_at declarations.now.scopes) scope (scope ∷ around)
+        → OnOk result ((e : ℕ) (name : List ℕ) → bound_in blocks.new e name
+        ≡ (if e == edge then option_or (block_of (value_after entries (scope ∷ around))
+        (lines_model lines.now) name) (bound_in blocks.old e name)
+        else bound_in blocks.old e name)) }
+    ensures others { (e : ℕ) (name : List ℕ) → e < edge
+        → bound_in blocks.new e name ≡ bound_in blocks.old e name }
+    ensures names { ((name : List ℕ) → bound_in blocks.old edge name ≡ None)
+        → names_in blocks.old edge ≡ []
+        → OnOk result (names_in blocks.new edge ≡ names_bound (lines_model lines.now)) }
+    ensures other_names { (e : ℕ) → (e == edge) ≡ false
+        → names_in blocks.new e ≡ names_in blocks.old e }
+    ensures last { blocks.new.last ≤ edge }
+{
+    'lines: for line in lines {
+        let value = value_of(declarations, scope, &line.value, text)?;
+        blocks.bind(edge, line.name, value)?;
+    }
+    Ok(())
+}
+
+// The value of a word in this scope: a slice of its file if it has no reference and no escape. Any
+// other is put into the text.
+fn value_of<'w>(
+    declarations: &Declarations,
+    scope: usize,
+    word: &'w Word<'_>,
+    text: &'w mut Vec<u8>,
+) -> Result<&'w [u8], AllocError>
+    requires { scope < length declarations.now.scopes }
+    ensures { (entries : List ReadStatement) (around : List ℕ)
+        → DeclaredBy declarations.now entries
+        → IsScope (parent_at declarations.now.scopes) scope (scope ∷ around)
+        → IfOk result (λ value. value.now
+        ≡ expanded (value_after entries (scope ∷ around)) (word_model word.now).parts) }
+{
+    if let Some(bytes) = only_bytes(word) {
+        return Ok(bytes);
+    }
+    text.clear();
+    declarations.append_expanded(scope, word, text)?;
+    Ok(text.as_slice())
+}

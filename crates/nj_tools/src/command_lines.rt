@@ -1,0 +1,147 @@
+//! The commands of edges, a line each.
+
+ghost use Rattle.std.specs.Prelude.{◌≡◌, ℕ, ◌<◌, ◌-◌, ◌++◌, List, [], ◌∷◌, length, All, IfOk, IfSome, OnOk, option_map};
+ghost use Rattle.nj_scope.specs.ReadingList.{ReadStatement};
+ghost use Rattle.nj_graph.specs.Graph.{edges_of, files_of, IsGraphOf};
+ghost use Rattle.nj_tools.specs.Inside.Blocks.{PutsText};
+ghost use Rattle.nj_needs.specs.Order.{made_by};
+ghost use Rattle.nj_needs.specs.Walks.{number_of};
+ghost use Rattle.nj_tools.specs.CommandStrings.{command_lines, written, StopsAt, single, own_commands};
+ghost use Rattle.nj_tools.specs.Inside.Collections.{own_makers};
+ghost use Rattle.nj_tools.specs.Inside.Commands.{command_line};
+ghost use Rattle.nj_tools.specs.Inside.Seen.{AreSeen, new_commands};
+ghost use Rattle.nj_tools.specs.Texts.{WritesText};
+
+use crate::output_block::write_block;
+use crate::sinks::Sink;
+use crate::tool_fault::ToolFault;
+use crate::whole_text::write_whole;
+use nj_graph::{EdgeNo, FileNo, Graph};
+use nj_needs::{Mark, Needs};
+use std::alloc::{AllocError, Global};
+
+/// Writes the commands of the edges that are left to a walk over this graph, a line each; at most
+/// `take` of them if that is given. Returns the mark at which the walk can be resumed if more are
+/// left, and `None` if not ("Extra tools" in the Ninja manual, `commands`). The walk itself must
+/// not be used again after this call.
+///
+/// # Errors
+///
+/// `Write` if the sink failed, and `OutOfMemory` if an allocation failed. The sink has then taken a
+/// prefix of the text.
+pub fn write_commands<S: Sink>(
+    alloc: Global,
+    graph: &Graph,
+    needs: &mut Needs<'_>,
+    take: Option<u64>,
+    out: &mut S,
+) -> Result<Option<Mark>, ToolFault>
+    requires { needs.old.graph ≡ graph.now.built.graph }
+    ensures writes { (entries : List ReadStatement) → IsGraphOf graph.now entries
+        → WritesText (S.state out.old) (S.state out.new)
+        (command_lines entries (written take needs.old.left)) result }
+    ensures mark { IfOk result (λ mark. StopsAt needs.old take mark) }
+{
+    let mut text = Vec::new(alloc);
+    let mut remaining = take;
+    'commands: while remaining != Some(0) {
+        let Some(edge) = needs.next() else {
+            write_whole(out, &text)?;
+            return Ok(None);
+        };
+        write_command(graph, edge, &mut text, out)?;
+        remaining = one_fewer(remaining);
+    }
+    write_whole(out, &text)?;
+    let mark = needs.mark(alloc)?;
+    Ok(needs.next().map(|_| mark))
+}
+
+/// Writes the commands of the edges that make these targets, a line each, and each once.
+///
+/// # Errors
+///
+/// `Write` if the sink failed, and `OutOfMemory` if an allocation failed. The sink has then taken a
+/// prefix of the text.
+pub fn write_single_commands<S: Sink>(
+    alloc: Global,
+    graph: &Graph,
+    targets: &[FileNo],
+    out: &mut S,
+) -> Result<(), ToolFault>
+    requires { All (λ file. file.0 < length (files_of graph.now)) targets.now }
+    ensures { (entries : List ReadStatement) → IsGraphOf graph.now entries
+        → WritesText (S.state out.old) (S.state out.new)
+        (command_lines entries (own_commands graph.now.built.graph targets.now)) result }
+{
+    let mut text = Vec::new(alloc);
+    let mut seen = vec![in alloc; false; graph.edge_count()]?;
+    'targets: for target in targets {
+        if let Some(edge) = new_maker(graph, *target, &mut seen) {
+            write_command(graph, edge, &mut text, out)?;
+        }
+    }
+    write_whole(out, &text)?;
+    Ok(())
+}
+
+// The edge that makes a file, if it is not phony and was not seen before. It is marked as seen.
+fn new_maker(graph: &Graph, file: FileNo, seen: &mut [bool]) -> Option<EdgeNo>
+    requires file { file.0 < length (files_of graph.now) }
+    requires seen { length seen.old ≡ length (edges_of graph.now) }
+    ensures seen { (earlier : List ℕ) → AreSeen graph.now.built.graph seen.old earlier
+        → AreSeen graph.now.built.graph seen.new
+        (earlier ++ own_makers graph.now.built.graph (file ∷ [])) }
+    ensures new { (earlier : List ℕ) → AreSeen graph.now.built.graph seen.old earlier
+        → made_by single (number_of result) ≡ new_commands graph.now.built.graph earlier
+        (own_makers graph.now.built.graph (file ∷ [])) }
+    ensures known { IfSome result (λ edge. edge.0 < length (edges_of graph.now)) }
+{
+    let edge = graph.maker(file)?;
+    if seen[edge.0] {
+        return None;
+    }
+    seen[edge.0] = true;
+    if graph.is_phony(edge) {
+        return None;
+    }
+    Some(edge)
+}
+
+// How many may still be taken after one was.
+fn one_fewer(remaining: Option<u64>) -> Option<u64>
+    ensures { result ≡ option_map (λ count. count - 1) remaining }
+{
+    match remaining {
+        Some(count) => Some(count.saturating_sub(1)),
+        None => None,
+    }
+}
+
+// Appends the command of an edge to the pending text, and writes that if it fills a block.
+fn write_command<S: Sink>(
+    graph: &Graph,
+    edge: EdgeNo,
+    text: &mut Vec<u8>,
+    out: &mut S,
+) -> Result<(), ToolFault>
+    requires { edge.0 < length (edges_of graph.now) }
+    ensures { (entries : List ReadStatement) → IsGraphOf graph.now entries
+        → PutsText (S.state out.old) (S.state out.new) text.old.items text.new.items
+        (command_line entries edge.0) result }
+{
+    append_command(graph, edge, text)?;
+    write_block(out, text)?;
+    Ok(())
+}
+
+// Appends the command of an edge and a line end.
+fn append_command(graph: &Graph, edge: EdgeNo, text: &mut Vec<u8>) -> Result<(), AllocError>
+    requires { edge.0 < length (edges_of graph.now) }
+    ensures { (entries : List ReadStatement) → IsGraphOf graph.now entries
+        → OnOk result (text.new.items ≡ text.old.items ++ command_line entries edge.0) }
+{
+    graph.append_variable(text, edge, b"command")?;
+    text.push(b'\n')?;
+    Ok(())
+}

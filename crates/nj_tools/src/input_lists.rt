@@ -1,0 +1,290 @@
+//! The inputs of needed edges.
+
+ghost use Rattle.std.specs.Prelude.{◌≡◌, ℕ, ◌<◌, ◌++◌, List, All, [], ◌∷◌, length, map, flat_map};
+ghost use Rattle.std.specs.Prelude.{IfOk, OnOk, bytes_eq, if◌then◌else◌};
+ghost use Rattle.nj_text.specs.Quotes.{quoted};
+ghost use Rattle.nj_edges.specs.declared.files.FileNo.{FileNo};
+ghost use Rattle.nj_edges.specs.Files.{path_at};
+ghost use Rattle.nj_graph.specs.Graph.{edges_of, files_of};
+ghost use Rattle.nj_tools.specs.Inside.Blocks.{PutsText};
+ghost use Rattle.nj_tools.specs.Inside.Collections.{AreOf, IsFlagged, with_file, with_files};
+ghost use Rattle.nj_tools.specs.Inside.Collections.{new_file, new_files};
+ghost use Rattle.nj_tools.specs.Listings.{
+  each_once,
+  sorted,
+  needed_inputs,
+  printed,
+  terminated,
+  inputs_text,
+};
+ghost use Rattle.nj_tools.specs.Texts.{WritesText};
+
+use crate::file_list::Collected;
+use crate::output_block::write_block;
+use crate::sinks::Sink;
+use crate::sorted_paths::{sorted_paths, sorted_quotes};
+use crate::tool_fault::ToolFault;
+use crate::whole_text::write_whole;
+use nj_graph::{FileNo, Graph};
+use nj_needs::Needs;
+use nj_requests::InputsStyle;
+use nj_text::quote_into;
+use std::alloc::{AllocError, Global};
+
+/// Writes the inputs of the edges whose commands these targets need, each once, in this style
+/// ("Extra tools" in the Ninja manual, `inputs`). In the order of dependencies it keeps no list of
+/// them.
+///
+/// # Errors
+///
+/// `Write` if the sink failed, and `OutOfMemory` if an allocation failed. The sink has then taken a
+/// prefix of the text.
+pub fn write_inputs<S: Sink>(
+    alloc: Global,
+    graph: &Graph,
+    targets: &[FileNo],
+    style: InputsStyle,
+    out: &mut S,
+) -> Result<(), ToolFault>
+    requires { All (λ file. file.0 < length (files_of graph.now)) targets.now }
+    ensures { WritesText (S.state out.old) (S.state out.new)
+        (inputs_text style (edges_of graph.now) (map (path_at (files_of graph.now)) targets.now))
+        result }
+{
+    let mut text = Vec::new(alloc);
+    write_arranged(alloc, graph, targets, style, &mut text, out)?;
+    write_whole(out, &text)?;
+    Ok(())
+}
+
+// Writes the inputs in the order of the style.
+fn write_arranged<S: Sink>(
+    alloc: Global,
+    graph: &Graph,
+    targets: &[FileNo],
+    style: InputsStyle,
+    text: &mut Vec<u8>,
+    out: &mut S,
+) -> Result<(), ToolFault>
+    requires { All (λ file. file.0 < length (files_of graph.now)) targets.now }
+    ensures { PutsText (S.state out.old) (S.state out.new) text.old.items text.new.items
+        (inputs_text style (edges_of graph.now) (map (path_at (files_of graph.now)) targets.now))
+        result }
+{
+    if style.dependency_order {
+        write_as_needed(alloc, graph, targets, style, text, out)
+    } else {
+        let files = needed_inputs(alloc, graph, targets)?;
+        write_sorted(alloc, graph, &files, style, text, out)
+    }
+}
+
+// ---- in the order of dependencies
+
+// Writes the inputs in the order of the edges that need them.
+fn write_as_needed<S: Sink>(
+    alloc: Global,
+    graph: &Graph,
+    targets: &[FileNo],
+    style: InputsStyle,
+    text: &mut Vec<u8>,
+    out: &mut S,
+) -> Result<(), ToolFault>
+    requires { All (λ file. file.0 < length (files_of graph.now)) targets.now }
+    ensures { PutsText (S.state out.old) (S.state out.new) text.old.items text.new.items
+        (flat_map (λ path. terminated style (printed style path)) (each_once bytes_eq (needed_inputs
+        (edges_of graph.now) (map (path_at (files_of graph.now)) targets.now)))) result }
+{
+    let mut needs = Needs::new(alloc, graph.edge_graph(), targets)?;
+    let mut written = vec![in alloc; false; graph.file_count()]?;
+    'edges: while let Some(edge) = needs.next() {
+        write_new_files(graph, graph.inputs(edge), style, &mut written, text, out)?;
+    }
+    Ok(())
+}
+
+// Writes those files that are not flagged as written, each once, and flags them.
+fn write_new_files<S: Sink>(
+    graph: &Graph,
+    files: &[FileNo],
+    style: InputsStyle,
+    written: &mut [bool],
+    text: &mut Vec<u8>,
+    out: &mut S,
+) -> Result<(), ToolFault>
+    requires known { All (λ file. file.0 < length (files_of graph.now)) files.now }
+    requires count { length written.old ≡ length (files_of graph.now) }
+    ensures flags { (earlier : List FileNo) → IsFlagged written.old earlier
+        → OnOk result (IsFlagged written.new (with_files earlier files.now)) }
+    ensures puts { (earlier : List FileNo) → IsFlagged written.old earlier
+        → PutsText (S.state out.old) (S.state out.new) text.old.items text.new.items
+        (flat_map (λ file. terminated style (printed style (path_at (files_of graph.now) file)))
+        (new_files earlier files.now)) result }
+{
+    'files: for file in files {
+        write_new_file(graph, *file, style, written, text, out)?;
+    }
+    Ok(())
+}
+
+// Writes a file that is not flagged as written, and flags it.
+fn write_new_file<S: Sink>(
+    graph: &Graph,
+    file: FileNo,
+    style: InputsStyle,
+    written: &mut [bool],
+    text: &mut Vec<u8>,
+    out: &mut S,
+) -> Result<(), ToolFault>
+    requires known { file.0 < length (files_of graph.now) }
+    requires count { length written.old ≡ length (files_of graph.now) }
+    ensures flags { (earlier : List FileNo) → IsFlagged written.old earlier
+        → IsFlagged written.new (with_file earlier file) }
+    ensures puts { (earlier : List FileNo) → IsFlagged written.old earlier
+        → PutsText (S.state out.old) (S.state out.new) text.old.items text.new.items
+        (flat_map (λ file. terminated style (printed style (path_at (files_of graph.now) file)))
+        (new_file earlier file)) result }
+{
+    if written[file.0] {
+        return Ok(());
+    }
+    written[file.0] = true;
+    write_path(graph.path(file), style, text, out)
+}
+
+// Appends a path as it is printed, with what ends it, to the pending text, and writes that if it
+// fills a block.
+fn write_path<S: Sink>(
+    path: &[u8],
+    style: InputsStyle,
+    text: &mut Vec<u8>,
+    out: &mut S,
+) -> Result<(), ToolFault>
+    ensures { PutsText (S.state out.old) (S.state out.new) text.old.items text.new.items
+        (terminated style (printed style path.now)) result }
+{
+    append_path(path, style, text)?;
+    write_block(out, text)?;
+    Ok(())
+}
+
+// Appends a path as it is printed, with what ends it.
+fn append_path(path: &[u8], style: InputsStyle, text: &mut Vec<u8>) -> Result<(), AllocError>
+    ensures { OnOk result
+        (text.new.items ≡ text.old.items ++ terminated style (printed style path.now)) }
+{
+    if style.shell_escape {
+        quote_into(text, path)?;
+        text.push(terminator(style))?;
+        Ok(())
+    } else {
+        append_terminated(path, style, text)
+    }
+}
+
+// ---- in byte order
+
+// The inputs of the edges whose commands the targets need.
+fn needed_inputs(
+    alloc: Global,
+    graph: &Graph,
+    targets: &[FileNo],
+) -> Result<Vec<FileNo>, AllocError>
+    requires { All (λ file. file.0 < length (files_of graph.now)) targets.now }
+    ensures { IfOk result (λ files. AreOf (files_of graph.now) files.items
+        (needed_inputs (edges_of graph.now) (map (path_at (files_of graph.now)) targets.now))) }
+{
+    let mut needs = Needs::new(alloc, graph.edge_graph(), targets)?;
+    let mut inputs = Collected::new(alloc, graph.file_count())?;
+    'edges: while let Some(edge) = needs.next() {
+        inputs.add_all(graph.inputs(edge))?;
+    }
+    Ok(inputs.into_files())
+}
+
+// Writes the paths of files as they are printed, in byte order of what is printed.
+fn write_sorted<S: Sink>(
+    alloc: Global,
+    graph: &Graph,
+    files: &[FileNo],
+    style: InputsStyle,
+    text: &mut Vec<u8>,
+    out: &mut S,
+) -> Result<(), ToolFault>
+    requires { All (λ file. file.0 < length (files_of graph.now)) files.now }
+    ensures { PutsText (S.state out.old) (S.state out.new) text.old.items text.new.items
+        (flat_map (terminated style)
+        (sorted (map (printed style) (map (path_at (files_of graph.now)) files.now)))) result }
+{
+    if style.shell_escape {
+        let quotes = sorted_quotes(alloc, graph, files)?;
+        write_quotes(&quotes.quoted, style, text, out)?;
+        write_paths(&quotes.plain, style, text, out)
+    } else {
+        let paths = sorted_paths(alloc, graph, files)?;
+        write_paths(&paths, style, text, out)
+    }
+}
+
+// Writes quotes, each with what ends it.
+fn write_quotes<S: Sink>(
+    quotes: &[Vec<u8>],
+    style: InputsStyle,
+    text: &mut Vec<u8>,
+    out: &mut S,
+) -> Result<(), ToolFault>
+    ensures { PutsText (S.state out.old) (S.state out.new) text.old.items text.new.items
+        (flat_map (terminated style) (map (λ quote. quote.items) quotes.now)) result }
+{
+    'quotes: for quote in quotes {
+        write_terminated(quote, style, text, out)?;
+    }
+    Ok(())
+}
+
+// Writes paths as they are, each with what ends it.
+fn write_paths<S: Sink>(
+    paths: &[&[u8]],
+    style: InputsStyle,
+    text: &mut Vec<u8>,
+    out: &mut S,
+) -> Result<(), ToolFault>
+    ensures { PutsText (S.state out.old) (S.state out.new) text.old.items text.new.items
+        (flat_map (terminated style) (map (λ path. path.now) paths.now)) result }
+{
+    'paths: for path in paths {
+        write_terminated(path, style, text, out)?;
+    }
+    Ok(())
+}
+
+// Appends a text with what ends it to the pending text, and writes that if it fills a block.
+fn write_terminated<S: Sink>(
+    bytes: &[u8],
+    style: InputsStyle,
+    text: &mut Vec<u8>,
+    out: &mut S,
+) -> Result<(), ToolFault>
+    ensures { PutsText (S.state out.old) (S.state out.new) text.old.items text.new.items
+        (terminated style bytes.now) result }
+{
+    append_terminated(bytes, style, text)?;
+    write_block(out, text)?;
+    Ok(())
+}
+
+// Appends a text with what ends it.
+fn append_terminated(bytes: &[u8], style: InputsStyle, text: &mut Vec<u8>) -> Result<(), AllocError>
+    ensures { OnOk result (text.new.items ≡ text.old.items ++ terminated style bytes.now) }
+{
+    text.extend_from_slice(bytes)?;
+    text.push(terminator(style))?;
+    Ok(())
+}
+
+// The byte that ends each text.
+fn terminator(style: InputsStyle) -> u8
+    ensures { result ≡ (if style.zero then 0 else 10) }
+{
+    if style.zero { 0 } else { b'\n' }
+}

@@ -1,0 +1,62 @@
+//! The rules of the main file.
+
+ghost use Rattle.std.specs.Prelude.{◌≡◌, ◌<◌, ◌++◌, List, length, OnOk};
+ghost use Rattle.nj_scope.specs.ReadingList.{ReadStatement};
+ghost use Rattle.nj_graph.specs.Graph.{IsGraphOf, main_rules, main_rule_at};
+ghost use Rattle.nj_tools.specs.Inside.Blocks.{PutsText};
+ghost use Rattle.nj_tools.specs.RuleLists.{rule_line, rules_text};
+ghost use Rattle.nj_tools.specs.Texts.{WritesText};
+
+use crate::sink_lines::write_line;
+use crate::sinks::Sink;
+use crate::tool_fault::ToolFault;
+use crate::whole_text::write_whole;
+use nj_graph::Graph;
+use std::alloc::Global;
+
+/// Writes the names of the rules of the main file's scope, `phony` among them, in byte order; with
+/// `descriptions` also the values of their `description` lines, not expanded ("Extra tools" in the
+/// Ninja manual, `rules`).
+///
+/// # Errors
+///
+/// `Write` if the sink failed, and `OutOfMemory` if an allocation failed. The sink has then taken a
+/// prefix of the text.
+pub fn write_rules<S: Sink>(
+    alloc: Global,
+    graph: &Graph,
+    descriptions: bool,
+    out: &mut S,
+) -> Result<(), ToolFault>
+    ensures { (entries : List ReadStatement) → IsGraphOf graph.now entries
+        → WritesText (S.state out.old) (S.state out.new) (rules_text entries descriptions) result }
+{
+    let mut text = Vec::new(alloc);
+    'rules: for index in 0..graph.main_rule_count() {
+        write_rule(alloc, graph, index, descriptions, &mut text, out)?;
+    }
+    write_whole(out, &text)?;
+    Ok(())
+}
+
+// Writes the name of a rule, and its description if it is asked for and there is one.
+fn write_rule<S: Sink>(
+    alloc: Global,
+    graph: &Graph,
+    index: usize,
+    descriptions: bool,
+    text: &mut Vec<u8>,
+    out: &mut S,
+) -> Result<(), ToolFault>
+    requires { index < length (main_rules graph.now) }
+    ensures { PutsText (S.state out.old) (S.state out.new) text.old.items text.new.items
+        (rule_line descriptions (main_rule_at graph.now index)) result }
+{
+    let name = graph.main_rule(index);
+    if descriptions && graph.has_description(index) {
+        let description = graph.description_text(alloc, index)?;
+        write_line(out, text, name, b": ", &description)
+    } else {
+        write_line(out, text, name, b"", b"")
+    }
+}

@@ -1,0 +1,194 @@
+//! Lists of targets.
+
+ghost use Rattle.std.specs.Prelude.{◌≡◌, ◌<◌, List, All, length, map, filter, flat_map, is_none};
+ghost use Rattle.std.specs.Prelude.{IfOk, OnOk};
+ghost use Rattle.nj_scope.specs.ReadingList.{ReadStatement};
+ghost use Rattle.nj_edges.specs.Edges.{maker_of};
+ghost use Rattle.nj_edges.specs.Files.{path_at};
+ghost use Rattle.nj_graph.specs.Graph.{edges_of, files_of, IsGraphOf};
+ghost use Rattle.nj_tools.specs.Inside.Blocks.{PutsText};
+ghost use Rattle.nj_tools.specs.Inside.Collections.{AreOf, with_files};
+ghost use Rattle.nj_tools.specs.Lines.{lines};
+ghost use Rattle.nj_tools.specs.Listings.{
+  sorted,
+  made_line,
+  outputs_of_rule,
+  sources_in,
+  outputs_text,
+  targets_text,
+};
+ghost use Rattle.nj_tools.specs.Texts.{WritesText};
+
+use crate::file_list::Collected;
+use crate::sink_lines::write_line;
+use crate::sinks::Sink;
+use crate::sorted_paths::sorted_paths;
+use crate::tool_fault::ToolFault;
+use crate::trees::write_trees;
+use crate::whole_text::write_whole;
+use nj_graph::{EdgeNo, FileNo, Graph};
+use nj_requests::TargetsView;
+use std::alloc::{AllocError, Global};
+
+/// Writes a list of targets, a line each ("Extra tools" in the Ninja manual, `targets`).
+///
+/// # Errors
+///
+/// `Write` if the sink failed, and `OutOfMemory` if an allocation failed. The sink has then taken a
+/// prefix of the text.
+pub fn write_targets<S: Sink>(
+    alloc: Global,
+    graph: &Graph,
+    view: &TargetsView,
+    out: &mut S,
+) -> Result<(), ToolFault>
+    ensures { (entries : List ReadStatement) → IsGraphOf graph.now entries
+        → WritesText (S.state out.old) (S.state out.new) (targets_text entries view.now) result }
+{
+    let mut text = Vec::new(alloc);
+    write_view(alloc, graph, view, &mut text, out)?;
+    write_whole(out, &text)?;
+    Ok(())
+}
+
+// Writes what is listed.
+fn write_view<S: Sink>(
+    alloc: Global,
+    graph: &Graph,
+    view: &TargetsView,
+    text: &mut Vec<u8>,
+    out: &mut S,
+) -> Result<(), ToolFault>
+    ensures { (entries : List ReadStatement) → IsGraphOf graph.now entries
+        → PutsText (S.state out.old) (S.state out.new) text.old.items text.new.items
+        (targets_text entries view.now) result }
+{
+    match view {
+        TargetsView::OfRule(rule) => {
+            let files = outputs_of_rule(alloc, graph, rule.as_bytes())?;
+            write_sorted(alloc, graph, &files, text, out)
+        }
+        TargetsView::Sources => {
+            let files = sources(alloc, graph)?;
+            write_sorted(alloc, graph, &files, text, out)
+        }
+        TargetsView::Depth(depth) => write_trees(alloc, graph, *depth, text, out),
+        TargetsView::All => write_all(graph, text, out),
+    }
+}
+
+// The outputs of the edges whose rule has this name.
+fn outputs_of_rule(alloc: Global, graph: &Graph, rule: &[u8]) -> Result<Vec<FileNo>, AllocError>
+    ensures known { IfOk result (λ files.
+        All (λ file. file.0 < length (files_of graph.now)) files.items) }
+    ensures files { (entries : List ReadStatement) → IsGraphOf graph.now entries
+        → IfOk result (λ files.
+        AreOf (files_of graph.now) files.items (outputs_of_rule entries rule.now)) }
+{
+    let mut outputs = Collected::new(alloc, graph.file_count())?;
+    'edges: for number in 0..graph.edge_count() {
+        let edge = EdgeNo(number);
+        if graph.rule_name(edge) == rule {
+            outputs.add_all(graph.outputs(edge))?;
+        }
+    }
+    Ok(outputs.into_files())
+}
+
+// The inputs that no edge makes.
+fn sources(alloc: Global, graph: &Graph) -> Result<Vec<FileNo>, AllocError>
+    ensures { IfOk result (λ files.
+        AreOf (files_of graph.now) files.items (sources_in (edges_of graph.now))) }
+{
+    let mut sources = Collected::new(alloc, graph.file_count())?;
+    'edges: for number in 0..graph.edge_count() {
+        add_sources(graph, graph.inputs(EdgeNo(number)), &mut sources)?;
+    }
+    Ok(sources.into_files())
+}
+
+// Adds those files that no edge makes.
+fn add_sources(graph: &Graph, files: &[FileNo], sources: &mut Collected) -> Result<(), AllocError>
+    requires known { All (λ file. file.0 < length (files_of graph.now)) files.now }
+    requires count { sources.old.count ≡ length (files_of graph.now) }
+    ensures count { sources.new.count ≡ sources.old.count }
+    ensures files { OnOk result (sources.new.files ≡ with_files sources.old.files
+        (filter (λ file. is_none
+        (maker_of (edges_of graph.now) (path_at (files_of graph.now) file))) files.now)) }
+{
+    'files: for file in files {
+        if is_source(graph, *file) {
+            sources.add(*file)?;
+        }
+    }
+    Ok(())
+}
+
+// Whether no edge makes a file.
+#[tactic(auto, using(crate::proofs::ListingLemmas::no_maker))]
+fn is_source(graph: &Graph, file: FileNo) -> bool
+    requires { file.0 < length (files_of graph.now) }
+    ensures { result
+        ≡ is_none (maker_of (edges_of graph.now) (path_at (files_of graph.now) file)) }
+{
+    graph.maker(file).is_none()
+}
+
+// Writes the paths of files, in byte order.
+fn write_sorted<S: Sink>(
+    alloc: Global,
+    graph: &Graph,
+    files: &[FileNo],
+    text: &mut Vec<u8>,
+    out: &mut S,
+) -> Result<(), ToolFault>
+    requires { All (λ file. file.0 < length (files_of graph.now)) files.now }
+    ensures { PutsText (S.state out.old) (S.state out.new) text.old.items text.new.items
+        (lines (sorted (map (path_at (files_of graph.now)) files.now))) result }
+{
+    let paths = sorted_paths(alloc, graph, files)?;
+    write_paths(&paths, text, out)
+}
+
+// Writes paths, a line each.
+fn write_paths<S: Sink>(paths: &[&[u8]], text: &mut Vec<u8>, out: &mut S) -> Result<(), ToolFault>
+    ensures { PutsText (S.state out.old) (S.state out.new) text.old.items text.new.items
+        (lines (map (λ path. path.now) paths.now)) result }
+{
+    'paths: for path in paths {
+        write_line(out, text, b"", path, b"")?;
+    }
+    Ok(())
+}
+
+// Writes all outputs with the rules that make them.
+fn write_all<S: Sink>(graph: &Graph, text: &mut Vec<u8>, out: &mut S) -> Result<(), ToolFault>
+    ensures { (entries : List ReadStatement) → IsGraphOf graph.now entries
+        → PutsText (S.state out.old) (S.state out.new) text.old.items text.new.items
+        (outputs_text entries) result }
+{
+    'edges: for number in 0..graph.edge_count() {
+        let edge = EdgeNo(number);
+        write_made(graph, graph.outputs(edge), graph.rule_name(edge), text, out)?;
+    }
+    Ok(())
+}
+
+// Writes the outputs of an edge with its rule.
+fn write_made<S: Sink>(
+    graph: &Graph,
+    files: &[FileNo],
+    rule: &[u8],
+    text: &mut Vec<u8>,
+    out: &mut S,
+) -> Result<(), ToolFault>
+    requires { All (λ file. file.0 < length (files_of graph.now)) files.now }
+    ensures { PutsText (S.state out.old) (S.state out.new) text.old.items text.new.items
+        (flat_map (λ path. made_line path rule.now)
+        (map (path_at (files_of graph.now)) files.now)) result }
+{
+    'files: for file in files {
+        write_line(out, text, graph.path(*file), b": ", rule)?;
+    }
+    Ok(())
+}
