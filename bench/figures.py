@@ -2,11 +2,13 @@
 """Measures what docs/BENCHMARKS.md shows, and writes its tables and pictures:
 
     figures.py PROGRAM [--only runs,tools,..] [--rounds N]
+    figures.py PROGRAM --again [--only runs,tools,..] [--rounds N]
     figures.py --draw
 
 PROGRAM is ninja-explain. It runs beside ninja on the same files, in turn, five times or N times; medians count, and the greatest
-memory. The figures of each question are kept in bench/figures.json, so a part of them can be measured anew, and --draw writes the
-tables and pictures again without measuring. Take a quiet machine: all of it takes about half an hour.
+memory. The figures of each question are kept in bench/figures.json as soon as they are measured, so a part of them can be measured
+anew, and --draw writes the tables and pictures again without measuring. --again measures once more, keeps nothing but how far the
+ratios of each question are from those that are kept, and writes that. Take a quiet machine: all of it takes about half an hour.
 """
 
 import argparse
@@ -165,6 +167,15 @@ def joining(words):
         yield [size, load, join, join / load, memory / MB, joined / MB]
 
 
+def apart(section, kept, rows):
+    """The greatest difference between the ratios of two runs, and where it is."""
+    _, head, _ = SECTIONS[section]
+    places = RATIOS[section]
+    pairs = [(abs(old[place] - new[place]), f"{new[0]}, {head[place]}") for old, new in zip(kept, rows, strict=True)
+             for place in places if old[place] is not None]
+    return [section, len(pairs), sum(difference > 0.03 for difference, _ in pairs), *max(pairs)]
+
+
 def validating(words):
     for shape in validations.SHAPES:
         figures = validations.measure_size(words.program, shape, 100_000, words.rounds, {})
@@ -193,8 +204,14 @@ SECTIONS = {
 }
 
 
+# The columns of each question that are ratios of two programs in one run.
+RATIOS = {"runs": range(1, 6), "tools": range(1, 5), "hostile": (3, 6), "loading": (3, 5)}
+
+AGAIN = (None, ["Table", "Ratios", "more than 0.03 apart", "Greatest difference", "of"], ["{}", "{}", "{}", "{:.3f}", "{}"])
+
+
 def table(section, rows):
-    _, head, forms = SECTIONS[section]
+    _, head, forms = AGAIN if section == "again" else SECTIONS[section]
     lines = [head, ["---"] * len(head)]
     lines += [["" if value is None else form.format(value) for form, value in zip(forms, row)] for row in rows]
     return "\n".join(f"| {' | '.join(line)} |" for line in lines)
@@ -231,14 +248,21 @@ def main():
     parser.add_argument("program", type=os.path.abspath, nargs="?")
     parser.add_argument("--only", default=",".join(SECTIONS))
     parser.add_argument("--rounds", type=int, default=ROUNDS)
+    parser.add_argument("--again", action="store_true")
     parser.add_argument("--draw", action="store_true")
     words = parser.parse_args()
     figures = json.loads(FIGURES.read_text()) if FIGURES.exists() else {"rows": {}}
-    if not words.draw:
-        for section in words.only.split(","):
-            print(section, flush=True)
-            figures["rows"][section] = [list(row) for row in SECTIONS[section][0](words)]
-        figures["machine"] = machine()
+    for section in [] if words.draw else words.only.split(","):
+        print(section, flush=True)
+        if words.again and section not in RATIOS:
+            continue
+        rows = [list(row) for row in SECTIONS[section][0](words)]
+        if words.again:
+            others = [row for row in figures["rows"].get("again", []) if row[0] != section]
+            figures["rows"]["again"] = [*others, apart(section, figures["rows"][section], rows)]
+        else:
+            figures["rows"][section] = rows
+            figures["machine"] = machine()
         FIGURES.write_text(json.dumps(figures, indent=1) + "\n")
     draw(figures)
 
