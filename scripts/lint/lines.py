@@ -6,17 +6,13 @@ import sys
 
 import believed
 from lib.checks import check, expect
-from lib.programs import CRATES, ROOT
+from lib.programs import ROOT
 
 # The most lines of definitions on which the contract of `run_words` may rest.
 MOST = 2200
 # How the pages say how many there are.
 BELIEVED = re.compile(r"\*\*([\d,]+) lines of definitions\*\*")
 PAGES = ROOT / "README.md", ROOT / "docs/PROOFS.md"
-TABLE = ROOT / "docs/ARCHITECTURE.md"
-ROW = re.compile(r"\| `(\w+)` \| ([\d,]+) \| ([\d,]+) \|")
-# Files that only name others.
-NAMING = "Lib.antt", "Inside.antt"
 
 
 def number(text):
@@ -34,18 +30,3 @@ def lines_to_believe():
     for page in PAGES:
         said = [number(it) for it in BELIEVED.findall(" ".join(page.read_text().split()))]
         yield from expect(page.name, said, [lines])
-
-
-def lines_in(folder):
-    """The lines of the definition files in a folder, but for those that only name others."""
-    files = [file for file in folder.glob("*.antt") if file.name not in NAMING]
-    return sum(len(file.read_text().splitlines()) for file in files)
-
-
-@check
-def lines_of_specs():
-    """The table in docs/ARCHITECTURE.md has the lines of the files in specs/."""
-    for crate, *said in ROW.findall(TABLE.read_text()):
-        specs = CRATES / crate / "specs"
-        there = [lines_in(specs), lines_in(specs / "Inside")]
-        yield from expect(crate, [number(it) for it in said], there)
