@@ -1,6 +1,7 @@
 """Checks that the generated parts of pages are what the sources say."""
 
 import map
+import reference
 from lib.checks import check
 
 
@@ -10,6 +11,13 @@ def architecture_is_generated():
     page = map.PAGE.read_text()
     if map.with_parts(page) != page:
         yield "its generated parts are old: run scripts/map.py"
+
+
+@check
+def reference_is_generated():
+    """docs/REFERENCE.md has the public calls that there are."""
+    if not reference.PAGE.is_file() or reference.PAGE.read_text() != reference.page():
+        yield "it is old: run scripts/reference.py"
 
 
 @check

@@ -1,0 +1,224 @@
+#!/usr/bin/env python3
+"""Writes docs/REFERENCE.md: each public call of the libraries with its documentation, its signature,
+what is proved of it, and what shows that the proof says something.
+
+    reference.py            writes the page
+    reference.py --check    ends with status 1 if it is not what it would write
+
+A call is a public function of a library, or a method of a public type. Of its contract the names of
+the clauses are shown, each with the definitions of ours that it cites. The must-fail edits of a call
+are those that change its body. The crates that make a call in a test or an example are named where
+no other public call has its name.
+"""
+
+import argparse
+import re
+import sys
+from collections import Counter
+from dataclasses import dataclass, field
+
+from lib.programs import CRATES, ROOT
+from map import crates, first_sentence, root_of
+
+PAGE = ROOT / "docs/REFERENCE.md"
+# What makes calls to show or test them.
+CALLERS = "nj_run_rows", "library_example"
+HEAD = re.compile(r'^( *)pub (?:extern "C" |unsafe |const )*fn (\w+)', re.M)
+IMPL = re.compile(r"^impl\b(?:<[^{]*?>)? (?:[\w:<>, ']+ for )?(\w+)[^{]*\{", re.M)
+TYPE = re.compile(r"^pub (struct|enum|trait) (\w+)", re.M)
+CLAUSE = re.compile(r"^ *(requires|ensures)(?: (\w+))? \{", re.M)
+IMPORT = re.compile(r"ghost use Rattle\.((?:nj_|affected|audit|cache|draw)\w*)\.[\w.]+\.\{([^}]*)\}")
+
+
+@dataclass
+class Call:
+    crate: str
+    file: str
+    owner: str
+    name: str
+    documentation: list
+    signature: str
+    clauses: list
+    text: str
+    edits: list = field(default_factory=list)
+
+    @property
+    def title(self):
+        return f"{self.owner}::{self.name}" if self.owner else self.name
+
+
+def exported(crate):
+    """The names that a library gives out."""
+    text = root_of(crate).read_text()
+    uses = re.findall(r"^pub use ([\w:]+)::(?:\{(.*?)\}|(\w+));", text, re.M | re.S)
+    own = {path: f"{several} {one}" for path, several, one in uses if not path.startswith("nj_")}
+    return set(filter(None, re.split(r"[,\s]+", " ".join(own.values()))))
+
+
+def documentation(lines, row):
+    """The lines of `///` above a line, without attributes."""
+    found = []
+    while row > 0 and re.match(r"\s*(///|#\[)", lines[row - 1]):
+        row -= 1
+        if lines[row].strip().startswith("///"):
+            found.append(lines[row].strip().removeprefix("///").removeprefix(" "))
+    return found[::-1]
+
+
+def cited(clause, names):
+    """The definitions of ours that a clause names, in its order."""
+    words = re.findall(r"[A-Za-z_]\w*", clause)
+    return list(dict.fromkeys(word for word in words if word in names))
+
+
+def contract(text, names):
+    """The clauses of a contract: what kind each is, its name, and what it cites."""
+    starts = list(CLAUSE.finditer(text))
+    ends = [found.start() for found in starts[1:]] + [len(text)]
+    for found, end in zip(starts, ends):
+        yield found[1], found[2], cited(text[found.end() : end], names)
+
+
+def end_of(text, start, indent):
+    """Where the function ends that begins here."""
+    closing = re.compile(rf"^{indent}}}$|^{indent}\{{\}}$", re.M).search(text, start)
+    return closing.end() if closing else len(text)
+
+
+def calls_in(crate, file, public):
+    text = file.read_text()
+    names = {
+        name
+        for _, listed in IMPORT.findall(text)
+        for name in (item.split(" as ")[-1].strip() for item in listed.split(","))
+    }
+    impls = list(IMPL.finditer(text))
+    for found in HEAD.finditer(text):
+        indent, name = found.groups()
+        owner = [impl[1] for impl in impls if impl.start() < found.start()][-1] if indent else ""
+        if (owner or name) not in public:
+            continue
+        whole = text[found.start() : end_of(text, found.start(), indent)]
+        body = re.search(rf"^{indent}\{{|\{{$", whole, re.M)
+        before = whole[: body.start()] if body else whole
+        first = CLAUSE.search(before)
+        signature = before[: first.start()] if first else before
+        lines = text.splitlines()
+        row = text.count("\n", 0, found.start())
+        yield Call(
+            crate,
+            str(file.relative_to(CRATES / crate)),
+            owner,
+            name,
+            documentation(lines, row),
+            re.sub(rf"^{indent}", "", signature, flags=re.M).strip(),
+            list(contract(before[first.start() :], names)) if first else [],
+            whole,
+        )
+
+
+def types_in(file, public):
+    """The public types of a file, each with its documentation."""
+    text = file.read_text()
+    lines = text.splitlines()
+    for found in TYPE.finditer(text):
+        if found[2] in public:
+            yield found[2], documentation(lines, text.count("\n", 0, found.start()))
+
+
+def add_edits(crate, calls):
+    """Notes for each must-fail edit of the crate which calls it changes."""
+    for edit in sorted((CRATES / crate).glob("must-fail/*.edit")):
+        changes = re.findall(r"^file:\s*(\S+)\n(?:old:\s*(.*)\n)", edit.read_text(), re.M)
+        for file, old in changes:
+            for call in calls:
+                if call.file == file and old.strip() in call.text and edit.stem not in call.edits:
+                    call.edits.append(edit.stem)
+
+
+def callers():
+    """The text of each crate that makes calls to show or test them."""
+    files = {name: sorted((CRATES / name).glob("src/**/*.rt")) for name in CALLERS}
+    return {name: "\n".join(it.read_text() for it in of) for name, of in files.items()}
+
+
+def quoted(names):
+    return ", ".join(f"`{name}`" for name in names)
+
+
+def clause_text(kind, name, names):
+    by = f" ({quoted(names)})" if names else ""
+    if name:
+        return f"`{name}`{by}"
+    return quoted(names) or f"one {'clause' if kind == 'ensures' else 'condition'}"
+
+
+def section(call, makers):
+    yield f"#### `{call.title}`"
+    yield ""
+    yield from ["```rust", call.signature, "```", ""]
+    if call.documentation:
+        yield from ["\n".join(call.documentation).replace("\n# Errors", "\nErrors:"), ""]
+    owed = [clause_text(*it) for it in call.clauses if it[0] == "requires"]
+    given = [clause_text(*it) for it in call.clauses if it[0] == "ensures"]
+    facts = []
+    if owed:
+        facts.append(f"Asks: {', '.join(owed)}.")
+    facts.append(f"Proved: {', '.join(given)}." if given else "No clause.")
+    if call.edits:
+        facts.append(f"Must fail: {quoted(call.edits)}.")
+    if makers:
+        facts.append(f"Called by {quoted(makers)}.")
+    yield from [" ".join(facts), ""]
+
+
+def library(crate, calls, types, texts, counts):
+    yield from [f"## `{crate}`", "", f"{first_sentence(root_of(crate), '//!')}.", ""]
+    owners = dict.fromkeys([*types, *(call.owner for call in calls)])
+    for owner in [it for it in ["", *owners] if it is not None]:
+        mine = [call for call in calls if call.owner == owner]
+        if owner and (mine or types.get(owner)) and owner in owners:
+            yield from [f"### `{owner}`", "", "\n".join(types.get(owner, [])), ""]
+        for call in mine:
+            used = re.compile(rf"\b{call.name}\(")
+            makers = [it for it, text in texts.items() if counts[call.name] == 1 and used.search(text)]
+            yield from section(call, makers)
+
+
+def page():
+    found = {}
+    for crate in crates():
+        if root_of(crate).name == "lib.rt":
+            public = exported(crate)
+            files = sorted((CRATES / crate).glob("src/**/*.rt"))
+            calls = [call for file in files for call in calls_in(crate, file, public)]
+            types = dict(it for file in files for it in types_in(file, public))
+            add_edits(crate, calls)
+            found[crate] = calls, types
+    counts = Counter(call.name for calls, _ in found.values() for call in calls)
+    texts = callers()
+    rows = [
+        "# Reference",
+        "",
+        "The public calls of the libraries, from the top down, as `scripts/reference.py` reads them from",
+        "the sources: do not edit this page. How to read a contract is in",
+        "[ARCHITECTURE.md](ARCHITECTURE.md). *Proved* has the clauses of a call's contract by name, each",
+        "with the definitions that it cites (in `specs/`); *Asks* has what the caller owes; *Must fail* has",
+        "the edits of its body that the gate tries, and that the proof refuses.",
+        "",
+    ]
+    for crate, (calls, types) in found.items():
+        rows += library(crate, calls, types, texts, counts)
+    return re.sub(r"\n{3,}", "\n\n", "\n".join(rows)).rstrip() + "\n"
+
+
+def main():
+    parser = argparse.ArgumentParser(description=__doc__.split("\n")[0])
+    parser.add_argument("--check", action="store_true")
+    if parser.parse_args().check:
+        sys.exit(not PAGE.is_file() or page() != PAGE.read_text())
+    PAGE.write_text(page())
+
+
+if __name__ == "__main__":
+    main()
