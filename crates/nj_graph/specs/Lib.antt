@@ -14,8 +14,11 @@ pub mod Targets
 pub mod Inside
 -- what contracts cite of lower crates
 pub use Rattle.nj_text.specs.Paths
+pub use Rattle.nj_text.specs.Words
 pub use Rattle.nj_scope.specs.ReadingList
+pub use Rattle.nj_scope.specs.Rules
 pub use Rattle.nj_edges.specs.Changes
 pub use Rattle.nj_edges.specs.Edges
 pub use Rattle.nj_edges.specs.Files
 pub use Rattle.nj_statements.specs.Built
+pub use Rattle.nj_statements.specs.EdgeList
