@@ -32,7 +32,7 @@ INSTALLED_HEADERS := $(DESTDIR)$(PREFIX)/include
 INSTALLED_LIBRARY := $(DESTDIR)$(PREFIX)/$(LIBRARY)
 INSTALLED_PC := $(DESTDIR)$(PREFIX)/lib/pkgconfig/ninja_explain.pc
 
-.PHONY: all c run test check gate lint smoke c-test sweep install install-c uninstall dist dist-check
+.PHONY: pages all c run test check gate lint smoke c-test sweep install install-c uninstall dist dist-check
 .PHONY: fuzz-c wheel save-proofs load-proofs clean
 
 # Proves and builds the program as bin/ninja-explain. `rt all` proves the program and the crates below
@@ -95,6 +95,10 @@ check:
 # and then `make smoke`. The program remains in $(BUILT).
 gate:
 	@scripts/gate.sh
+
+# Writes the pages, and the parts of pages, that scripts read off the sources.
+pages:
+	@python3 scripts/map.py && python3 scripts/reference.py && python3 scripts/headline.py
 
 # Checks what is read from files alone: docs/GATE.md lists it. It takes seconds, and needs no program.
 lint:

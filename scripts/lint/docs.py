@@ -1,5 +1,6 @@
 """Checks that the generated parts of pages are what the sources say."""
 
+import headline
 import map
 import reference
 from lib.checks import check
@@ -10,14 +11,15 @@ def architecture_is_generated():
     """docs/ARCHITECTURE.md has the crates, layers and files that there are."""
     page = map.PAGE.read_text()
     if map.with_parts(page) != page:
-        yield "its generated parts are old: run scripts/map.py"
+        yield "its generated parts are old: run make pages"
 
 
 @check
-def reference_is_generated():
-    """docs/REFERENCE.md has the public calls that there are."""
-    if not reference.PAGE.is_file() or reference.PAGE.read_text() != reference.page():
-        yield "it is old: run scripts/reference.py"
+def pages_are_generated():
+    """docs/REFERENCE.md has the public calls, and docs/HEADLINE.md the definitions, that there are."""
+    for script in headline, reference:
+        if not script.PAGE.is_file() or script.PAGE.read_text() != script.page():
+            yield f"{script.PAGE.name} is old: run make pages"
 
 
 @check
