@@ -1,7 +1,7 @@
 -- Items of lists of files.
 use Rattle.std.proofs.Common.{◌≡◌, ℕ, true≢false, Option, Some, None, is_some, unwrap_or, List, option_map, slice_get, refl, sym, ap, ◌∙◌}
-use Rattle.nj_edges.specs.declared.files.FileNo.{FileNo}
-use Rattle.nj_edges.specs.Files.{AreFiles}
+use Rattle.nj_names.specs.declared.files.FileNo.{FileNo}
+use Rattle.nj_names.specs.Files.{AreFiles}
 use Rattle.nj_c.specs.declared.status.Status.TheVariants.{Done, Nothing}
 use Rattle.nj_c.specs.Asking.{GivesFile}
 use Rattle.nj_c.specs.Statuses.{code_of}

@@ -1,9 +1,9 @@
 -- Lists that are given out many items at a time, from an index on.
 use Rattle.std.specs.Prelude.{◌≡◌, ℕ, ℤ, List, ◌++◌, length, map, take, drop}
 use Rattle.std.specs.List.{range_with_len}
-use Rattle.nj_edges.specs.declared.files.FileNo.{FileNo}
+use Rattle.nj_names.specs.declared.files.FileNo.{FileNo}
 use Rattle.nj_edges.specs.Edges.{EdgePaths, inputs_of, kind_at}
-use Rattle.nj_edges.specs.Files.{AreFiles}
+use Rattle.nj_names.specs.Files.{AreFiles}
 use Rattle.nj_c.specs.declared.status.Status.TheVariants.{Done}
 use Rattle.nj_c.specs.Asking.{kind_code}
 use Rattle.nj_c.specs.Statuses.{code_of}

@@ -2,7 +2,7 @@
 
 ghost use Rattle.std.specs.Prelude.{◌≡◌, ◌≢◌, ◌<◌, ◌-◌, ℕ, List, length, map, min, drop};
 ghost use Rattle.nj_edges.specs.Edges.{edge_at, inputs_of, outputs_of, users_of};
-ghost use Rattle.nj_edges.specs.Files.{path_at, AreFiles};
+ghost use Rattle.nj_names.specs.Files.{path_at, AreFiles};
 ghost use Rattle.nj_graph.specs.Graph.{edges_of, files_of};
 ghost use Rattle.nj_c.specs.declared.status.Status.TheVariants.{Done};
 ghost use Rattle.nj_c.specs.Asking.{IfLoaded, IfNumber, KeptUnlessDone, OfEdge, OfFile};

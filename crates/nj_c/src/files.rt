@@ -2,7 +2,7 @@
 
 ghost use Rattle.std.specs.Prelude.{◌≡◌, ℕ, List, Some, length, position, slice_get, bytes_eq};
 ghost use Rattle.nj_edges.specs.Edges.{maker_of, users_of, validation_users_of};
-ghost use Rattle.nj_edges.specs.Files.{path_at};
+ghost use Rattle.nj_names.specs.Files.{path_at};
 ghost use Rattle.nj_graph.specs.Graph.{edges_of, files_of};
 ghost use Rattle.nj_c.specs.Asking.{GivesItem, GivesText, IfLoaded, IfNumber, KeptUnlessDone, OfFile, OfGraph};
 ghost use Rattle.nj_c.specs.Statuses.{code_of};

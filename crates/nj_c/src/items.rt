@@ -1,7 +1,7 @@
 //! Items of lists, given out by their index.
 
 ghost use Rattle.std.specs.Prelude.{◌≡◌, List, ℕ, slice_get, map};
-ghost use Rattle.nj_edges.specs.Files.{AreFiles};
+ghost use Rattle.nj_names.specs.Files.{AreFiles};
 ghost use Rattle.nj_c.specs.Asking.{GivesFile, GivesItem, kind_code};
 ghost use Rattle.nj_c.specs.Statuses.{code_of};
 

@@ -6,10 +6,10 @@ use Rattle.std.specs.Option.{option_map_or}
 use Rattle.std.specs.Prelude.{slice_get}
 use Rattle.nj_manifest.specs.LineSteps.{◌>>=◌}
 use Rattle.nj_scope.specs.ReadingList.{ReadStatement}
-use Rattle.nj_edges.specs.declared.files.FileNo.{FileNo}
+use Rattle.nj_names.specs.declared.files.FileNo.{FileNo}
 use Rattle.nj_edges.specs.EdgeGraphs.{EdgeGraph}
 use Rattle.nj_edges.specs.Edges.{EdgePaths}
-use Rattle.nj_edges.specs.Files.{AreFiles, path_at}
+use Rattle.nj_names.specs.Files.{AreFiles, path_at}
 use Rattle.nj_statements.specs.Built.{defaults_in_force}
 use Rattle.nj_statements.specs.EdgeList.{defaults_read, edges_read}
 use Rattle.nj_faults.specs.declared.fault.GraphFault.{GraphFault}

@@ -2,7 +2,7 @@
 
 ghost use Rattle.std.specs.Prelude.{◌≡◌, ◌<◌, ℕ, List, All, IfOk, length, map, string_bytes};
 ghost use Rattle.nj_scope.specs.ReadingList.{ReadStatement};
-ghost use Rattle.nj_edges.specs.Files.{AreFiles};
+ghost use Rattle.nj_names.specs.Files.{AreFiles};
 ghost use Rattle.nj_graph.specs.Graph.{edges_of, files_of, IsGraphOf};
 ghost use Rattle.nj_cli.specs.Targets.{or_defaults, targets_named, targets_of};
 ghost use Rattle.nj_cli.specs.Inside.RunSteps.{PicksTargets};

@@ -6,8 +6,8 @@ use Rattle.std.proofs.lemmas.Option.{slice_get_within, get_or_from_slice_get}
 use Rattle.std.proofs.Math.Seq.{take-suc}
 use Rattle.nj_text.specs.Quotes.{quoted}
 use Rattle.nj_scope.specs.Readings.{IsPrefix}
-use Rattle.nj_edges.specs.declared.files.FileNo.{FileNo}
-use Rattle.nj_edges.specs.Files.{path_at}
+use Rattle.nj_names.specs.declared.files.FileNo.{FileNo}
+use Rattle.nj_names.specs.Files.{path_at}
 use Rattle.nj_edge_env.specs.LateStrings.{paths_text}
 
 joined_last : (separator : ℕ) (x : List ℕ) (xs : List (List ℕ)) (t : List ℕ)

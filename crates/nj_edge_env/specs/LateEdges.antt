@@ -1,6 +1,6 @@
 -- The names of an edge, as the program has it.
 use Rattle.std.specs.Prelude.{ℕ, List, map, bytes_eq}
-use Rattle.nj_edges.specs.Files.{path_at}
+use Rattle.nj_names.specs.Files.{path_at}
 use Rattle.nj_scope.specs.Rules.{phony}
 use Rattle.nj_edge_env.specs.Blocks.{bound_in}
 use Rattle.nj_edge_env.specs.declared.late_edge.LateEdge.{LateEdge}

@@ -3,10 +3,10 @@
 ghost use Rattle.std.specs.Prelude.{◌≡◌, ◌<◌, ◌++◌, Some, map, length, slice_get, All, OnOk, OnErr, if◌then◌else◌};
 ghost use Rattle.nj_scope.specs.Readings.{IsPrefix};
 ghost use Rattle.nj_text.specs.Quotes.{quoted};
-ghost use Rattle.nj_edges.specs.Files.{path_at};
+ghost use Rattle.nj_names.specs.Files.{path_at};
 ghost use Rattle.nj_edge_env.specs.LateStrings.{paths_text};
 
-use nj_edges::{FileNo, Files};
+use nj_names::{FileNo, Files};
 use nj_text::quote_into;
 use std::alloc::AllocError;
 

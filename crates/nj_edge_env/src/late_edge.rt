@@ -3,7 +3,7 @@
 ghost use Rattle.std.specs.Prelude.{◌<◌, length, All};
 
 use crate::block_values::Blocks;
-use nj_edges::{FileNo, Files};
+use nj_names::{FileNo, Files};
 use nj_scope::{Declarations, Rule};
 
 /// An edge, for the values of its names: the files of its explicit inputs and outputs, its number

@@ -7,14 +7,15 @@ use Rattle.std.proofs.lemmas.Bool.Decides.{eqb_tells}
 use Rattle.std.proofs.lemmas.List.{drop-append-le, length-map}
 use Rattle.std.proofs.lemmas.Option.{slice_get_within, get_or_from_slice_get}
 use Rattle.nj_names.proofs.ListLemmas.{among-get, get-last}
-use Rattle.nj_edges.specs.declared.files.FileNo.{FileNo}
+use Rattle.nj_names.specs.declared.files.FileNo.{FileNo}
 use Rattle.nj_edges.specs.declared.edges.EdgeRow.{EdgeRow}
 use Rattle.nj_edges.specs.declared.edges.OpenStarts.{OpenStarts}
 use Rattle.nj_edges.specs.declared.edges.KindEnds.{KindEnds}
 use Rattle.nj_edges.specs.Edges.{first_edge, is_among}
 use Rattle.nj_edges.specs.Inside.EdgesHeld.{within, table_of, row_between, with_maker, is_edge, is_made_by, has_number, AreNumbers, AreNamed, OpenAreNew, output_rows, EdgesAreHeld, TableIsHeld}
 use Rattle.nj_edges.specs.EdgeTables.{EdgeTable, naming, EndWithin, plus_output, plus_input, plus_validation, with_output, with_input, with_validation, is_made}
-use Rattle.nj_edges.specs.Files.{path_at, with_path}
+use Rattle.nj_names.specs.NameTables.{with_name}
+use Rattle.nj_names.specs.Files.{path_at}
 use Rattle.nj_edges.proofs.EdgeLemmas.{all-drop, ends_of, get-path, first-last, first-more, has-push, held-ended, held-input, held-new, held-output, held-validation, IsNew, IsOld, made-at, named-cases, none-front, open-among, rows-same, table-input, table-named, table-output, table-validation, unmade}
 use Rattle.nj_edges.proofs.GraphLemmas.{first-below}
 
@@ -75,14 +76,14 @@ has-below count n (f ∷ ns) are h = by (eqb_tells n f.0) are.0 h (has-below cou
 -- ---- the list of makers
 
 -- where the file's number is the number of the next maker, it is new
-pub maker-then : (files : List (List ℕ)) (path : List ℕ) (makers : List (Option ℕ)) (n : ℕ) → length makers ≡ length files → slice_get (with_path files path) n ≡ Some path → n ≡ length makers → makers ++ None ∷ [] ≡ with_maker files path makers
+pub maker-then : (files : List (List ℕ)) (path : List ℕ) (makers : List (Option ℕ)) (n : ℕ) → length makers ≡ length files → slice_get (with_name files path) n ≡ Some path → n ≡ length makers → makers ++ None ∷ [] ≡ with_maker files path makers
 maker-then files path makers n count here next = by (list_any (bytes_eq path) files) here
   where
     by : (b : Bool) → slice_get (cond b files (files ++ path ∷ [])) n ≡ Some path → makers ++ None ∷ [] ≡ cond b makers (makers ++ None ∷ [])
     by true h = let below : n < length files = slice_get_within files n path h in absurd (omega arith)
     by false h = refl
 
-pub maker-else : (files : List (List ℕ)) (path : List ℕ) (makers : List (Option ℕ)) (n : ℕ) → length makers ≡ length files → slice_get (with_path files path) n ≡ Some path → (n ≡ length makers → ⊥) → makers ≡ with_maker files path makers
+pub maker-else : (files : List (List ℕ)) (path : List ℕ) (makers : List (Option ℕ)) (n : ℕ) → length makers ≡ length files → slice_get (with_name files path) n ≡ Some path → (n ≡ length makers → ⊥) → makers ≡ with_maker files path makers
 maker-else files path makers n count here apart = by (named-cases files path n here)
   where
     same : (b : Bool) → list_any (bytes_eq path) files ≡ b → (b ≡ false → ⊥) → makers ≡ cond (list_any (bytes_eq path) files) makers (makers ++ None ∷ [])
@@ -97,7 +98,7 @@ maker-else files path makers n count here apart = by (named-cases files path n h
 -- ---- the whole after a name
 
 module _ (files : List (List ℕ)) (makers : List (Option ℕ)) (outputs inputs validations : List FileNo) (rows : List EdgeRow) (starts : OpenStarts) (held : TableIsHeld files makers outputs inputs validations rows starts) (path : List ℕ)
-    (fs : List (List ℕ)) (ms : List (Option ℕ)) (f : FileNo) (files-are : fs ≡ with_path files path) (makers-are : ms ≡ with_maker files path makers) (distinct : IsDistinct bytes_eq fs) (here : slice_get fs f.0 ≡ Some path) (t : EdgeTable) (is : table_of files outputs inputs validations rows starts ≡ t) where
+    (fs : List (List ℕ)) (ms : List (Option ℕ)) (f : FileNo) (files-are : fs ≡ with_name files path) (makers-are : ms ≡ with_maker files path makers) (distinct : IsDistinct bytes_eq fs) (here : slice_get fs f.0 ≡ Some path) (t : EdgeTable) (is : table_of files outputs inputs validations rows starts ≡ t) where
   as-held : (b : Bool) → list_any (bytes_eq path) files ≡ b → (fs ≡ cond b files (files ++ path ∷ [])) × (ms ≡ cond b makers (makers ++ None ∷ []))
   as-held b e = (files-are ∙ ap (λ c. cond c files (files ++ path ∷ [])) e, makers-are ∙ ap (λ c. cond c makers (makers ++ None ∷ [])) e)
 
@@ -284,7 +285,7 @@ module _ (files : List (List ℕ)) (makers : List (Option ℕ)) (outputs inputs 
     known : list_any (bytes_eq path) files ≡ true
     known = among-get files f.0 path here
 
-    files-stay : files ≡ with_path files path
+    files-stay : files ≡ with_name files path
     files-stay = sym (ap (λ b. cond b files (files ++ path ∷ [])) known)
 
     makers-stay : makers ≡ with_maker files path makers

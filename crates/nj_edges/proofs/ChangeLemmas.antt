@@ -11,9 +11,9 @@ use Rattle.nj_names.specs.NumberSets.{NumberSetModel, has, with_number}
 use Rattle.nj_names.proofs.NumberLemmas.{contains-has, has-contains}
 use Rattle.nj_cycles.proofs.Places.{at_left, contains_at, index_of}
 use Rattle.nj_edges.specs.declared.edges.EdgeNo.{EdgeNo}
-use Rattle.nj_edges.specs.declared.files.FileNo.{FileNo}
+use Rattle.nj_names.specs.declared.files.FileNo.{FileNo}
 use Rattle.nj_edges.specs.Edges.{EdgePaths, edge_at, edges_from, inputs_of, is_among, outputs_of, users_of}
-use Rattle.nj_edges.specs.Files.{path_at, AreFiles}
+use Rattle.nj_names.specs.Files.{path_at, AreFiles}
 use Rattle.nj_edges.specs.Changes.{has_input_of, IsAffected}
 use Rattle.nj_edges.specs.Changes.IsAffected.{by_file, by_edge}
 use Rattle.nj_edges.specs.Inside.ChangesHeld.{FindsAffected, FindsMore, HasInputOf, IsFlagged}

@@ -5,14 +5,14 @@ use Rattle.std.proofs.lemmas.Option.{get_or_from_slice_get}
 use Rattle.std.proofs.Math.Seq.{drop-cons}
 use Rattle.nj_cycles.specs.Cycles.{Chain, Needs, IsLeastOnCycle}
 use Rattle.nj_cycles.specs.Cycles.Chain.{one, more}
-use Rattle.nj_edges.specs.declared.files.FileNo.{FileNo}
+use Rattle.nj_names.specs.declared.files.FileNo.{FileNo}
 use Rattle.nj_edges.specs.declared.edges.EdgeRow.{EdgeRow}
 use Rattle.nj_edges.specs.declared.edges.OpenStarts.{OpenStarts}
 use Rattle.nj_edges.specs.EdgeGraphs.{EdgeGraph}
 use Rattle.nj_edges.specs.Edges.{EdgePaths, edge_at, outputs_of, inputs_of, first_edge, maker_of, is_among}
 use Rattle.nj_edges.specs.Inside.EdgesHeld.{paths_at, within, edge_of, table_of, EdgesAreHeld}
 use Rattle.nj_edges.specs.EdgeTables.{EdgeTable}
-use Rattle.nj_edges.specs.Files.{path_at}
+use Rattle.nj_names.specs.Files.{path_at}
 use Rattle.nj_edges.specs.Inside.GraphHeld.{ends_of}
 use Rattle.nj_edges.specs.Needs.{makers_of_inputs}
 use Rattle.nj_edges.proofs.GraphLemmas.{edge-is, made-of, row-within}

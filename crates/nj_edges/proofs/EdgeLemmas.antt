@@ -8,7 +8,7 @@ use Rattle.std.proofs.lemmas.Slice.Eq.{bytes_eq-Decides}
 use Rattle.std.proofs.lemmas.Grind.{flat_map-append}
 use Rattle.std.proofs.Math.Seq.{drop-length, take-length}
 use Rattle.nj_names.proofs.ListLemmas.{among-get, get-last, slice_range-append, slice_range-rest}
-use Rattle.nj_edges.specs.declared.files.FileNo.{FileNo}
+use Rattle.nj_names.specs.declared.files.FileNo.{FileNo}
 use Rattle.nj_edges.specs.declared.edges.Span.{Span}
 use Rattle.nj_edges.specs.declared.edges.EdgeRow.{EdgeRow}
 use Rattle.nj_edges.specs.declared.edges.OpenStarts.{OpenStarts}
@@ -16,7 +16,8 @@ use Rattle.nj_edges.specs.declared.edges.KindEnds.{KindEnds}
 use Rattle.nj_edges.specs.Edges.{first_edge, maker_of, is_among, outputs_of}
 use Rattle.nj_edges.specs.Inside.EdgesHeld.{paths_at, within, edge_of, edges_of, table_of, row_between, has_number, AreNumbers, IsWithin, RowIsWithin, output_rows, HaveMakers, AreJoined, EdgesAreHeld}
 use Rattle.nj_edges.specs.EdgeTables.{edge_read, EdgeTable, naming, plus_output, plus_input, plus_validation, is_made, no_files, EndWithin}
-use Rattle.nj_edges.specs.Files.{with_path, path_at}
+use Rattle.nj_names.specs.NameTables.{with_name}
+use Rattle.nj_names.specs.Files.{path_at}
 
 -- ---- lists
 
@@ -155,26 +156,26 @@ get-push (z ∷ xs) x y (suc n) h = by (get-push xs x y n h)
 
 pub record IsNew (files : List (List ℕ)) (path : List ℕ) (n : ℕ) : Type 0 where
   pub last : n ≡ length files
-  pub grown : with_path files path ≡ files ++ path ∷ []
+  pub grown : with_name files path ≡ files ++ path ∷ []
 
 pub record IsOld (files : List (List ℕ)) (path : List ℕ) (n : ℕ) : Type 0 where
   pub below : n < length files
-  pub same : with_path files path ≡ files
+  pub same : with_name files path ≡ files
 
 -- the file that is named is new, or it was there
-pub named-cases : (files : List (List ℕ)) (path : List ℕ) (n : ℕ) → slice_get (with_path files path) n ≡ Some path → IsNew files path n ⊎ IsOld files path n
+pub named-cases : (files : List (List ℕ)) (path : List ℕ) (n : ℕ) → slice_get (with_name files path) n ≡ Some path → IsNew files path n ⊎ IsOld files path n
 named-cases files path n h = by (list_any (bytes_eq path) files) refl
   where
-    late : list_any (bytes_eq path) files ≡ false → with_path files path ≡ files ++ path ∷ [] → (n ≡ length files) ⊎ ((n < length files) × (slice_get files n ≡ Some path)) → IsNew files path n ⊎ IsOld files path n
+    late : list_any (bytes_eq path) files ≡ false → with_name files path ≡ files ++ path ∷ [] → (n ≡ length files) ⊎ ((n < length files) × (slice_get files n ≡ Some path)) → IsNew files path n ⊎ IsOld files path n
     late absent grown (inl e) = inl (record { last = e; grown = grown })
     late absent grown (inr both) = absurd (true≢false (sym (among-get files n path both.1) ∙ absent))
 
     by : (b : Bool) → list_any (bytes_eq path) files ≡ b → IsNew files path n ⊎ IsOld files path n
     by true e =
-        let same : with_path files path ≡ files = ap (λ b. cond b files (files ++ path ∷ [])) e in
+        let same : with_name files path ≡ files = ap (λ b. cond b files (files ++ path ∷ [])) e in
         inr (record { below = slice_get_within files n path (ap (λ fs. slice_get fs n) (sym same) ∙ h); same = same })
     by false e =
-        let grown : with_path files path ≡ files ++ path ∷ [] = ap (λ b. cond b files (files ++ path ∷ [])) e in
+        let grown : with_name files path ≡ files ++ path ∷ [] = ap (λ b. cond b files (files ++ path ∷ [])) e in
         late e grown (get-push files path path n (ap (λ fs. slice_get fs n) (sym grown) ∙ h))
 
 -- ---- makers
@@ -223,7 +224,7 @@ module _ (files : List (List ℕ)) (makers : List (Option ℕ)) (outputs inputs 
       let v = paths_at-more files (path ∷ []) (drop starts.validations validations) (all-drop (λ f. f.0 < length files) starts.validations validations held.validations_are) in
       rw (edges, o, i, v) refl
 
-  pub table-named : table_of (with_path files path) outputs inputs validations rows starts ≡ naming (table_of files outputs inputs validations rows starts) path
+  pub table-named : table_of (with_name files path) outputs inputs validations rows starts ≡ naming (table_of files outputs inputs validations rows starts) path
   table-named = by (list_any (bytes_eq path) files)
     where
       by : (b : Bool) → table_of (cond b files (files ++ path ∷ [])) outputs inputs validations rows starts ≡ record (table_of files outputs inputs validations rows starts) { files = cond b files (files ++ path ∷ []) }
@@ -251,14 +252,14 @@ module _ (files : List (List ℕ)) (makers : List (Option ℕ)) (outputs inputs 
       }
 
   -- where the file's number is the number of the next maker, it is new
-  pub held-then : (new : List (List ℕ)) (n : ℕ) → new ≡ with_path files path → IsDistinct bytes_eq new → slice_get new n ≡ Some path → n ≡ length makers → EdgesAreHeld new (makers ++ None ∷ []) outputs inputs validations rows starts
+  pub held-then : (new : List (List ℕ)) (n : ℕ) → new ≡ with_name files path → IsDistinct bytes_eq new → slice_get new n ≡ Some path → n ≡ length makers → EdgesAreHeld new (makers ++ None ∷ []) outputs inputs validations rows starts
   held-then new n is distinct here next = by (named-cases files path n (ap (λ fs. slice_get fs n) (sym is) ∙ here))
     where
       by : IsNew files path n ⊎ IsOld files path n → EdgesAreHeld new (makers ++ None ∷ []) outputs inputs validations rows starts
       by (inl late) = subst (λ fs. EdgesAreHeld fs (makers ++ None ∷ []) outputs inputs validations rows starts) (sym (is ∙ late.grown)) (held-new (subst (IsDistinct bytes_eq) (is ∙ late.grown) distinct))
       by (inr old) = let count : length makers ≡ length files = held.makers_count in let below : n < length files = old.below in absurd (omega arith)
 
-  pub held-else : (new : List (List ℕ)) (n : ℕ) → new ≡ with_path files path → slice_get new n ≡ Some path → (n ≡ length makers → ⊥) → EdgesAreHeld new makers outputs inputs validations rows starts
+  pub held-else : (new : List (List ℕ)) (n : ℕ) → new ≡ with_name files path → slice_get new n ≡ Some path → (n ≡ length makers → ⊥) → EdgesAreHeld new makers outputs inputs validations rows starts
   held-else new n is here apart = by (named-cases files path n (ap (λ fs. slice_get fs n) (sym is) ∙ here))
     where
       by : IsNew files path n ⊎ IsOld files path n → EdgesAreHeld new makers outputs inputs validations rows starts

@@ -10,14 +10,14 @@ use Rattle.std.proofs.Math.Path.{fun_ext}
 use Rattle.std.proofs.Math.Seq.{drop-length}
 use Rattle.nj_cycles.specs.Cycles.{AreEdges, IsFirstOnCycle, IsLeastOnCycle, Needs, Chain}
 use Rattle.nj_cycles.specs.Cycles.Chain.{one, more}
-use Rattle.nj_edges.specs.declared.files.FileNo.{FileNo}
+use Rattle.nj_names.specs.declared.files.FileNo.{FileNo}
 use Rattle.nj_edges.specs.declared.edges.EdgeRow.{EdgeRow}
 use Rattle.nj_edges.specs.declared.edges.OpenStarts.{OpenStarts}
 use Rattle.nj_edges.specs.EdgeGraphs.{EdgeGraph}
 use Rattle.nj_edges.specs.Edges.{EdgePaths, edge_at, outputs_of, first_edge, maker_of, inputs_of}
 use Rattle.nj_edges.specs.Inside.EdgesHeld.{paths_at, within, edge_of, edges_of, table_of, has_number, AreNumbers, RowIsWithin, output_rows, makers_in_rows, EdgesAreHeld}
 use Rattle.nj_edges.specs.EdgeTables.{EdgeTable, no_files}
-use Rattle.nj_edges.specs.Files.{path_at, AreFiles}
+use Rattle.nj_names.specs.Files.{path_at, AreFiles}
 use Rattle.nj_edges.specs.Inside.GraphHeld.{ends_of}
 use Rattle.nj_edges.specs.Needs.{makers_of_inputs}
 use Rattle.nj_edges.proofs.EdgeLemmas.{all-get, all-take, first-more, get-path, maker-read, length-open, within-numbers}

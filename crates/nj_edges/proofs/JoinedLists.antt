@@ -5,14 +5,14 @@ use Rattle.std.proofs.lemmas.List.{append-nil, drop-append-le, take-append-le, m
 use Rattle.std.proofs.lemmas.List.Folds.{drop_split}
 use Rattle.std.proofs.Math.Seq.{drop-append_seam, take-append_seam}
 use Rattle.nj_names.proofs.ListLemmas.{slice_range-append, slice_range-rest}
-use Rattle.nj_edges.specs.declared.files.FileNo.{FileNo}
+use Rattle.nj_names.specs.declared.files.FileNo.{FileNo}
 use Rattle.nj_edges.specs.declared.edges.EdgeRow.{EdgeRow}
 use Rattle.nj_edges.specs.declared.edges.KindEnds.{KindEnds}
 use Rattle.nj_edges.specs.declared.dyndep_edges.AddedSpans.{AddedSpans}
 use Rattle.nj_edges.specs.Edges.{EdgePaths}
 use Rattle.nj_edges.specs.Inside.EdgesHeld.{RowIsWithin, edge_of, edges_of, paths_at, within}
 use Rattle.nj_edges.specs.EdgeTables.{edge_read}
-use Rattle.nj_edges.specs.Files.{path_at}
+use Rattle.nj_names.specs.Files.{path_at}
 use Rattle.nj_edges.specs.Joining.{none_added, with_added}
 use Rattle.nj_edges.specs.Inside.JoiningHeld.{added_inputs_of, added_outputs_of, flat, joined_by, joined_inputs, joined_outputs, joined_row, joined_rows, joined_with, needed_inputs, order_only_inputs, span_from, with_found}
 use Rattle.nj_edges.proofs.ListLemmas.{length-range}

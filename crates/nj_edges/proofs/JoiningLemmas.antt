@@ -9,12 +9,12 @@ use Rattle.std.proofs.lemmas.List.{drop-append-le, get_or-set_other, get_or-set_
 use Rattle.std.proofs.lemmas.List.Folds.{list_any-append}
 use Rattle.std.proofs.lemmas.Option.{get_or_from_slice_get, slice_get-get_or, slice_get_within}
 use Rattle.nj_names.proofs.ListLemmas.{get-last}
-use Rattle.nj_edges.specs.declared.files.FileNo.{FileNo}
+use Rattle.nj_names.specs.declared.files.FileNo.{FileNo}
 use Rattle.nj_edges.specs.declared.edges.EdgeRow.{EdgeRow}
 use Rattle.nj_edges.specs.declared.dyndep_edges.AddedSpans.{AddedSpans}
 use Rattle.nj_edges.specs.Edges.{EdgePaths, first_edge, is_among, maker_of, outputs_of}
 use Rattle.nj_edges.specs.Inside.EdgesHeld.{AreNumbers, HaveMakers, edge_of, edges_of, has_number, paths_at, with_maker, within}
-use Rattle.nj_edges.specs.Files.{with_path}
+use Rattle.nj_names.specs.NameTables.{with_name}
 use Rattle.nj_edges.specs.Inside.GraphHeld.{ends_of}
 use Rattle.nj_edges.specs.Joining.{JoinTable, is_made_so_far, with_added_input, with_added_output}
 use Rattle.nj_edges.specs.Inside.JoiningHeld.{AddedInputsAreWithin, AddedOutputsAreWithin, AreApart, AreNamedOrAdded, JoinIsHeld, JoinListsAreHeld, NextAreNew, added_input_rows, added_inputs_of, added_output_rows, added_outputs_of, is_in_rows, join_held, joined_by, stated_rows, with_found}
@@ -132,7 +132,7 @@ module _ (files others : List (List ℕ)) (outputs inputs : List FileNo) (os : A
 
 -- a file is named
 abbrev pub join_naming : JoinTable → (path : List ℕ) → JoinTable
-join_naming t path = record t { files = with_path t.files path }
+join_naming t path = record t { files = with_name t.files path }
 
 -- a file is collected for the next edge
 abbrev pub plus_join_output : JoinTable → (path : List ℕ) → JoinTable
@@ -153,7 +153,7 @@ module _ (files : List (List ℕ)) (makers : List (Option ℕ)) (outputs inputs 
       let i = paths_at-more files (path ∷ []) (drop open_inputs added_inputs) (all-drop (λ f. f.0 < length files) open_inputs added_inputs held.inputs_are) in
       rw (edges, joined, o, i) refl
 
-  pub table-named : join_held (with_path files path) outputs inputs validations rows added_outputs added_inputs added open_outputs open_inputs
+  pub table-named : join_held (with_name files path) outputs inputs validations rows added_outputs added_inputs added open_outputs open_inputs
       ≡ join_naming (join_held files outputs inputs validations rows added_outputs added_inputs added open_outputs open_inputs) path
   table-named = by (list_any (bytes_eq path) files)
     where
@@ -384,7 +384,7 @@ module _ (files : List (List ℕ)) (makers : List (Option ℕ)) (outputs inputs 
 
 module _ (files : List (List ℕ)) (makers : List (Option ℕ)) (outputs inputs validations : List FileNo) (rows : List EdgeRow) (added_makers : List (Option ℕ)) (added_outputs added_inputs : List FileNo) (added : List (Option AddedSpans)) (open_outputs open_inputs : ℕ)
     (held : JoinIsHeld files makers outputs inputs validations rows added_makers added_outputs added_inputs added open_outputs open_inputs) (path : List ℕ)
-    (fs : List (List ℕ)) (ms ads : List (Option ℕ)) (f : FileNo) (files-are : fs ≡ with_path files path) (makers-are : ms ≡ with_maker files path makers) (added-are : ads ≡ with_maker files path added_makers) (distinct : IsDistinct bytes_eq fs) (here : slice_get fs f.0 ≡ Some path)
+    (fs : List (List ℕ)) (ms ads : List (Option ℕ)) (f : FileNo) (files-are : fs ≡ with_name files path) (makers-are : ms ≡ with_maker files path makers) (added-are : ads ≡ with_maker files path added_makers) (distinct : IsDistinct bytes_eq fs) (here : slice_get fs f.0 ≡ Some path)
     (t : JoinTable) (is : join_held files outputs inputs validations rows added_outputs added_inputs added open_outputs open_inputs ≡ t) where
   abbrev Lists : List (List ℕ) → List (Option ℕ) → List (Option ℕ) → Type 0
   Lists xs ys zs = JoinListsAreHeld xs ys outputs inputs validations rows zs added_outputs added_inputs added open_outputs open_inputs

@@ -8,7 +8,7 @@ use Rattle.std.proofs.lemmas.List.Folds.{list_any-append}
 use Rattle.std.proofs.lemmas.Option.{slice_get_within}
 use Rattle.std.proofs.lemmas.Slice.Eq.{bytes_eq-Decides}
 use Rattle.nj_names.proofs.ListLemmas.{among-get}
-use Rattle.nj_edges.specs.declared.files.FileNo.{FileNo}
+use Rattle.nj_names.specs.declared.files.FileNo.{FileNo}
 use Rattle.nj_edges.specs.declared.edges.Span.{Span}
 use Rattle.nj_edges.specs.declared.edges.EdgeRow.{EdgeRow}
 use Rattle.nj_edges.specs.declared.edges.OpenStarts.{OpenStarts}
@@ -16,7 +16,7 @@ use Rattle.nj_edges.specs.Edges.{EdgePaths, inputs_of, is_among, is_named, outpu
 use Rattle.nj_edges.specs.EdgeGraphs.{EdgeGraph}
 use Rattle.nj_edges.specs.Inside.EdgesHeld.{paths_at, within, edge_of, edges_of, table_of, has_number, AreNumbers, AreJoined, AreNamed, RowIsWithin, EdgesAreHeld, TableIsHeld}
 use Rattle.nj_edges.specs.EdgeTables.{OpenEdge, EdgeTable, no_files, is_named_so_far}
-use Rattle.nj_edges.specs.Files.{AreFiles, path_at}
+use Rattle.nj_names.specs.Files.{AreFiles, path_at}
 use Rattle.nj_edges.specs.Inside.GraphHeld.{ends_of}
 use Rattle.nj_edges.proofs.EdgeLemmas.{all-drop, get-path, has-among}
 use Rattle.nj_edges.proofs.GraphLemmas.{files-at, kinds-joined}

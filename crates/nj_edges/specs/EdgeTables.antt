@@ -3,7 +3,7 @@ use Rattle.std.specs.Prelude.{ℕ, ◌≤◌, ◌||◌, Bool, is_some, List, []}
 use Rattle.std.specs.Prelude.{◌∷◌, ◌++◌, take, drop, slice_range}
 use Rattle.nj_edges.specs.declared.edges.KindEnds.{KindEnds}
 use Rattle.nj_edges.specs.Edges.{EdgePaths, maker_of, is_among, is_named}
-use Rattle.nj_edges.specs.Files.{with_path}
+use Rattle.nj_names.specs.NameTables.{with_name}
 
 -- the files that it names so far
 pub record OpenEdge : Type 0 where
@@ -21,7 +21,7 @@ abbrev pub no_files : OpenEdge
 no_files = record { outputs = []; inputs = []; validations = [] }
 
 abbrev pub naming : EdgeTable → (path : List ℕ) → EdgeTable
-naming t path = record t { files = with_path t.files path }
+naming t path = record t { files = with_name t.files path }
 
 abbrev pub plus_output : EdgeTable → (path : List ℕ) → EdgeTable
 plus_output t path = record t { «open» = record t.«open» { outputs = t.«open».outputs ++ path ∷ [] } }

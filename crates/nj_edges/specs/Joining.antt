@@ -2,7 +2,7 @@
 use Rattle.std.specs.Prelude.{ℕ, zero, suc, Bool, true, false, ◌||◌, is_some, List, [], ◌∷◌, ◌++◌, map, slice_index_or}
 use Rattle.nj_edges.specs.Edges.{EdgePaths, maker_of, is_among}
 use Rattle.nj_edges.specs.EdgeGraphs.{EdgeGraph}
-use Rattle.nj_edges.specs.Files.{with_path}
+use Rattle.nj_names.specs.NameTables.{with_name}
 
 -- files that are added to an edge: outputs and inputs
 pub record AddedFiles : Type 0 where
@@ -50,13 +50,13 @@ join_of g = record {
 
 abbrev pub with_added_output : JoinTable → (path : List ℕ) → JoinTable
 with_added_output t path = record t {
-  files = with_path t.files path;
+  files = with_name t.files path;
   «open» = record t.«open» { outputs = t.«open».outputs ++ path ∷ [] };
 }
 
 abbrev pub with_added_input : JoinTable → (path : List ℕ) → JoinTable
 with_added_input t path = record t {
-  files = with_path t.files path;
+  files = with_name t.files path;
   «open» = record t.«open» { inputs = t.«open».inputs ++ path ∷ [] };
 }
 

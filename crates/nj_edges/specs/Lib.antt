@@ -1,6 +1,5 @@
 -- what must be believed
 pub mod Edges
-pub mod Files
 pub mod EdgeGraphs
 pub mod Graph
 pub mod Needs

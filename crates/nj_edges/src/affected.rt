@@ -4,14 +4,13 @@ ghost use Rattle.std.specs.Prelude.{◌≡◌, ◌↔◌, ℕ, ◌<◌, length, 
 ghost use Rattle.std.specs.List.Sorted.{IsStrictlyIncreasing};
 ghost use Rattle.nj_edges.specs.Changes.{IsAffected, AffectedEdgesNeedTheFiles};
 ghost use Rattle.nj_edges.specs.Edges.{edges_from};
-ghost use Rattle.nj_edges.specs.Files.{path_at};
+ghost use Rattle.nj_names.specs.Files.{path_at};
 ghost use Rattle.nj_edges.specs.Inside.ChangesHeld.{FindsMore, HasInputOf};
 ghost use Rattle.nj_edges.specs.Inside.UsersHeld.{numbers_of};
 
 use crate::edges::EdgeNo;
-use crate::files::FileNo;
 use crate::graph::EdgeGraph;
-use nj_names::NumberSet;
+use nj_names::{FileNo, NumberSet};
 use std::alloc::{AllocError, Global};
 
 // Adds each of these edges.

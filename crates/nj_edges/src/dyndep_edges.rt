@@ -4,17 +4,17 @@ ghost use Rattle.std.specs.Prelude.{◌≡◌, ◌<◌, ◌+◌, ◌^◌, ◌||�
 ghost use Rattle.std.specs.List.{AllByRecursion, IsDistinct};
 ghost use Rattle.nj_edges.specs.Edges.{edge_at, outputs_of, maker_of};
 ghost use Rattle.nj_edges.specs.Inside.EdgesHeld.{AreNumbers, IsWithin};
-ghost use Rattle.nj_edges.specs.Files.{AreFiles};
+ghost use Rattle.nj_names.specs.Files.{AreFiles};
 ghost use Rattle.nj_edges.specs.Graph.{FinishesAs};
 ghost use Rattle.nj_edges.specs.Joining.{none_added, join_of, with_added_output, with_added_input, with_joined, is_made_so_far, is_joined};
 ghost use Rattle.nj_edges.specs.Inside.JoiningHeld.{AddedInputsAreWithin, AddedOutputsAreWithin, AreJoinedMakers, AreSet, InputsAreWithin, added_inputs_of, added_outputs_of, flat, joined_inputs, joined_outputs, joined_row, joined_rows, joined_with, needed_inputs};
 
 use crate::edges::{EdgeNo, EdgeRow, Edges, KindEnds, OpenStarts, Span};
-use crate::files::{FileNo, Files};
 use crate::graph::{EdgeGraph, Finished, row_at};
 use crate::list_parts::part;
 use crate::makers::{Makers, name_for_both};
 use crate::rows::Rows;
+use nj_names::{FileNo, Files};
 use std::alloc::{AllocError, Global};
 use std::marker::Model;
 

@@ -3,15 +3,14 @@
 ghost use Rattle.std.specs.Prelude.{◌≡◌, ℕ, ◌<◌, List, [], ◌∷◌, ◌++◌, Some, not, if◌then◌else◌, option_map, position, slice_get, slice_index_or, is_some, length, bytes_eq, IfOk, IfSome, OnOk, OnErr};
 ghost use Rattle.std.specs.List.{IsDistinct, list_any};
 ghost use Rattle.nj_edges.specs.Edges.{is_among, is_named};
-ghost use Rattle.nj_edges.specs.Files.{AreFiles};
+ghost use Rattle.nj_names.specs.Files.{AreFiles};
 ghost use Rattle.nj_edges.specs.Inside.EdgesHeld.{row_between, has_number, is_made_by};
 ghost use Rattle.nj_edges.specs.EdgeTables.{no_files, EndWithin, with_output, with_input, with_validation, is_made, is_named_so_far, edge_read};
 
-use crate::files::{FileNo, Files};
 use crate::list_parts::after;
 use crate::makers::{Makers, name};
 use crate::rows::Rows;
-use nj_names::HashKeys;
+use nj_names::{FileNo, Files, HashKeys};
 use std::alloc::{AllocError, Global};
 use std::marker::Model;
 

@@ -6,12 +6,11 @@ ghost use Rattle.nj_cycles.specs.Cycles.{IsFirstOnCycle, IsAcyclic};
 ghost use Rattle.nj_edges.specs.Edges.{edge_at, outputs_of, inputs_of, kind_at, is_named, maker_of, roots_of, users_of, validation_users_of};
 ghost use Rattle.nj_edges.specs.Inside.EdgesHeld.{AreNumbers, IsWithin, makers_in_rows, paths_at, within};
 ghost use Rattle.nj_edges.specs.EdgeTables.{no_files};
-ghost use Rattle.nj_edges.specs.Files.{path_at, AreFiles};
+ghost use Rattle.nj_names.specs.Files.{path_at, AreFiles};
 ghost use Rattle.nj_edges.specs.Graph.{FinishesAs};
 ghost use Rattle.nj_edges.specs.Needs.{makers_of_inputs};
 
 use crate::edges::{EdgeNo, EdgeRow, Edges, Kind, KindEnds, Span};
-use crate::files::{FileNo, Files};
 use crate::input_makers::InputMakers;
 use crate::list_parts::{first, part};
 use crate::makers::Makers;
@@ -19,6 +18,7 @@ use crate::roots::roots;
 use crate::rows::Rows;
 use crate::users::{RowPart, Users, users_at, users_if_any, users_of_files};
 use nj_cycles::{EdgeInputs, first_on_cycle};
+use nj_names::{FileNo, Files};
 use std::alloc::{AllocError, Global};
 use std::marker::Model;
 

@@ -3,12 +3,12 @@
 ghost use Rattle.std.specs.Prelude.{◌≡◌, ℕ, ◌<◌, ◌≤◌, Some, None, All, length, slice_index_or};
 ghost use Rattle.nj_edges.specs.Inside.EdgesHeld.{makers_in_rows};
 
-use crate::files::FileNo;
 use crate::graph::row_at;
 use crate::list_parts::part;
 use crate::makers::Makers;
 use crate::rows::Rows;
 use nj_cycles::EdgeInputs;
+use nj_names::FileNo;
 
 /// The inputs of all edges, and the edge that makes each file.
 #[derive(Clone, Copy)]

@@ -4,7 +4,6 @@
 mod affected;
 mod dyndep_edges;
 mod edges;
-mod files;
 mod graph;
 mod input_makers;
 mod list_parts;
@@ -17,7 +16,6 @@ mod users;
 pub use affected::affected_law;
 pub use dyndep_edges::JoiningEdges;
 pub use edges::{EdgeNo, Edges, Kind, KindEnds};
-pub use files::{FileNo, Files};
 pub use graph::{CycleEdge, EdgeGraph, Finished};
-pub use nj_names::HashKeys;
+pub use nj_names::{FileNo, Files, HashKeys};
 pub use number_ranges::{EdgeNumbers, FileNumbers};

@@ -2,11 +2,11 @@
 
 ghost use Rattle.std.specs.Prelude.{◌≡◌, ◌+◌, ◌<◌, ◌^◌, [], None, Some, length, replicate, slice_get, slice_index_or, slice_set, bytes_eq, IfOk, IfSome, OnOk, OnErr};
 ghost use Rattle.std.specs.List.{IsDistinct};
-ghost use Rattle.nj_edges.specs.Files.{with_path};
+ghost use Rattle.nj_names.specs.NameTables.{with_name};
 ghost use Rattle.nj_edges.specs.Inside.EdgesHeld.{with_maker};
 ghost use Rattle.nj_edges.specs.Inside.MakersHeld.{maker_held};
 
-use crate::files::{FileNo, Files};
+use nj_names::{FileNo, Files};
 use std::alloc::{AllocError, Global};
 use std::marker::Model;
 
@@ -77,7 +77,7 @@ pub(crate) fn name(
     path: &[u8],
 ) -> Result<FileNo, AllocError>
     requires { length makers.old ≡ length files.old }
-    ensures named { OnOk result (files.new ≡ with_path files.old path.now) }
+    ensures named { OnOk result (files.new ≡ with_name files.old path.now) }
     ensures each_path_once { OnOk result (IsDistinct bytes_eq files.new) }
     ensures makers { OnOk result (makers.new ≡ with_maker files.old path.now makers.old) }
     ensures number { IfOk result (λ file. slice_get files.new file.0 ≡ Some path.now) }
@@ -102,7 +102,7 @@ pub(crate) fn name_for_both(
 ) -> Result<FileNo, AllocError>
     requires stated { length makers.old ≡ length files.old }
     requires added { length added_makers.old ≡ length files.old }
-    ensures named { OnOk result (files.new ≡ with_path files.old path.now) }
+    ensures named { OnOk result (files.new ≡ with_name files.old path.now) }
     ensures each_path_once { OnOk result (IsDistinct bytes_eq files.new) }
     ensures makers { OnOk result (makers.new ≡ with_maker files.old path.now makers.old) }
     ensures added { OnOk result (added_makers.new

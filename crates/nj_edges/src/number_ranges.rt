@@ -5,8 +5,8 @@ ghost use Rattle.std.specs.Iterator.{YieldsFirstBy, item_count};
 ghost use Rattle.std.specs.List.{range_with_len};
 
 use crate::edges::EdgeNo;
-use crate::files::FileNo;
 use crate::graph::EdgeGraph;
+use nj_names::FileNo;
 use std::iter::FusedIterator;
 use std::marker::Model;
 use std::ops::Range;

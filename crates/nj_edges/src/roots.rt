@@ -5,7 +5,7 @@ ghost use Rattle.std.specs.List.{filter};
 ghost use Rattle.nj_edges.specs.Inside.EdgesHeld.{AreNumbers, has_number};
 ghost use Rattle.nj_edges.specs.Inside.RootsHeld.{AreFlags};
 
-use crate::files::FileNo;
+use nj_names::FileNo;
 use std::alloc::{AllocError, Global};
 
 /// The outputs that are no inputs, in their order.

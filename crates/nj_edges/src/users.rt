@@ -6,10 +6,10 @@ ghost use Rattle.nj_edges.specs.Inside.EdgesHeld.{AreNumbers, IsWithin, within};
 ghost use Rattle.nj_edges.specs.Inside.UsersHeld.{AreCounted, AreCounts, AreEnds, AreMarks, AreParts, ArePlaced, HaveCapacity, HaveUsers, HaveUsersIfAny, numbers_of, plus_use, plus_uses, span_of, starts_with, users_before, using_edges};
 
 use crate::edges::{EdgeNo, EdgeRow, Span};
-use crate::files::FileNo;
 use crate::graph::row_at;
 use crate::list_parts::part;
 use crate::rows::Rows;
+use nj_names::FileNo;
 use std::alloc::{AllocError, Global};
 
 /// A part of an edge whose files have users.

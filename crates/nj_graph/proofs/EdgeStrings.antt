@@ -8,8 +8,8 @@ use Rattle.nj_scope.specs.Rules.{RuleModel, RuleLineModel, phony}
 use Rattle.nj_scope.specs.ReadingList.{ReadStatement, value_after}
 use Rattle.nj_edge_env.specs.Blocks.{BlocksModel, bound_in}
 use Rattle.nj_edges.specs.Edges.{EdgePaths, edge_at}
-use Rattle.nj_edges.specs.Files.{AreFiles, path_at}
-use Rattle.nj_edges.specs.declared.files.FileNo.{FileNo}
+use Rattle.nj_names.specs.Files.{AreFiles, path_at}
+use Rattle.nj_names.specs.declared.files.FileNo.{FileNo}
 use Rattle.nj_edge_env.specs.LateStrings.{LateNames, asked_text}
 use Rattle.nj_statements.specs.EdgeList.{EdgeModel, edges_read, names_of_edge, block_of_edge}
 use Rattle.nj_statements.specs.Built.{EdgeDetail, detail_at, detail_of}

@@ -4,8 +4,8 @@ use Rattle.nj_graph.specs.Inside.PathsReached.{with_news, with_new}
 use Rattle.std.specs.Str.{is_utf8}
 use Rattle.std.proofs.lemmas.Str.{IsUtf8-string_bytes, IsUtf8-from_is_utf8, is_utf8-from_IsUtf8}
 use Rattle.nj_scope.specs.Readings.{IsPrefix}
-use Rattle.nj_edges.specs.declared.files.FileNo.{FileNo}
-use Rattle.nj_edges.specs.Files.{path_at}
+use Rattle.nj_names.specs.declared.files.FileNo.{FileNo}
+use Rattle.nj_names.specs.Files.{path_at}
 use Rattle.nj_statements.specs.EdgeList.{Pending}
 use Rattle.nj_statements.proofs.Lists.{get-longer}
 use Rattle.nj_graph.specs.Joining.{path_asked}

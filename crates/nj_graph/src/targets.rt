@@ -1,7 +1,7 @@
 //! Targets, as words of a command line name them.
 
 ghost use Rattle.std.specs.Prelude.{◌≡◌, ◌<◌, Some, length, option_map, slice_get};
-ghost use Rattle.nj_edges.specs.Files.{path_at};
+ghost use Rattle.nj_names.specs.Files.{path_at};
 ghost use Rattle.nj_graph.specs.Graph.{edges_of, files_of};
 ghost use Rattle.nj_graph.specs.Targets.{target, first_made_of, made_target, clean_target, picked, Picks};
 

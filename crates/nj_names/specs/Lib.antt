@@ -1,5 +1,6 @@
 -- what must be believed
 pub mod ByteHash
+pub mod Files
 pub mod NameHash
 pub mod NameTables
 pub mod NumberSets

@@ -2,6 +2,7 @@
 #![tactic(auto)]
 
 mod byte_hash;
+mod files;
 mod hash_keys;
 mod name_hasher;
 mod number_set;
@@ -9,6 +10,7 @@ mod plain_hasher;
 mod short;
 mod table;
 
+pub use files::{FileNo, Files};
 pub use hash_keys::HashKeys;
 pub use name_hasher::NameHasher;
 pub use number_set::NumberSet;

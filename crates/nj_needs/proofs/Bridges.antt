@@ -1,9 +1,9 @@
 -- Between the graph and the rows of makers.
 use Rattle.std.proofs.Common.{◌≡◌, ℕ, zero, suc, ◌<◌, Option, Some, unwrap_or, List, [], ◌∷◌, map, length, slice_get, get_or, refl, sym, ap, arith}
-use Rattle.nj_edges.specs.declared.files.FileNo.{FileNo}
+use Rattle.nj_names.specs.declared.files.FileNo.{FileNo}
 use Rattle.nj_edges.specs.EdgeGraphs.{EdgeGraph}
 use Rattle.nj_edges.specs.Edges.{EdgePaths, maker_of}
-use Rattle.nj_edges.specs.Files.{path_at, AreFiles}
+use Rattle.nj_names.specs.Files.{path_at, AreFiles}
 use Rattle.nj_edges.proofs.GraphLemmas.{first-below, made-of}
 use Rattle.nj_needs.specs.Needs.{AreWithin}
 use Rattle.nj_needs.specs.Graphs.{row_of_paths, row_of, count_of}

@@ -1,9 +1,9 @@
 -- The makers of inputs and targets in a graph of edges. Here alone the definitions of the walk meet the graph's value.
 use Rattle.std.specs.Prelude.{ℕ, Bool, Option, List, map, length}
-use Rattle.nj_edges.specs.declared.files.FileNo.{FileNo}
+use Rattle.nj_names.specs.declared.files.FileNo.{FileNo}
 use Rattle.nj_edges.specs.EdgeGraphs.{EdgeGraph}
 use Rattle.nj_edges.specs.Edges.{EdgePaths, edge_at, maker_of}
-use Rattle.nj_edges.specs.Files.{path_at}
+use Rattle.nj_names.specs.Files.{path_at}
 use Rattle.nj_edges.specs.Needs.{makers_of_inputs}
 
 -- ---- files by their paths

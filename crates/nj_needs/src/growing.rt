@@ -3,7 +3,7 @@
 ghost use Rattle.std.specs.Prelude.{◌≡◌, ◌<◌, ◌++◌, List, true, false, Some, length, map, All, IfOk, OnOk, IfSome, IfNone, slice_index_or};
 ghost use Rattle.std.specs.Option.{ForSome};
 ghost use Rattle.nj_edges.specs.Edges.{edge_at};
-ghost use Rattle.nj_edges.specs.Files.{path_at, AreFiles};
+ghost use Rattle.nj_names.specs.Files.{path_at, AreFiles};
 ghost use Rattle.nj_needs.specs.Growing.{grown_targets, RoundsAppend, GrownTargetsStay, GrownTargetsReachTheFollowed};
 
 use crate::frame::Frame;

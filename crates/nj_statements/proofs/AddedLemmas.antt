@@ -11,7 +11,7 @@ use Rattle.std.proofs.lemmas.Cmp.{nat_list_eq_equiv}
 use Rattle.nj_text.specs.declared.word.Word.{Word}
 use Rattle.nj_text.specs.Words.{WordModel, word_model}
 use Rattle.nj_manifest.specs.Contents.{words_model}
-use Rattle.nj_edges.specs.Files.{with_path}
+use Rattle.nj_names.specs.NameTables.{with_name}
 use Rattle.nj_edges.specs.Joining.{JoinTable, with_added_output, with_added_input, is_made_so_far}
 use Rattle.nj_faults.specs.declared.fault.GraphFault.{GraphFault}
 use Rattle.nj_faults.specs.declared.fault.Cause.TheVariants.{TwoMakers}
@@ -41,7 +41,7 @@ keeps-trans s t u first second = record {
   was_joined = second.was_joined ∙ first.was_joined;
 }
 
-named-once : (files : List (List ℕ)) (path : List ℕ) → IsDistinct bytes_eq files → IsDistinct bytes_eq (with_path files path)
+named-once : (files : List (List ℕ)) (path : List ℕ) → IsDistinct bytes_eq files → IsDistinct bytes_eq (with_name files path)
 named-once files path once = by (list_any (bytes_eq path) files) refl
   where
     by : (b : Bool) → list_any (bytes_eq path) files ≡ b → IsDistinct bytes_eq (if b then files else files ++ path ∷ [])

@@ -16,9 +16,9 @@ use Rattle.nj_scope.specs.Rules.{line_kept}
 use Rattle.nj_scope.specs.Readings.{IsPrefix}
 use Rattle.nj_scope.specs.ReadingList.{ReadStatement, scope_of, value_after, rules_read}
 use Rattle.nj_edge_env.specs.Blocks.{BlocksModel, bound_in, names_in}
-use Rattle.nj_edges.specs.declared.files.FileNo.{FileNo}
+use Rattle.nj_names.specs.declared.files.FileNo.{FileNo}
 use Rattle.nj_edges.specs.EdgeTables.{no_files}
-use Rattle.nj_edges.specs.Files.{AreFiles}
+use Rattle.nj_names.specs.Files.{AreFiles}
 use Rattle.nj_faults.specs.declared.fault.GraphFault.{GraphFault}
 use Rattle.nj_faults.specs.Faults.{IsFault}
 use Rattle.nj_statements.specs.EdgeList.{Values, Block, EdgeModel, Pending, build_block, path_given, paths_given, edge_of_build, edges_read, defaults_read, dyndep_of, pending_at, pending_read, block_at, block_names_at, names_bound, block_of_edge, assigned_of, assigned_read}

@@ -12,10 +12,10 @@ use Rattle.nj_manifest.specs.Dyndeps.{EntryModel}
 use Rattle.nj_scope.specs.Readings.{IsPrefix}
 use Rattle.nj_scope.specs.ReadingList.{Discovered, ReadStatement}
 use Rattle.nj_edge_env.specs.Blocks.{BlocksModel}
-use Rattle.nj_edges.specs.declared.files.FileNo.{FileNo}
+use Rattle.nj_names.specs.declared.files.FileNo.{FileNo}
 use Rattle.nj_edges.specs.Edges.{EdgePaths, edge_at, outputs_of, first_edge, maker_of}
 use Rattle.nj_edges.specs.Inside.EdgesHeld.{AreNumbers, paths_at}
-use Rattle.nj_edges.specs.Files.{path_at, AreFiles}
+use Rattle.nj_names.specs.Files.{path_at, AreFiles}
 use Rattle.nj_edges.specs.Joining.{AddedFiles, JoinTable, changed_at, with_added, with_joined, is_joined}
 use Rattle.nj_edges.proofs.EdgeLemmas.{same-number}
 use Rattle.nj_faults.specs.declared.fault.GraphFault.{GraphFault}

@@ -10,10 +10,10 @@ use Rattle.nj_text.proofs.CleanPaths.{clean-twice}
 use Rattle.nj_scope.specs.Readings.{IsPrefix}
 use Rattle.nj_scope.specs.Scopes.{expanded}
 use Rattle.nj_names.proofs.NameLemmas.{found-at}
-use Rattle.nj_edges.specs.declared.files.FileNo.{FileNo}
+use Rattle.nj_names.specs.declared.files.FileNo.{FileNo}
 use Rattle.nj_edges.specs.Edges.{is_among}
 use Rattle.nj_edges.specs.EdgeTables.{EdgeTable, naming, with_output, with_input, with_validation}
-use Rattle.nj_edges.specs.Files.{with_path}
+use Rattle.nj_names.specs.NameTables.{with_name}
 use Rattle.nj_edges.proofs.EdgeLemmas.{all-append, all-get}
 use Rattle.nj_statements.specs.Answers.{KeepsRead}
 use Rattle.nj_statements.specs.EdgeList.{Values, path_given}
@@ -29,7 +29,7 @@ keeps_none t = record { edges = refl; files = prefix-refl t.files }
 pub cleaned : (path text : List ℕ) → path ≡ clean_path_of text → clean_path_of path ≡ path
 cleaned path text is = ap clean_path_of is ∙ clean-twice text ∙ sym is
 
-named-clean : (files : List (List ℕ)) (path : List ℕ) → AreClean files → clean_path_of path ≡ path → AreClean (with_path files path)
+named-clean : (files : List (List ℕ)) (path : List ℕ) → AreClean files → clean_path_of path ≡ path → AreClean (with_name files path)
 named-clean files path all clean = by (list_any (bytes_eq path) files)
   where
     by : (b : Bool) → AreClean (if b then files else files ++ path ∷ [])
@@ -77,7 +77,7 @@ opened before t new keeps edges files = record {
 -- a file is named
 named : (before t : EdgeTable) (path : List ℕ) → KeepsClean before t → clean_path_of path ≡ path → KeepsClean before (naming t path)
 named before t path keeps clean = record {
-  read = record { edges = keeps.read.edges; files = prefix-trans before.files t.files (with_path t.files path) keeps.read.files (named-prefix t.files path) };
+  read = record { edges = keeps.read.edges; files = prefix-trans before.files t.files (with_name t.files path) keeps.read.files (named-prefix t.files path) };
   clean = λ all. named-clean t.files path (keeps.clean all) clean;
 }
 

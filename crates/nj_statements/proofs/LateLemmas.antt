@@ -13,11 +13,11 @@ use Rattle.nj_scope.specs.Scopes.{first_given, IsScope, parent_at}
 use Rattle.nj_scope.specs.Declarations.{DeclarationsModel, DeclaredBy}
 use Rattle.nj_scope.specs.ReadingList.{ReadStatement, scope_of, value_after, rules, rule_in_force, rules_read, pools}
 use Rattle.nj_scope.proofs.InForce.{in_force, phony-there}
-use Rattle.nj_edges.specs.declared.files.FileNo.{FileNo}
+use Rattle.nj_names.specs.declared.files.FileNo.{FileNo}
 use Rattle.nj_edges.specs.declared.edges.KindEnds.{KindEnds}
 use Rattle.nj_edges.specs.Edges.{EdgePaths, inputs_of}
 use Rattle.nj_edges.specs.EdgeTables.{OpenEdge, EndWithin, edge_read}
-use Rattle.nj_edges.specs.Files.{path_at, AreFiles}
+use Rattle.nj_names.specs.Files.{path_at, AreFiles}
 use Rattle.nj_edges.proofs.GraphLemmas.{kinds-joined}
 use Rattle.nj_edge_env.specs.declared.late_edge.LateEdge.{LateEdge}
 use Rattle.nj_edge_env.specs.LateStrings.{LateNames}

@@ -8,7 +8,7 @@ use Rattle.std.proofs.lemmas.Bool.{ne_eqb}
 use Rattle.nj_scope.specs.Readings.{IsPrefix}
 use Rattle.nj_edges.specs.Edges.{EdgePaths, outputs_of, is_among}
 use Rattle.nj_edges.specs.EdgeTables.{EdgeTable, with_output, with_input, with_validation, edge_read}
-use Rattle.nj_edges.specs.Files.{with_path}
+use Rattle.nj_names.specs.NameTables.{with_name}
 use Rattle.nj_statements.specs.EdgeList.{loses_own, of_others, without_own, edge_paths}
 use Rattle.nj_statements.specs.Inside.EdgeSteps.{Grows, with_outputs, with_input_unless, with_inputs, with_validations}
 
@@ -23,7 +23,7 @@ prefix-trans xs ys zs (more, is) (others, are) = (more ++ others, are ∙ ap (λ
 pub prefix_push : {A : Type 0} (xs ys zs : List A) (y : A) → IsPrefix xs ys → zs ≡ ys ++ y ∷ [] → IsPrefix xs zs
 prefix_push xs ys zs y grows is = prefix-trans xs ys zs grows (y ∷ [], is)
 
-pub named-prefix : (files : List (List ℕ)) (path : List ℕ) → IsPrefix files (with_path files path)
+pub named-prefix : (files : List (List ℕ)) (path : List ℕ) → IsPrefix files (with_name files path)
 named-prefix files path = by (list_any (bytes_eq path) files)
   where
     by : (b : Bool) → IsPrefix files (if b then files else files ++ path ∷ [])

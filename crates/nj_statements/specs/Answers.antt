@@ -7,9 +7,9 @@ use Rattle.nj_scope.specs.Rules.{RuleModel}
 use Rattle.nj_scope.specs.Readings.{IsPrefix}
 use Rattle.nj_scope.specs.ReadingList.{ReadStatement, rules_read}
 use Rattle.nj_edge_env.specs.Blocks.{BlocksModel, bound_in, names_in}
-use Rattle.nj_edges.specs.declared.files.FileNo.{FileNo}
+use Rattle.nj_names.specs.declared.files.FileNo.{FileNo}
 use Rattle.nj_edges.specs.EdgeTables.{EdgeTable, no_files}
-use Rattle.nj_edges.specs.Files.{AreFiles}
+use Rattle.nj_names.specs.Files.{AreFiles}
 use Rattle.nj_faults.specs.declared.fault.GraphFault.{GraphFault}
 use Rattle.nj_faults.specs.declared.fault.PlaceRef.{PlaceRef}
 use Rattle.nj_faults.specs.Faults.{IsFault}

@@ -2,7 +2,7 @@
 
 ghost use Rattle.std.specs.Prelude.{◌≡◌, List, ◌<◌, Some, option_copied, length, All};
 ghost use Rattle.nj_scope.specs.ReadingList.{ReadStatement};
-ghost use Rattle.nj_edges.specs.Files.{AreFiles};
+ghost use Rattle.nj_names.specs.Files.{AreFiles};
 ghost use Rattle.nj_faults.specs.Faults.{IsFault, fault_at};
 ghost use Rattle.nj_statements.specs.EdgeList.{assigned_at};
 ghost use Rattle.nj_statements.specs.Answers.{HasEdges};

@@ -2,7 +2,7 @@
 
 ghost use Rattle.std.specs.Prelude.{◌≡◌, ◌<◌, ◌+◌, [], Some, option_map, option_copied, length, slice_get, IfOk, IfSome};
 ghost use Rattle.nj_scope.specs.Readings.{IsPrefix};
-ghost use Rattle.nj_edges.specs.Files.{path_at};
+ghost use Rattle.nj_names.specs.Files.{path_at};
 ghost use Rattle.nj_statements.specs.Answers.{numbered};
 ghost use Rattle.nj_statements.specs.Inside.Details.{numbered_at, IsNumbered};
 

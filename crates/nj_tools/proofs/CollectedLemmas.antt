@@ -6,9 +6,9 @@ use Rattle.std.proofs.lemmas.List.{map_push}
 use Rattle.std.proofs.lemmas.List.Elements.{All-nil, All-head, All-tail, All-push, recursion_from_All, filter-append, filter_agree}
 use Rattle.std.proofs.lemmas.Slice.Eq.{bytes_eq-Decides}
 use Rattle.nj_scope.specs.Readings.{IsPrefix}
-use Rattle.nj_edges.specs.declared.files.FileNo.{FileNo}
+use Rattle.nj_names.specs.declared.files.FileNo.{FileNo}
 use Rattle.nj_edges.specs.Edges.{is_among}
-use Rattle.nj_edges.specs.Files.{path_at}
+use Rattle.nj_names.specs.Files.{path_at}
 use Rattle.nj_edges.proofs.EdgeLemmas.{get-path, has-among}
 use Rattle.nj_tools.specs.Inside.Collections.{is_collected, with_file, with_files, AreOf}
 use Rattle.nj_statements.proofs.OnceLemmas.{once-known, once-new}

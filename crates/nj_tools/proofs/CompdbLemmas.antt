@@ -10,9 +10,9 @@ use Rattle.std.specs.Result.{IsErrAnd}
 use Rattle.nj_text.specs.Calls.{is_empty}
 use Rattle.nj_scope.specs.Readings.{IsPrefix}
 use Rattle.nj_scope.specs.ReadingList.{ReadStatement}
-use Rattle.nj_edges.specs.declared.files.FileNo.{FileNo}
+use Rattle.nj_names.specs.declared.files.FileNo.{FileNo}
 use Rattle.nj_edges.specs.Edges.{inputs_of, edges_from}
-use Rattle.nj_edges.specs.Files.{AreFiles}
+use Rattle.nj_names.specs.Files.{AreFiles}
 use Rattle.nj_statements.specs.EdgeList.{edges_read}
 use Rattle.nj_graph.specs.Graph.{GraphModel, edges_of, IsGraphOf, rule_name_of}
 use Rattle.nj_graph.proofs.Stated.{graph-edges}

@@ -5,8 +5,8 @@ use Rattle.std.specs.Result.{IsErrAnd}
 use Rattle.std.proofs.lemmas.List.{take_more}
 use Rattle.std.proofs.lemmas.List.Concat.{flat_map-append}
 use Rattle.nj_scope.specs.Readings.{IsPrefix}
-use Rattle.nj_edges.specs.declared.files.FileNo.{FileNo}
-use Rattle.nj_edges.specs.Files.{path_at, AreFiles}
+use Rattle.nj_names.specs.declared.files.FileNo.{FileNo}
+use Rattle.nj_names.specs.Files.{path_at, AreFiles}
 use Rattle.nj_tools.specs.declared.tool_fault.ToolFault.{ToolFault}
 use Rattle.nj_tools.specs.Inside.Blocks.{IsUnderway, PutsText}
 use Rattle.nj_tools.specs.Inside.Collections.{is_collected, with_file, with_files, new_file, new_files, AreOf}

@@ -8,9 +8,9 @@ use Rattle.std.proofs.lemmas.List.Elements.{All-filter, filter-append, filter_mo
 use Rattle.std.proofs.lemmas.Option.{slice_get-map, get_or_from_slice_get}
 use Rattle.nj_text.specs.Quotes.{quoted}
 use Rattle.nj_scope.specs.ReadingList.{ReadStatement}
-use Rattle.nj_edges.specs.declared.files.FileNo.{FileNo}
+use Rattle.nj_names.specs.declared.files.FileNo.{FileNo}
 use Rattle.nj_edges.specs.Edges.{EdgePaths, edge_at, outputs_of}
-use Rattle.nj_edges.specs.Files.{path_at, AreFiles}
+use Rattle.nj_names.specs.Files.{path_at, AreFiles}
 use Rattle.nj_statements.specs.EdgeList.{EdgeModel, edges_read}
 use Rattle.nj_statements.proofs.LateLemmas.{paths-are}
 use Rattle.nj_graph.specs.Graph.{GraphModel, edges_of, files_of, IsGraphOf, rule_name_of, rule_name_at}

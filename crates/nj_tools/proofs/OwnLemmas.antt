@@ -7,10 +7,10 @@ use Rattle.std.proofs.lemmas.List.Concat.{flat_map-append}
 use Rattle.std.proofs.lemmas.List.Elements.{filter-append, filter_agree}
 use Rattle.nj_scope.specs.Readings.{IsPrefix}
 use Rattle.nj_scope.specs.ReadingList.{ReadStatement}
-use Rattle.nj_edges.specs.declared.files.FileNo.{FileNo}
+use Rattle.nj_names.specs.declared.files.FileNo.{FileNo}
 use Rattle.nj_edges.specs.EdgeGraphs.{EdgeGraph}
 use Rattle.nj_edges.specs.Edges.{maker_of}
-use Rattle.nj_edges.specs.Files.{path_at}
+use Rattle.nj_names.specs.Files.{path_at}
 use Rattle.nj_needs.specs.Graphs.{row_of, is_phony}
 use Rattle.nj_needs.specs.Marks.{without}
 use Rattle.nj_needs.specs.Order.{made_by}

@@ -7,9 +7,9 @@ use Rattle.std.proofs.lemmas.List.Concat.{flat_map-append}
 use Rattle.std.proofs.lemmas.List.Folds.{flat_map-map}
 use Rattle.nj_scope.specs.ReadingList.{ReadStatement}
 use Rattle.nj_edges.specs.declared.edges.EdgeNo.{EdgeNo}
-use Rattle.nj_edges.specs.declared.files.FileNo.{FileNo}
+use Rattle.nj_names.specs.declared.files.FileNo.{FileNo}
 use Rattle.nj_edges.specs.Edges.{EdgePaths, edge_at, outputs_of, maker_of, users_of, validation_users_of}
-use Rattle.nj_edges.specs.Files.{path_at}
+use Rattle.nj_names.specs.Files.{path_at}
 use Rattle.nj_graph.specs.Graph.{GraphModel, IsGraphOf, edges_of, files_of, rule_name_at}
 use Rattle.nj_graph.proofs.Stated.{graph-edges}
 use Rattle.nj_tools.specs.Lines.{line, lines_after}

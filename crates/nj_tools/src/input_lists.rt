@@ -3,8 +3,8 @@
 ghost use Rattle.std.specs.Prelude.{◌≡◌, ℕ, ◌<◌, ◌++◌, List, All, [], ◌∷◌, length, map, flat_map};
 ghost use Rattle.std.specs.Prelude.{IfOk, OnOk, bytes_eq, if◌then◌else◌};
 ghost use Rattle.nj_text.specs.Quotes.{quoted};
-ghost use Rattle.nj_edges.specs.declared.files.FileNo.{FileNo};
-ghost use Rattle.nj_edges.specs.Files.{path_at};
+ghost use Rattle.nj_names.specs.declared.files.FileNo.{FileNo};
+ghost use Rattle.nj_names.specs.Files.{path_at};
 ghost use Rattle.nj_graph.specs.Graph.{edges_of, files_of};
 ghost use Rattle.nj_tools.specs.Inside.Blocks.{PutsText};
 ghost use Rattle.nj_tools.specs.Inside.Collections.{AreOf, IsFlagged, with_file, with_files};

@@ -2,7 +2,7 @@
 
 ghost use Rattle.std.specs.Prelude.{◌≡◌, ◌<◌, not, All, length, map, filter, IfOk, OnOk};
 ghost use Rattle.nj_text.specs.Quotes.{quoted};
-ghost use Rattle.nj_edges.specs.Files.{path_at};
+ghost use Rattle.nj_names.specs.Files.{path_at};
 ghost use Rattle.nj_graph.specs.Graph.{files_of};
 ghost use Rattle.nj_tools.specs.Inside.QuotesHeld.{quote_strings, precedes_plain};
 ghost use Rattle.nj_tools.specs.Listings.{sorted};

@@ -1,14 +1,14 @@
 -- How a graph of edges is held.
 use Rattle.std.specs.Prelude.{ℕ, Option, List, length}
 use Rattle.nj_cycles.specs.Cycles.{IsAcyclic}
-use Rattle.nj_edges.specs.declared.files.FileNo.{FileNo}
+use Rattle.nj_names.specs.declared.files.FileNo.{FileNo}
 use Rattle.nj_edges.specs.declared.edges.EdgeRow.{EdgeRow}
 use Rattle.nj_edges.specs.declared.edges.OpenStarts.{OpenStarts}
 use Rattle.nj_edges.specs.declared.users.RowPart.TheVariants.{Inputs, Validations}
 use Rattle.nj_edges.specs.declared.users.Users.{Users}
 use Rattle.nj_edges.specs.Edges.{roots_of}
 use Rattle.nj_edges.specs.Inside.EdgesHeld.{EdgesAreHeld, AreNamed, edges_of}
-use Rattle.nj_edges.specs.Files.{AreFiles}
+use Rattle.nj_names.specs.Files.{AreFiles}
 use Rattle.nj_edges.specs.Needs.{makers_of_inputs}
 use Rattle.nj_edges.specs.Inside.UsersHeld.{HaveUsers, HaveUsersIfAny, numbers_of, using_edges}
 

@@ -1,6 +1,6 @@
 -- How the roots of a graph are found.
 use Rattle.std.specs.Prelude.{◌≡◌, ℕ, ◌<◌, Bool, false, List, length, slice_index_or}
-use Rattle.nj_edges.specs.declared.files.FileNo.{FileNo}
+use Rattle.nj_names.specs.declared.files.FileNo.{FileNo}
 use Rattle.nj_edges.specs.Inside.EdgesHeld.{has_number}
 
 -- for each file whether it is among these

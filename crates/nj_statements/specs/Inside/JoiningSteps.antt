@@ -5,10 +5,10 @@ use Rattle.std.specs.Prelude.{List, [], ◌∷◌, map, filter, length, set, sli
 use Rattle.std.specs.List.{AllByRecursion, IsDistinct}
 use Rattle.nj_text.specs.Words.{WordModel}
 use Rattle.nj_edge_env.specs.Blocks.{BlocksModel}
-use Rattle.nj_edges.specs.declared.files.FileNo.{FileNo}
+use Rattle.nj_names.specs.declared.files.FileNo.{FileNo}
 use Rattle.nj_edges.specs.Edges.{EdgePaths, first_output, maker_of}
 use Rattle.nj_edges.specs.Inside.EdgesHeld.{AreNumbers, paths_at}
-use Rattle.nj_edges.specs.Files.{path_at}
+use Rattle.nj_names.specs.Files.{path_at}
 use Rattle.nj_edges.specs.Joining.{JoinTable, with_added_output, with_added_input, is_joined}
 use Rattle.nj_faults.specs.declared.fault.GraphFault.{GraphFault}
 use Rattle.nj_faults.specs.declared.fault.Cause.TheVariants.{DyndepExtra, DyndepTwice, DyndepNoStatement}

@@ -3,8 +3,8 @@ use Rattle.std.specs.Prelude.{ℕ, zero, suc, ◌+◌, ◌-◌, List, [], ◌∷
 use Rattle.std.specs.Borrow.{Bor}
 use Rattle.nj_scope.specs.ReadingList.{ReadStatement}
 use Rattle.nj_edges.specs.Edges.{EdgePaths, maker_of}
-use Rattle.nj_edges.specs.Files.{path_at}
-use Rattle.nj_edges.specs.declared.files.FileNo.{FileNo}
+use Rattle.nj_names.specs.Files.{path_at}
+use Rattle.nj_names.specs.declared.files.FileNo.{FileNo}
 use Rattle.nj_tools.specs.Listings.{inputs_of_maker, tree_text}
 
 -- what is left of rows of files, the deepest row last, where this many levels are written

@@ -1,6 +1,6 @@
 use Rattle.std.proofs.Common.{◌≡◌, ◌<◌, ◌+◌, ◌-◌, min, length, refl, sym, arith}
 use Rattle.std.proofs.lemmas.List.{length-map}
-use Rattle.nj_edges.specs.declared.files.FileNo.{FileNo}
+use Rattle.nj_names.specs.declared.files.FileNo.{FileNo}
 use Rattle.nj_c.proofs.BufferLemmas.{number-more, numbers-all}
 use Rattle.nj_c.proofs.bulk.give_files.Goals as goal
 

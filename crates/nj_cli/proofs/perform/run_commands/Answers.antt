@@ -1,5 +1,5 @@
 use Rattle.std.proofs.Common.{Ok, Err, map, string_bytes, subst, sym}
-use Rattle.nj_edges.specs.Files.{AreFiles}
+use Rattle.nj_names.specs.Files.{AreFiles}
 use Rattle.nj_graph.specs.Graph.{files_of}
 use Rattle.nj_needs.specs.Resuming.{ResumeIs}
 use Rattle.nj_requests.specs.Actions.{commands}

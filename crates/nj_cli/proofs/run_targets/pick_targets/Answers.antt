@@ -1,6 +1,6 @@
 use Rattle.std.proofs.Common.{Ok, Err, [], ◌∷◌, ◌++◌, subst, sym}
 use Rattle.std.specs.Prelude.{string_bytes}
-use Rattle.nj_edges.specs.Files.{AreFiles}
+use Rattle.nj_names.specs.Files.{AreFiles}
 use Rattle.nj_graph.specs.Graph.{edges_of, files_of}
 use Rattle.nj_graph.specs.Targets.{picked, Picks}
 use Rattle.nj_cli.proofs.TargetLemmas.{targets-next, targets-stop, files-push, PicksTargets-err}

@@ -1,6 +1,6 @@
 use Rattle.std.proofs.Common.{◌≡◌, ℕ, Ok, List, take}
 use Rattle.std.specs.Prelude.{map, string_bytes}
-use Rattle.nj_edges.specs.Files.{AreFiles}
+use Rattle.nj_names.specs.Files.{AreFiles}
 use Rattle.nj_graph.specs.Graph.{edges_of, files_of}
 use Rattle.nj_cli.specs.Targets.{targets_named}
 use Rattle.nj_cli.proofs.run_targets.pick_targets.Given as goal

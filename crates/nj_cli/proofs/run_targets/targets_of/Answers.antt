@@ -1,7 +1,7 @@
 use Rattle.std.proofs.Common.{List, Bool, map, string_bytes, subst, sym}
 use Rattle.nj_edges.specs.EdgeGraphs.{EdgeGraph}
-use Rattle.nj_edges.specs.Files.{AreFiles, path_at}
-use Rattle.nj_edges.specs.declared.files.FileNo.{FileNo}
+use Rattle.nj_names.specs.Files.{AreFiles, path_at}
+use Rattle.nj_names.specs.declared.files.FileNo.{FileNo}
 use Rattle.nj_graph.specs.Graph.{edges_of, files_of}
 use Rattle.nj_needs.specs.Growing.{grown_targets}
 use Rattle.nj_edges.proofs.GraphLemmas.{files-known}

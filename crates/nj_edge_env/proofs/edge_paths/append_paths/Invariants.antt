@@ -1,5 +1,5 @@
 use Rattle.std.proofs.Common.{◌≡◌, ◌++◌, map, take}
-use Rattle.nj_edges.specs.Files.{path_at}
+use Rattle.nj_names.specs.Files.{path_at}
 use Rattle.nj_edge_env.specs.LateStrings.{paths_text}
 use Rattle.nj_edge_env.proofs.edge_paths.append_paths.Given as goal
 

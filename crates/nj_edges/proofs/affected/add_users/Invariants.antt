@@ -1,5 +1,5 @@
 use Rattle.std.proofs.Common.{map, take}
-use Rattle.nj_edges.specs.Files.{path_at}
+use Rattle.nj_names.specs.Files.{path_at}
 use Rattle.nj_edges.specs.Inside.ChangesHeld.{FindsMore, HasInputOf}
 use Rattle.nj_edges.proofs.affected.add_users.Given as goal
 

@@ -2,7 +2,7 @@ use Rattle.std.proofs.Common.{◌≡◌, ◌∙◌, not, false, slice_index_or, 
 use Rattle.std.specs.Global.{Vec}
 use Rattle.std.specs.List.{filter}
 use Rattle.std.proofs.lemmas.Result.{IfOk-weaker}
-use Rattle.nj_edges.specs.declared.files.FileNo.{FileNo}
+use Rattle.nj_names.specs.declared.files.FileNo.{FileNo}
 use Rattle.nj_edges.specs.Inside.EdgesHeld.{has_number}
 use Rattle.nj_edges.specs.Inside.RootsHeld.{AreFlags}
 use Rattle.nj_edges.proofs.RootLemmas.{flags-roots}

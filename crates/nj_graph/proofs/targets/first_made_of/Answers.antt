@@ -1,9 +1,9 @@
 use Rattle.std.proofs.Common.{◌≡◌, ℕ, List, Option, Some, option_map, slice_get, sym, ap, ◌∙◌}
 use Rattle.std.specs.Prelude.{option_and_then}
 use Rattle.std.proofs.lemmas.Option.{slice_get-map}
-use Rattle.nj_edges.specs.declared.files.FileNo.{FileNo}
+use Rattle.nj_names.specs.declared.files.FileNo.{FileNo}
 use Rattle.nj_edges.specs.Edges.{edge_at, outputs_of, first_output, users_of}
-use Rattle.nj_edges.specs.Files.{path_at}
+use Rattle.nj_names.specs.Files.{path_at}
 use Rattle.nj_graph.specs.Graph.{edges_of, files_of}
 use Rattle.nj_graph.proofs.targets.first_made_of.Goals as goal
 

@@ -1,5 +1,5 @@
 use Rattle.std.proofs.Common.{length, map}
-use Rattle.nj_edges.specs.Files.{path_at}
+use Rattle.nj_names.specs.Files.{path_at}
 use Rattle.nj_edges.specs.Needs.{makers_of_inputs}
 use Rattle.nj_needs.specs.Graphs.{row_of_paths}
 use Rattle.nj_needs.specs.Growing.{grown_targets}

@@ -1,6 +1,6 @@
 use Rattle.std.proofs.Common.{◌≡◌, ◌<◌, drop, take, length, get_or}
 use Rattle.std.specs.List.{AllByRecursion}
-use Rattle.nj_edges.specs.declared.files.FileNo.{FileNo}
+use Rattle.nj_names.specs.declared.files.FileNo.{FileNo}
 use Rattle.nj_statements.specs.Inside.JoiningSteps.{first_edges, count_bound}
 use Rattle.nj_statements.proofs.dyndep_entries.awaited_files.Given as goal
 

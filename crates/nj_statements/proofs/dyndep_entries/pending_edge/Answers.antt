@@ -1,5 +1,5 @@
 use Rattle.std.proofs.Common.{◌≡◌, ◌<◌, ◌&&◌, Bool, true, false, not, Option, None, get_or, refl, sym, ap, subst, ◌∙◌, arith}
-use Rattle.nj_edges.specs.declared.files.FileNo.{FileNo}
+use Rattle.nj_names.specs.declared.files.FileNo.{FileNo}
 use Rattle.nj_statements.specs.JoiningHeld.{still_pending}
 use Rattle.nj_statements.specs.Inside.JoiningSteps.{is_bound_to}
 use Rattle.nj_statements.proofs.PendingLemmas.{still-length, still-bound, to-next, first-at, first-nowhere}

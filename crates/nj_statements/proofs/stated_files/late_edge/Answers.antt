@@ -1,5 +1,5 @@
 use Rattle.std.proofs.Common.{◌==◌, ◌<◌, length, take, All, sym, subst}
-use Rattle.nj_edges.specs.declared.files.FileNo.{FileNo}
+use Rattle.nj_names.specs.declared.files.FileNo.{FileNo}
 use Rattle.nj_edges.specs.EdgeTables.{edge_read}
 use Rattle.nj_statements.specs.Inside.EdgeSteps.{bound_by, names_read}
 use Rattle.nj_statements.proofs.LateLemmas.{first-known, names-by-numbers}

@@ -1,5 +1,5 @@
 use Rattle.std.proofs.Common.{map, ap, subst, ◌∙◌}
-use Rattle.nj_edges.specs.Files.{path_at}
+use Rattle.nj_names.specs.Files.{path_at}
 use Rattle.nj_graph.specs.Graph.{edges_of, files_of}
 use Rattle.nj_tools.specs.Inside.Blocks.{PutsText}
 use Rattle.nj_tools.proofs.ListingLemmas.{inputs-as_needed, inputs-sorted}

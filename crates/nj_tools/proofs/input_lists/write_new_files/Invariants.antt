@@ -1,7 +1,7 @@
 use Rattle.std.proofs.Common.{List, ◌++◌, take}
 use Rattle.std.specs.List.{flat_map}
-use Rattle.nj_edges.specs.declared.files.FileNo.{FileNo}
-use Rattle.nj_edges.specs.Files.{path_at}
+use Rattle.nj_names.specs.declared.files.FileNo.{FileNo}
+use Rattle.nj_names.specs.Files.{path_at}
 use Rattle.nj_graph.specs.Graph.{files_of}
 use Rattle.nj_tools.specs.Inside.Blocks.{IsUnderway}
 use Rattle.nj_tools.specs.Inside.Collections.{IsFlagged, with_files, new_files}

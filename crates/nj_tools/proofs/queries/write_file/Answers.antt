@@ -1,7 +1,7 @@
 use Rattle.std.proofs.Common.{◌++◌, Ok, Err, option_map, map, refl, subst}
 use Rattle.std.specs.Prelude.{codes}
 use Rattle.nj_edges.specs.Edges.{maker_of, users_of, validation_users_of}
-use Rattle.nj_edges.specs.Files.{path_at}
+use Rattle.nj_names.specs.Files.{path_at}
 use Rattle.nj_graph.specs.Graph.{edges_of, files_of}
 use Rattle.nj_tools.specs.Inside.Blocks.{PutsText}
 use Rattle.nj_tools.specs.Lines.{line, lines_after}

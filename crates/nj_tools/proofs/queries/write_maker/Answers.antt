@@ -1,7 +1,7 @@
 use Rattle.std.proofs.Common.{◌≡◌, ◌++◌, None, [], option_map, map, refl, sym, ap, subst, ◌∙◌, append-nil, rules}
 use Rattle.std.specs.Prelude.{codes}
 use Rattle.nj_edges.specs.Edges.{edge_at}
-use Rattle.nj_edges.specs.Files.{path_at}
+use Rattle.nj_names.specs.Files.{path_at}
 use Rattle.nj_statements.proofs.LateLemmas.{paths-are}
 use Rattle.nj_graph.specs.Graph.{edges_of, files_of}
 use Rattle.nj_tools.specs.Inside.Blocks.{IsUnderway, PutsText}

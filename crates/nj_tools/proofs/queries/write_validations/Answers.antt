@@ -1,6 +1,6 @@
 use Rattle.std.proofs.Common.{◌++◌, map, sym, subst}
 use Rattle.std.specs.Prelude.{codes}
-use Rattle.nj_edges.specs.Files.{path_at}
+use Rattle.nj_names.specs.Files.{path_at}
 use Rattle.nj_graph.specs.Graph.{files_of}
 use Rattle.nj_tools.specs.Inside.Blocks.{IsUnderway, PutsText}
 use Rattle.nj_tools.specs.Lines.{line, lines_after}

@@ -1,8 +1,8 @@
 use Rattle.std.proofs.Common.{◌≡◌, ◌<◌, ◌++◌, ◌∷◌, [], true, false, arith, ℕ, List, Vec, Global, Bor, length, map, ap, sym, get_or, unwrap_or, ◌∙◌, append-nil}
 use Rattle.std.proofs.lemmas.List.{map-append}
 use Rattle.nj_text.specs.Quotes.{quoted}
-use Rattle.nj_edges.specs.declared.files.FileNo.{FileNo}
-use Rattle.nj_edges.specs.Files.{path_at}
+use Rattle.nj_names.specs.declared.files.FileNo.{FileNo}
+use Rattle.nj_names.specs.Files.{path_at}
 use Rattle.nj_graph.specs.Graph.{files_of}
 use Rattle.nj_tools.specs.Inside.QuotesHeld.{precedes_plain}
 use Rattle.nj_tools.proofs.QuoteLemmas.{quoted-more, plain-more, plain-quote}

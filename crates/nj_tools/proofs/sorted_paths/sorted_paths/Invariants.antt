@@ -1,5 +1,5 @@
 use Rattle.std.proofs.Common.{◌≡◌, map, take}
-use Rattle.nj_edges.specs.Files.{path_at}
+use Rattle.nj_names.specs.Files.{path_at}
 use Rattle.nj_graph.specs.Graph.{files_of}
 use Rattle.nj_tools.proofs.sorted_paths.sorted_paths.Given as goal
 

@@ -1,8 +1,8 @@
 use Rattle.std.proofs.Common.{Bool, [], ◌∷◌, ◌++◌, take, get_or, cond, filter, is_none, sym, ap, ◌∙◌, append-nil, arith}
 use Rattle.std.proofs.lemmas.List.Elements.{filter_more}
-use Rattle.nj_edges.specs.declared.files.FileNo.{FileNo}
+use Rattle.nj_names.specs.declared.files.FileNo.{FileNo}
 use Rattle.nj_edges.specs.Edges.{maker_of}
-use Rattle.nj_edges.specs.Files.{path_at}
+use Rattle.nj_names.specs.Files.{path_at}
 use Rattle.nj_graph.specs.Graph.{edges_of, files_of}
 use Rattle.nj_tools.specs.Inside.Collections.{Collection, with_file, with_files}
 use Rattle.nj_tools.proofs.CollectedLemmas.{with_files-push}

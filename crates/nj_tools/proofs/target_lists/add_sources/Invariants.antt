@@ -1,6 +1,6 @@
 use Rattle.std.proofs.Common.{◌≡◌, take, filter, is_none}
 use Rattle.nj_edges.specs.Edges.{maker_of}
-use Rattle.nj_edges.specs.Files.{path_at}
+use Rattle.nj_names.specs.Files.{path_at}
 use Rattle.nj_graph.specs.Graph.{edges_of, files_of}
 use Rattle.nj_tools.specs.Inside.Collections.{with_files}
 use Rattle.nj_tools.proofs.target_lists.add_sources.Given as goal

@@ -1,6 +1,6 @@
 use Rattle.std.proofs.Common.{ℕ, List, [], unwrap_or, sym, ap, arith}
-use Rattle.nj_edges.specs.declared.files.FileNo.{FileNo}
-use Rattle.nj_edges.specs.Files.{path_at}
+use Rattle.nj_names.specs.declared.files.FileNo.{FileNo}
+use Rattle.nj_names.specs.Files.{path_at}
 use Rattle.nj_graph.specs.Graph.{files_of}
 use Rattle.nj_tools.specs.Listings.{made_line}
 use Rattle.nj_tools.proofs.ItemLemmas.{flat_map-map, item-puts, item-stops, items-put}

@@ -1,8 +1,8 @@
 use Rattle.std.proofs.Common.{◌≡◌, ◌<◌, ◌+◌, ◌-◌, ◌++◌, [], ◌∷◌, length, map, take, drop, slice_index_or, sym, ap, subst, ◌∙◌, arith, append_assoc, rules}
 use Rattle.std.proofs.lemmas.List.Elements.{All-drop, All-take}
 use Rattle.nj_edges.specs.Edges.{maker_of}
-use Rattle.nj_edges.specs.Files.{path_at}
-use Rattle.nj_edges.specs.declared.files.FileNo.{FileNo}
+use Rattle.nj_names.specs.Files.{path_at}
+use Rattle.nj_names.specs.declared.files.FileNo.{FileNo}
 use Rattle.nj_graph.specs.Graph.{edges_of, files_of}
 use Rattle.nj_graph.proofs.Stated.{graph-edges}
 use Rattle.nj_tools.specs.declared.tool_fault.ToolFault.TheVariants.{OutOfMemory}

@@ -1,5 +1,5 @@
 use Rattle.std.proofs.Common.{drop, subst}
-use Rattle.nj_edges.specs.Files.{AreFiles}
+use Rattle.nj_names.specs.Files.{AreFiles}
 use Rattle.nj_edges.specs.EdgeTables.{EdgeTable}
 use Rattle.nj_edges.proofs.NamedLemmas.{open-files}
 use Rattle.nj_edges.proofs.edges.Edges.open_output_files.Goals as goal

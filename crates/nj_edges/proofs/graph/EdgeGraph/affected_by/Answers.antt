@@ -7,7 +7,7 @@ use Rattle.std.proofs.lemmas.Result.{IfOk-weaker}
 use Rattle.nj_edges.specs.declared.edges.EdgeNo.{EdgeNo}
 use Rattle.nj_edges.specs.Changes.{IsAffected}
 use Rattle.nj_edges.specs.Edges.{edges_from}
-use Rattle.nj_edges.specs.Files.{path_at}
+use Rattle.nj_names.specs.Files.{path_at}
 use Rattle.nj_edges.specs.Inside.UsersHeld.{numbers_of}
 use Rattle.nj_edges.proofs.ChangeLemmas.{flags-are, found-are, found-below, found-rise}
 use Rattle.nj_edges.proofs.graph.EdgeGraph.affected_by.Goals as goal

@@ -1,6 +1,6 @@
 use Rattle.std.proofs.Common.{◌<◌, ◌≤◌, [], map, length, ap, subst, ◌∙◌, arith}
 use Rattle.nj_edges.specs.Edges.{edge_at, outputs_of}
-use Rattle.nj_edges.specs.Files.{path_at}
+use Rattle.nj_names.specs.Files.{path_at}
 use Rattle.nj_edges.specs.Inside.ChangesHeld.{FindsMore, HasInputOf}
 use Rattle.nj_edges.proofs.ChangeLemmas.{files-paths, finding-begins, finding-ends, finding-continues}
 use Rattle.nj_edges.proofs.graph.EdgeGraph.affected_edges.Goals as goal

@@ -1,5 +1,5 @@
 use Rattle.std.proofs.Common.{◌-◌, map, length}
-use Rattle.nj_edges.specs.Files.{path_at}
+use Rattle.nj_names.specs.Files.{path_at}
 use Rattle.nj_edges.specs.Inside.ChangesHeld.{FindsAffected}
 use Rattle.nj_edges.proofs.graph.EdgeGraph.affected_edges.Given as goal
 

@@ -1,6 +1,6 @@
 use Rattle.std.proofs.Common.{◌∙◌, ◌+◌, ◌<◌, ℕ, List, length, subst, sym}
 use Rattle.nj_edges.specs.Edges.{inputs_of, is_among}
-use Rattle.nj_edges.specs.Files.{path_at}
+use Rattle.nj_names.specs.Files.{path_at}
 use Rattle.nj_edges.specs.Inside.UsersHeld.{using_edges}
 use Rattle.nj_edges.specs.declared.users.RowPart.TheVariants.{Inputs}
 use Rattle.nj_edges.proofs.GraphUsers.{parts-lent, starts-below, users-known, users-paths}

@@ -4,7 +4,7 @@ use Rattle.nj_scope.specs.Scopes.{IsScope, parent_at}
 use Rattle.nj_statements.proofs.Holding.{on-ok}
 use Rattle.nj_edges.specs.EdgeGraphs.{EdgeGraph}
 use Rattle.nj_edges.specs.Edges.{edge_at}
-use Rattle.nj_edges.specs.Files.{AreFiles}
+use Rattle.nj_names.specs.Files.{AreFiles}
 use Rattle.nj_scope.specs.Declarations.{DeclarationsModel, DeclaredBy}
 use Rattle.nj_statements.specs.Built.{BuiltModel, detail_at}
 use Rattle.nj_graph.specs.Graph.{GraphModel}

@@ -2,7 +2,7 @@ use Rattle.std.proofs.Common.{◌≡◌, Some, option_map, slice_get, codes, ap,
 use Rattle.std.specs.Option.{option_or}
 use Rattle.nj_scope.specs.ReadingList.{pools}
 use Rattle.nj_edge_env.specs.LateStrings.{asked_text}
-use Rattle.nj_edges.specs.Files.{path_at}
+use Rattle.nj_names.specs.Files.{path_at}
 use Rattle.nj_statements.specs.EdgeList.{file_given}
 use Rattle.nj_statements.specs.BuildFaults.{variable_cycle_fault, unknown_pool, dyndep_not_input}
 use Rattle.nj_statements.proofs.AssignedLemmas.{path-meant, numbered-longer}

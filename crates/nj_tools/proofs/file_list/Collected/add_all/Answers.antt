@@ -1,6 +1,6 @@
 use Rattle.std.proofs.Common.{take, get_or, sym, ap, ◌∙◌, arith}
 use Rattle.std.proofs.lemmas.List.{take_more}
-use Rattle.nj_edges.specs.declared.files.FileNo.{FileNo}
+use Rattle.nj_names.specs.declared.files.FileNo.{FileNo}
 use Rattle.nj_tools.specs.Inside.Collections.{with_file, with_files}
 use Rattle.nj_tools.proofs.CollectedLemmas.{with_files-push}
 use Rattle.nj_tools.proofs.file_list.Collected.add_all.Goals as goal

@@ -1,11 +1,7 @@
 -- The paths that build statements name.
 use Rattle.std.specs.Prelude.{◌≡◌, ℕ, Some, List, map, slice_get}
-use Rattle.nj_names.specs.NameTables.{with_name, name_at}
-use Rattle.nj_edges.specs.declared.files.FileNo.{FileNo}
-
--- the paths with one that is named
-abbrev pub with_path : (paths : List (List ℕ)) → (path : List ℕ) → List (List ℕ)
-with_path paths path = with_name paths path
+use Rattle.nj_names.specs.NameTables.{name_at}
+use Rattle.nj_names.specs.declared.files.FileNo.{FileNo}
 
 -- the path of the file of a number
 abbrev pub path_at : (files : List (List ℕ)) → FileNo → List ℕ

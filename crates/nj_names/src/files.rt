@@ -2,9 +2,10 @@
 
 ghost use Rattle.std.specs.Prelude.{◌≡◌, ◌<◌, [], length, Some, option_map, position, slice_get, is_some, bytes_eq, IfOk, OnOk, OnErr};
 ghost use Rattle.std.specs.List.{IsDistinct, list_any};
-ghost use Rattle.nj_edges.specs.Files.{with_path};
+ghost use Rattle.nj_names.specs.NameTables.{with_name};
 
-use nj_names::{HashKeys, Names};
+use crate::hash_keys::HashKeys;
+use crate::table::Names;
 use std::alloc::{AllocError, Global};
 use std::marker::Model;
 
@@ -67,7 +68,7 @@ impl Files {
 
     /// The number of the file at this path, which is named from now on.
     pub fn name(&mut self, path: &[u8]) -> Result<FileNo, AllocError>
-        ensures named { OnOk result (self.new ≡ with_path self.old path.now) }
+        ensures named { OnOk result (self.new ≡ with_name self.old path.now) }
         ensures number { IfOk result (λ file. slice_get self.new file.0 ≡ Some path.now) }
         ensures refused { OnErr result (self.new ≡ self.old) }
         ensures each_path_once { IsDistinct bytes_eq self.new }
