@@ -9,7 +9,7 @@ use Rattle.std.proofs.lemmas.List.Elements.{Contains-append_left, Contains-push,
 use Rattle.std.proofs.lemmas.List.Folds.{list_any-append}
 use Rattle.nj_names.specs.NumberSets.{NumberSetModel, has, with_number}
 use Rattle.nj_names.proofs.NumberLemmas.{contains-has, has-contains}
-use Rattle.nj_cycles.proofs.Places.{at_left, contains_at, index_of}
+use Rattle.nj_cycles.proofs.Places.{at_left, at_push, contains_at, index_of}
 use Rattle.nj_edges.specs.declared.edges.EdgeNo.{EdgeNo}
 use Rattle.nj_names.specs.declared.files.FileNo.{FileNo}
 use Rattle.nj_edges.specs.Edges.{EdgePaths, edge_at, edges_from, inputs_of, is_among, outputs_of, users_of}
@@ -96,6 +96,7 @@ finds-none P found all = record {
   all = all;
   fresh = λ e is. inl is;
   longer = omega arith;
+  added = λ i past below. absurd (omega (arith, past, below));
   stays = λ i below. refl;
 }
 
@@ -109,6 +110,13 @@ finds-then P Q R old mid new left right both a b = record {
     | inr q ↦ inr (right e q)
   ];
   longer = omega (arith, a.longer, b.longer);
+  added = λ i past below. elim (cases_lt i (length mid.numbers)) [
+    | inl before ↦
+        let more = a.added i past before in
+        let stays = sym (b.stays i before) in
+        (λ has. more.0 (subst (Contains old.numbers) (sym stays) has), subst R stays (left (slice_index mid.numbers i) more.1))
+    | inr after ↦ let more = b.added i after below in (λ has. more.0 (a.kept (slice_index new.numbers i) has), right (slice_index new.numbers i) more.1)
+  ];
   stays = λ i below. b.stays i (omega (arith, below, a.longer)) ∙ a.stays i below;
 }
 
@@ -124,6 +132,10 @@ finds-one old edge = by (has old.numbers edge) refl
       all = λ e is. subst (Contains (old.numbers ++ edge ∷ [])) (sym is) (Contains-push old.numbers edge);
       fresh = λ e is. elim (Contains-push_cases old.numbers edge e is) [ inl was ↦ inl was | inr now ↦ inr (sym now) ];
       longer = omega (arith, length_push old.numbers edge);
+      added = λ i past below. elim (at_push old.numbers edge i below) [
+        | inl before ↦ absurd (omega (arith, past, before.0))
+        | inr last ↦ (λ known. absurd (both_ways (has old.numbers edge) unknown (contains-has old.numbers edge (subst (Contains old.numbers) last.1 known))), last.1)
+      ];
       stays = λ i within. at_left old.numbers edge i within;
     }
 

@@ -6,7 +6,7 @@ use Rattle.nj_edges.specs.Changes.{IsAffected, has_input_of}
 use Rattle.nj_edges.specs.Changes.IsAffected.{by_file, by_edge}
 
 -- a build statement with these inputs, order-only inputs and validations
-abbrev build : (output : List ℕ) → (inputs order_only validations : List (List ℕ)) → (is_phony : Bool) → EdgePaths
+abbrev pub build : (output : List ℕ) → (inputs order_only validations : List (List ℕ)) → (is_phony : Bool) → EdgePaths
 build output inputs order_only validations is_phony = record {
   explicit_outputs = output ∷ [];
   implicit_outputs = [];
@@ -17,23 +17,23 @@ build output inputs order_only validations is_phony = record {
   is_phony = is_phony;
 }
 
-abbrev a : List ℕ
+abbrev pub a : List ℕ
 a = 97 ∷ []
 
-abbrev b : List ℕ
+abbrev pub b : List ℕ
 b = 98 ∷ []
 
-abbrev p : List ℕ
+abbrev pub p : List ℕ
 p = 112 ∷ []
 
-abbrev s : List ℕ
+abbrev pub s : List ℕ
 s = 115 ∷ []
 
-abbrev v : List ℕ
+abbrev pub v : List ℕ
 v = 118 ∷ []
 
 -- `build a: cc s`; `build p: phony a`; `build b: cc || p`; `build v: cc |@ a`
-abbrev four : List EdgePaths
+abbrev pub four : List EdgePaths
 four = build a (s ∷ []) [] [] false ∷ build p (a ∷ []) [] [] true ∷ build b [] (p ∷ []) [] false ∷ build v [] [] (a ∷ []) false ∷ []
 
 by-input : IsAffected four (s ∷ []) 0

@@ -1,5 +1,5 @@
 pub mod AddLemmas
-mod ChangeRows
+pub mod ChangeRows
 pub mod ChangeLaws
 pub mod ChangeLemmas
 pub mod CycleLemmas
@@ -13,9 +13,12 @@ pub mod JoiningLemmas
 pub mod ListLemmas
 pub mod MakerLemmas
 pub mod NamedLemmas
+pub mod NeededLemmas
+mod NeededRows
 pub mod NumberLemmas
 pub mod Passing
 pub mod RootLemmas
+pub mod SearchLemmas
 pub mod StartLemmas
 pub mod StatedLemmas
 pub mod UserLemmas

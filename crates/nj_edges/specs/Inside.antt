@@ -6,4 +6,5 @@ pub mod JoiningHeld
 pub mod MakersHeld
 pub mod RootsHeld
 pub mod RowsHeld
+pub mod SearchHeld
 pub mod UsersHeld

@@ -5,6 +5,7 @@ pub mod Graph
 pub mod Needs
 pub mod Repeats
 pub mod Changes
+pub mod Distances
 pub mod Joining
 pub mod EdgeTables
 -- how the code does that

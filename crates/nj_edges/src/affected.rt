@@ -25,7 +25,7 @@ fn add_all(found: &mut NumberSet, edges: &[EdgeNo]) -> Result<(), AllocError>
 }
 
 // Adds an edge.
-fn add(found: &mut NumberSet, edge: EdgeNo) -> Result<(), AllocError>
+pub(crate) fn add(found: &mut NumberSet, edge: EdgeNo) -> Result<(), AllocError>
     requires { edge.0 < found.old.limit }
     ensures { OnOk result (FindsMore (λ e. e ≡ edge.0) found.old found.new) }
 {
@@ -34,7 +34,7 @@ fn add(found: &mut NumberSet, edge: EdgeNo) -> Result<(), AllocError>
 }
 
 // The edge at a place in the order in which edges were found.
-fn edge_found(found: &NumberSet, place: usize) -> EdgeNo
+pub(crate) fn edge_found(found: &NumberSet, place: usize) -> EdgeNo
     requires { place < length found.now.numbers }
     ensures edge { result.0 ≡ slice_index found.now.numbers place }
     ensures known { result.0 < found.now.limit }

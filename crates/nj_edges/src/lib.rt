@@ -8,6 +8,7 @@ mod graph;
 mod input_makers;
 mod list_parts;
 mod makers;
+mod needed;
 mod number_ranges;
 mod roots;
 mod rows;

@@ -21,6 +21,8 @@ pub record FindsMore (P : ℕ → Type 0) (old new : NumberSetModel) : Type 0 wh
   pub all : (e : ℕ) → P e → Contains new.numbers e
   pub fresh : (e : ℕ) → Contains new.numbers e → Contains old.numbers e ⊎ P e
   pub longer : length old.numbers ≤ length new.numbers
+  pub added : (i : ℕ) → length old.numbers ≤ i → i < length new.numbers
+      → (Contains old.numbers (slice_index new.numbers i) → ⊥) × P (slice_index new.numbers i)
   pub stays : (i : ℕ) → i < length old.numbers → slice_index new.numbers i ≡ slice_index old.numbers i
 
 -- these edges have one of the files as an input
