@@ -6,10 +6,10 @@ use Rattle.std_alloc.proofs.BoxSteps.Form.{Bx}
 use Rattle.std_heap.specs.contracts.Global as Heap
 use Rattle.std_heap.specs.contracts.GlobalAllocator.TheImpl.{ghosts, dict}
 use Rattle.std_heap.proofs.Global.TheLaws as heap
-use Rattle.nj_c.specs.contracts.kept.Kept as Home
+use Rattle.nj_c.specs.contracts.session_state.Kept as Home
 use Rattle.nj_c.proofs.session_state.Kept.TheLaws as home
-use Rattle.nj_c.specs.contracts.loose.Loose as Parts
-use Rattle.nj_c.specs.contracts.seal.Seal as Sealed
+use Rattle.nj_c.specs.contracts.taken_box.Loose as Parts
+use Rattle.nj_c.specs.contracts.sealed_box.Seal as Sealed
 
 abbrev pub E : Bx
 E = record { row = Home.the_row; laws = home.the_row_laws; al = record { row = Heap.the_row; laws = heap.the_row_laws; g = ghosts; d = dict; drops = impl [] tnil dnil } }

@@ -27,7 +27,7 @@ use Rattle.std_heap.specs.contracts.GlobalAllocator.TheImpl.{ghosts}
 use Rattle.std_heap.proofs.Global.TheLaws as heap
 use Rattle.std.proofs.GlobalToken.{dealloc_token-Testable}
 use Rattle.nj_c.specs.Inside.Keeps.{boxed, keeps}
-use Rattle.nj_c.specs.contracts.kept.Kept.{the_row as K}
+use Rattle.nj_c.specs.contracts.session_state.Kept.{the_row as K}
 use Rattle.nj_c.specs.contracts.session.Session as session
 use Rattle.nj_c.proofs.MachineValues.{both}
 

@@ -10,7 +10,7 @@ use Rattle.std.specs.declared.option.Option.TheVariants.{None, Some}
 use Rattle.std.specs.contracts.option.Option as option
 use Rattle.std_heap.specs.contracts.GlobalAllocator.TheImpl.{ghosts}
 use Rattle.std_alloc.specs.Box.Ownership.{box_owns}
-use Rattle.nj_c.specs.contracts.kept.Kept.{the_row}
+use Rattle.nj_c.specs.contracts.session_state.Kept.{the_row}
 
 abbrev pub boxed : Global → Ptr → the_row.Denot → Fml
 boxed alloc = box_owns (ghosts.dealloc_token alloc) the_row

@@ -12,9 +12,9 @@ use mir.Raw.{raw as bare}
 use Rattle.std_heap.specs.contracts.Global as Heap
 use Rattle.std_heap.specs.contracts.GlobalAllocator.TheImpl.{ghosts}
 use Rattle.std_heap.proofs.Global.TheLaws as heap
-use Rattle.nj_c.specs.contracts.kept.Kept.{the_row as T}
+use Rattle.nj_c.specs.contracts.session_state.Kept.{the_row as T}
 use Rattle.nj_c.proofs.session_state.Kept.TheLaws.{the_row_laws as L}
-use Rattle.nj_c.specs.contracts.seal.Seal as C
+use Rattle.nj_c.specs.contracts.sealed_box.Seal as C
 use Rattle.nj_c.proofs.sealed_box.Seal.TheLaw.Statement.{statement}
 
 pub shares : statement

@@ -6,9 +6,9 @@ use denote.Param.Send.{IsSend, AllSend, owning_send, struct_send, sendable}
 use Rattle.std.proofs.Crossing as heap
 use Rattle.std_alloc.proofs.SendSync.{quiet, lies}
 use Rattle.std_heap.proofs.Global.TheSendSync as handle
-use Rattle.nj_c.specs.contracts.kept.Kept as Home
+use Rattle.nj_c.specs.contracts.session_state.Kept as Home
 use Rattle.nj_c.proofs.session_state.Kept.TheSendSync.{the_send as home}
-use Rattle.nj_c.specs.contracts.seal.Seal.{the_row, the_type}
+use Rattle.nj_c.specs.contracts.sealed_box.Seal.{the_row, the_type}
 
 pub send : IsSend the_row
 send =

@@ -35,11 +35,11 @@ use denote.Triple.Table.{entered}
 use Rattle.std_alloc.proofs.Words.{pointer_in, pointer_out}
 use Rattle.std_heap.specs.contracts.Global as Heap
 use Rattle.std_heap.proofs.Global.TheLaws as heap
-use Rattle.nj_c.specs.contracts.kept.Kept as Home
-use Rattle.nj_c.specs.contracts.seal.Seal as Sealed
+use Rattle.nj_c.specs.contracts.session_state.Kept as Home
+use Rattle.nj_c.specs.contracts.sealed_box.Seal as Sealed
 use Rattle.nj_c.proofs.sealed_box.Seal.TheLaws as sealed
-use Rattle.nj_c.specs.contracts.seal.Seal.get as F
-use Rattle.nj_c.specs.contracts.seal.Seal.get.Key.{name as #self}
+use Rattle.nj_c.specs.contracts.sealed_box.Seal.get as F
+use Rattle.nj_c.specs.contracts.sealed_box.Seal.get.Key.{name as #self}
 use Rattle.nj_c.proofs.sealed_box.Seal.get.Statement as stated
 use Rattle.nj_c.proofs.sealed_box.Seal.get.Code as code
 

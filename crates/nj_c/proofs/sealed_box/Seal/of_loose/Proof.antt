@@ -25,8 +25,8 @@ use denote.Triple.Walked.{says, Stays, stay_dropped, walk_of, ends_at, Goes-drop
 use Rattle.std_alloc.proofs.BoxSteps.Form.{D, B, word, box_typed}
 use Rattle.std_alloc.proofs.BoxSteps.Steps.{box_out, box_in}
 use Rattle.nj_c.proofs.AsBox.{E, FromParts as From}
-use Rattle.nj_c.specs.contracts.seal.Seal.of_loose as F
-use Rattle.nj_c.specs.contracts.seal.Seal.of_loose.Key.{name as #self}
+use Rattle.nj_c.specs.contracts.sealed_box.Seal.of_loose as F
+use Rattle.nj_c.specs.contracts.sealed_box.Seal.of_loose.Key.{name as #self}
 use Rattle.nj_c.proofs.sealed_box.Seal.of_loose.Statement as stated
 use Rattle.nj_c.proofs.sealed_box.Seal.of_loose.Code as code
 

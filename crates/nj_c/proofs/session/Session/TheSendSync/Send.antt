@@ -12,7 +12,7 @@ use Rattle.std_heap.proofs.Global.TheSendSync as handle
 use Rattle.std.specs.Global.{Global}
 use Rattle.std.specs.declared.option.Option.{Option}
 use Rattle.nj_c.specs.Inside.Keeps.{keeps}
-use Rattle.nj_c.specs.contracts.kept.Kept as Kept
+use Rattle.nj_c.specs.contracts.session_state.Kept as Kept
 use Rattle.nj_c.proofs.session_state.Kept.TheSendSync.{the_send as kept}
 use Rattle.nj_c.specs.contracts.session.Session.{the_row, the_type}
 

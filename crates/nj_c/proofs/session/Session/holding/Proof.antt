@@ -23,7 +23,7 @@ use Rattle.std_heap.specs.contracts.GlobalAllocator.TheImpl.{ghosts}
 use Rattle.std_heap.proofs.Global.TheLaws as heap
 use Rattle.std.proofs.raw_atomic.Walks.{proved_at, leaves}
 use Rattle.nj_c.specs.Inside.Keeps.{boxed, pure}
-use Rattle.nj_c.specs.contracts.kept.Kept.{the_row as K}
+use Rattle.nj_c.specs.contracts.session_state.Kept.{the_row as K}
 use Rattle.nj_c.proofs.MachineValues.{both, Loose, loose_good, loose_out}
 use Rattle.nj_c.proofs.SessionValues.{Z, session_in, tested}
 use Rattle.nj_c.specs.contracts.session.Session.holding.{ended, clauses}
