@@ -1,6 +1,6 @@
 //! A look at a place of a row: of the inputs of an edge, or of the targets.
 
-ghost use Rattle.std.specs.Prelude.{◌≡◌, ◌+◌, ◌^◌, ◌<◌, length, All, IfSome, option_map, slice_get};
+ghost use Rattle.std.specs.Prelude.{◌≡◌, ◌+◌, ◌^◌, ◌<◌, length, All, IfSome, slice_get};
 ghost use Rattle.std.specs.Option.{ForSome};
 ghost use Rattle.nj_needs.specs.Graphs.{count_of};
 ghost use Rattle.nj_needs.specs.Inside.Tops.{row_in};
@@ -22,27 +22,15 @@ pub(crate) fn look_at(
     ensures found { result ≡ slice_get (row_in graph.now targets.now edge) place }
     ensures fits { IfSome result (λ _. place + 1 < 2 ^ 64) }
 {
-    let maker = maker_at(graph, targets, edge, place)?;
-    Some(maker.map(|maker| maker.0))
+    match edge {
+        Some(edge) => Some(number_of(graph.maker_at(EdgeNo(edge), place)?)),
+        None => Some(number_of(graph.maker(*targets.get(place)?))),
+    }
 }
 
-fn maker_at(
-    graph: &EdgeGraph,
-    targets: &[FileNo],
-    edge: Option<usize>,
-    place: usize,
-) -> Option<Option<EdgeNo>>
-    requires targets_in { All (λ f. f.0 < length graph.now.files) targets.now }
-    requires edge_in { ForSome edge (λ e. e < count_of graph.now) }
-    ensures maker { option_map number_of result
-        ≡ slice_get (row_in graph.now targets.now edge) place }
-    ensures fits { IfSome result (λ _. place + 1 < 2 ^ 64) }
+// The number of a maker.
+fn number_of(maker: Option<EdgeNo>) -> Option<usize>
+    ensures { result ≡ number_of maker }
 {
-    match edge {
-        Some(edge) => graph.maker_at(EdgeNo(edge), place),
-        None => {
-            let file = *targets.get(place)?;
-            Some(graph.maker(file))
-        }
-    }
+    Some(maker?.0)
 }
