@@ -236,7 +236,7 @@ lesser x y = min_by_ordering (order x y) x y
 turned : (x y : List ℕ) (o : Ordering) → order x y ≡ o → order y x ≡ ordering_reverse o
 turned x y o e = nat_list_cmp_total.antisymm y x ∙ ap ordering_reverse e
 
-not_less_own : (x : List ℕ) → order x x ≢ Less
+pub not_less_own : (x : List ℕ) → order x x ≢ Less
 not_less_own x h = let e = turned x x Less h in cc
 
 lesser_at : (x y : List ℕ) → (order x (lesser x y) ≢ Less) × (order y (lesser x y) ≢ Less)
@@ -248,7 +248,7 @@ lesser_at x y = by (order x y) refl
     by Greater e = (λ h. cc, not_less_own y)
 
 -- what is not below another is not below anything that is no greater
-no_less : (x y z : List ℕ) → order x y ≢ Less → order y z ≢ Less → order x z ≢ Less
+pub no_less : (x y z : List ℕ) → order x y ≢ Less → order y z ≢ Less → order x z ≢ Less
 no_less x y z p q h = by (order z y) refl
   where
     by : (o : Ordering) → order z y ≡ o → ⊥

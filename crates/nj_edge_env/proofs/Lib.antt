@@ -1,6 +1,5 @@
 pub mod GivenLemmas
 pub mod CycleLaws
-pub mod LoopLemmas
 pub mod ReferenceLemmas
 pub mod CycleLemmas
 pub mod LateRows

@@ -1,20 +1,24 @@
 -- Lemmas on which keys of a rule refer to which.
-use Rattle.std.proofs.Common.{◌≡◌, ◌≢◌, ◌<◌, ◌≤◌, ◌+◌, ◌==◌, ◌⊎◌, inl, inr, ℕ, zero, suc, Bool, true, false, ◌||◌, if◌then◌else◌, length-append, List, [], ◌∷◌, ◌++◌, length, take, set, slice_get, get_or, Option, Some, None, is_some, option_map, unwrap_or, bytes_eq, refl, sym, ap, subst, ◌∙◌, true≢false, arith, add-one, below_more, length-set}
-use Rattle.std.specs.Prelude.{slice_index_or, All, IfSome, IfNone}
-use Rattle.std.proofs.lemmas.Bool.Decides.{eqb_tells}
-use Rattle.std.proofs.lemmas.List.{get_or-set_same, get_or-set_other}
-use Rattle.std.proofs.lemmas.List.Elements.{All-get_or}
+use Rattle.std.proofs.Common.{◌≡◌, ◌≢◌, ◌<◌, ◌≤◌, ◌+◌, inl, inr, ℕ, zero, suc, Bool, true, false, ◌||◌, List, [], ◌∷◌, ◌++◌, length, map, take, slice_get, get_or, Option, Some, None, option_map, unwrap_or, Less, refl, sym, ap, subst, ◌∙◌, true≢false, arith, add-one, below_more, Bor}
+use Rattle.std.specs.Prelude.{slice_index_or, Contains}
+use Rattle.std.specs.List.Sorted.{IsPermutation}
+use Rattle.std.specs.Ordering.{nat_cmp, is_lt}
+use Rattle.std.specs.Cmp.Lexicographic.{slice_cmp}
+use Rattle.std.proofs.lemmas.Bool.{cases_lt}
+use Rattle.std.proofs.lemmas.List.{get_or-map, length-map, map_push}
+use Rattle.std.proofs.lemmas.List.Elements.{Contains-append_left, Contains-push}
 use Rattle.std.proofs.lemmas.List.Folds.{list_any-append}
-use Rattle.std.proofs.lemmas.Option.{slice_get_within, slice_get-get_or, get_or_from_slice_get}
-use Rattle.std.proofs.Math.Seq.{take-suc, take-length}
-use Rattle.nj_text.specs.Words.{PartModel, Name}
+use Rattle.std.proofs.lemmas.List.Sorted.{Contains-permutation, IsPermutation-map}
+use Rattle.std.proofs.lemmas.Option.{slice_get-map, slice_get_within, slice_get-get_or, get_or_from_slice_get}
+use Rattle.std.proofs.Math.Seq.{take-suc}
+use Rattle.nj_text.specs.Words.{PartModel}
 use Rattle.nj_scope.specs.Rules.{RuleLineModel, given}
-use Rattle.nj_scope.specs.RulesHeld.{last_lines, key_count, key_at, IsNumber}
-use Rattle.nj_scope.proofs.KeyLemmas.{numbers_differ, given_of_line}
-use Rattle.nj_edge_env.specs.LateStrings.{names_paths, is_of_command, unless_empty, rule_value, value_given, refers, refers_in}
-use Rattle.nj_edge_env.specs.ReferencesHeld.{ReferringKeyModel, IsRow, AreFirstKeys, name_at, row_at, unbound}
-use Rattle.nj_edge_env.specs.Inside.CyclesHeld.{IsKeyNamed}
-use Rattle.nj_edge_env.proofs.GivenLemmas.{same_name, own_name, rule_value_is, given_at}
+use Rattle.nj_scope.specs.RulesHeld.{last_lines, key_count, key_at}
+use Rattle.nj_scope.proofs.KeyLemmas.{keys_are_numbered, given_of_line}
+use Rattle.nj_edge_env.specs.LateStrings.{refers, refers_in}
+use Rattle.nj_edge_env.specs.ReferencesHeld.{ReferringKeyModel, AreReferences, name_at, row_at, refers_unbound}
+use Rattle.nj_edge_env.specs.Inside.CyclesHeld.{AreSortedKeys, referring_key}
+use Rattle.nj_edge_env.proofs.CycleLaws.{no_less}
 
 -- the value of a number's key
 pub value_at : (lines : List RuleLineModel) (n : ℕ) → n < key_count lines → (value : List PartModel) × (given lines (key_at lines n) ≡ Some value)
@@ -22,139 +26,128 @@ value_at lines n below =
     let m = get_or (last_lines lines) n (record { key = []; value = [] }) in
     (m.value, given_of_line lines n m (slice_get-get_or (last_lines lines) n (record { key = []; value = [] }) below))
 
--- ---- the key that a part names
+-- ---- references among parts
 
-named_some : (lines : List RuleLineModel) (name : List ℕ) (named : ℕ) → IsNumber lines name named → IsKeyNamed lines (Name name) (Some named)
-named_some lines name named is = (is.within, λ n below. by n below (bytes_eq (key_at lines n) name) refl (eqb_tells n named))
-  where
-    by : (n : ℕ) → n < key_count lines → (b : Bool) → bytes_eq (key_at lines n) name ≡ b → ((n == named) ≡ true × (n ≡ named)) ⊎ ((n == named) ≡ false × (n ≢ named)) → bytes_eq (key_at lines n) name ≡ (n == named)
-    by n below b e (inl (same, h)) = ap (λ k. bytes_eq (key_at lines k) name) h ∙ ap (λ k. bytes_eq k name) is.is ∙ own_name name ∙ sym same
-    by n below true e (inr (other, apart)) = absurd (apart (numbers_differ lines n named below is.within (same_name (key_at lines n) name e ∙ sym is.is)))
-    by n below false e (inr (other, apart)) = e ∙ sym other
-
-named_none : (lines : List RuleLineModel) (name : List ℕ) → given lines name ≡ None → IsKeyNamed lines (Name name) None
-named_none lines name none n below = by (bytes_eq (key_at lines n) name) refl
-  where
-    by : (b : Bool) → bytes_eq (key_at lines n) name ≡ b → bytes_eq (key_at lines n) name ≡ false
-    by true e = let v = value_at lines n below in absurd (true≢false (ap is_some (sym v.1 ∙ ap (given lines) (same_name (key_at lines n) name e) ∙ none)))
-    by false e = e
-
-pub named_by : (lines : List RuleLineModel) (name : List ℕ) (named : Option ℕ) → IfSome named (IsNumber lines name) → IfNone named (given lines name ≡ None) → IsKeyNamed lines (Name name) named
-named_by lines name None some none = named_none lines name none
-named_by lines name (Some number) some none = named_some lines name number some
-
--- whether a key's value counts
-pub counted_plain : (lines : List RuleLineModel) (n : ℕ) (key : List ℕ) → n < key_count lines → key ≡ key_at lines n → names_paths key ≡ false → is_of_command key ≡ false → is_some (rule_value unbound lines (key_at lines n)) ≡ true
-counted_plain lines n key below same p q =
-    let v = value_at lines n below in
-    subst (λ k. is_some (rule_value unbound lines k) ≡ true) same
-    (ap (λ b. is_some (if b || false then None else value_given lines key)) p ∙ ap (λ b. is_some (unless_empty b (given lines key))) q ∙ ap is_some (ap (given lines) same ∙ v.1))
-
--- ---- a row
-
--- of the first parts of a value
-pub record RowSoFar (lines : List RuleLineModel) (parts : List PartModel) (row : List Bool) : Type 0 where
-  pub len : length row ≡ key_count lines
-  pub refers : (other : ℕ) → other < key_count lines → slice_index_or row other false ≡ refers parts (key_at lines other)
-
-pub row_none : (lines : List RuleLineModel) (row : List Bool) → All (λ mark. mark ≡ false) row → length row ≡ key_count lines → RowSoFar lines [] row
-row_none lines row all len = record { len = len; refers = λ other below. All-get_or (λ mark. mark ≡ false) row other false (subst (λ n. other < n) (sym len) below) all }
-
-one_more : (parts : List PartModel) (i : ℕ) (part : PartModel) (name : List ℕ) → slice_get parts i ≡ Some part → refers (take (i + 1) parts) name ≡ (refers (take i parts) name || refers_in part name)
+one_more : (parts : List PartModel) (i : ℕ) (part : PartModel) (name : List ℕ) → slice_get parts i ≡ Some part → refers (take (i + 1) parts) name ≡ (refers (take i parts) name || (refers_in part name || false))
 one_more parts i part name here =
     let t : take (i + 1) parts ≡ take i parts ++ part ∷ [] =
     ap (λ k. take k parts) (add-one i) ∙ take-suc parts i part (slice_get_within parts i part here) ∙ ap (λ q. take i parts ++ q ∷ []) (get_or_from_slice_get parts i part part here) in
-    ap (λ ps. refers ps name) t ∙ list_any-append (λ p. refers_in p name) (take i parts) (part ∷ []) ∙ ap (λ b. refers (take i parts) name || b) (or_false (refers_in part name))
+    ap (λ ps. refers ps name) t ∙ list_any-append (λ p. refers_in p name) (take i parts) (part ∷ [])
+
+-- none refers to the name up to here
+pub none_refers : (parts : List PartModel) (i : ℕ) (part : PartModel) (name : List ℕ) → slice_get parts i ≡ Some part → refers (take i parts) name ≡ false → refers_in part name ≡ false → refers (take (i + 1) parts) name ≡ false
+none_refers parts i part name here before off = one_more parts i part name here ∙ ap (λ b. b || (refers_in part name || false)) before ∙ ap (λ b. b || false) off
+
+-- one that refers to the name is enough
+pub one_refers : (parts : List PartModel) (i : ℕ) (part : PartModel) (name : List ℕ) → slice_get parts i ≡ Some part → refers_in part name ≡ true → refers parts name ≡ true
+one_refers [] i part name here is = absurd (none i here)
   where
-    or_false : (b : Bool) → (b || false) ≡ b
-    or_false true = refl
-    or_false false = refl
-
-or_true : (b : Bool) → (b || true) ≡ true
-or_true true = refl
-or_true false = refl
-
-or_no : (b : Bool) → (b || false) ≡ b
-or_no true = refl
-or_no false = refl
-
-pub row_marked : (lines : List RuleLineModel) (parts : List PartModel) (i : ℕ) (part : PartModel) (row : List Bool) (named : ℕ) → RowSoFar lines (take i parts) row → slice_get parts i ≡ Some part
-    → IsKeyNamed lines part (Some named) → RowSoFar lines (take (i + 1) parts) (set row named true)
-row_marked lines parts i part row named so here is = record {
-  len = length-set row named true ∙ so.len;
-  refers = λ other below. by other below (eqb_tells other named) ∙ sym (one_more parts i part (key_at lines other) here);
-}
+    none : (i : ℕ) → slice_get [] i ≡ Some part → ⊥
+    none i e = let lt = slice_get_within [] i part e in omega (arith, lt)
+one_refers (p ∷ parts) zero part name here is = ap (λ b. b || refers parts name) (ap (λ q. refers_in q name) (same p part here) ∙ is)
   where
-    by : (other : ℕ) → other < key_count lines → ((other == named) ≡ true × (other ≡ named)) ⊎ ((other == named) ≡ false × (other ≢ named))
-        → slice_index_or (set row named true) other false ≡ (refers (take i parts) (key_at lines other) || refers_in part (key_at lines other))
-    by other below (inl (same, h)) =
-        ap (λ k. slice_index_or (set row named true) k false) h ∙ get_or-set_same row named true false (subst (λ n. named < n) (sym so.len) is.0)
-        ∙ sym (ap (λ b. refers (take i parts) (key_at lines other) || b) (is.1 other below ∙ same) ∙ or_true (refers (take i parts) (key_at lines other)))
-    by other below (inr (differs, apart)) =
-        get_or-set_other row named other true false apart ∙ so.refers other below
-        ∙ sym (ap (λ b. refers (take i parts) (key_at lines other) || b) (is.1 other below ∙ differs) ∙ or_no (refers (take i parts) (key_at lines other)))
-
-pub row_passed : (lines : List RuleLineModel) (parts : List PartModel) (i : ℕ) (part : PartModel) (row : List Bool) → RowSoFar lines (take i parts) row → slice_get parts i ≡ Some part
-    → IsKeyNamed lines part None → RowSoFar lines (take (i + 1) parts) row
-row_passed lines parts i part row so here none = record {
-  len = so.len;
-  refers = λ other below. so.refers other below
-      ∙ sym (one_more parts i part (key_at lines other) here ∙ ap (λ b. refers (take i parts) (key_at lines other) || b) (none other below) ∙ or_no (refers (take i parts) (key_at lines other)));
-}
-
--- a key whose value does not count
-pub row_uncounted : (lines : List RuleLineModel) (number : ℕ) (row : List Bool) → RowSoFar lines [] row → is_some (rule_value unbound lines (key_at lines number)) ≡ false → IsRow lines number row
-row_uncounted lines number row so none = record { len = so.len; refers = λ other below. so.refers other below ∙ by (rule_value unbound lines (key_at lines number)) none other }
+    same : (p q : PartModel) → Some p ≡ Some q → p ≡ q
+    same p q e = ap (λ o. unwrap_or o p) e
+one_refers (p ∷ parts) (suc i) part name here is = ap (λ b. refers_in p name || b) (one_refers parts i part name here is) ∙ or_true (refers_in p name)
   where
-    by : (o : Option (List PartModel)) → is_some o ≡ false → (other : ℕ) → false ≡ refers (unwrap_or o []) (key_at lines other)
-    by None h other = refl
-    by (Some parts) h other = absurd (true≢false h)
+    or_true : (b : Bool) → (b || true) ≡ true
+    or_true true = refl
+    or_true false = refl
 
--- a key whose value counts
-pub row_counted : (lines : List RuleLineModel) (number : ℕ) (parts : List PartModel) (i : ℕ) (row : List Bool) → RowSoFar lines (take i parts) row → i ≤ length parts → length parts ≤ i
-    → given lines (key_at lines number) ≡ Some parts → is_some (rule_value unbound lines (key_at lines number)) ≡ true → IsRow lines number row
-row_counted lines number parts i row so low high is counted = record {
-  len = so.len;
-  refers = λ other below. so.refers other below ∙ ap (λ ps. refers ps (key_at lines other)) (whole ∙ sym (value (rule_value unbound lines (key_at lines number)) refl counted));
-}
-  where
-    whole : take i parts ≡ parts
-    whole = let n : i ≡ length parts = omega arith in ap (λ k. take k parts) n ∙ take-length parts
+-- ---- keys in byte order
 
-    value : (o : Option (List PartModel)) → rule_value unbound lines (key_at lines number) ≡ o → is_some o ≡ true → unwrap_or (rule_value unbound lines (key_at lines number)) [] ≡ parts
-    value None e h = absurd (true≢false (sym h))
-    value (Some others) e h =
-        let own : given lines (key_at lines number) ≡ Some others = given_at lines (key_at lines number) others (rule_value_is unbound lines (key_at lines number) others e).given in
-        ap (λ o. unwrap_or o []) (e ∙ sym own ∙ is)
+-- the keys of numbers below i are among these
+abbrev pub KeysBelow : List RuleLineModel → (i : ℕ) → (names : List (Bor (List ℕ))) → Type 0
+KeysBelow lines i names = (n : ℕ) → n < i → Contains (map (λ name. name.now) names) (key_at lines n)
 
--- ---- keys
+pub keys_more : (lines : List RuleLineModel) (i : ℕ) (names pushed : List (Bor (List ℕ))) (key : Bor (List ℕ)) → KeysBelow lines i names → pushed ≡ names ++ key ∷ [] → key.now ≡ key_at lines i → KeysBelow lines (i + 1) pushed
+keys_more lines i names pushed key are is same = subst (KeysBelow lines (i + 1)) (sym is)
+    (below_more (λ n. Contains (map (λ name. name.now) (names ++ key ∷ [])) (key_at lines n)) i
+    (λ n lt. subst (λ l. Contains l (key_at lines n)) (sym (map_push (λ name. name.now) names key)) (Contains-append_left (map (λ name. name.now) names) (key.now ∷ []) (key_at lines n) (are n lt)))
+    (subst (λ l. Contains l (key_at lines i)) (sym (map_push (λ name. name.now) names key))
+    (subst (Contains (map (λ name. name.now) names ++ key.now ∷ [])) same (Contains-push (map (λ name. name.now) names) key.now))))
 
-get_pushed : (keys : List ReferringKeyModel) (k : ReferringKeyModel) (n : ℕ) → n < length keys → slice_get (keys ++ k ∷ []) n ≡ slice_get keys n
-get_pushed [] k n below = absurd (omega arith)
-get_pushed (x ∷ keys) k zero below = refl
-get_pushed (x ∷ keys) k (suc n) below = get_pushed keys k n (omega arith)
+pub all_sorted : (lines : List RuleLineModel) (i : ℕ) (names others : List (Bor (List ℕ))) → KeysBelow lines i names → key_count lines ≤ i → IsPermutation names others
+    → (key : List ℕ) (value : List PartModel) → given lines key ≡ Some value → Contains (map (λ name. name.now) others) key
+all_sorted lines i names others are le same key value is =
+    let n = keys_are_numbered lines key value is in
+    let below = n.1 in
+    Contains-permutation (map (λ name. name.now) names) (map (λ name. name.now) others) key (IsPermutation-map (λ name. name.now) names others same)
+    (subst (Contains (map (λ name. name.now) names)) n.2 (are n.0 (omega (arith, below, le))))
 
-get_new : (keys : List ReferringKeyModel) (k : ReferringKeyModel) → slice_get (keys ++ k ∷ []) (length keys) ≡ Some k
-get_new [] k = refl
-get_new (x ∷ keys) k = get_new keys k
+-- ---- keys with their rows
 
-pub no_keys : (lines : List RuleLineModel) → AreFirstKeys lines 0 []
-no_keys lines = record { len = refl; names = λ n below. absurd (omega arith); rows = λ n below. absurd (omega arith) }
+some_at : {X : Type 0} (xs : List X) (n : ℕ) → n < length xs → (x : X) × (slice_get xs n ≡ Some x)
+some_at [] n below = absurd (omega (arith, below))
+some_at (x ∷ xs) zero below = (x, refl)
+some_at (x ∷ xs) (suc n) below = some_at xs n (omega (arith, below))
 
-pub keys_more : (lines : List RuleLineModel) (i : ℕ) (keys pushed : List ReferringKeyModel) (k : ReferringKeyModel) → AreFirstKeys lines i keys → pushed ≡ keys ++ k ∷ [] → k.name ≡ key_at lines i → IsRow lines i k.refers
-    → AreFirstKeys lines (i + 1) pushed
-keys_more lines i keys pushed k so is name row = record {
-  len = ap length is ∙ length-append keys (k ∷ []) ∙ ap (λ n. n + 1) so.len;
-  names = below_more (λ n. name_at pushed n ≡ key_at lines n) i
-      (λ n lt. ap (λ o. unwrap_or (option_map (λ (x : ReferringKeyModel). x.name) o) []) (before n lt) ∙ so.names n lt)
-      (ap (λ o. unwrap_or (option_map (λ (x : ReferringKeyModel). x.name) o) []) here ∙ name);
-  rows = below_more (λ n. IsRow lines n (row_at pushed n)) i
-      (λ n lt. subst (λ o. IsRow lines n (unwrap_or (option_map (λ (x : ReferringKeyModel). x.refers) o) [])) (sym (before n lt)) (so.rows n lt))
-      (subst (λ o. IsRow lines i (unwrap_or (option_map (λ (x : ReferringKeyModel). x.refers) o) [])) (sym here) row);
-}
-  where
-    before : (n : ℕ) → n < i → slice_get pushed n ≡ slice_get keys n
-    before n lt = ap (λ ks. slice_get ks n) is ∙ get_pushed keys k n (subst (λ m. n < m) (sym so.len) lt)
+module _ (lines : List RuleLineModel) (slices : List (Bor (List ℕ))) (sorted : AreSortedKeys lines slices) where
+  abbrev text : Bor (List ℕ) → List ℕ
+  text name = name.now
 
-    here : slice_get pushed i ≡ Some k
-    here = ap (λ ks. slice_get ks i) is ∙ ap (λ n. slice_get (keys ++ k ∷ []) n) (sym so.len) ∙ get_new keys k
+  abbrev name : ℕ → List ℕ
+  name n = unwrap_or (slice_get (map text slices) n) []
+
+  abbrev key_of : Bor (List ℕ) → ReferringKeyModel
+  key_of slice = referring_key lines slices slice.now
+
+  name_is : (n : ℕ) → name_at (map key_of slices) n ≡ name n
+  name_is n =
+      ap (λ o. unwrap_or (option_map (λ (k : ReferringKeyModel). k.name) o) []) (slice_get-map key_of slices n) ∙ by (slice_get slices n)
+      ∙ sym (ap (λ o. unwrap_or o []) (slice_get-map text slices n))
+    where
+      by : (o : Option (Bor (List ℕ))) → unwrap_or (option_map (λ (k : ReferringKeyModel). k.name) (option_map key_of o)) [] ≡ unwrap_or (option_map text o) []
+      by None = refl
+      by (Some slice) = refl
+
+  at : (n : ℕ) (slice : Bor (List ℕ)) → slice_get slices n ≡ Some slice → name n ≡ slice.now
+  at n slice e = ap (λ o. unwrap_or o []) (slice_get-map text slices n ∙ ap (option_map text) e)
+
+  -- each name after another one
+  next-by : (n : ℕ) (one other : Bor (List ℕ)) → n + 1 < length slices → slice_get slices n ≡ Some one → slice_get slices (n + 1) ≡ Some other → slice_cmp nat_cmp (name (n + 1)) (name n) ≢ Less
+  next-by n one other below here there less =
+      let less' : slice_cmp nat_cmp other.now one.now ≡ Less = sym (ap (λ x. slice_cmp nat_cmp x (name n)) (at (n + 1) other there) ∙ ap (slice_cmp nat_cmp other.now) (at n one here)) ∙ less in
+      let rise = sorted.rise n one (omega arith) below in
+      let rise' : is_lt (slice_cmp nat_cmp other.now one.now) ≡ false =
+      sym (ap (λ x. is_lt (slice_cmp nat_cmp x.now (get_or slices n one).now)) (get_or_from_slice_get slices (n + 1) other one there) ∙ ap (λ x. is_lt (slice_cmp nat_cmp other.now x.now)) (get_or_from_slice_get slices n one one here)) ∙ rise in
+      true≢false (sym (ap is_lt less') ∙ rise')
+
+  next : (n : ℕ) → n + 1 < length slices → slice_cmp nat_cmp (name (n + 1)) (name n) ≢ Less
+  next n below = let one = some_at slices n (omega (arith, below)) in let other = some_at slices (n + 1) below in next-by n one.0 other.0 below one.1 other.1
+
+  rises : (number other : ℕ) → number < other → other < length slices → slice_cmp nat_cmp (name other) (name number) ≢ Less
+  rises number zero lt below = absurd (omega (arith, lt))
+  rises number (suc other) lt below =
+      let step : slice_cmp nat_cmp (name (suc other)) (name other) ≢ Less = subst (λ k. slice_cmp nat_cmp (name k) (name other) ≢ Less) (add-one other) (next other (omega (arith, below))) in
+      elim (cases_lt number other) [
+        | inl less ↦ no_less (name (suc other)) (name other) (name number) step (rises number other less (omega (arith, below)))
+        | inr most ↦ let same : other ≡ number = omega (arith, lt, most) in subst (λ k. slice_cmp nat_cmp (name (suc other)) (name k) ≢ Less) same step
+      ]
+
+  -- the row of a key
+  row_is : (number other : ℕ) (one two : Bor (List ℕ)) → slice_get slices number ≡ Some one → slice_get slices other ≡ Some two → other < length slices
+      → slice_index_or (row_at (map key_of slices) number) other false ≡ refers_unbound lines (name number) (name other)
+  row_is number other one two here there below =
+      ap (λ o. slice_index_or (unwrap_or (option_map (λ (k : ReferringKeyModel). k.refers) o) []) other false) (slice_get-map key_of slices number ∙ ap (option_map key_of) here)
+      ∙ get_or-map (λ (x : Bor (List ℕ)). refers_unbound lines one.now x.now) slices other two false below
+      ∙ ap (λ (x : Bor (List ℕ)). refers_unbound lines one.now x.now) (get_or_from_slice_get slices other two two there)
+      ∙ ap (λ x. refers_unbound lines x two.now) (sym (at number one here)) ∙ ap (refers_unbound lines (name number)) (sym (at other two there))
+
+  pub are_references : (keys : List ReferringKeyModel) → keys ≡ map key_of slices → AreReferences lines keys
+  are_references keys is = subst (AreReferences lines) (sym is) (record {
+    all = λ key value given. let k = sorted.all key value given in (
+      k.0,
+      subst (λ n. k.0 < n) (length-map slices text ∙ sym (length-map slices key_of)) k.1,
+      name_is k.0 ∙ ap (λ o. unwrap_or o []) (slice_get-get_or (map text slices) k.0 key k.1) ∙ k.2,
+    );
+    rise = λ number other lt below.
+        subst (λ x. slice_cmp nat_cmp x (name_at (map key_of slices) number) ≢ Less) (sym (name_is other))
+        (subst (λ x. slice_cmp nat_cmp (name other) x ≢ Less) (sym (name_is number)) (rises number other lt (subst (λ n. other < n) (length-map slices key_of) below)));
+    rows = λ number other here there.
+        let below = subst (λ n. other < n) (length-map slices key_of) there in
+        let one = some_at slices number (subst (λ n. number < n) (length-map slices key_of) here) in
+        let two = some_at slices other below in
+        row_is number other one.0 two.0 one.1 two.1 below
+        ∙ ap (λ x. refers_unbound lines x (name other)) (sym (name_is number)) ∙ ap (refers_unbound lines (name_at (map key_of slices) number)) (sym (name_is other));
+  })

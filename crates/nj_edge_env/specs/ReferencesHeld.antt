@@ -1,8 +1,11 @@
--- How it is held which keys of a rule refer to which: for each key, by number, its name and a row that tells for each key whether its value
+-- How it is held which keys of a rule refer to which: the keys in byte order, each with a row that tells for each key whether its value
 -- refers to that one.
-use Rattle.std.specs.Prelude.{◌≡◌, ◌⊎◌, ℕ, ◌<◌, Bool, false, Option, None, unwrap_or, option_map, List, [], length, slice_get, slice_index_or}
-use Rattle.nj_scope.specs.Rules.{RuleLineModel}
-use Rattle.nj_scope.specs.RulesHeld.{key_count, key_at}
+use Rattle.std.specs.Prelude.{◌≡◌, ◌≢◌, ◌⊎◌, ℕ, ◌<◌, Bool, false, Option, Some, None, unwrap_or, option_map, List, [], length, slice_get, slice_index_or}
+use Rattle.std.specs.Ordering.{nat_cmp}
+use Rattle.std.specs.declared.cmp.Ordering.TheVariants.{Less}
+use Rattle.std.specs.Cmp.Lexicographic.{slice_cmp}
+use Rattle.nj_text.specs.Words.{PartModel}
+use Rattle.nj_scope.specs.Rules.{RuleLineModel, given}
 use Rattle.nj_edge_env.specs.LateStrings.{rule_value, refers}
 use Rattle.nj_edge_env.specs.VariableCycles.{variable_cycle_of}
 
@@ -24,21 +27,14 @@ unbound name = None
 abbrev pub refers_unbound : List RuleLineModel → (key other : List ℕ) → Bool
 refers_unbound lines key other = refers (unwrap_or (rule_value unbound lines key) []) other
 
--- the row of the key of this number
-pub record IsRow (lines : List RuleLineModel) (number : ℕ) (row : List Bool) : Type 0 where
-  pub len : length row ≡ key_count lines
-  pub refers : (other : ℕ) → other < key_count lines
-      → slice_index_or row other false ≡ refers_unbound lines (key_at lines number) (key_at lines other)
-
--- these are held of the first `count` keys
-pub record AreFirstKeys (lines : List RuleLineModel) (count : ℕ) (keys : List ReferringKeyModel) : Type 0 where
-  pub len : length keys ≡ count
-  pub names : (number : ℕ) → number < count → name_at keys number ≡ key_at lines number
-  pub rows : (number : ℕ) → number < count → IsRow lines number (row_at keys number)
-
 -- the references of the rule that has these lines
-abbrev pub AreReferences : List RuleLineModel → List ReferringKeyModel → Type 0
-AreReferences lines keys = AreFirstKeys lines (key_count lines) keys
+pub record AreReferences (lines : List RuleLineModel) (keys : List ReferringKeyModel) : Type 0 where
+  pub all : (key : List ℕ) (value : List PartModel) → given lines key ≡ Some value
+      → (number : ℕ) × (number < length keys) × (name_at keys number ≡ key)
+  pub rise : (number other : ℕ) → number < other → other < length keys
+      → slice_cmp nat_cmp (name_at keys other) (name_at keys number) ≢ Less
+  pub rows : (number other : ℕ) → number < length keys → other < length keys
+      → slice_index_or (row_at keys number) other false ≡ refers_unbound lines (name_at keys number) (name_at keys other)
 
 -- whatever a block binds, no variable of the rule refers back to itself
 abbrev pub NeverCycles : List RuleLineModel → Type 0

@@ -1,14 +1,13 @@
 //! Which keys of a rule refer to which.
 
-ghost use Rattle.std.specs.Prelude.{◌≡◌, ◌<◌, false, length, IfOk, is_some, slice_index_or};
+ghost use Rattle.std.specs.Prelude.{◌≡◌, ◌<◌, false, length, IfOk, option_copied, slice_index_or};
 ghost use Rattle.nj_text.specs.Words.{part_model};
-ghost use Rattle.nj_scope.specs.RulesHeld.{key_count, key_at};
-ghost use Rattle.nj_edge_env.specs.LateStrings.{rule_value};
-ghost use Rattle.nj_edge_env.specs.ReferencesHeld.{AreReferences, TellsCycles, IsRow, name_at, row_at, unbound};
-ghost use Rattle.nj_edge_env.specs.Inside.CyclesHeld.{IsKeyNamed};
+ghost use Rattle.nj_edge_env.specs.LateStrings.{rule_value, refers, refers_in};
+ghost use Rattle.nj_edge_env.specs.ReferencesHeld.{AreReferences, TellsCycles, name_at, row_at, refers_unbound, unbound};
+ghost use Rattle.nj_edge_env.specs.Inside.CyclesHeld.{AreSortedKeys, key_held, referring_key};
 
 use crate::path_names::{is_of_command, names_paths};
-use nj_scope::Rule;
+use nj_scope::{LateValue, Rule};
 use nj_text::Part;
 use std::alloc::{AllocError, Global};
 use std::marker::Model;
@@ -26,6 +25,7 @@ struct ReferringKey {
 /// of a rule that has no cycle, whatever a block binds.
 #[derive(Drop)]
 pub struct KeyReferences {
+    // in byte order
     keys: Vec<ReferringKey>,
 }
 
@@ -97,51 +97,87 @@ pub(crate) fn is_marked(marks: &[bool], number: usize) -> bool
 fn references_of(alloc: Global, rule: &Rule) -> Result<KeyReferences, AllocError>
     ensures { IfOk result (AreReferences rule.now.lines) }
 {
-    let mut keys = Vec::with_capacity(alloc, rule.key_count())?;
-    'keys: for number in 0..rule.key_count() {
-        let name = Vec::from_slice(alloc, rule.key(number))?;
-        let refers = row_of_key(alloc, rule, number)?;
-        keys.push(ReferringKey { name, refers })?;
+    let sorted = sorted_keys(alloc, rule)?;
+    let names = sorted.as_slice();
+    let mut keys = Vec::with_capacity(alloc, names.len())?;
+    'names: for name in names {
+        keys.push(referring_key(alloc, rule, name, names)?)?;
     }
     Ok(KeyReferences { keys })
 }
 
-// For each key, whether the value of this one refers to it: to none if the value does not count.
-fn row_of_key(alloc: Global, rule: &Rule, number: usize) -> Result<Vec<bool>, AllocError>
-    requires { number < key_count rule.now.lines }
-    ensures { IfOk result (λ row. IsRow rule.now.lines number row.items) }
+// The keys of the rule, in byte order.
+fn sorted_keys<'a>(alloc: Global, rule: &'a Rule) -> Result<Vec<&'a [u8]>, AllocError>
+    ensures { IfOk result (λ names. AreSortedKeys rule.entry.now.lines names.items) }
 {
-    let mut refers = vec![in alloc; false; rule.key_count()]?;
-    if !is_counted(rule, number) {
-        return Ok(refers);
+    let mut names = Vec::with_capacity(alloc, rule.key_count())?;
+    'keys: for number in 0..rule.key_count() {
+        names.push(rule.key(number))?;
     }
-    let value = rule.key_value(number);
+    names.sort_by(|one, other| one.cmp(other))?;
+    Ok(names)
+}
+
+// The key of this name, and for each of these names whether its value refers to it.
+fn referring_key(
+    alloc: Global,
+    rule: &Rule,
+    name: &[u8],
+    names: &[&[u8]],
+) -> Result<ReferringKey, AllocError>
+    ensures { IfOk result (λ key. key_held key
+        ≡ referring_key rule.now.lines names.now name.now) }
+{
+    let mut refers = Vec::with_capacity(alloc, names.len())?;
+    'names: for other in names {
+        refers.push(refers_unbound(rule, name, other))?;
+    }
+    let name = Vec::from_slice(alloc, name)?;
+    Ok(ReferringKey { name, refers })
+}
+
+// Whether the value of the key refers to the name where no block binds the key.
+fn refers_unbound(rule: &Rule, key: &[u8], name: &[u8]) -> bool
+    ensures { result ≡ refers_unbound rule.now.lines key.now name.now }
+{
+    match value_unbound(rule, key) {
+        Some(value) => refers(value, name),
+        None => false,
+    }
+}
+
+// The value of a key that counts where no block binds the key.
+fn value_unbound<'a>(rule: &'a Rule, key: &[u8]) -> Option<&'a LateValue>
+    ensures { option_copied result ≡ rule_value unbound rule.entry.now.lines key.now }
+{
+    if names_paths(key) {
+        return None;
+    }
+    let value = rule.value(key)?;
+    if is_of_command(key) && value.len() == 0 {
+        return None;
+    }
+    Some(value)
+}
+
+// Whether a part of a value is a reference to the name.
+fn refers(value: &LateValue, name: &[u8]) -> bool
+    ensures { result ≡ refers value.now name.now }
+{
     'parts: for index in 0..value.len() {
-        if let Some(other) = key_named(rule, value.part(index)) {
-            refers[other] = true;
+        if refers_in(value.part(index), name) {
+            return true;
         }
     }
-    Ok(refers)
+    false
 }
 
-// Whether the value of a key counts where no block binds it.
-fn is_counted(rule: &Rule, number: usize) -> bool
-    requires { number < key_count rule.now.lines }
-    ensures { result ≡ is_some (rule_value unbound rule.now.lines (key_at rule.now.lines number)) }
-{
-    let key = rule.key(number);
-    if names_paths(key) {
-        return false;
-    }
-    !is_of_command(key) || rule.key_value(number).len() > 0
-}
-
-// The number of the key that a part of a value refers to.
-fn key_named(rule: &Rule, part: Part<'_>) -> Option<usize>
-    ensures { IsKeyNamed rule.now.lines (part_model part.entry) result }
+// Whether a part is a reference to the name.
+fn refers_in(part: Part<'_>, name: &[u8]) -> bool
+    ensures { result ≡ refers_in (part_model part.entry) name.now }
 {
     match part {
-        Part::Name(name) => rule.key_number(name),
-        Part::Bytes(_) => None,
+        Part::Name(other) => name == other,
+        Part::Bytes(_) => false,
     }
 }
