@@ -1,5 +1,7 @@
 pub mod AddLemmas
 pub mod ChangeRows
+pub mod ChainLemmas
+mod ChainRows
 pub mod ChangeLaws
 pub mod ChangeLemmas
 pub mod CycleLemmas

@@ -1,4 +1,5 @@
 -- How the code meets the definitions beside this folder. No contract of a public call needs these.
+pub mod ChainsHeld
 pub mod ChangesHeld
 pub mod EdgesHeld
 pub mod GraphHeld

@@ -6,6 +6,7 @@ pub mod Needs
 pub mod Repeats
 pub mod Changes
 pub mod Distances
+pub mod Chains
 pub mod Joining
 pub mod EdgeTables
 -- how the code does that

@@ -2,6 +2,7 @@
 #![tactic(auto)]
 
 mod affected;
+mod chains;
 mod dyndep_edges;
 mod edges;
 mod graph;
@@ -15,6 +16,7 @@ mod rows;
 mod users;
 
 pub use affected::affected_law;
+pub use chains::Step;
 pub use dyndep_edges::JoiningEdges;
 pub use edges::{EdgeNo, Edges, Kind, KindEnds};
 pub use graph::{CycleEdge, EdgeGraph, Finished};

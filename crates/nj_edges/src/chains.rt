@@ -1,0 +1,224 @@
+//! Chains of inputs by which a file needs another.
+
+ghost use Rattle.std.specs.Prelude.{◌≡◌, ◌<◌, ◌∷◌, [], None, option_map, length, slice_index, IfOk, OnOk};
+ghost use Rattle.nj_names.specs.NumberSets.{has, with_number};
+ghost use Rattle.nj_edges.specs.Chains.{PathIs};
+ghost use Rattle.nj_names.specs.Files.{path_at};
+ghost use Rattle.nj_edges.specs.Inside.ChainsHeld.{AddsMakers, ChainIs, ComeFromEarlier, MakesInput, StepIs, StepToIs, Traces, with_arrival};
+
+use crate::affected::edge_found;
+use crate::edges::{EdgeNo, Kind};
+use crate::graph::{EdgeGraph, row_at};
+use crate::list_parts::part;
+use nj_names::{FileNo, NumberSet};
+use std::alloc::{AllocError, Global};
+
+/// A step of a chain: from an edge to one of its inputs, which the edge of the next step makes.
+#[derive(Clone, Copy, Debug, PartialEq, Eq)]
+pub struct Step {
+    pub edge: EdgeNo,
+    /// Where the input is among the inputs of the edge; its validations come after these.
+    pub index: usize,
+    pub file: FileNo,
+    /// `None` for a validation.
+    pub kind: Option<Kind>,
+}
+
+// How a search came to an edge: by a step from the edge at a place in the order in which edges were
+// found.
+#[derive(Clone, Copy)]
+struct Arrival {
+    step: Step,
+    place: usize,
+}
+
+// The edges that were found, nearest first, and how the search came to each of them; nothing came
+// to the first.
+#[derive(Drop)]
+struct Search {
+    found: NumberSet,
+    arrivals: Vec<Option<Arrival>>,
+}
+
+impl EdgeGraph {
+    /// A shortest chain by which one file needs another: its first step goes from the edge that
+    /// makes `from`, its last one to `to`, and each goes from the edge that makes the input of the
+    /// step before it. Of several shortest ones it is the first when inputs are tried from left to
+    /// right. `None` if there is no chain, and from a file to itself. All kinds of inputs count
+    /// alike; with `with_validations` validations count as inputs too, after those of their edge.
+    ///
+    /// Takes time in proportion to the edges that are no farther from `from` than `to` is, their
+    /// inputs and their validations, but for a flag for each edge of the graph. Fails only if an
+    /// allocation fails.
+    pub fn path_between(
+        &self,
+        alloc: Global,
+        from: FileNo,
+        to: FileNo,
+        with_validations: bool,
+    ) -> Result<Option<Vec<Step>>, AllocError>
+        requires from { from.0 < length self.now.files }
+        requires to { to.0 < length self.now.files }
+        ensures { IfOk result (λ path. PathIs self.now with_validations from to
+            (option_map (λ steps. steps.items) path)) }
+    {
+        if from == to {
+            return Ok(None);
+        }
+        match self.maker(from) {
+            Some(edge) => self.chain_from(alloc, edge, to, with_validations),
+            None => Ok(None),
+        }
+    }
+
+    // A shortest chain from an edge to a file.
+    fn chain_from(
+        &self,
+        alloc: Global,
+        first: EdgeNo,
+        to: FileNo,
+        with_validations: bool,
+    ) -> Result<Option<Vec<Step>>, AllocError>
+        requires first { first.0 < length self.now.edges }
+        requires to { to.0 < length self.now.files }
+        ensures { IfOk result (λ path.
+            ChainIs self.now with_validations first.0 (path_at self.now.files to)
+            (option_map (λ steps. steps.items) path)) }
+    {
+        let mut search = Search::begun_at(alloc, self.edge_count(), first)?;
+        let mut place = 0;
+        'edges: while place < search.found.numbers().len() {
+            let edge = edge_found(&search.found, place);
+            if let Some(last) = self.step_to(edge, to, with_validations) {
+                return Ok(Some(traced(alloc, &search.arrivals, last, place)?));
+            }
+            search.add_makers(self, edge, place, with_validations)?;
+            place += 1;
+        }
+        Ok(None)
+    }
+
+    // The first step from an edge to a file.
+    fn step_to(&self, edge: EdgeNo, to: FileNo, with_validations: bool) -> Option<Step>
+        requires edge { edge.0 < length self.now.edges }
+        requires to { to.0 < length self.now.files }
+        ensures { StepToIs self.now with_validations edge (path_at self.now.files to) result }
+    {
+        let mut index = 0;
+        'inputs: while let Some(step) = self.step_at(edge, index, with_validations) {
+            if step.file == to {
+                return Some(step);
+            }
+            index += 1;
+        }
+        None
+    }
+
+    // The step from an edge to its input at an index; `None` past the last one.
+    fn step_at(&self, edge: EdgeNo, index: usize, with_validations: bool) -> Option<Step>
+        requires { edge.0 < length self.now.edges }
+        ensures { StepIs self.now with_validations edge index result }
+    {
+        let row = row_at(&self.rows, edge.0);
+        let inputs = part(&self.inputs, row.inputs.start, row.inputs.end);
+        if index < inputs.len() {
+            return Some(Step {
+                edge,
+                index,
+                file: inputs[index],
+                kind: Some(self.input_kind(edge, index)),
+            });
+        }
+        if !with_validations {
+            return None;
+        }
+        let file = *self.validations(edge).get(index - inputs.len())?;
+        Some(Step {
+            edge,
+            index,
+            file,
+            kind: None,
+        })
+    }
+}
+
+impl Search {
+    // A search that begins at an edge.
+    fn begun_at(alloc: Global, edge_count: usize, first: EdgeNo) -> Result<Search, AllocError>
+        requires { first.0 < edge_count }
+        ensures found { IfOk result (λ search.
+            search.found ≡ record { limit = edge_count; numbers = first.0 ∷ [] }) }
+        ensures arrivals { IfOk result (λ search. search.arrivals.items ≡ None ∷ []) }
+    {
+        let mut search = Search {
+            found: NumberSet::none_below(alloc, edge_count)?,
+            arrivals: Vec::new(alloc),
+        };
+        search.add(first, None)?;
+        Ok(search)
+    }
+
+    // Adds an edge to which the search came so, unless it was found before.
+    fn add(&mut self, edge: EdgeNo, arrival: Option<Arrival>) -> Result<(), AllocError>
+        requires { edge.0 < self.old.found.limit }
+        ensures found { OnOk result (self.new.found ≡ record self.old.found {
+          numbers = with_number self.old.found.numbers edge.0;
+        }) }
+        ensures arrivals { OnOk result (self.new.arrivals.items
+            ≡ with_arrival self.old.arrivals.items (has self.old.found.numbers edge.0) arrival) }
+    {
+        if self.found.insert(edge.0)? {
+            self.arrivals.push(arrival)?;
+        }
+        Ok(())
+    }
+
+    // Adds the edges that make inputs of the edge at a place.
+    fn add_makers(
+        &mut self,
+        graph: &EdgeGraph,
+        edge: EdgeNo,
+        place: usize,
+        with_validations: bool,
+    ) -> Result<(), AllocError>
+        requires limit { self.old.found.limit ≡ length graph.now.edges }
+        requires count { length self.old.arrivals.items ≡ length self.old.found.numbers }
+        requires place { place < length self.old.found.numbers }
+        requires edge { edge.0 ≡ slice_index self.old.found.numbers place }
+        requires known { edge.0 < length graph.now.edges }
+        ensures { OnOk result (AddsMakers graph.now with_validations
+            (MakesInput graph.now with_validations (slice_index self.old.found.numbers place)) place
+            self.old.found self.new.found self.old.arrivals.items self.new.arrivals.items) }
+    {
+        let mut index = 0;
+        'inputs: while let Some(step) = graph.step_at(edge, index, with_validations) {
+            if let Some(maker) = graph.maker(step.file) {
+                self.add(maker, Some(Arrival { step, place }))?;
+            }
+            index += 1;
+        }
+        Ok(())
+    }
+}
+
+// The steps by which a search came to the edge at a place, and one more.
+fn traced(
+    alloc: Global,
+    arrivals: &[Option<Arrival>],
+    last: Step,
+    place: usize,
+) -> Result<Vec<Step>, AllocError>
+    requires place { place < length arrivals.now }
+    requires earlier { ComeFromEarlier arrivals.now }
+    ensures { IfOk result (λ steps. Traces arrivals.now place (last ∷ []) steps.items) }
+{
+    let mut steps = Vec::new(alloc);
+    steps.push(last)?;
+    let mut place = place;
+    'arrivals: while let Some(arrival) = arrivals[place] {
+        steps.push(arrival.step)?;
+        place = arrival.place;
+    }
+    steps.reverse();
+    Ok(steps)
+}
