@@ -25,7 +25,7 @@ use nj_edge_env::{Blocks, KeyReferences};
 use nj_edges::{Edges, FileNo};
 use nj_faults::{Cause, GraphFault, Name, PlaceRef};
 use nj_manifest::Build;
-use nj_scope::{Declarations, HashKeys, PHONY};
+use nj_scope::{Declarations, HashKeys};
 use nj_text::Word;
 use std::alloc::Global;
 use std::marker::Model;

@@ -10,9 +10,6 @@ use nj_edge_env::KeyReferences;
 use nj_scope::Rule;
 use std::alloc::{AllocError, Global};
 
-// The number of the rule `phony`.
-pub(crate) const PHONY: usize = 0;
-
 /// The rule that a statement uses, and its number.
 #[derive(Clone, Copy)]
 pub(crate) struct UsedRule<'a> {

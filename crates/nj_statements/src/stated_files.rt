@@ -22,13 +22,14 @@ ghost use Rattle.nj_statements.specs.Inside.EdgeSteps.{AreClean, KeepsClean, See
 
 use crate::context::Context;
 use crate::edge_record::Assigned;
-use crate::rule_references::{PHONY, UsedRule};
+use crate::rule_references::UsedRule;
 use crate::scratch::{Capacity, only_bytes};
 use crate::text_table::Texts;
 use nj_edge_env::{KeyReferences, LateEdge};
 use nj_edges::{Edges, FileNo, KindEnds};
 use nj_faults::{Cause, GraphFault, Name};
 use nj_manifest::{Build, Word};
+use nj_scope::PHONY;
 use std::alloc::AllocError;
 
 impl Context<'_> {
