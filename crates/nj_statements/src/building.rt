@@ -20,11 +20,12 @@ use crate::rule_references::{UsedRule, keep_references, rule_references};
 use crate::scratch::Capacity;
 use crate::stated_block::bind_block;
 use crate::stated_files::add_edge;
-use crate::text_table::Texts;
+use crate::string_numbers::file_number;
 use nj_edge_env::{Blocks, KeyReferences};
 use nj_edges::{Edges, FileNo};
 use nj_faults::{Cause, GraphFault, Name, PlaceRef};
 use nj_manifest::Build;
+use nj_names::Names;
 use nj_scope::{Declarations, HashKeys};
 use nj_text::Word;
 use std::alloc::Global;
@@ -43,7 +44,7 @@ pub(crate) struct DyndepEdge {
 pub struct Building {
     pub(crate) edges: Edges,
     pub(crate) block_values: Blocks,
-    pub(crate) names: Texts,
+    pub(crate) names: Names,
     pub(crate) details: Vec<Detail>,
     pub(crate) defaults: Vec<FileNo>,
     pub(crate) dyndeps: Vec<DyndepEdge>,
@@ -81,7 +82,7 @@ impl Building {
         Building {
             edges: Edges::new(alloc, keys),
             block_values: Blocks::new(alloc, keys),
-            names: Texts::new(alloc, keys),
+            names: Names::new(alloc, keys),
             details: Vec::new(alloc),
             defaults: Vec::new(alloc),
             dyndeps: Vec::new(alloc),
@@ -166,7 +167,7 @@ impl Building {
         // Capacity is made first, so that nothing can fail once the edge is there.
         self.details.reserve(1)?;
         self.dyndeps.reserve(1)?;
-        let file = self.names.file(place.file)?;
+        let file = file_number(&mut self.names, self.details.last(), place.file)?;
         let detail = Detail::new(file, place.spot, scope, rule.number)?;
         keep_references(alloc, &mut self.references, rule)?;
         bind_block(

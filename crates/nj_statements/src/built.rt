@@ -11,10 +11,11 @@ ghost use Rattle.nj_statements.specs.Inside.Details.{text_at, spot_of};
 
 use crate::building::{Building, DyndepEdge};
 use crate::edge_record::Detail;
-use crate::text_table::Texts;
+use crate::string_numbers::string_at;
 use nj_edge_env::Blocks;
 use nj_edges::{EdgeGraph, EdgeNo, FileNo, Finished};
 use nj_faults::{Cause, GraphFault, Name, PlaceRef};
+use nj_names::Names;
 use std::alloc::Global;
 use std::marker::Model;
 
@@ -32,7 +33,7 @@ pub struct EdgeDetail<'a> {
 pub struct Built {
     pub(crate) graph: EdgeGraph,
     pub(crate) blocks: Blocks,
-    pub(crate) names: Texts,
+    pub(crate) names: Names,
     pub(crate) details: Vec<Detail>,
     pub(crate) defaults: Vec<FileNo>,
     // the edges to which dyndep files are still to be joined
@@ -94,7 +95,7 @@ impl Building {
 }
 
 // The fault of a cycle at the statement of this edge, with this output of it.
-pub(crate) fn cycle_fault(alloc: Global, names: &Texts, detail: Detail, output: Name) -> GraphFault
+pub(crate) fn cycle_fault(alloc: Global, names: &Names, detail: Detail, output: Name) -> GraphFault
     requires { detail.file < length names.now }
     ensures { IsFault (Some (fault_at (text_at names.now detail.file) (spot_of detail)
         (Cause.Cycle output))) result }
@@ -103,13 +104,13 @@ pub(crate) fn cycle_fault(alloc: Global, names: &Texts, detail: Detail, output: 
 }
 
 // The place of the build statement of this edge.
-pub(crate) fn place_of(names: &Texts, detail: Detail) -> PlaceRef<'_>
+pub(crate) fn place_of(names: &Names, detail: Detail) -> PlaceRef<'_>
     requires { detail.file < length names.now }
     ensures file { result.file.now ≡ text_at names.now detail.file }
     ensures spot { result.spot ≡ spot_of detail }
 {
     PlaceRef {
-        file: names.text(detail.file),
+        file: names.name(detail.file as usize),
         spot: detail.spot(),
     }
 }
@@ -151,7 +152,7 @@ impl Built {
         requires { edge.0 < length self.now.graph.edges }
         ensures { option_copied result ≡ (assigned_at self.now.assigned edge.0).pool }
     {
-        self.names.numbered(self.details[edge.0].pool)
+        string_at(&self.names, self.details[edge.0].pool)
     }
 
     /// The dyndep file of an edge, by its clean path: the value of `dyndep` at its build statement
@@ -160,7 +161,7 @@ impl Built {
         requires { edge.0 < length self.now.graph.edges }
         ensures { option_copied result ≡ (assigned_at self.now.assigned edge.0).dyndep }
     {
-        self.names.numbered(self.details[edge.0].dyndep)
+        string_at(&self.names, self.details[edge.0].dyndep)
     }
 
     /// The defaults in force: the files of the `default` lines in their order, or the roots where

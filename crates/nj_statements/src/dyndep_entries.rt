@@ -25,11 +25,11 @@ use crate::building::DyndepEdge;
 use crate::built::{Built, cycle_fault, place_of};
 use crate::edge_record::Detail;
 use crate::scratch::Capacity;
-use crate::text_table::Texts;
 use nj_edge_env::Blocks;
 use nj_edges::{EdgeNo, FileNo, Finished, JoiningEdges};
 use nj_faults::{Cause, GraphFault, Name, PlaceRef};
 use nj_manifest::{Entry, Word};
+use nj_names::Names;
 use nj_text::{Spot, TextFault};
 use std::alloc::{AllocError, Global};
 use std::marker::Model;
@@ -49,7 +49,7 @@ pub struct DyndepFile<'a> {
 pub struct Joining {
     edges: JoiningEdges,
     blocks: Blocks,
-    names: Texts,
+    names: Names,
     details: Vec<Detail>,
     defaults: Vec<FileNo>,
     // the dyndep files, each with its first edge

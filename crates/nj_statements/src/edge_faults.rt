@@ -14,10 +14,11 @@ ghost use Rattle.nj_statements.specs.Inside.EdgeSteps.{SeesLate, IsFileGiven, as
 use crate::context::Context;
 use crate::edge_record::Assigned;
 use crate::scratch::Capacity;
-use crate::text_table::{Texts, path_number};
+use crate::string_numbers::{path_number, string_number};
 use nj_edge_env::{KeyReferences, LateEdge};
 use nj_edges::{Edges, FileNo};
 use nj_faults::{Cause, GraphFault, Name};
+use nj_names::Names;
 use nj_text::TextFault;
 use std::alloc::AllocError;
 
@@ -29,7 +30,7 @@ impl Context<'_> {
         edge: LateEdge<'_>,
         capacity: &mut Capacity,
         edges: &Edges,
-        strings: &mut Texts,
+        strings: &mut Names,
         references: &KeyReferences,
     ) -> Result<Assigned, GraphFault>
         ensures fault { (entries : List ReadStatement) (n : LateNames)
@@ -77,7 +78,7 @@ impl Context<'_> {
         self,
         edge: LateEdge<'_>,
         text: &mut Vec<u8>,
-        strings: &mut Texts,
+        strings: &mut Names,
     ) -> Result<u32, GraphFault>
         ensures fault { (entries : List ReadStatement) (n : LateNames)
             → SeesLate edge.entry entries n
@@ -95,7 +96,7 @@ impl Context<'_> {
             return Ok(0);
         }
         if edge.declarations.has_pool(pool) {
-            let number = strings.number(pool)?;
+            let number = string_number(strings, pool)?;
             return Ok(number);
         }
         let cause = Cause::UnknownPool(Name::new(self.alloc, pool)?);

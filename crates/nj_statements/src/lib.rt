@@ -13,7 +13,7 @@ mod rule_references;
 mod scratch;
 mod stated_block;
 mod stated_files;
-mod text_table;
+mod string_numbers;
 
 pub use building::Building;
 pub use built::{Built, EdgeDetail};

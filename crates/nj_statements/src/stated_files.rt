@@ -24,11 +24,11 @@ use crate::context::Context;
 use crate::edge_record::Assigned;
 use crate::rule_references::UsedRule;
 use crate::scratch::{Capacity, only_bytes};
-use crate::text_table::Texts;
 use nj_edge_env::{KeyReferences, LateEdge};
 use nj_edges::{Edges, FileNo, KindEnds};
 use nj_faults::{Cause, GraphFault, Name};
 use nj_manifest::{Build, Word};
+use nj_names::Names;
 use nj_scope::PHONY;
 use std::alloc::AllocError;
 
@@ -327,7 +327,7 @@ pub(crate) fn add_edge(
     context: Context<'_>,
     capacity: &mut Capacity,
     edges: &mut Edges,
-    strings: &mut Texts,
+    strings: &mut Names,
     build: &Build<'_>,
     rule: UsedRule<'_>,
     references: &KeyReferences,

@@ -49,7 +49,7 @@ returns-in_err-assigned-clause-reads c = λ entries around depth by within rule_
     let paths = edge_paths (stated_paths values outputs inputs (c.args.rule.number == 0)) in
     let meant = names_fault c.args.place.file.now c.args.place.spot (pools entries) (inputs_of paths) (names_read paths (bound_in c.bind_block.new.blocks edge) c.args.rule.rule.now scope_values) in
     let kept = c.in_ok-keep_references.ensures.held (rules_read entries) held.references there in
-    let own = kept c.args.rule.number c.rule_references-references.result.now (ap (λ kept. slice_index_or kept c.args.rule.number None) (sym c.deref.ensures.value) ∙ c.rule_references-references.ensures) in
+    let own = kept c.args.rule.number c.rule_references-references.result.now (ap (λ kept. slice_index_or kept c.args.rule.number None) (sym c.deref-2.ensures.value) ∙ c.rule_references-references.ensures) in
     let tells : TellsCycles c.args.rule.rule.now.lines c.rule_references-references.result.now = subst (λ (r : RuleModel). TellsCycles r.lines c.rule_references-references.result.now) (same-rule (rules_read entries) c.args.rule.number own.0 c.args.rule.rule.now own.1 there) own.2 in
     reads-err _ (option_or (paths_fault c.args.place.file.now values (paths_of_edges (edges_read entries)) outputs inputs) late_is) e entries c.from_residual-in_err-assigned.result c.in_err-assigned.field-0.0 c.from_residual-in_err-assigned.ensures.1
     (subst (λ o. IsFault (option_or (paths_fault c.args.place.file.now values (paths_of_edges (edges_read entries)) outputs inputs) o) c.in_err-assigned.field-0.0) late
@@ -78,7 +78,7 @@ returns-clause-reads c = λ entries around depth by within rule_is there has.
     let paths = edge_paths (stated_paths values outputs inputs (c.args.rule.number == 0)) in
     let meant = names_fault c.args.place.file.now c.args.place.spot (pools entries) (inputs_of paths) (names_read paths (bound_in c.bind_block.new.blocks edge) c.args.rule.rule.now scope_values) in
     let kept = c.in_ok-keep_references.ensures.held (rules_read entries) held.references there in
-    let own = kept c.args.rule.number c.rule_references-references.result.now (ap (λ kept. slice_index_or kept c.args.rule.number None) (sym c.deref.ensures.value) ∙ c.rule_references-references.ensures) in
+    let own = kept c.args.rule.number c.rule_references-references.result.now (ap (λ kept. slice_index_or kept c.args.rule.number None) (sym c.deref-2.ensures.value) ∙ c.rule_references-references.ensures) in
     let tells : TellsCycles c.args.rule.rule.now.lines c.rule_references-references.result.now = subst (λ (r : RuleModel). TellsCycles r.lines c.rule_references-references.result.now) (same-rule (rules_read entries) c.args.rule.number own.0 c.args.rule.rule.now own.1 there) own.2 in
     let given = c.in_ok-assigned.assigned in
     let grows = c.in_ok-assigned.ensures.grows in
@@ -93,9 +93,9 @@ returns-clause-reads c = λ entries around depth by within rule_is there has.
           (λ n name. bound n name ∙ ap (λ edge. if n == edge then option_or (block name) (bound_in old.blocks n name) else bound_in old.blocks n name) count)
           (λ n is. ap (names_in c.bind_block.new.blocks) (is ∙ sym count) ∙ subst (λ ls. names_in c.bind_block.new.blocks edge ≡ names_bound (lines_model ls)) c.as_slice.ensures.value (c.in_ok-bind_block.ensures.names (no-block old entries edge held count) (no-names old entries edge held count)))
           (λ n other. c.in_ok-bind_block.ensures.other_names n (ap (λ edge. n == edge) count ∙ other))
-          (prefix-trans old.names c.file.new.self new.names c.in_ok-file.ensures.grows grows)
+          (prefix-trans old.names c.file_number.new.strings new.names c.in_ok-file.ensures.grows grows)
           (ap (map detail_model) (c.push_reserved.ensures.items ∙ ap (λ (d : Detail). c.reserve.new.self.items ++ d ∷ []) c.with.ensures ∙ ap (λ (ds : List Detail). ds ++ detail ∷ []) c.in_ok-reserve.ensures.items) ∙ map-append detail_model c.self.inside.details.items (detail ∷ []))
-          (record { file = get-prefix c.file.new.self new.names detail.file c.args.place.file.now grows (subst (λ n. slice_get c.file.new.self n ≡ Some c.args.place.file.now) (sym kept_as.file_is) c.in_ok-file.ensures.number); spot = kept_as.spot_is; scope = kept_as.scope_is; rule = kept_as.rule_is ∙ ap (λ (o : Option ℕ). unwrap_or o 0) (sym rule_is) })
+          (record { file = get-prefix c.file_number.new.strings new.names detail.file c.args.place.file.now grows (subst (λ n. slice_get c.file_number.new.strings n ≡ Some c.args.place.file.now) (sym kept_as.file_is) c.in_ok-file.ensures.number); spot = kept_as.spot_is; scope = kept_as.scope_is; rule = kept_as.rule_is ∙ ap (λ (o : Option ℕ). unwrap_or o 0) (sym rule_is) })
           (assigned-numbers new.names given detail refl refl _ (subst (λ n. AreNumbersOf new.names given (assigned_by n)) (sym names_are) (c.in_ok-assigned.ensures.assigned values sees held.none_open)))
           refl
           (c.push_dyndep.ensures ∙ ap (with_dyndep edge c.in_ok-assigned.assigned.file) c.in_ok-reserve-2.ensures.items ∙ ap (λ n. with_dyndep n c.in_ok-assigned.assigned.file old.dyndeps) count)
@@ -104,10 +104,38 @@ returns-clause-reads c = λ entries around depth by within rule_is there has.
           kept,
     )
 
+pub returns-in_err-file-clause-refused : goal.returns-in_err-file-clause-refused
+returns-in_err-file-clause-refused c =
+    let old : BuildingModel = record { table = c.self.inside.edges; blocks = c.self.inside.block_values; names = c.self.inside.names; details = map detail_model c.self.inside.details.items; defaults = c.self.inside.defaults.items; dyndeps = c.self.inside.dyndeps.items; references = c.self.inside.references.items } in
+    let new : BuildingModel = record { table = old.table; blocks = old.blocks; names = c.file_number.new.strings; details = map detail_model c.reserve.new.self.items; defaults = old.defaults; dyndeps = c.reserve-2.new.self.items; references = old.references } in
+    on-err c.from_residual-in_err-file.result (subst (λ b. AddsNothing b new) c.self.view_is (record {
+      edges = keeps_none old.table;
+      blocks = λ number name below. refl;
+      block_names = λ number below. refl;
+      names = c.in_err-file.ensures.grows;
+      details = ap (map detail_model) c.in_ok-reserve.ensures.items;
+      defaults = refl;
+      dyndeps = c.in_ok-reserve-2.ensures.items;
+    }))
+
+pub returns-in_err-detail-clause-refused : goal.returns-in_err-detail-clause-refused
+returns-in_err-detail-clause-refused c =
+    let old : BuildingModel = record { table = c.self.inside.edges; blocks = c.self.inside.block_values; names = c.self.inside.names; details = map detail_model c.self.inside.details.items; defaults = c.self.inside.defaults.items; dyndeps = c.self.inside.dyndeps.items; references = c.self.inside.references.items } in
+    let new : BuildingModel = record { table = old.table; blocks = old.blocks; names = c.file_number.new.strings; details = map detail_model c.reserve.new.self.items; defaults = old.defaults; dyndeps = c.reserve-2.new.self.items; references = old.references } in
+    on-err c.from_residual-in_err-detail.result (subst (λ b. AddsNothing b new) c.self.view_is (record {
+      edges = keeps_none old.table;
+      blocks = λ number name below. refl;
+      block_names = λ number below. refl;
+      names = c.in_ok-file.ensures.grows;
+      details = ap (map detail_model) c.in_ok-reserve.ensures.items;
+      defaults = refl;
+      dyndeps = c.in_ok-reserve-2.ensures.items;
+    }))
+
 pub returns-in_err-keep_references-clause-refused : goal.returns-in_err-keep_references-clause-refused
 returns-in_err-keep_references-clause-refused c =
     let old : BuildingModel = record { table = c.self.inside.edges; blocks = c.self.inside.block_values; names = c.self.inside.names; details = map detail_model c.self.inside.details.items; defaults = c.self.inside.defaults.items; dyndeps = c.self.inside.dyndeps.items; references = c.self.inside.references.items } in
-    let new : BuildingModel = record { table = old.table; blocks = old.blocks; names = c.file.new.self; details = map detail_model c.reserve.new.self.items; defaults = old.defaults; dyndeps = c.reserve-2.new.self.items; references = c.keep_references.new.kept.items } in
+    let new : BuildingModel = record { table = old.table; blocks = old.blocks; names = c.file_number.new.strings; details = map detail_model c.reserve.new.self.items; defaults = old.defaults; dyndeps = c.reserve-2.new.self.items; references = c.keep_references.new.kept.items } in
     let edge = length c.as_slice-edge.result.now in
     let count : edge ≡ length old.details = ap length c.as_slice-edge.ensures.value ∙ sym (length-map c.self.inside.details.items detail_model) in
     on-err c.from_residual-in_err-keep_references.result (subst (λ b. AddsNothing b new) c.self.view_is (record {
@@ -123,7 +151,7 @@ returns-in_err-keep_references-clause-refused c =
 pub returns-in_err-bind_block-clause-refused : goal.returns-in_err-bind_block-clause-refused
 returns-in_err-bind_block-clause-refused c =
     let old : BuildingModel = record { table = c.self.inside.edges; blocks = c.self.inside.block_values; names = c.self.inside.names; details = map detail_model c.self.inside.details.items; defaults = c.self.inside.defaults.items; dyndeps = c.self.inside.dyndeps.items; references = c.self.inside.references.items } in
-    let new : BuildingModel = record { table = old.table; blocks = c.bind_block.new.blocks; names = c.file.new.self; details = map detail_model c.reserve.new.self.items; defaults = old.defaults; dyndeps = c.reserve-2.new.self.items; references = c.keep_references.new.kept.items } in
+    let new : BuildingModel = record { table = old.table; blocks = c.bind_block.new.blocks; names = c.file_number.new.strings; details = map detail_model c.reserve.new.self.items; defaults = old.defaults; dyndeps = c.reserve-2.new.self.items; references = c.keep_references.new.kept.items } in
     let edge = length c.as_slice-edge.result.now in
     let count : edge ≡ length old.details = ap length c.as_slice-edge.ensures.value ∙ sym (length-map c.self.inside.details.items detail_model) in
     on-err c.from_residual-in_err-bind_block.result (subst (λ b. AddsNothing b new) c.self.view_is (record {
@@ -146,7 +174,7 @@ returns-in_err-assigned-clause-refused c =
       edges = c.in_err-assigned.ensures.refused.read;
       blocks = λ number name below. c.in_ok-bind_block.ensures.others number name (subst (λ n. number < n) (sym count) below);
       block_names = λ number below. c.in_ok-bind_block.ensures.other_names number (ne_eqb number edge (λ is. omega (arith, is, below, count)));
-      names = prefix-trans old.names c.file.new.self c.add_edge.new.strings c.in_ok-file.ensures.grows c.in_err-assigned.ensures.grows;
+      names = prefix-trans old.names c.file_number.new.strings c.add_edge.new.strings c.in_ok-file.ensures.grows c.in_err-assigned.ensures.grows;
       details = ap (map detail_model) c.in_ok-reserve.ensures.items;
       defaults = refl;
       dyndeps = c.in_ok-reserve-2.ensures.items;

@@ -1,4 +1,4 @@
-use Rattle.std.proofs.Common.{◌≡◌, Some, option_map, slice_get, codes, ap, ◌∙◌}
+use Rattle.std.proofs.Common.{Some, option_map, codes, ap, ◌∙◌}
 use Rattle.std.specs.Option.{option_or}
 use Rattle.nj_scope.specs.ReadingList.{pools}
 use Rattle.nj_edge_env.specs.LateStrings.{asked_text}
