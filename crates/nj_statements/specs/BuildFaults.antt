@@ -1,5 +1,5 @@
 -- What is wrong with a `build` or `default` statement, by the statements before it.
-use Rattle.std.specs.Prelude.{ℕ, ◌||◌, not, Option, Some, None, is_some, option_map, List, [], ◌∷◌, ◌++◌, codes}
+use Rattle.std.specs.Prelude.{ℕ, ◌||◌, not, Option, None, is_some, option_map, List, [], ◌∷◌, ◌++◌, codes}
 use Rattle.std.specs.Option.{option_or}
 use Rattle.std.specs.Bool.{then_some}
 use Rattle.nj_text.specs.declared.spot.Spot.{Spot}

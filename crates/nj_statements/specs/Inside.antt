@@ -3,3 +3,4 @@ pub mod BuiltHeld
 pub mod Details
 pub mod EdgeSteps
 pub mod JoiningSteps
+pub mod StatedEdge

@@ -1,15 +1,12 @@
 //! The files that a build statement names.
 
-ghost use Rattle.std.specs.Prelude.{◌≡◌, ℕ, List, ◌==◌, ◌<◌, ◌≤◌, ◌+◌, ◌++◌, ◌∷◌, false, Some, length, slice_get, codes, IfOk, IfSome, OnOk, OnErr};
+ghost use Rattle.std.specs.Prelude.{◌≡◌, ℕ, List, ◌==◌, ◌<◌, ◌≤◌, ◌+◌, ◌++◌, false, Some, length, slice_get, codes, IfOk, IfSome, OnOk, OnErr};
 ghost use Rattle.nj_scope.specs.Scopes.{expanded, first_given};
-ghost use Rattle.std.specs.Option.{option_or};
 ghost use Rattle.nj_text.specs.Calls.{is_empty};
 ghost use Rattle.nj_text.specs.Paths.{clean_path_of};
 ghost use Rattle.nj_text.specs.Words.{word_model};
 ghost use Rattle.nj_manifest.specs.Contents.{words_model, outputs_model, inputs_model};
-ghost use Rattle.nj_scope.specs.ReadingList.{value_after, pools};
 ghost use Rattle.nj_scope.specs.Readings.{IsPrefix};
-ghost use Rattle.nj_edges.specs.Edges.{inputs_of};
 ghost use Rattle.nj_edges.specs.EdgeTables.{no_files, EndWithin, edge_read};
 ghost use Rattle.nj_edge_env.specs.LateEdges.{late_names};
 ghost use Rattle.nj_edge_env.specs.LateStrings.{asked_text};
@@ -18,7 +15,8 @@ ghost use Rattle.nj_statements.specs.EdgeList.{Values, path_given, paths_given, 
 ghost use Rattle.nj_statements.specs.BuildFaults.{empty_path, target_fault, outputs_fault, inputs_fault, paths_fault};
 ghost use Rattle.nj_statements.specs.Answers.{Checks};
 ghost use Rattle.nj_statements.specs.Inside.Details.{AreNumbersOf};
-ghost use Rattle.nj_statements.specs.Inside.EdgeSteps.{AreClean, KeepsClean, SeesNames, IsFileGiven, assigned_by, bound_by, Grows, AddsInputs, AddsEdge, names_read, with_outputs, with_input_unless, with_inputs, with_validations, names_fault};
+ghost use Rattle.nj_statements.specs.Inside.EdgeSteps.{AreClean, KeepsClean, SeesNames, IsFileGiven, assigned_by, bound_by, Grows, AddsInputs, AddsEdge, names_read, with_outputs, with_input_unless, with_inputs, with_validations};
+ghost use Rattle.nj_statements.specs.Inside.StatedEdge.{edge_fault, names_meant, paths_meant};
 
 use crate::context::Context;
 use crate::edge_record::Assigned;
@@ -336,31 +334,19 @@ pub(crate) fn add_edge(
     ensures fault { (values : Values) (sees : SeesNames context.entry values)
         → edges.old.«open» ≡ no_files
         → TellsCycles rule.entry.rule.now.lines references.now
-        → let paths = edge_paths (stated_paths values (outputs_model build.now)
-        (inputs_model build.now) (rule.entry.number == 0)) in
-        Checks (option_or (paths_fault context.entry.place.file.now values edges.old.edges
-        (outputs_model build.now) (inputs_model build.now))
-        (names_fault context.entry.place.file.now context.entry.place.spot (pools sees.entries)
-        (inputs_of paths) (names_read paths (bound_by context.entry) rule.entry.rule.now
-        (value_after sees.entries (context.entry.scope ∷ sees.around))))) result }
+        → Checks (edge_fault context.entry build.now rule.entry values sees edges.old.edges)
+        result }
     ensures added { (values : Values) → SeesNames context.entry values
         → edges.old.«open» ≡ no_files
-        → OnOk result (AddsEdge edges.old edges.new (edge_paths (stated_paths values
-        (outputs_model build.now) (inputs_model build.now) (rule.entry.number == 0)))) }
+        → OnOk result (AddsEdge edges.old edges.new (paths_meant build.now rule.entry values)) }
     ensures dyndep { (values : Values) (sees : SeesNames context.entry values)
         → edges.old.«open» ≡ no_files
-        → let paths = edge_paths (stated_paths values (outputs_model build.now)
-        (inputs_model build.now) (rule.entry.number == 0)) in
-        IfOk result (λ a. IsFileGiven edges.new.files a.file (file_given (asked_text
-        (names_read paths (bound_by context.entry) rule.entry.rule.now
-        (value_after sees.entries (context.entry.scope ∷ sees.around))) (codes "dyndep")))) }
+        → IfOk result (λ a. IsFileGiven edges.new.files a.file (file_given (asked_text
+        (names_meant context.entry build.now rule.entry values sees) (codes "dyndep")))) }
     ensures assigned { (values : Values) (sees : SeesNames context.entry values)
         → edges.old.«open» ≡ no_files
-        → let paths = edge_paths (stated_paths values (outputs_model build.now)
-        (inputs_model build.now) (rule.entry.number == 0)) in
-        IfOk result (λ a. AreNumbersOf strings.new a (assigned_by
-        (names_read paths (bound_by context.entry) rule.entry.rule.now
-        (value_after sees.entries (context.entry.scope ∷ sees.around))))) }
+        → IfOk result (λ a. AreNumbersOf strings.new a
+        (assigned_by (names_meant context.entry build.now rule.entry values sees))) }
     ensures grows { IsPrefix strings.old strings.new }
     ensures clean { OnOk result (AreClean edges.new.files) }
     ensures refused { OnErr result (KeepsClean edges.old edges.new) }
