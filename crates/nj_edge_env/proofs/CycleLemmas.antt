@@ -136,11 +136,14 @@ module _ (keys : List ReferringKeyModel) (counts : List Bool) where
 
   -- without keys there is no cycle
   pub none_first : length keys ≡ 0 → IsFirstOnCycle makers (length keys) None
-  none_first empty = (λ key. 0, record {
-    falls = λ key other needs. let within = (known_edges key other needs).0 in absurd (omega (arith, within, empty));
-    bounded = λ key within. absurd (omega (arith, within, empty));
-    within = λ key other needs. (known_edges key other needs).1;
-  })
+  none_first empty = (
+    λ key. 0,
+    record {
+      falls = λ key other needs. let within = (known_edges key other needs).0 in absurd (omega (arith, within, empty));
+      bounded = λ key within. absurd (omega (arith, within, empty));
+      within = λ key other needs. (known_edges key other needs).1;
+    },
+  )
 
 module _ (block : List ℕ → Option (List ℕ)) (lines : List RuleLineModel) (keys : List ReferringKeyModel) (counts : List Bool) (are : AreReferences lines keys) (counted : AreCounted block keys counts) where
   value_of : (key : List ℕ) (other : List ℕ) → block key ≡ None → refers (unwrap_or (rule_value unbound lines key) []) other ≡ true → RefersTo block lines key other
