@@ -85,12 +85,16 @@ def add_to(of, chunk, name):
 @cache
 def module(path):
     """The file of definitions of `Rattle.CRATE.specs.A.B`, or `None` if it is not one of ours. If B is
-    a type with constructors, it is the file of `A`."""
+    a type with constructors, it is the file of `A`, and if CRATE gives out `A` of a crate below it,
+    the file there."""
     crate, _, *names = path.split(".")[1:]
     if not (CRATES / crate).is_dir():
         return None
     file = CRATES.joinpath(crate, "specs", *names).with_suffix(".antt")
     if not file.exists():
+        given = (CRATES / crate / "specs/Lib.antt").read_text()
+        if found := re.search(rf"^pub use (\S+\.{names[0]})$", given, re.M):
+            return module(".".join([found[1], *names[1:]]))
         return module(path.rpartition(".")[0])
     of, name, fixity = Module(file), None, ""
     text = re.sub(r"(^|\s)--(\s.*)?$", "", file.read_text(), flags=re.M)

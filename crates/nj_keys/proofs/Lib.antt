@@ -1,0 +1,9 @@
+mod BaseLemmas
+mod BaseRows
+mod FieldLaws
+mod FieldLemmas
+mod InputLemmas
+mod KeyLaws
+mod LineLaws
+mod MakerLemmas
+mod OpenLemmas

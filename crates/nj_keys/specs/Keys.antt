@@ -1,0 +1,155 @@
+-- Keys of edges, which are made of their commands and files and of the keys of the edges that make their inputs.
+use Rattle.std.specs.Prelude.{◌≡◌, ◌<◌, ◌^◌, ℕ, Option, Some, None, unwrap_or, if◌then◌else◌, List, [], ◌∷◌, ◌++◌, map, length, Contains, codes, decimal}
+use Rattle.std.specs.List.{flat_map, AllByRecursion}
+use Rattle.sha2.specs.Sha256.{sha256}
+use Rattle.hex.specs.Hex.{encode_lower}
+use Rattle.nj_graph.specs.ReadingList.{ReadStatement}
+use Rattle.nj_graph.specs.declared.Kind.{Kind}
+use Rattle.nj_graph.specs.declared.Kind.TheVariants.{Explicit, Implicit, OrderOnly}
+use Rattle.nj_graph.specs.Edges.{EdgePaths, edge_at, inputs_of, outputs_of, first_output, maker_of}
+use Rattle.nj_graph.specs.Graph.{edges_of, late_text_of, GraphModel, IsGraphOf}
+use Rattle.nj_keys.specs.Bases.{mapped}
+
+-- ---- what a key is made of
+
+-- an input, with the key of the edge that makes it, which is empty where none does
+pub record InputFields : Type 0 where
+  pub kind : Kind
+  pub path : List ℕ
+  pub key : List ℕ
+
+-- a command, the name and the content of its response file, and the outputs and inputs of its edge, in their order
+pub record Fields : Type 0 where
+  pub command : List ℕ
+  pub response_file : List ℕ
+  pub response : List ℕ
+  pub outputs : List (List ℕ)
+  pub inputs : List InputFields
+
+-- ---- their text
+
+-- a number and a colon
+abbrev pub number : ℕ → List ℕ
+number n = decimal n ++ 58 ∷ []
+
+-- a field: its length, a colon, its bytes
+abbrev pub field : List ℕ → List ℕ
+field bytes = number (length bytes) ++ bytes
+
+-- what a manifest has before the inputs of a kind
+abbrev pub bars : Kind → List ℕ
+bars Explicit = []
+bars Implicit = codes "|"
+bars OrderOnly = codes "||"
+
+abbrev pub input_text : InputFields → List ℕ
+input_text input = field (bars input.kind) ++ field input.path ++ field input.key
+
+abbrev pub fields_text : Fields → List ℕ
+fields_text f =
+    field f.command ++ field f.response_file ++ field f.response
+    ++ number (length f.outputs) ++ flat_map field f.outputs ++ flat_map input_text f.inputs
+
+-- ---- the fields of an edge
+
+-- a variable of an edge; a phony edge has none
+abbrev pub variable_of : List EdgePaths → List ReadStatement → (edge : ℕ) → (name : List ℕ) → List ℕ
+variable_of edges entries edge name = if (edge_at edges edge).is_phony then [] else late_text_of entries edge name
+
+-- what a response file contains, if it has a name
+abbrev pub content_of : (name content : List ℕ) → List ℕ
+content_of [] content = []
+content_of (byte ∷ name) content = content
+
+abbrev pub response_of : List EdgePaths → List ReadStatement → (edge : ℕ) → List ℕ
+response_of edges entries edge =
+    content_of (variable_of edges entries edge (codes "rspfile")) (variable_of edges entries edge (codes "rspfile_content"))
+
+-- the key of the edge that makes a file; empty where no edge makes it
+abbrev pub maker_key : (keys : ℕ → List ℕ) → (maker : Option ℕ) → List ℕ
+maker_key keys (Some edge) = keys edge
+maker_key keys None = []
+
+-- an input of this kind at a path
+abbrev pub input_fields : (folders : List (List ℕ)) → List EdgePaths → (keys : ℕ → List ℕ) → Kind → (path : List ℕ) → InputFields
+input_fields folders edges keys kind path = record { kind = kind; path = mapped folders path; key = maker_key keys (maker_of edges path) }
+
+-- the inputs of an edge, kind by kind
+abbrev pub inputs_with_keys : (folders : List (List ℕ)) → List EdgePaths → (keys : ℕ → List ℕ) → EdgePaths → List InputFields
+inputs_with_keys folders edges keys e =
+    map (input_fields folders edges keys Explicit) e.explicit_inputs
+    ++ map (input_fields folders edges keys Implicit) e.implicit_inputs
+    ++ map (input_fields folders edges keys OrderOnly) e.order_only_inputs
+
+-- the fields of an edge, where `keys` has the keys of the edges that make its inputs
+abbrev pub fields_of : (folders : List (List ℕ)) → List EdgePaths → List ReadStatement → (keys : ℕ → List ℕ) → (edge : ℕ) → Fields
+fields_of folders edges entries keys edge = record {
+  command = mapped folders (variable_of edges entries edge (codes "command"));
+  response_file = mapped folders (variable_of edges entries edge (codes "rspfile"));
+  response = mapped folders (response_of edges entries edge);
+  outputs = map (mapped folders) (outputs_of (edge_at edges edge));
+  inputs = inputs_with_keys folders edges keys (edge_at edges edge);
+}
+
+-- ---- keys
+
+-- the edges that make the inputs of an edge, in their order; None for a source
+abbrev pub input_makers : List EdgePaths → (edge : ℕ) → List (Option ℕ)
+input_makers edges edge = map (maker_of edges) (inputs_of (edge_at edges edge))
+
+-- edge e needs edge f, which makes an input of it
+abbrev pub Needs : List EdgePaths → (e f : ℕ) → Type 0
+Needs edges e f = Contains (input_makers edges e) (Some f)
+
+-- The key of an edge is the SHA-256 of the text of its fields, where each edge that makes an input has its key.
+pub data IsKey (folders : List (List ℕ)) (edges : List EdgePaths) (entries : List ReadStatement) : (edge : ℕ) → (key : List ℕ) → Type 0 where
+  digest : {e : ℕ} (keys : ℕ → List ℕ) → ((f : ℕ) → Needs edges e f → IsKey folders edges entries f (keys f))
+      → IsKey folders edges entries e (sha256 (fields_text (fields_of folders edges entries keys e)))
+
+-- ---- lines
+
+-- a key in hexadecimal digits, and the first output of its edge
+abbrev pub line : List EdgePaths → (edge : ℕ) → (key : List ℕ) → List ℕ
+line edges edge key = encode_lower key ++ 32 ∷ unwrap_or (first_output (edge_at edges edge)) [] ++ 10 ∷ []
+
+-- The text has a line for each of these edges, in their order, with its key.
+pub data ListsKeys (folders : List (List ℕ)) (edges : List EdgePaths) (entries : List ReadStatement) : (numbers : List ℕ) → (text : List ℕ) → Type 0 where
+  none : ListsKeys folders edges entries [] []
+  last : {numbers text : List ℕ} {e : ℕ} {key : List ℕ} → ListsKeys folders edges entries numbers text → IsKey folders edges entries e key
+      → ListsKeys folders edges entries (numbers ++ e ∷ []) (text ++ line edges e key)
+
+-- ---- laws
+
+-- each text and the number of outputs are below 2^64, as all are that memory holds
+pub record AreShort (f : Fields) : Type 0 where
+  pub command : length f.command < 2 ^ 64
+  pub response_file : length f.response_file < 2 ^ 64
+  pub response : length f.response < 2 ^ 64
+  pub output_count : length f.outputs < 2 ^ 64
+  pub outputs : AllByRecursion (λ path. length path < 2 ^ 64) f.outputs
+  pub inputs : AllByRecursion (λ input. (length input.path < 2 ^ 64) × (length input.key < 2 ^ 64)) f.inputs
+
+-- other fields have another text: their text tells each command, response file, output and input, with its kind and key
+abbrev pub TextsTellFields : Type 0
+TextsTellFields = (one other : Fields) → AreShort one → AreShort other → fields_text one ≡ fields_text other → one ≡ other
+
+-- an edge has one key only
+abbrev pub KeysAreUnique : Type 0
+KeysAreUnique = (folders : List (List ℕ)) (edges : List EdgePaths) (entries : List ReadStatement) (e : ℕ) (key other : List ℕ)
+    → IsKey folders edges entries e key → IsKey folders edges entries e other → key ≡ other
+
+-- each edge of a graph has one, and so has each that a walk visits
+abbrev pub EdgesHaveKeys : Type 0
+EdgesHaveKeys = (folders : List (List ℕ)) (g : GraphModel) (entries : List ReadStatement) → IsGraphOf g entries
+    → (e : ℕ) → e < length (edges_of g) → (key : List ℕ) × IsKey folders (edges_of g) entries e key
+
+-- some edges have one text only
+abbrev pub LinesAreUnique : Type 0
+LinesAreUnique = (folders : List (List ℕ)) (edges : List EdgePaths) (entries : List ReadStatement) (numbers text other : List ℕ)
+    → ListsKeys folders edges entries numbers text → ListsKeys folders edges entries numbers other → text ≡ other
+
+-- the texts of two pages, one after the other, are the text of both
+abbrev pub PagesOfLinesJoin : Type 0
+PagesOfLinesJoin = (folders : List (List ℕ)) (edges : List EdgePaths) (entries : List ReadStatement) (numbers more text rest : List ℕ)
+    → ListsKeys folders edges entries numbers text → ListsKeys folders edges entries more rest
+    → ListsKeys folders edges entries (numbers ++ more) (text ++ rest)

@@ -1,0 +1,12 @@
+//! Keys of edges, under which a cache may keep what their commands make.
+#![tactic(auto)]
+
+mod bases;
+mod fields;
+mod keys;
+mod laws;
+mod pages;
+
+pub use bases::Bases;
+pub use laws::{fields_law, keys_law, lines_law};
+pub use pages::{Page, page_from};

@@ -1,0 +1,132 @@
+//! The lines of commands, in pages.
+
+ghost use Rattle.std.specs.Prelude.{◌≡◌, ◌-◌, ◌<◌, ◌++◌, ◌⊎◌, [], true, false, All, List, IfErr, IfOk, OnOk, length, option_map, unwrap_or};
+ghost use Rattle.nj_graph.specs.ReadingList.{ReadStatement};
+ghost use Rattle.nj_graph.specs.Edges.{edge_at, first_output};
+ghost use Rattle.nj_needs.specs.Graphs.{makers_of, row_of};
+ghost use Rattle.nj_needs.specs.Marks.{is_valid};
+ghost use Rattle.nj_needs.specs.Walks.{rest_of, BeginsAt, WalkState};
+ghost use Rattle.nj_tools.specs.CommandStrings.{written, StopsAt};
+ghost use Rattle.nj_graph.specs.Graph.{edges_of, files_of, IsGraphOf};
+ghost use Rattle.nj_keys.specs.Keys.{line, ListsKeys};
+ghost use Rattle.nj_keys.specs.Inside.Keeping.{kept_key};
+
+use crate::bases::Bases;
+use crate::fields::{Key, kept_key};
+use crate::keys::keep_key;
+use nj_graph::{EdgeNo, FileNo, Graph};
+use nj_needs::{Mark, Needs};
+use nj_tools::Error;
+use std::alloc::{AllocError, Global};
+
+/// Lines of commands, and the mark at which the rest can be had, if any are left.
+#[derive(Drop)]
+pub struct Page {
+    pub lines: Vec<u8>,
+    pub mark: Option<Mark>,
+}
+
+/// The lines of the commands that the targets need, from a mark on; at most `take` of them if that
+/// is given. A line is the key of an edge in hexadecimal digits, a space and its first output. In
+/// what a key is made of a number stands for each base.
+///
+/// # Errors
+///
+/// `MarkOutOfRange` if the mark leads to no edge at some step, and `OutOfMemory` if an allocation
+/// failed.
+pub fn page_from(
+    alloc: Global,
+    graph: &Graph,
+    bases: &Bases,
+    targets: &[FileNo],
+    mark: &Mark,
+    take: Option<u64>,
+) -> Result<Page, Error>
+    requires { All (λ file. file.0 < length (files_of graph.now)) targets.now }
+    ensures valid { IfOk result (λ _. is_valid (makers_of graph.now.built.graph)
+        (row_of graph.now.built.graph targets.now) mark.now ≡ true) }
+    ensures refused { IfErr result (λ error. (error ≡ Error.OutOfMemory)
+        ⊎ ((error ≡ Error.MarkOutOfRange) × (is_valid (makers_of graph.now.built.graph)
+        (row_of graph.now.built.graph targets.now) mark.now ≡ false))) }
+    ensures lines { (entries : List ReadStatement) → IsGraphOf graph.now entries
+        → IfOk result (λ page. ListsKeys bases.now (edges_of graph.now) entries
+        (written take (rest_of graph.now.built.graph targets.now mark.now)) page.lines.items) }
+    ensures mark { IfOk result (λ page. (walk : WalkState)
+        × BeginsAt graph.now.built.graph targets.now mark.now walk
+        × StopsAt walk take page.mark) }
+{
+    let mut needs = Needs::resume(alloc, graph.edge_graph(), targets, mark)?;
+    let page = next_page(alloc, graph, bases, &mut needs, take)?;
+    Ok(page)
+}
+
+// The lines of the commands that are left to a walk over this graph.
+fn next_page(
+    alloc: Global,
+    graph: &Graph,
+    bases: &Bases,
+    needs: &mut Needs<'_>,
+    take: Option<u64>,
+) -> Result<Page, AllocError>
+    requires { needs.old.graph ≡ graph.now.built.graph }
+    ensures lines { (entries : List ReadStatement) → IsGraphOf graph.now entries
+        → IfOk result (λ page. ListsKeys bases.now (edges_of graph.now) entries
+        (written take needs.old.left) page.lines.items) }
+    ensures mark { IfOk result (λ page. StopsAt needs.old take page.mark) }
+{
+    let mut kept: Vec<Option<Key>> = vec![in alloc; None; graph.edge_count()]?;
+    let keys = kept.as_mut_slice();
+    let mut lines = Vec::new(alloc);
+    let mut remaining = take;
+    'commands: while remaining != Some(0) {
+        let Some(edge) = needs.next() else {
+            return Ok(Page { lines, mark: None });
+        };
+        keep_key(alloc, graph, bases, keys, edge)?;
+        push_line(&mut lines, graph, keys, edge)?;
+        remaining = one_fewer(remaining);
+    }
+    let mark = needs.mark(alloc)?;
+    let mark = needs.next().map(|_| mark);
+    Ok(Page { lines, mark })
+}
+
+// How many may still be taken after one was.
+fn one_fewer(remaining: Option<u64>) -> Option<u64>
+    ensures { result ≡ option_map (λ count. count - 1) remaining }
+{
+    match remaining {
+        Some(count) => Some(count.saturating_sub(1)),
+        None => None,
+    }
+}
+
+// Appends the line of an edge, with the key that is kept of it.
+fn push_line(
+    lines: &mut Vec<u8>,
+    graph: &Graph,
+    keys: &[Option<Key>],
+    edge: EdgeNo,
+) -> Result<(), AllocError>
+    requires { edge.0 < length (edges_of graph.now) }
+    ensures { OnOk result (lines.new.items ≡ lines.old.items
+        ++ line (edges_of graph.now) edge.0 (kept_key keys.now edge.0)) }
+{
+    let digits = hex::encode(*lines.allocator(), kept_key(keys, edge))?;
+    lines.extend_from_slice(digits.as_bytes())?;
+    lines.push(b' ')?;
+    lines.extend_from_slice(first_output(graph, edge))?;
+    lines.push(b'\n')?;
+    Ok(())
+}
+
+// The path of the first output of an edge; empty if it has none.
+fn first_output(graph: &Graph, edge: EdgeNo) -> &[u8]
+    requires { edge.0 < length (edges_of graph.now) }
+    ensures { result.now ≡ unwrap_or (first_output (edge_at (edges_of graph.now) edge.0)) [] }
+{
+    match graph.outputs(edge).first() {
+        Some(output) => graph.path(*output),
+        None => b"",
+    }
+}
