@@ -87,6 +87,7 @@ the_include = record {
   number = 0;
   around = [];
   item = IncludeModel (record { spot = at 9; parts = Text a ∷ [] });
+  was_joined = false;
   discovered = None;
 }
 

@@ -48,6 +48,7 @@ entry_at site s = record {
   number = site.number;
   around = site.around;
   item = s.item;
+  was_joined = false;
   discovered = None;
 }
 

@@ -164,15 +164,15 @@ nothing-more held entries e item no_value no_rule no_scope none_given no_pool by
 module _ (held : DeclarationsModel) (number : ℕ) (around : List ℕ) where
   pub takes-include : (word : WordModel) → TakesIn held held number around (IncludeModel word)
   takes-include word entries file spot depth by =
-      nothing-more held entries (record { file = file; spot = spot; depth = depth; number = number; around = around; item = IncludeModel word; discovered = None }) (IncludeModel word) (λ value x. refl) (λ x. refl) refl refl refl by
+      nothing-more held entries (record { file = file; spot = spot; depth = depth; number = number; around = around; item = IncludeModel word; was_joined = false; discovered = None }) (IncludeModel word) (λ value x. refl) (λ x. refl) refl refl refl by
 
   pub takes-build : (outputs : OutputsModel) (rule : NameModel) (inputs : InputsModel) (lines : List LineModel) → TakesIn held held number around (BuildModel outputs rule inputs lines)
   takes-build outputs rule inputs lines entries file spot depth by =
-      nothing-more held entries (record { file = file; spot = spot; depth = depth; number = number; around = around; item = BuildModel outputs rule inputs lines; discovered = None }) (BuildModel outputs rule inputs lines) (λ value x. refl) (λ x. refl) refl refl refl by
+      nothing-more held entries (record { file = file; spot = spot; depth = depth; number = number; around = around; item = BuildModel outputs rule inputs lines; was_joined = false; discovered = None }) (BuildModel outputs rule inputs lines) (λ value x. refl) (λ x. refl) refl refl refl by
 
   pub takes-default : (words : List WordModel) → TakesIn held held number around (DefaultModel words)
   takes-default words entries file spot depth by =
-      nothing-more held entries (record { file = file; spot = spot; depth = depth; number = number; around = around; item = DefaultModel words; discovered = None }) (DefaultModel words) (λ value x. refl) (λ x. refl) refl refl refl by
+      nothing-more held entries (record { file = file; spot = spot; depth = depth; number = number; around = around; item = DefaultModel words; was_joined = false; discovered = None }) (DefaultModel words) (λ value x. refl) (λ x. refl) refl refl refl by
 
 -- ---- look-ups
 

@@ -1,5 +1,5 @@
 -- Small lists of statements, worked out on the definitions.
-use Rattle.std.proofs.Common.{◌≡◌, ℕ, List, [], ◌∷◌, Some, None, true, refl}
+use Rattle.std.proofs.Common.{false, ◌≡◌, ℕ, List, [], ◌∷◌, Some, None, true, refl}
 use Rattle.std.specs.Prelude.{codes, reverse, Option, option_and_then, slice_get}
 use Rattle.nj_text.specs.Units.{first_spot}
 use Rattle.nj_text.specs.Words.{PartModel, Text, Name, WordModel}
@@ -25,10 +25,10 @@ word parts = record { spot = first_spot; parts = parts }
 
 -- where the statements are; their spots do not matter here
 abbrev at_main : ReadStatement
-at_main = record { file = codes "build.ninja"; spot = first_spot; depth = 0; number = 0; around = []; item = DefaultModel []; discovered = None }
+at_main = record { file = codes "build.ninja"; spot = first_spot; depth = 0; number = 0; around = []; item = DefaultModel []; was_joined = false; discovered = None }
 
 abbrev at_child : ReadStatement
-at_child = record { file = codes "s"; spot = first_spot; depth = 1; number = 1; around = 0 ∷ []; item = DefaultModel []; discovered = None }
+at_child = record { file = codes "s"; spot = first_spot; depth = 1; number = 1; around = 0 ∷ []; item = DefaultModel []; was_joined = false; discovered = None }
 
 -- x = 1, y = a$x, x = 2: a value expands at once
 abbrev at_once : List ReadStatement

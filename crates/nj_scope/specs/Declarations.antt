@@ -1,5 +1,5 @@
 -- What is held of the statements that were read: that the scopes, rules and pools are those that the statements declare.
-use Rattle.std.specs.Prelude.{◌≡◌, ℕ, None, List, length, ◌∷◌}
+use Rattle.std.specs.Prelude.{false, ◌≡◌, ℕ, None, List, length, ◌∷◌}
 use Rattle.nj_text.specs.declared.spot.Spot.{Spot}
 use Rattle.nj_manifest.specs.Statements.{StatementModel}
 use Rattle.nj_scope.specs.Scopes.{ScopeModel, parent_at, bound_at, rule_at}
@@ -32,6 +32,7 @@ TakesIn old new number around item =
       number = number;
       around = around;
       item = item;
+      was_joined = false;
       discovered = None;
     } ∷ entries)
 

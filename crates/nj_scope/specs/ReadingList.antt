@@ -9,7 +9,7 @@ use Rattle.nj_scope.specs.Rules.{line_kept, phony, phony_rule}
 use Rattle.nj_manifest.specs.Statements.{StatementModel, BindingModel, RuleModel, PoolModel, IncludeModel, SubninjaModel}
 use Rattle.nj_scope.specs.Scopes.{first_given, Bounds, value_in, expanded}
 
--- What a dyndep file adds to a build statement ("Dynamic Dependencies" in the manual): outputs and inputs, by their clean paths.
+-- What is discovered for a build statement ("Dynamic Dependencies" and "Deps" in the manual): outputs and inputs, by their clean paths.
 pub record Discovered : Type 0 where
   pub outputs : List (List ℕ)
   pub inputs : List (List ℕ)
@@ -26,7 +26,9 @@ pub record ReadStatement : Type 0 where
   pub number : ℕ
   pub around : List ℕ
   pub item : StatementModel
-  -- what was discovered for it; `None` as long as no dyndep file was joined to it
+  -- whether a dyndep file was joined to it
+  pub was_joined : Bool
+  -- all that was discovered for it, by dyndep files and by deps logs; `None` as long as nothing was
   pub discovered : Option Discovered
 
 -- its scope, with those around it

@@ -7,7 +7,7 @@ use Rattle.std.specs.Prelude.{codes, filter, ◌&&◌}
 use Rattle.std.specs.List.{AllByRecursion, AllZip, list_any}
 use Rattle.std.proofs.lemmas.Bool.{ne_eqb, eqb-true}
 use Rattle.std.proofs.lemmas.Bool.Decides.{eqb_tells}
-use Rattle.std.proofs.lemmas.List.{length-append}
+use Rattle.std.proofs.lemmas.List.{length-append, append_assoc}
 use Rattle.std.proofs.lemmas.List.Elements.{AllZip-push, filter-append}
 use Rattle.std.proofs.lemmas.List.Folds.{list_any-append}
 use Rattle.nj_manifest.specs.LineSteps.{NameModel}
@@ -15,18 +15,19 @@ use Rattle.nj_manifest.specs.Statements.{LineModel, OutputsModel, InputsModel, S
 use Rattle.nj_scope.specs.Rules.{phony}
 use Rattle.nj_scope.specs.Scopes.{Bounds, first_given, value_in}
 use Rattle.nj_scope.specs.ReadingList.{Discovered, ReadStatement, scope_of, bounds, rules}
+use Rattle.nj_edges.specs.Edges.{EdgePaths}
 use Rattle.nj_edges.specs.Joining.{with_added, changed_at}
 use Rattle.nj_faults.specs.declared.fault.GraphFault.{GraphFault}
 use Rattle.nj_faults.specs.declared.fault.Cause.TheVariants.{DyndepExtra, DyndepTwice}
 use Rattle.nj_faults.specs.Faults.{fault_at}
 use Rattle.nj_edge_env.specs.LateStrings.{LateNames, asked_text}
-use Rattle.nj_statements.specs.EdgeList.{EdgeModel, Pending, path_given, block_of, names_bound, block_names_at, on_line, stated_paths, edge_paths, with_discovered, edge_of_build, edges_read, paths_of_edges, block_of_edge, block_at}
+use Rattle.nj_statements.specs.EdgeList.{EdgeModel, Pending, path_given, block_of, names_bound, block_names_at, on_line, line_values, rule_number, stated_paths, edge_paths, with_discovered, edge_of_build, edges_read, paths_of_edges, block_of_edge, block_at}
 use Rattle.nj_statements.specs.EdgeList.{file_given, name_given, dyndep_of, pending_at, pending_read, assigned_of, assigned_read}
-use Rattle.nj_statements.specs.Joining.{no_values, discover, discovered_by, edge_meant, pending_on, meaning_fault}
+use Rattle.nj_statements.specs.Joining.{no_values, and_found, also_discovered, discover, discovered_by, edge_meant, pending_on, meaning_fault}
 use Rattle.nj_statements.specs.BuildFaults.{empty_path, outputs_fault}
 use Rattle.nj_statements.specs.Built.{detail_of}
 use Rattle.nj_statements.specs.Laws.{is_pending, with_found, AreRising, AreByNumber, AddsToOneEdge, OthersArePendingAsBefore, PendingEdgesRise, AddsToItsEdge, EntriesAddToTheirEdges}
-use Rattle.nj_statements.proofs.DiscoverLemmas.{Declared, bounds-discover, rules-discover, names_of_edge-discover}
+use Rattle.nj_statements.proofs.DiscoverLemmas.{Declared, as_read, as_read-discover, bounds-same, rules-same, names_of_edge-discover}
 
 -- ---- an item of a list is changed
 
@@ -69,27 +70,46 @@ edge_by e bound own outputs rule inputs lines = record {
       (edge_paths (stated_paths (on_line (value_in bound (scope_of e)) (block_of (value_in bound (scope_of e)) lines)) outputs inputs (number_by e own rule == 0)));
 }
 
+pub edge-by_same : (e : ReadStatement) (before others : List ReadStatement) → as_read others ≡ as_read before → (outputs : OutputsModel) (rule : NameModel) (inputs : InputsModel) (lines : List LineModel)
+    → edge_of_build e others outputs rule inputs lines ≡ edge_of_build e before outputs rule inputs lines
+edge-by_same e before others are outputs rule inputs lines =
+    ap (λ (b : Bounds). edge_by e b (rules others) outputs rule inputs lines) (bounds-same before others are)
+    ∙ ap (λ (own : Declared). edge_by e (bounds before) own outputs rule inputs lines) (rules-same before others are)
+
 edge-same : (edge : ℕ) (found : Discovered) (e : ReadStatement) (before : List ReadStatement) (outputs : OutputsModel) (rule : NameModel) (inputs : InputsModel) (lines : List LineModel)
     → edge_of_build e (discover edge found before) outputs rule inputs lines ≡ edge_of_build e before outputs rule inputs lines
-edge-same edge found e before outputs rule inputs lines =
-    ap (λ (b : Bounds). edge_by e b (rules (discover edge found before)) outputs rule inputs lines) (bounds-discover edge found before)
-    ∙ ap (λ (own : Declared). edge_by e (bounds before) own outputs rule inputs lines) (rules-discover edge found before)
+edge-same edge found e before = edge-by_same e before (discover edge found before) (as_read-discover edge found before)
 
 -- ---- all edges are the same but for their implicit files
 
-abbrev with_files : EdgeModel → (outs ins : List (List ℕ)) → EdgeModel
+abbrev pub with_files : EdgeModel → (outs ins : List (List ℕ)) → EdgeModel
 with_files e outs ins = record e { paths = record e.paths { implicit_outputs = outs; implicit_inputs = ins } }
 
-abbrev SameEdge : (e other : EdgeModel) → Type 0
+abbrev pub SameEdge : (e other : EdgeModel) → Type 0
 SameEdge e other = other ≡ with_files e other.paths.implicit_outputs other.paths.implicit_inputs
 
-same-all : (edges : List EdgeModel) → AllZip SameEdge edges edges
+pub same-all : (edges : List EdgeModel) → AllZip SameEdge edges edges
 same-all [] = tt
 same-all (e ∷ edges) = (refl, same-all edges)
 
-same-found : (e : EdgeModel) (d : Option Discovered) (found : Discovered) → SameEdge (record e { paths = with_discovered d e.paths }) (with_found found e)
-same-found e None found = refl
-same-found e (Some before) found = refl
+-- what is discovered after the rest is added after it
+found-after : (d : Option Discovered) (found : Discovered) (paths : EdgePaths) → with_discovered (Some (and_found d found)) paths ≡ with_discovered (Some found) (with_discovered d paths)
+found-after None found paths = refl
+found-after (Some earlier) found paths =
+    ap (λ outs. record paths { implicit_outputs = outs; implicit_inputs = paths.implicit_inputs ++ (earlier.inputs ++ found.inputs) }) (sym (append_assoc paths.implicit_outputs earlier.outputs found.outputs))
+    ∙ ap (λ ins. record paths { implicit_outputs = (paths.implicit_outputs ++ earlier.outputs) ++ found.outputs; implicit_inputs = ins }) (sym (append_assoc paths.implicit_inputs earlier.inputs found.inputs))
+
+-- the edge of a statement for which more is discovered
+pub edge-also : (found : Discovered) (e : ReadStatement) (before : List ReadStatement) (outputs : OutputsModel) (rule : NameModel) (inputs : InputsModel) (lines : List LineModel)
+    → edge_of_build (also_discovered found e) before outputs rule inputs lines ≡ with_found found (edge_of_build e before outputs rule inputs lines)
+edge-also found e before outputs rule inputs lines =
+    ap (λ paths. record stated { paths = paths }) (found-after e.discovered found (edge_paths (stated_paths (line_values e before lines) outputs inputs (rule_number e before rule == 0))))
+  where
+    stated : EdgeModel
+    stated = edge_of_build e before outputs rule inputs lines
+
+same-found : (e : EdgeModel) (found : Discovered) → SameEdge e (with_found found e)
+same-found e found = refl
 
 same-build : (edge : ℕ) (found : Discovered) (e : ReadStatement) (before : List ReadStatement) (outputs : OutputsModel) (rule : NameModel) (inputs : InputsModel) (lines : List LineModel)
     → AllZip SameEdge (edges_read before) (edges_read (discover edge found before))
@@ -101,12 +121,10 @@ same-build edge found e before outputs rule inputs lines others = by (length (ed
     own : EdgeModel
     own = edge_of_build e before outputs rule inputs lines
 
-    stated : EdgeModel
-    stated = edge_of_build (record e { discovered = None }) before outputs rule inputs lines
-
     by : (b : Bool) → AllZip SameEdge (edges_read before ++ own ∷ [])
-        (edges_read (if b then record e { item = BuildModel outputs rule inputs lines; discovered = Some found } ∷ before else record e { item = BuildModel outputs rule inputs lines } ∷ discover edge found before))
-    by true = AllZip-push SameEdge (edges_read before) (edges_read before) own (with_found found stated) (same-all (edges_read before)) (same-found stated e.discovered found)
+        (edges_read (if b then record (also_discovered found (record e { item = BuildModel outputs rule inputs lines })) { was_joined = true } ∷ before else record e { item = BuildModel outputs rule inputs lines } ∷ discover edge found before))
+    by true = AllZip-push SameEdge (edges_read before) (edges_read before) own (edge_of_build (also_discovered found e) before outputs rule inputs lines) (same-all (edges_read before))
+        (subst (SameEdge own) (sym (edge-also found e before outputs rule inputs lines)) (same-found own found))
     by false =
         AllZip-push SameEdge (edges_read before) (edges_read (discover edge found before)) own (edge_of_build e (discover edge found before) outputs rule inputs lines) others
         (subst (SameEdge own) (sym (edge-same edge found e before outputs rule inputs lines)) refl)
@@ -128,7 +146,7 @@ unfolding edges_read discover
 same-edges edge found [] = tt
 same-edges edge found (e ∷ before) = same-item edge found e before e.item (same-edges edge found before)
 
-map-same : {X : Type 0} (g : EdgeModel → X) → ((e : EdgeModel) (outs ins : List (List ℕ)) → g (record e { paths = record e.paths { implicit_outputs = outs; implicit_inputs = ins } }) ≡ g e)
+pub map-same : {X : Type 0} (g : EdgeModel → X) → ((e : EdgeModel) (outs ins : List (List ℕ)) → g (record e { paths = record e.paths { implicit_outputs = outs; implicit_inputs = ins } }) ≡ g e)
     → (edges others : List EdgeModel) → AllZip SameEdge edges others → map g others ≡ map g edges
 map-same g unseen [] [] same = refl
 map-same g unseen [] (o ∷ others) same = absurd same
@@ -144,7 +162,7 @@ map-discover g unseen edge found entries = map-same g unseen (edges_read entries
 pub details-discover : (edge : ℕ) (found : Discovered) (entries : List ReadStatement) → map detail_of (edges_read (discover edge found entries)) ≡ map detail_of (edges_read entries)
 details-discover = map-discover detail_of (λ e outs ins. refl)
 
-count-same : (edges others : List EdgeModel) → AllZip SameEdge edges others → length others ≡ length edges
+pub count-same : (edges others : List EdgeModel) → AllZip SameEdge edges others → length others ≡ length edges
 count-same [] [] same = refl
 count-same [] (o ∷ others) same = absurd same
 count-same (e ∷ edges) [] same = absurd same
@@ -153,7 +171,7 @@ count-same (e ∷ edges) (o ∷ others) same = ap suc (count-same edges others s
 pub count-discover : (edge : ℕ) (found : Discovered) (entries : List ReadStatement) → length (edges_read (discover edge found entries)) ≡ length (edges_read entries)
 count-discover edge found entries = count-same (edges_read entries) (edges_read (discover edge found entries)) (same-edges edge found entries)
 
-block-same : (n : ℕ) (name : List ℕ) (edges others : List EdgeModel) → AllZip SameEdge edges others → block_of_edge (slice_get others n) name ≡ block_of_edge (slice_get edges n) name
+pub block-same : (n : ℕ) (name : List ℕ) (edges others : List EdgeModel) → AllZip SameEdge edges others → block_of_edge (slice_get others n) name ≡ block_of_edge (slice_get edges n) name
 block-same n name [] [] same = refl
 block-same n name [] (o ∷ others) same = absurd same
 block-same n name (e ∷ edges) [] same = absurd same
@@ -166,7 +184,7 @@ block_at-discover edge found entries n name = block-same n name (edges_read entr
 pub block_names_at-discover : (edge : ℕ) (found : Discovered) (entries : List ReadStatement) (n : ℕ) → block_names_at (edges_read (discover edge found entries)) n ≡ block_names_at (edges_read entries) n
 block_names_at-discover edge found entries n = ap (λ all. slice_index_or all n []) (map-discover (λ (e : EdgeModel). e.block_names) (λ e outs ins. refl) edge found entries)
 
-all-same : (P : EdgeModel → Type 0) → ((e : EdgeModel) (outs ins : List (List ℕ)) → P e → P (record e { paths = record e.paths { implicit_outputs = outs; implicit_inputs = ins } }))
+pub all-same : (P : EdgeModel → Type 0) → ((e : EdgeModel) (outs ins : List (List ℕ)) → P e → P (record e { paths = record e.paths { implicit_outputs = outs; implicit_inputs = ins } }))
     → (edges others : List EdgeModel) → AllZip SameEdge edges others → AllByRecursion P edges → AllByRecursion P others
 all-same P kept [] [] same all = tt
 all-same P kept [] (o ∷ others) same all = absurd same
@@ -219,39 +237,35 @@ rising-append n (p ∷ ps) qs rising below others above = (
 
 -- ---- the edge of a statement that may be pending
 
-at-below : (n : ℕ) (d : Option Discovered) (file : Option (List ℕ)) (most : ℕ) → n < most → AreBelow most (pending_at n d file)
-at-below n (Some found) file most within = tt
-at-below n None (Some file) most within = (within, tt)
-at-below n None None most within = tt
+at-below : (n : ℕ) (joined : Bool) (file : Option (List ℕ)) (most : ℕ) → n < most → AreBelow most (pending_at n joined file)
+at-below n true file most within = tt
+at-below n false (Some file) most within = (within, tt)
+at-below n false None most within = tt
 
-at-above : (n : ℕ) (d : Option Discovered) (file : Option (List ℕ)) → AllByRecursion (λ p. n ≤ p.edge) (pending_at n d file)
-at-above n (Some found) file = tt
-at-above n None (Some file) = (omega arith, tt)
-at-above n None None = tt
+at-above : (n : ℕ) (joined : Bool) (file : Option (List ℕ)) → AllByRecursion (λ p. n ≤ p.edge) (pending_at n joined file)
+at-above n true file = tt
+at-above n false (Some file) = (omega arith, tt)
+at-above n false None = tt
 
-at-rising : (n : ℕ) (d : Option Discovered) (file : Option (List ℕ)) → AreRising (pending_at n d file)
-at-rising n (Some found) file = tt
-at-rising n None (Some file) = (tt, tt)
-at-rising n None None = tt
+at-rising : (n : ℕ) (joined : Bool) (file : Option (List ℕ)) → AreRising (pending_at n joined file)
+at-rising n true file = tt
+at-rising n false (Some file) = (tt, tt)
+at-rising n false None = tt
 
-at-other : (n edge : ℕ) (d : Option Discovered) (file : Option (List ℕ)) → (n == edge) ≡ false → list_any (λ p. p.edge == edge) (pending_at n d file) ≡ false
-at-other n edge (Some found) file other = refl
-at-other n edge None (Some file) other = ap (λ b. b || false) other
-at-other n edge None None other = refl
+at-other : (n edge : ℕ) (joined : Bool) (file : Option (List ℕ)) → (n == edge) ≡ false → list_any (λ p. p.edge == edge) (pending_at n joined file) ≡ false
+at-other n edge true file other = refl
+at-other n edge false (Some file) other = ap (λ b. b || false) other
+at-other n edge false None other = refl
 
-at-not_joined : (n edge : ℕ) (d : Option Discovered) (file : Option (List ℕ)) → list_any (λ p. p.edge == edge) (pending_at n d file) ≡ true → d ≡ None
-at-not_joined n edge (Some found) file pends = absurd (true≢false (sym pends))
-at-not_joined n edge None file pends = refl
+at-dropped : (n edge : ℕ) (joined : Bool) (file : Option (List ℕ)) → (n == edge) ≡ true → filter (λ p. not (p.edge == edge)) (pending_at n joined file) ≡ []
+at-dropped n edge true file same = refl
+at-dropped n edge false (Some file) same = ap (λ b. cond (not b) (record { edge = n; file = file } ∷ []) []) same
+at-dropped n edge false None same = refl
 
-at-dropped : (n edge : ℕ) (d : Option Discovered) (file : Option (List ℕ)) → (n == edge) ≡ true → filter (λ p. not (p.edge == edge)) (pending_at n d file) ≡ []
-at-dropped n edge (Some found) file same = refl
-at-dropped n edge None (Some file) same = ap (λ b. cond (not b) (record { edge = n; file = file } ∷ []) []) same
-at-dropped n edge None None same = refl
-
-at-kept : (n edge : ℕ) (d : Option Discovered) (file : Option (List ℕ)) → (n == edge) ≡ false → filter (λ p. not (p.edge == edge)) (pending_at n d file) ≡ pending_at n d file
-at-kept n edge (Some found) file other = refl
-at-kept n edge None (Some file) other = ap (λ b. cond (not b) (record { edge = n; file = file } ∷ []) []) other
-at-kept n edge None None other = refl
+at-kept : (n edge : ℕ) (joined : Bool) (file : Option (List ℕ)) → (n == edge) ≡ false → filter (λ p. not (p.edge == edge)) (pending_at n joined file) ≡ pending_at n joined file
+at-kept n edge true file other = refl
+at-kept n edge false (Some file) other = ap (λ b. cond (not b) (record { edge = n; file = file } ∷ []) []) other
+at-kept n edge false None other = refl
 
 -- ---- they are ordered by number
 
@@ -259,11 +273,11 @@ comes-build : (e : ReadStatement) (before : List ReadStatement) (outputs : Outpu
     → AreByNumber (record e { item = BuildModel outputs rule inputs lines } ∷ before)
 unfolding edges_read pending_read
 comes-build e before outputs rule inputs lines comes = record {
-  within = all-append (λ p. p.edge < length (edges_read before ++ own ∷ [])) (pending_read before) (pending_at (length (edges_read before)) e.discovered (dyndep_of before own))
+  within = all-append (λ p. p.edge < length (edges_read before ++ own ∷ [])) (pending_read before) (pending_at (length (edges_read before)) e.was_joined (dyndep_of before own))
       (all-weaker (λ p. p.edge < length (edges_read before)) (λ p. p.edge < length (edges_read before ++ own ∷ [])) (λ p below. omega (arith, below, more)) (pending_read before) comes.within)
-      (at-below (length (edges_read before)) e.discovered (dyndep_of before own) (length (edges_read before ++ own ∷ [])) (omega (arith, more)));
-  rising = rising-append (length (edges_read before)) (pending_read before) (pending_at (length (edges_read before)) e.discovered (dyndep_of before own)) comes.rising comes.within
-      (at-rising (length (edges_read before)) e.discovered (dyndep_of before own)) (at-above (length (edges_read before)) e.discovered (dyndep_of before own));
+      (at-below (length (edges_read before)) e.was_joined (dyndep_of before own) (length (edges_read before ++ own ∷ [])) (omega (arith, more)));
+  rising = rising-append (length (edges_read before)) (pending_read before) (pending_at (length (edges_read before)) e.was_joined (dyndep_of before own)) comes.rising comes.within
+      (at-rising (length (edges_read before)) e.was_joined (dyndep_of before own)) (at-above (length (edges_read before)) e.was_joined (dyndep_of before own));
 }
   where
     own : EdgeModel
@@ -312,24 +326,24 @@ pending-build edge found e before outputs rule inputs lines rest = by (eqb_tells
     own = edge_of_build e before outputs rule inputs lines
 
     last : List Pending
-    last = pending_at number e.discovered (dyndep_of before own)
+    last = pending_at number e.was_joined (dyndep_of before own)
 
     after : Bool → List ReadStatement
-    after b = if b then record e { item = BuildModel outputs rule inputs lines; discovered = Some found } ∷ before else record e { item = BuildModel outputs rule inputs lines } ∷ discover edge found before
+    after b = if b then record (also_discovered found (record e { item = BuildModel outputs rule inputs lines })) { was_joined = true } ∷ before else record e { item = BuildModel outputs rule inputs lines } ∷ discover edge found before
 
     by : ((number == edge) ≡ true × (number ≡ edge)) ⊎ ((number == edge) ≡ false × (number ≢ edge))
         → pending_read (after (number == edge)) ≡ filter (λ p. not (p.edge == edge)) (pending_read before) ++ filter (λ p. not (p.edge == edge)) last
     by (inl (same, is)) =
         ap (λ b. pending_read (after b)) same
         ∙ ap (λ ps. ps ++ []) (sym (none-dropped edge (pending_read before) (subst (λ n. AreBelow n (pending_read before)) is (pending-within before))))
-        ∙ ap (λ ps. filter (λ p. not (p.edge == edge)) (pending_read before) ++ ps) (sym (at-dropped number edge e.discovered (dyndep_of before own) same))
+        ∙ ap (λ ps. filter (λ p. not (p.edge == edge)) (pending_read before) ++ ps) (sym (at-dropped number edge e.was_joined (dyndep_of before own) same))
     by (inr (other, apart)) =
         ap (λ b. pending_read (after b)) other
-        ∙ ap (λ ps. ps ++ pending_at (length (edges_read (discover edge found before))) e.discovered (dyndep_of (discover edge found before) (edge_of_build e (discover edge found before) outputs rule inputs lines))) rest
-        ∙ ap (λ n. filter (λ p. not (p.edge == edge)) (pending_read before) ++ pending_at n e.discovered (dyndep_of (discover edge found before) (edge_of_build e (discover edge found before) outputs rule inputs lines))) (count-discover edge found before)
-        ∙ ap (λ f. filter (λ p. not (p.edge == edge)) (pending_read before) ++ pending_at number e.discovered f)
+        ∙ ap (λ ps. ps ++ pending_at (length (edges_read (discover edge found before))) e.was_joined (dyndep_of (discover edge found before) (edge_of_build e (discover edge found before) outputs rule inputs lines))) rest
+        ∙ ap (λ n. filter (λ p. not (p.edge == edge)) (pending_read before) ++ pending_at n e.was_joined (dyndep_of (discover edge found before) (edge_of_build e (discover edge found before) outputs rule inputs lines))) (count-discover edge found before)
+        ∙ ap (λ f. filter (λ p. not (p.edge == edge)) (pending_read before) ++ pending_at number e.was_joined f)
         (ap (dyndep_of (discover edge found before)) (edge-same edge found e before outputs rule inputs lines) ∙ dyndep-same edge found before own)
-        ∙ ap (λ ps. filter (λ p. not (p.edge == edge)) (pending_read before) ++ ps) (sym (at-kept number edge e.discovered (dyndep_of before own) other))
+        ∙ ap (λ ps. filter (λ p. not (p.edge == edge)) (pending_read before) ++ ps) (sym (at-kept number edge e.was_joined (dyndep_of before own) other))
 
 pending-item : (edge : ℕ) (found : Discovered) (e : ReadStatement) (before : List ReadStatement) (item : StatementModel)
     → pending_read (discover edge found before) ≡ filter (λ p. not (p.edge == edge)) (pending_read before)
@@ -350,11 +364,6 @@ pending-discover edge found (e ∷ before) = pending-item edge found e before e.
 
 -- ---- what is assigned to edges
 
--- it does not depend on what is discovered for an edge
-assigned-found : (before : List ReadStatement) (stated : EdgeModel) (d : Option Discovered) → assigned_of before (record stated { paths = with_discovered d stated.paths }) ≡ assigned_of before stated
-assigned-found before stated None = refl
-assigned-found before stated (Some found) = refl
-
 assigned-same : (edge : ℕ) (found : Discovered) (before : List ReadStatement) (e : EdgeModel) → assigned_of (discover edge found before) e ≡ assigned_of before e
 assigned-same edge found before e =
     ap (λ (n : LateNames). record { pool = name_given (asked_text n (codes "pool")); dyndep = file_given (asked_text n (codes "dyndep")) }) (names_of_edge-discover edge found before e)
@@ -368,14 +377,11 @@ assigned-build edge found e before outputs rule inputs lines rest = by (length (
     own : EdgeModel
     own = edge_of_build e before outputs rule inputs lines
 
-    stated : EdgeModel
-    stated = edge_of_build (record e { discovered = None }) before outputs rule inputs lines
-
     after : Bool → List ReadStatement
-    after b = if b then record e { item = BuildModel outputs rule inputs lines; discovered = Some found } ∷ before else record e { item = BuildModel outputs rule inputs lines } ∷ discover edge found before
+    after b = if b then record (also_discovered found (record e { item = BuildModel outputs rule inputs lines })) { was_joined = true } ∷ before else record e { item = BuildModel outputs rule inputs lines } ∷ discover edge found before
 
     by : (b : Bool) → assigned_read (after b) ≡ assigned_read before ++ assigned_of before own ∷ []
-    by true = ap (λ a. assigned_read before ++ a ∷ []) (assigned-found before stated (Some found) ∙ sym (assigned-found before stated e.discovered))
+    by true = ap (λ a. assigned_read before ++ a ∷ []) (ap (assigned_of before) (edge-also found e before outputs rule inputs lines))
     by false =
         ap (λ others. others ++ assigned_of (discover edge found before) (edge_of_build e (discover edge found before) outputs rule inputs lines) ∷ []) rest
         ∙ ap (λ a. assigned_read before ++ a ∷ []) (ap (assigned_of (discover edge found before)) (edge-same edge found e before outputs rule inputs lines) ∙ assigned-same edge found before own)
@@ -415,21 +421,14 @@ edges-build edge found e before outputs rule inputs lines rest pends = by (eqb_t
     own : EdgeModel
     own = edge_of_build e before outputs rule inputs lines
 
-    stated : EdgeModel
-    stated = edge_of_build (record e { discovered = None }) before outputs rule inputs lines
-
     last : List Pending
-    last = pending_at number e.discovered (dyndep_of before own)
+    last = pending_at number e.was_joined (dyndep_of before own)
 
     pends-either : (list_any (λ p. p.edge == edge) (pending_read before) || list_any (λ p. p.edge == edge) last) ≡ true
     pends-either = sym (list_any-append (λ p. p.edge == edge) (pending_read before) last) ∙ pends
 
     after : Bool → List ReadStatement
-    after b = if b then record e { item = BuildModel outputs rule inputs lines; discovered = Some found } ∷ before else record e { item = BuildModel outputs rule inputs lines } ∷ discover edge found before
-
-    not_joined : number ≡ edge → e.discovered ≡ None
-    not_joined is = at-not_joined number edge e.discovered (dyndep_of before own)
-        (ap (λ b. b || list_any (λ p. p.edge == edge) last) (sym (none-unjoined edge (pending_read before) (subst (λ n. AreBelow n (pending_read before)) is (pending-within before)))) ∙ pends-either)
+    after b = if b then record (also_discovered found (record e { item = BuildModel outputs rule inputs lines })) { was_joined = true } ∷ before else record e { item = BuildModel outputs rule inputs lines } ∷ discover edge found before
 
     either : (a b : Bool) → b ≡ false → (a || b) ≡ true → a ≡ true
     either true b none some = refl
@@ -439,12 +438,12 @@ edges-build edge found e before outputs rule inputs lines rest pends = by (eqb_t
         → edges_read (after (number == edge)) ≡ changed_at (with_found found) edge (edges_read before ++ own ∷ [])
     by (inl (same, is)) =
         ap (λ b. edges_read (after b)) same
-        ∙ ap (λ d. edges_read before ++ with_found found (record stated { paths = with_discovered d stated.paths }) ∷ []) (sym (not_joined is))
+        ∙ ap (λ o. edges_read before ++ o ∷ []) (edge-also found e before outputs rule inputs lines)
         ∙ sym (changed-last (with_found found) (edges_read before) own edge is)
     by (inr (other, apart)) =
         ap (λ b. edges_read (after b)) other
         ∙ ap (λ o. edges_read (discover edge found before) ++ o ∷ []) (edge-same edge found e before outputs rule inputs lines)
-        ∙ ap (λ es. es ++ own ∷ []) (rest (either (is_pending before edge) (list_any (λ p. p.edge == edge) last) (at-other number edge e.discovered (dyndep_of before own) other) pends-either))
+        ∙ ap (λ es. es ++ own ∷ []) (rest (either (is_pending before edge) (list_any (λ p. p.edge == edge) last) (at-other number edge e.was_joined (dyndep_of before own) other) pends-either))
         ∙ sym (changed-front (with_found found) (edges_read before) own edge apart)
 
 edges-item : (edge : ℕ) (found : Discovered) (e : ReadStatement) (before : List ReadStatement) (item : StatementModel)

@@ -17,32 +17,32 @@ use Rattle.nj_scope.specs.ReadingList.{pool_given, pools, scope_given, path_name
 use Rattle.nj_scope.proofs.Gathering.{gathered-map}
 use Rattle.nj_edge_env.specs.LateStrings.{LateNames}
 use Rattle.nj_statements.specs.EdgeList.{EdgeModel, paths_given, edges_read, with_defaults, defaults_read, names_of_edge, edge_given}
-use Rattle.nj_statements.specs.Joining.{discover, discovered_by, edge_meant, with_entry}
+use Rattle.nj_statements.specs.Joining.{and_found, also_discovered, discover, discovered_by, edge_meant, with_entry}
 use Rattle.nj_statements.specs.Laws.{NamesStay}
 
 -- ---- statements as they were read
 
-abbrev unseen : ReadStatement → ReadStatement
-unseen e = record e { discovered = None }
+abbrev pub unseen : ReadStatement → ReadStatement
+unseen e = record e { was_joined = false; discovered = None }
 
--- what was discovered does not count
-abbrev as_read : List ReadStatement → List ReadStatement
+-- what was discovered does not count; statements that are the same then differ in that alone
+abbrev pub as_read : List ReadStatement → List ReadStatement
 as_read entries = map unseen entries
 
-as_read-discover : (edge : ℕ) (found : Discovered) (entries : List ReadStatement) → as_read (discover edge found entries) ≡ as_read entries
+pub as_read-discover : (edge : ℕ) (found : Discovered) (entries : List ReadStatement) → as_read (discover edge found entries) ≡ as_read entries
 unfolding discover
 as_read-discover edge found [] = refl
 as_read-discover edge found (e ∷ before) = by (is_some (edge_given e before e.item) && length (edges_read before) == edge) (as_read-discover edge found before)
   where
     by : (b : Bool) → as_read (discover edge found before) ≡ as_read before
-        → as_read (if b then record e { discovered = Some found } ∷ before else e ∷ discover edge found before) ≡ as_read (e ∷ before)
+        → as_read (if b then record (also_discovered found e) { was_joined = true } ∷ before else e ∷ discover edge found before) ≡ as_read (e ∷ before)
     by true rest = refl
     by false rest = ap (λ es. unseen e ∷ es) rest
 
 -- what does not look at what was discovered stays the same
 kept-by : {A : Type 0} (f : List ReadStatement → A) → ((entries : List ReadStatement) → f (as_read entries) ≡ f entries)
-    → (edge : ℕ) (found : Discovered) (entries : List ReadStatement) → f (discover edge found entries) ≡ f entries
-kept-by f same edge found entries = sym (same (discover edge found entries)) ∙ ap f (as_read-discover edge found entries) ∙ same entries
+    → (entries others : List ReadStatement) → as_read others ≡ as_read entries → f others ≡ f entries
+kept-by f same entries others are = sym (same others) ∙ ap f are ∙ same entries
 
 -- ---- values
 
@@ -55,8 +55,11 @@ unfolding bounds
 bounds-as_read [] = refl
 bounds-as_read (e ∷ before) = ap (bounds_with e) (bounds-as_read before)
 
+pub bounds-same : (entries others : List ReadStatement) → as_read others ≡ as_read entries → bounds others ≡ bounds entries
+bounds-same = kept-by bounds bounds-as_read
+
 pub bounds-discover : (edge : ℕ) (found : Discovered) (entries : List ReadStatement) → bounds (discover edge found entries) ≡ bounds entries
-bounds-discover = kept-by bounds bounds-as_read
+bounds-discover edge found entries = bounds-same entries (discover edge found entries) (as_read-discover edge found entries)
 
 pub value_after-discover : (edge : ℕ) (found : Discovered) (entries : List ReadStatement) → value_after (discover edge found entries) ≡ value_after entries
 value_after-discover edge found entries = ap value_in (bounds-discover edge found entries)
@@ -75,8 +78,11 @@ rules_read-as_read entries = ap (λ rules. phony_rule ∷ rules) (gathered-map r
     by e before (IncludeModel word) = refl
     by e before (SubninjaModel word) = refl
 
+pub rules_read-same : (entries others : List ReadStatement) → as_read others ≡ as_read entries → rules_read others ≡ rules_read entries
+rules_read-same = kept-by rules_read rules_read-as_read
+
 pub rules_read-discover : (edge : ℕ) (found : Discovered) (entries : List ReadStatement) → rules_read (discover edge found entries) ≡ rules_read entries
-rules_read-discover = kept-by rules_read rules_read-as_read
+rules_read-discover edge found entries = rules_read-same entries (discover edge found entries) (as_read-discover edge found entries)
 
 -- the rules that scopes themselves declare
 abbrev pub Declared : Type 0
@@ -91,8 +97,11 @@ rules-as_read [] = refl
 rules-as_read (e ∷ before) =
     ap (λ strings. declared_with e strings (rules (as_read before))) (rules_read-as_read before) ∙ ap (declared_with e (rules_read before)) (rules-as_read before)
 
+pub rules-same : (entries others : List ReadStatement) → as_read others ≡ as_read entries → rules others ≡ rules entries
+rules-same = kept-by rules rules-as_read
+
 pub rules-discover : (edge : ℕ) (found : Discovered) (entries : List ReadStatement) → rules (discover edge found entries) ≡ rules entries
-rules-discover = kept-by rules rules-as_read
+rules-discover edge found entries = rules-same entries (discover edge found entries) (as_read-discover edge found entries)
 
 abbrev in_force_by : Declared → (scope name : List ℕ) → Option ℕ
 in_force_by own scope name = if bytes_eq name phony then Some 0 else first_given (λ s. own s name) scope
@@ -139,8 +148,11 @@ pools-as_read = gathered-map pool_given unseen (λ e before. by e before e.item)
     by e before (IncludeModel word) = refl
     by e before (SubninjaModel word) = refl
 
+pub pools-same : (entries others : List ReadStatement) → as_read others ≡ as_read entries → pools others ≡ pools entries
+pools-same = kept-by pools pools-as_read
+
 pub pools-discover : (edge : ℕ) (found : Discovered) (entries : List ReadStatement) → pools (discover edge found entries) ≡ pools entries
-pools-discover = kept-by pools pools-as_read
+pools-discover edge found entries = pools-same entries (discover edge found entries) (as_read-discover edge found entries)
 
 scopes_opened-as_read : (entries : List ReadStatement) → scopes_opened (as_read entries) ≡ scopes_opened entries
 scopes_opened-as_read entries = ap (λ scopes. length scopes + 1) (gathered-map scope_given unseen (λ e before. by e before e.item) entries)
@@ -154,8 +166,11 @@ scopes_opened-as_read entries = ap (λ scopes. length scopes + 1) (gathered-map 
     by e before (DefaultModel words) = refl
     by e before (IncludeModel word) = refl
 
+pub scopes_opened-same : (entries others : List ReadStatement) → as_read others ≡ as_read entries → scopes_opened others ≡ scopes_opened entries
+scopes_opened-same = kept-by scopes_opened scopes_opened-as_read
+
 pub scopes_opened-discover : (edge : ℕ) (found : Discovered) (entries : List ReadStatement) → scopes_opened (discover edge found entries) ≡ scopes_opened entries
-scopes_opened-discover = kept-by scopes_opened scopes_opened-as_read
+scopes_opened-discover edge found entries = scopes_opened-same entries (discover edge found entries) (as_read-discover edge found entries)
 
 files_opened-as_read : (entries : List ReadStatement) → files_opened (as_read entries) ≡ files_opened entries
 files_opened-as_read entries = ap (λ paths. length paths + 1) (gathered-map path_named unseen (λ e before. by e before e.item) entries)
@@ -169,8 +184,11 @@ files_opened-as_read entries = ap (λ paths. length paths + 1) (gathered-map pat
     by e before (BuildModel outputs rule inputs lines) = refl
     by e before (DefaultModel words) = refl
 
+pub files_opened-same : (entries others : List ReadStatement) → as_read others ≡ as_read entries → files_opened others ≡ files_opened entries
+files_opened-same = kept-by files_opened files_opened-as_read
+
 pub files_opened-discover : (edge : ℕ) (found : Discovered) (entries : List ReadStatement) → files_opened (discover edge found entries) ≡ files_opened entries
-files_opened-discover = kept-by files_opened files_opened-as_read
+files_opened-discover edge found entries = files_opened-same entries (discover edge found entries) (as_read-discover edge found entries)
 
 -- ---- defaults
 
@@ -189,8 +207,11 @@ defaults_read-as_read [] = refl
 defaults_read-as_read (e ∷ before) =
     with_defaults-as_read e before e.item (defaults_read (as_read before)) ∙ ap (with_defaults e before e.item) (defaults_read-as_read before)
 
+pub defaults_read-same : (entries others : List ReadStatement) → as_read others ≡ as_read entries → defaults_read others ≡ defaults_read entries
+defaults_read-same = kept-by defaults_read defaults_read-as_read
+
 pub defaults_read-discover : (edge : ℕ) (found : Discovered) (entries : List ReadStatement) → defaults_read (discover edge found entries) ≡ defaults_read entries
-defaults_read-discover = kept-by defaults_read defaults_read-as_read
+defaults_read-discover edge found entries = defaults_read-same entries (discover edge found entries) (as_read-discover edge found entries)
 
 -- ---- the names of an edge
 
@@ -205,10 +226,13 @@ names_by strings b e = record {
   file = value_in b (e.number ∷ e.around);
 }
 
+pub names_of_edge-same : (entries others : List ReadStatement) → as_read others ≡ as_read entries → (e : EdgeModel) → names_of_edge others e ≡ names_of_edge entries e
+names_of_edge-same entries others are e =
+    ap (λ strings. names_by strings (bounds others) e) (rules_read-same entries others are)
+    ∙ ap (λ (b : Bounds). names_by (rules_read entries) b e) (bounds-same entries others are)
+
 pub names_of_edge-discover : (edge : ℕ) (found : Discovered) (entries : List ReadStatement) (e : EdgeModel) → names_of_edge (discover edge found entries) e ≡ names_of_edge entries e
-names_of_edge-discover edge found entries e =
-    ap (λ strings. names_by strings (bounds (discover edge found entries)) e) (rules_read-discover edge found entries)
-    ∙ ap (λ (b : Bounds). names_by (rules_read entries) b e) (bounds-discover edge found entries)
+names_of_edge-discover edge found entries = names_of_edge-same entries (discover edge found entries) (as_read-discover edge found entries)
 
 -- ---- all of these
 
@@ -223,14 +247,17 @@ names_stay entries edge found = record {
 }
 
 -- What is held of the statements is held still.
-pub declared-discover : (held : DeclarationsModel) (edge : ℕ) (found : Discovered) (entries : List ReadStatement) → DeclaredBy held entries → DeclaredBy held (discover edge found entries)
-declared-discover held edge found entries by = record {
-  bound = λ number name. by.bound number name ∙ ap (λ (b : Bounds). b number name) (sym (bounds-discover edge found entries));
-  declared = λ number name. by.declared number name ∙ ap (λ (own : Declared). own number name) (sym (rules-discover edge found entries));
-  scopes = by.scopes ∙ sym (scopes_opened-discover edge found entries);
-  rules = by.rules ∙ sym (rules_read-discover edge found entries);
-  pools = by.pools ∙ sym (pools-discover edge found entries);
+pub declared-same : (held : DeclarationsModel) (entries others : List ReadStatement) → as_read others ≡ as_read entries → DeclaredBy held entries → DeclaredBy held others
+declared-same held entries others are by = record {
+  bound = λ number name. by.bound number name ∙ ap (λ (b : Bounds). b number name) (sym (bounds-same entries others are));
+  declared = λ number name. by.declared number name ∙ ap (λ (own : Declared). own number name) (sym (rules-same entries others are));
+  scopes = by.scopes ∙ sym (scopes_opened-same entries others are);
+  rules = by.rules ∙ sym (rules_read-same entries others are);
+  pools = by.pools ∙ sym (pools-same entries others are);
 }
+
+pub declared-discover : (held : DeclarationsModel) (edge : ℕ) (found : Discovered) (entries : List ReadStatement) → DeclaredBy held entries → DeclaredBy held (discover edge found entries)
+declared-discover held edge found entries = declared-same held entries (discover edge found entries) (as_read-discover edge found entries)
 
 -- ---- the statements themselves
 
@@ -239,17 +266,17 @@ length-as_read [] = refl
 length-as_read (e ∷ before) = ap suc (length-as_read before)
 
 pub length-discover : (edge : ℕ) (found : Discovered) (entries : List ReadStatement) → length (discover edge found entries) ≡ length entries
-length-discover = kept-by length length-as_read
+length-discover edge found entries = kept-by length length-as_read entries (discover edge found entries) (as_read-discover edge found entries)
 
 -- What is true of each statement, whatever was discovered for it, stays true.
-pub all-discover : (P : ReadStatement → Type 0) → ((e : ReadStatement) (d : Option Discovered) → P e → P (record e { discovered = d }))
+pub all-discover : (P : ReadStatement → Type 0) → ((e : ReadStatement) (joined : Bool) (d : Option Discovered) → P e → P (record e { was_joined = joined; discovered = d }))
     → (edge : ℕ) (found : Discovered) (entries : List ReadStatement) → AllByRecursion P entries → AllByRecursion P (discover edge found entries)
 unfolding discover
 all-discover P kept edge found [] all = tt
 all-discover P kept edge found (e ∷ before) all = by (is_some (edge_given e before e.item) && length (edges_read before) == edge) (all-discover P kept edge found before all.1)
   where
-    by : (b : Bool) → AllByRecursion P (discover edge found before) → AllByRecursion P (if b then record e { discovered = Some found } ∷ before else e ∷ discover edge found before)
-    by true rest = (kept e (Some found) all.0, all.1)
+    by : (b : Bool) → AllByRecursion P (discover edge found before) → AllByRecursion P (if b then record (also_discovered found e) { was_joined = true } ∷ before else e ∷ discover edge found before)
+    by true rest = (kept e true (Some (and_found e.discovered found)) all.0, all.1)
     by false rest = (all.0, rest)
 
 -- What is true of statements, and of them with what is discovered for any edge, is true of them with what an entry adds.

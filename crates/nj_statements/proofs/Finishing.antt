@@ -1,5 +1,5 @@
 -- What the statements come to is what was held of them.
-use Rattle.std.proofs.Common.{◌≡◌, ◌<◌, ◌+◌, ◌==◌, ℕ, false, List, [], ◌∷◌, ◌++◌, map, length, slice_get, get_or, Option, Some, None, Ok, unwrap_or, is_some, refl, sym, ap, subst, ◌∙◌, true≢false, suc, zero, arith}
+use Rattle.std.proofs.Common.{Bool, true, ◌≡◌, ◌<◌, ◌+◌, ◌==◌, ℕ, false, List, [], ◌∷◌, ◌++◌, map, length, slice_get, get_or, Option, Some, None, Ok, unwrap_or, is_some, refl, sym, ap, subst, ◌∙◌, true≢false, suc, zero, arith}
 use Rattle.nj_scope.proofs.Gathering.{with_given}
 use Rattle.std.specs.List.{AllByRecursion}
 use Rattle.std.proofs.lemmas.List.{length-append, length-map}
@@ -16,7 +16,7 @@ use Rattle.nj_edges.specs.Inside.EdgesHeld.{AreNumbers, paths_at}
 use Rattle.nj_names.specs.Files.{path_at, AreFiles}
 use Rattle.nj_edges.proofs.GraphLemmas.{files-at, files-numbers}
 use Rattle.nj_manifest.specs.Statements.{StatementModel, BindingModel, RuleModel, PoolModel, BuildModel, DefaultModel, IncludeModel, SubninjaModel}
-use Rattle.nj_scope.specs.ReadingList.{Discovered, ReadStatement}
+use Rattle.nj_scope.specs.ReadingList.{ReadStatement}
 use Rattle.nj_statements.specs.declared.edge_record.Detail.{Detail}
 use Rattle.nj_statements.specs.declared.building.DyndepEdge.{DyndepEdge}
 use Rattle.nj_statements.specs.EdgeList.{EdgeModel, Pending, edge_of_build, edges_read, paths_of_edges, defaults_read, dyndep_of, pending_at, with_pending, pending_read, assigned_read, edge_given}
@@ -108,10 +108,10 @@ unjoined-append : (count : ℕ) (ps qs : List Pending) → AllByRecursion (λ (p
 unjoined-append count [] qs all others = others
 unjoined-append count (p ∷ ps) qs all others = (all.0, unjoined-append count ps qs all.1 others)
 
-unjoined-last : (edge : ℕ) (joined : Option Discovered) (file : Option (List ℕ)) → AllByRecursion (λ (p : Pending). p.edge < edge + 1) (pending_at edge joined file)
-unjoined-last edge (Some found) file = tt
-unjoined-last edge None (Some file) = (omega arith, tt)
-unjoined-last edge None None = tt
+unjoined-last : (edge : ℕ) (joined : Bool) (file : Option (List ℕ)) → AllByRecursion (λ (p : Pending). p.edge < edge + 1) (pending_at edge joined file)
+unjoined-last edge true file = tt
+unjoined-last edge false (Some file) = (omega arith, tt)
+unjoined-last edge false None = tt
 
 -- a pending edge is an edge that was read
 pub unjoined-known : (entries : List ReadStatement) → AllByRecursion (λ (p : Pending). p.edge < length (edges_read entries)) (pending_read entries)
@@ -125,8 +125,8 @@ unjoined-known (e ∷ before) = by e.item (unjoined-known before)
         let edge = edge_of_build e before outputs rule inputs lines in
         let count = length (edges_read before) in
         let longer : length (edges_read before ++ edge ∷ []) ≡ count + 1 = length-append (edges_read before) (edge ∷ []) in
-        subst (λ n. AllByRecursion (λ (p : Pending). p.edge < n) (pending_read before ++ pending_at count e.discovered (dyndep_of before edge))) (sym longer)
-        (unjoined-append (count + 1) (pending_read before) (pending_at count e.discovered (dyndep_of before edge)) (unjoined-more count 1 (pending_read before) all) (unjoined-last count e.discovered (dyndep_of before edge)))
+        subst (λ n. AllByRecursion (λ (p : Pending). p.edge < n) (pending_read before ++ pending_at count e.was_joined (dyndep_of before edge))) (sym longer)
+        (unjoined-append (count + 1) (pending_read before) (pending_at count e.was_joined (dyndep_of before edge)) (unjoined-more count 1 (pending_read before) all) (unjoined-last count e.was_joined (dyndep_of before edge)))
     by (BindingModel bound word) all = all
     by (RuleModel declared lines) all = all
     by (PoolModel declared lines) all = all

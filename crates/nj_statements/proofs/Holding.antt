@@ -197,7 +197,7 @@ names-more edges e n new old was here others = by (eqb_tells n (length edges)) (
 
 -- what is pending with one edge more
 pending-more : (files longer : List (List ℕ)) (held : List DyndepEdge) (expected : List Pending) (edge : ℕ) (number : Option FileNo) (file : Option (List ℕ))
-    → IsPrefix files longer → ArePending files held expected → IsFileGiven longer number file → ArePending longer (with_dyndep edge number held) (expected ++ pending_at edge None file)
+    → IsPrefix files longer → ArePending files held expected → IsFileGiven longer number file → ArePending longer (with_dyndep edge number held) (expected ++ pending_at edge false file)
 pending-more files longer held expected edge None None grows are meant =
     subst (ArePending longer held) (sym (append-nil expected))
     (record { edges_are = are.edges_are; files_are = files-longer files longer (map (λ d. d.file) held) (map (λ p. p.file) expected) grows are.files_are })
@@ -219,7 +219,7 @@ pending-more files longer held expected edge (Some file) (Some path) grows are m
 
 -- a statement to which nothing was joined
 abbrev fresh : ReadStatement → ReadStatement
-fresh e = record e { discovered = None }
+fresh e = record e { was_joined = false; discovered = None }
 
 pub has-build : (old new : BuildingModel) (e : ReadStatement) (before : List ReadStatement) (outputs : OutputsModel) (rule : NameModel) (inputs : InputsModel) (lines : List LineModel) (d : DetailModel) (dyndep : Option FileNo) → HasEdges old before
     → AddsEdge old.table new.table (edge_of_build (fresh e) before outputs rule inputs lines).paths
@@ -227,7 +227,7 @@ pub has-build : (old new : BuildingModel) (e : ReadStatement) (before : List Rea
     → ((n : ℕ) → n ≡ length old.details → names_in new.blocks n ≡ names_bound lines) → ((n : ℕ) → (n == length old.details) ≡ false → names_in new.blocks n ≡ names_in old.blocks n)
     → IsPrefix old.names new.names → new.details ≡ old.details ++ d ∷ [] → IsDetail new.names d (edge_of_build (fresh e) before outputs rule inputs lines) → IsAssigned new.names d (assigned_of before (edge_of_build (fresh e) before outputs rule inputs lines)) → new.defaults ≡ old.defaults
     → new.dyndeps ≡ with_dyndep (length old.details) dyndep old.dyndeps → IsFileGiven new.table.files dyndep (dyndep_of before (edge_of_build (fresh e) before outputs rule inputs lines))
-    → HasReferences new.references (rules_read before) → HasEdges new (record e { item = BuildModel outputs rule inputs lines; discovered = None } ∷ before)
+    → HasReferences new.references (rules_read before) → HasEdges new (record e { item = BuildModel outputs rule inputs lines; was_joined = false; discovered = None } ∷ before)
 unfolding edges_read defaults_read pending_read assigned_read
 has-build old new e before outputs rule inputs lines d dyndep has adds blocks own_names other_names names details is assigned defaults dyndeps meant references = record {
   edges = adds.edges ∙ ap (λ es. es ++ edge.paths ∷ []) has.edges ∙ sym (map-append (λ (x : EdgeModel). x.paths) (edges_read before) (edge ∷ []));
@@ -243,8 +243,8 @@ has-build old new e before outputs rule inputs lines d dyndep has adds blocks ow
   details = subst (λ ds. AreDetails new.names ds (edges_read before ++ edge ∷ [])) (sym details) (details-more old.names new.names old.details (edges_read before) d edge names has.details is);
   assigned = subst (λ ds. AreAssigned new.names ds (assigned_read before ++ assigned_of before edge ∷ [])) (sym details) (assigned-more old.names new.names old.details (assigned_read before) d (assigned_of before edge) names has.assigned assigned);
   defaults = subst (λ ns. AreFiles new.table.files ns (defaults_read before)) (sym defaults) (files-longer old.table.files new.table.files old.defaults (defaults_read before) adds.files has.defaults);
-  dyndeps = subst (λ n. ArePending new.table.files new.dyndeps (pending_read before ++ pending_at n None (dyndep_of before edge))) (details-count old.names old.details (edges_read before) has.details)
-      (subst (λ ds. ArePending new.table.files ds (pending_read before ++ pending_at (length old.details) None (dyndep_of before edge))) (sym dyndeps)
+  dyndeps = subst (λ n. ArePending new.table.files new.dyndeps (pending_read before ++ pending_at n false (dyndep_of before edge))) (details-count old.names old.details (edges_read before) has.details)
+      (subst (λ ds. ArePending new.table.files ds (pending_read before ++ pending_at (length old.details) false (dyndep_of before edge))) (sym dyndeps)
       (pending-more old.table.files new.table.files old.dyndeps (pending_read before) (length old.details) dyndep (dyndep_of before edge) adds.files has.dyndeps meant));
   references = references;
 }

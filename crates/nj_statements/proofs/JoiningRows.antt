@@ -1,5 +1,5 @@
 -- Worked rows, computed on the definitions: what entries of dyndep files add to edges, and what is wrong with them.
-use Rattle.std.proofs.Common.{◌≡◌, ℕ, Some, None, List, [], ◌∷◌, refl}
+use Rattle.std.proofs.Common.{false, ◌≡◌, ℕ, Some, None, List, [], ◌∷◌, refl}
 use Rattle.std.specs.Prelude.{codes, true, Option}
 use Rattle.nj_text.specs.declared.spot.Spot.{Spot}
 use Rattle.nj_text.specs.Words.{Text, Name, WordModel}
@@ -34,6 +34,7 @@ build line output implicit dyndep = record {
   item = BuildModel (record { explicit = word 7 output ∷ []; implicit = word 9 implicit ∷ [] }) (record { spot = at 2 11; name = codes "phony" })
       (record { explicit = word 17 (codes "x") ∷ []; implicit = word 19 (codes "y") ∷ []; order_only = word 21 (codes "dd") ∷ word 24 (codes "ee") ∷ []; validations = [] })
       (record { spot = at 2 3; name = codes "dyndep"; value = word 12 dyndep } ∷ []);
+  was_joined = false;
   discovered = None;
 }
 

@@ -91,7 +91,7 @@ module _ (e : ReadStatement) (entries : List ReadStatement) (outputs : OutputsMo
 
   -- the edge, to which nothing was joined
   abbrev edge : EdgeModel
-  edge = edge_of_build (record e { discovered = None }) entries outputs rule inputs lines
+  edge = edge_of_build (record e { was_joined = false; discovered = None }) entries outputs rule inputs lines
 
   pub names-of-edge : names_of_edge entries edge ≡ names_read (paths_by number) block text file
   names-of-edge = ap (λ (o : Option ℕ). names (unwrap_or o 0)) is ∙ names-read

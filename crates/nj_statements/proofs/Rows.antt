@@ -1,5 +1,5 @@
 -- Worked rows, computed on the definitions: the edges of statements, and what is wrong with them.
-use Rattle.std.proofs.Common.{◌≡◌, ℕ, true, Some, None, List, [], ◌∷◌, map, refl}
+use Rattle.std.proofs.Common.{false, ◌≡◌, ℕ, true, Some, None, List, [], ◌∷◌, map, refl}
 use Rattle.std.specs.Prelude.{codes, Option}
 use Rattle.nj_text.specs.declared.spot.Spot.{Spot}
 use Rattle.nj_text.specs.Words.{PartModel, Text, Name, WordModel}
@@ -45,7 +45,7 @@ abbrev phony : NameModel
 phony = by_rule (codes "phony")
 
 abbrev entry : StatementModel → ReadStatement
-entry item = record { file = codes "build.ninja"; spot = at 1; depth = 0; number = 0; around = []; item = item; discovered = None }
+entry item = record { file = codes "build.ninja"; spot = at 1; depth = 0; number = 0; around = []; item = item; was_joined = false; discovered = None }
 
 abbrev entries : List StatementModel → List ReadStatement
 entries items = map entry items
@@ -256,7 +256,7 @@ row-pending_empty = refl
 
 -- `build a: phony || dd` with `dyndep = dd`, joined to an output `x` and an input `y`
 abbrev joined_a : ReadStatement
-joined_a = record (entry (build_with_dd (codes "a") phony (line (codes "dyndep") (codes "dd") ∷ []))) { discovered = Some (record { outputs = codes "x" ∷ []; inputs = codes "y" ∷ [] }) }
+joined_a = record (entry (build_with_dd (codes "a") phony (line (codes "dyndep") (codes "dd") ∷ []))) { was_joined = true; discovered = Some (record { outputs = codes "x" ∷ []; inputs = codes "y" ∷ [] }) }
 
 -- it is not pending, and `build b: phony || dd` with `dyndep = dd` is
 pub row-pending_joined : pending_read (entry (build_with_dd (codes "b") phony (line (codes "dyndep") (codes "dd") ∷ [])) ∷ joined_a ∷ []) ≡ pends 1 ∷ []

@@ -1,10 +1,10 @@
 -- What is held before anything is joined, and after all of it.
-use Rattle.std.proofs.Common.{◌≡◌, ℕ, zero, suc, true≢false, is_some, option_map, ◌+◌, ◌<◌, ◌≤◌, false, List, [], ◌∷◌, ◌++◌, length, get_or, replicate, map, slice_get, Option, Some, None, bytes_eq, refl, sym, ap, subst, ◌∙◌, arith}
+use Rattle.std.proofs.Common.{Bool, true, ◌≡◌, ℕ, zero, suc, true≢false, is_some, option_map, ◌+◌, ◌<◌, ◌≤◌, false, List, [], ◌∷◌, ◌++◌, length, get_or, replicate, map, slice_get, Option, Some, None, bytes_eq, refl, sym, ap, subst, ◌∙◌, arith}
 use Rattle.std.specs.List.{AllByRecursion, IsDistinct}
 use Rattle.std.proofs.lemmas.List.{length-map, length-append, length-replicate}
 use Rattle.std.proofs.lemmas.Option.{same_Some, slice_get-map}
 use Rattle.nj_manifest.specs.Statements.{StatementModel, BindingModel, RuleModel, PoolModel, BuildModel, DefaultModel, IncludeModel, SubninjaModel}
-use Rattle.nj_scope.specs.ReadingList.{Discovered, ReadStatement}
+use Rattle.nj_scope.specs.ReadingList.{ReadStatement}
 use Rattle.nj_edge_env.specs.Blocks.{BlocksModel}
 use Rattle.nj_names.specs.declared.files.FileNo.{FileNo}
 use Rattle.nj_edges.specs.EdgeGraphs.{EdgeGraph}
@@ -36,14 +36,14 @@ pub record AreAwaited (entries : List ReadStatement) (unjoined : List (Option (L
   pub are : pending_read entries ≡ pending_from 0 unjoined
   pub count : length unjoined ≡ length (edges_read entries)
 
-abbrev awaited-at : Option Discovered → Option (List ℕ) → Option (List ℕ)
-awaited-at (Some found) file = None
-awaited-at None file = file
+abbrev awaited-at : Bool → Option (List ℕ) → Option (List ℕ)
+awaited-at true file = None
+awaited-at false file = file
 
-pending-at : (edge : ℕ) (found : Option Discovered) (file : Option (List ℕ)) → pending_at edge found file ≡ pending_of edge (awaited-at found file)
-pending-at edge (Some found) file = refl
-pending-at edge None (Some file) = refl
-pending-at edge None None = refl
+pending-at : (edge : ℕ) (joined : Bool) (file : Option (List ℕ)) → pending_at edge joined file ≡ pending_of edge (awaited-at joined file)
+pending-at edge true file = refl
+pending-at edge false (Some file) = refl
+pending-at edge false None = refl
 
 awaited-more : (e : ReadStatement) (before : List ReadStatement) (item : StatementModel) (unjoined : List (Option (List ℕ))) → AreAwaited before unjoined
     → (more : List (Option (List ℕ))) × AreAwaited (record e { item = item } ∷ before) more
@@ -52,8 +52,8 @@ awaited-more e before (BuildModel outputs rule inputs lines) unjoined is = (
   unjoined ++ next ∷ [],
   record {
     are =
-        ap (λ ps. ps ++ pending_at (length (edges_read before)) e.discovered (dyndep_of before edge)) is.are
-        ∙ ap (λ ps. pending_from 0 unjoined ++ ps) (pending-at (length (edges_read before)) e.discovered (dyndep_of before edge) ∙ ap (λ n. pending_of n next) (sym is.count ∙ (let z : length unjoined ≡ 0 + length unjoined = omega arith in z)))
+        ap (λ ps. ps ++ pending_at (length (edges_read before)) e.was_joined (dyndep_of before edge)) is.are
+        ∙ ap (λ ps. pending_from 0 unjoined ++ ps) (pending-at (length (edges_read before)) e.was_joined (dyndep_of before edge) ∙ ap (λ n. pending_of n next) (sym is.count ∙ (let z : length unjoined ≡ 0 + length unjoined = omega arith in z)))
         ∙ sym (pending-more 0 unjoined next);
     count = length-append unjoined (next ∷ []) ∙ ap (λ n. n + 1) is.count ∙ sym (length-append (edges_read before) (edge ∷ []));
   },
@@ -63,7 +63,7 @@ awaited-more e before (BuildModel outputs rule inputs lines) unjoined is = (
     edge = edge_of_build e before outputs rule inputs lines
 
     next : Option (List ℕ)
-    next = awaited-at e.discovered (dyndep_of before edge)
+    next = awaited-at e.was_joined (dyndep_of before edge)
 awaited-more e before (BindingModel bound word) unjoined is = (unjoined, record { are = is.are; count = is.count })
 awaited-more e before (RuleModel name lines) unjoined is = (unjoined, record { are = is.are; count = is.count })
 awaited-more e before (PoolModel name lines) unjoined is = (unjoined, record { are = is.are; count = is.count })

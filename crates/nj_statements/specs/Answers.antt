@@ -1,5 +1,5 @@
 -- What the reading of a statement returns, and how what is read is represented.
-use Rattle.std.specs.Prelude.{◌≡◌, ℕ, Option, Some, None, Result, Ok, Err}
+use Rattle.std.specs.Prelude.{false, ◌≡◌, ℕ, Option, Some, None, Result, Ok, Err}
 use Rattle.std.specs.Prelude.{List, [], ◌∷◌, ◌<◌, map, length, slice_get, slice_index_or}
 use Rattle.nj_text.specs.declared.spot.Spot.{Spot}
 use Rattle.nj_manifest.specs.Statements.{StatementModel}
@@ -127,6 +127,7 @@ entry_at_place place scope around depth item = record {
   number = scope;
   around = around;
   item = item;
+  was_joined = false;
   discovered = None;
 }
 

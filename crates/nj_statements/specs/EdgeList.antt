@@ -1,5 +1,5 @@
 -- The edges of a run: one for each build statement, in reading order.
-use Rattle.std.specs.Prelude.{ℕ, ◌==◌, Bool, ◌&&◌, not, if◌then◌else◌, Option, option_map, unwrap_or, Some, None, List}
+use Rattle.std.specs.Prelude.{ℕ, ◌==◌, Bool, true, false, ◌&&◌, not, if◌then◌else◌, Option, option_map, unwrap_or, Some, None, List}
 use Rattle.std.specs.Prelude.{[], ◌∷◌, ◌++◌, map, length, slice_get, slice_index_or, codes, bytes_eq}
 use Rattle.std.specs.List.{filter}
 use Rattle.nj_text.specs.declared.spot.Spot.{Spot}
@@ -186,14 +186,14 @@ abbrev pub dyndep_of : (before : List ReadStatement) → EdgeModel → Option (L
 dyndep_of before edge = file_given (asked_text (names_of_edge before edge) (codes "dyndep"))
 
 -- an edge to which its dyndep file was not joined yet
-abbrev pub pending_at : (edge : ℕ) → (joined : Option Discovered) → (file : Option (List ℕ)) → List Pending
-pending_at edge (Some found) file = []
-pending_at edge None (Some file) = record { edge = edge; file = file } ∷ []
-pending_at edge None None = []
+abbrev pub pending_at : (edge : ℕ) → (was_joined : Bool) → (file : Option (List ℕ)) → List Pending
+pending_at edge true file = []
+pending_at edge false (Some file) = record { edge = edge; file = file } ∷ []
+pending_at edge false None = []
 
 abbrev pub with_pending : ReadStatement → (before : List ReadStatement) → StatementModel → List Pending → List Pending
 with_pending e before (BuildModel outputs rule inputs lines) others =
-    others ++ pending_at (length (edges_read before)) e.discovered (dyndep_of before (edge_of_build e before outputs rule inputs lines))
+    others ++ pending_at (length (edges_read before)) e.was_joined (dyndep_of before (edge_of_build e before outputs rule inputs lines))
 with_pending e before item others = others
 
 -- the edges that are pending on their dyndep files, by number

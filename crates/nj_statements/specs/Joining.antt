@@ -1,5 +1,5 @@
 -- What the entries of dyndep files add to build statements ("Dynamic Dependencies" in the manual).
-use Rattle.std.specs.Prelude.{ℕ, ◌==◌, Bool, false, ◌&&◌, not, if◌then◌else◌, Option, Some, option_map, option_and_then, unwrap_or, is_some, List, [], ◌∷◌}
+use Rattle.std.specs.Prelude.{ℕ, ◌==◌, Bool, true, false, ◌&&◌, not, if◌then◌else◌, Option, Some, None, option_map, option_and_then, unwrap_or, is_some, List, [], ◌∷◌, ◌++◌}
 use Rattle.nj_scope.specs.Scopes.{first_given}
 use Rattle.std.specs.Bool.{then_some}
 use Rattle.std.specs.Option.{option_or, option_map_or}
@@ -18,11 +18,19 @@ use Rattle.nj_statements.specs.BuildFaults.{empty_path, outputs_fault}
 
 -- ---- the statements that are joined
 
--- the statements with what was discovered for the build statement of an edge
+-- what was discovered, with what is discovered after it
+abbrev pub and_found : Option Discovered → Discovered → Discovered
+and_found None found = found
+and_found (Some earlier) found = record { outputs = earlier.outputs ++ found.outputs; inputs = earlier.inputs ++ found.inputs }
+
+abbrev pub also_discovered : Discovered → ReadStatement → ReadStatement
+also_discovered found e = record e { discovered = Some (and_found e.discovered found) }
+
+-- the statements with what a dyndep file discovers for the build statement of an edge
 unfoldable pub discover : (edge : ℕ) → Discovered → List ReadStatement → List ReadStatement
 discover edge found [] = []
 discover edge found (e ∷ before) =
-    if is_some (edge_given e before e.item) && length (edges_read before) == edge then record e { discovered = Some found } ∷ before
+    if is_some (edge_given e before e.item) && length (edges_read before) == edge then record (also_discovered found e) { was_joined = true } ∷ before
     else e ∷ discover edge found before
 
 -- what an entry adds to the outputs and the inputs of its build statement

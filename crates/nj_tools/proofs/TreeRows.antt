@@ -1,5 +1,5 @@
 -- Worked rows of trees: `build a: phony`, and then `build b: phony a c`.
-use Rattle.std.proofs.Common.{◌≡◌, ℕ, None, List, [], ◌∷◌, ◌++◌, refl}
+use Rattle.std.proofs.Common.{false, ◌≡◌, ℕ, None, List, [], ◌∷◌, ◌++◌, refl}
 use Rattle.std.specs.Prelude.{codes}
 use Rattle.nj_text.specs.Words.{Text, WordModel}
 use Rattle.nj_text.specs.Paths.{clean_path_of, without_leftmost_pair}
@@ -13,7 +13,7 @@ word text = record { spot = record { line = 1; column = 7 }; parts = Text text �
 
 -- a statement on a line of its own
 abbrev on : (line : ℕ) → StatementModel → ReadStatement
-on line item = record { file = codes "build.ninja"; spot = record { line = line; column = 1 }; depth = 0; number = 0; around = []; item = item; discovered = None }
+on line item = record { file = codes "build.ninja"; spot = record { line = line; column = 1 }; depth = 0; number = 0; around = []; item = item; was_joined = false; discovered = None }
 
 abbrev build : (output : List ℕ) → (inputs : List WordModel) → StatementModel
 build output inputs =
