@@ -12,8 +12,10 @@ pub mod GraphLemmas
 pub mod GraphUsers
 pub mod JoinedLists
 pub mod JoiningLemmas
+pub mod KnownLemmas
 pub mod ListLemmas
 pub mod MakerLemmas
+pub mod MarkLemmas
 pub mod NamedLemmas
 pub mod NeededLemmas
 mod NeededRows

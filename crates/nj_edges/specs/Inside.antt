@@ -5,6 +5,7 @@ pub mod EdgesHeld
 pub mod GraphHeld
 pub mod JoiningHeld
 pub mod MakersHeld
+pub mod MarksHeld
 pub mod RootsHeld
 pub mod RowsHeld
 pub mod SearchHeld

@@ -8,6 +8,7 @@ pub mod Changes
 pub mod Distances
 pub mod Chains
 pub mod Joining
+pub mod MoreInputs
 pub mod EdgeTables
 -- how the code does that
 pub mod Inside

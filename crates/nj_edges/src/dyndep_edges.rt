@@ -1,8 +1,8 @@
 //! Files that are added to the edges of a graph, as dyndep files discover them.
 
-ghost use Rattle.std.specs.Prelude.{◌≡◌, ◌<◌, ◌+◌, ◌^◌, ◌||◌, ◌++◌, [], ◌∷◌, None, Some, not, false, if◌then◌else◌, option_map, is_some, length, replicate, slice_get, slice_index_or, bytes_eq, IfOk, IfSome, OnOk, OnErr};
+ghost use Rattle.std.specs.Prelude.{◌≡◌, ℕ, List, ◌<◌, ◌+◌, ◌^◌, ◌||◌, ◌++◌, [], ◌∷◌, None, Some, not, false, if◌then◌else◌, option_map, is_some, length, replicate, slice_get, slice_index_or, bytes_eq, IfOk, IfSome, OnOk, OnErr};
 ghost use Rattle.std.specs.List.{AllByRecursion, IsDistinct};
-ghost use Rattle.nj_edges.specs.Edges.{edge_at, outputs_of, maker_of};
+ghost use Rattle.nj_edges.specs.Edges.{edge_at, inputs_of, outputs_of, maker_of};
 ghost use Rattle.nj_edges.specs.Inside.EdgesHeld.{AreNumbers, IsWithin};
 ghost use Rattle.nj_names.specs.Files.{AreFiles};
 ghost use Rattle.nj_edges.specs.Graph.{FinishesAs};
@@ -126,6 +126,25 @@ impl JoiningEdges {
         part(&self.outputs, row.outputs.start, row.outputs.end)
     }
 
+    /// The inputs that an edge has in the graph: the explicit, the implicit and then the order-only
+    /// ones.
+    pub(crate) fn stated_inputs(&self, edge: EdgeNo) -> &[FileNo]
+        requires { edge.0 < length self.now.stated }
+        ensures files { AreFiles self.now.files result.now
+            (inputs_of (edge_at self.now.stated edge.0)) }
+        ensures known { AreNumbers (length self.now.files) result.now }
+    {
+        let row = row_at(&self.rows, edge.0);
+        part(&self.inputs, row.inputs.start, row.inputs.end)
+    }
+
+    /// How many edges there are.
+    pub(crate) fn edge_count(&self) -> usize
+        ensures { result ≡ length self.now.stated }
+    {
+        self.rows.count()
+    }
+
     /// Whether this edge was joined, even if nothing was added to it.
     pub fn is_joined(&self, edge: EdgeNo) -> bool
         requires { edge.0 < length self.now.stated }
@@ -157,9 +176,10 @@ impl JoiningEdges {
         Ok(true)
     }
 
-    /// Collects an input for the next edge.
-    pub fn add_input(&mut self, path: &[u8]) -> Result<(), AllocError>
+    /// Collects an input for the next edge, and returns the number of its file.
+    pub fn add_input(&mut self, path: &[u8]) -> Result<FileNo, AllocError>
         ensures added { OnOk result (self.new ≡ with_added_input self.old path.now) }
+        ensures number { IfOk result (λ file. slice_get self.new.files file.0 ≡ Some path.now) }
         ensures refused { OnErr result (self.new ≡ self.old) }
     {
         self.added_inputs.reserve(1)?;
@@ -170,6 +190,17 @@ impl JoiningEdges {
             path,
         )?;
         self.added_inputs.push_reserved(file);
+        Ok(file)
+    }
+
+    /// Collects an input for the next edge, by the number of its file.
+    pub(crate) fn add_known_input(&mut self, file: FileNo) -> Result<(), AllocError>
+        requires { file.0 < length self.old.files }
+        ensures added { (path : List ℕ) → slice_get self.old.files file.0 ≡ Some path
+            → OnOk result (self.new ≡ with_added_input self.old path) }
+        ensures refused { OnErr result (self.new ≡ self.old) }
+    {
+        self.added_inputs.push(file)?;
         Ok(())
     }
 
