@@ -12,6 +12,7 @@ pub mod Adding
 pub mod DiscoverLemmas
 pub mod DiscoverEdges
 pub mod DiscoverMakers
+pub mod LoggedLemmas
 pub mod DistinctOutputs
 pub mod DyndepFiles
 pub mod Rows
@@ -20,6 +21,7 @@ pub mod BuiltRows
 pub mod PendingLemmas
 pub mod AddedLemmas
 pub mod JoiningLemmas
+pub mod RecordLemmas
 pub mod StartLemmas
 pub mod JoiningRows
 pub mod AssignedLemmas

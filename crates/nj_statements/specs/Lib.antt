@@ -3,6 +3,8 @@ pub mod EdgeList
 pub mod BuildFaults
 pub mod Built
 pub mod Joining
+pub mod Records
+pub mod Logged
 pub mod Laws
 pub mod Answers
 pub mod JoiningHeld

@@ -7,6 +7,7 @@ ghost use Rattle.nj_faults.specs.Faults.{IsFault, fault_at};
 ghost use Rattle.nj_statements.specs.EdgeList.{assigned_at};
 ghost use Rattle.nj_statements.specs.Answers.{HasEdges};
 ghost use Rattle.nj_statements.specs.Built.{ComesTo, defaults_in_force, detail_at};
+ghost use Rattle.nj_statements.specs.Records.{AreOfGraph, with_graph};
 ghost use Rattle.nj_statements.specs.Inside.Details.{text_at, spot_of};
 
 use crate::building::{Building, DyndepEdge};
@@ -52,6 +53,63 @@ impl Model for Built {
 
     ghost invariant = { λ b. BuiltIsHeld b.graph b.names b.details.items b.defaults.items
         b.dyndeps.items };
+}
+
+/// What is kept of the edges of a run beside their files, and its defaults, while files are added
+/// to the edges.
+#[derive(Drop)]
+pub struct EdgeRecords {
+    blocks: Blocks,
+    names: Names,
+    details: Vec<Detail>,
+    defaults: Vec<FileNo>,
+    dyndeps: Vec<DyndepEdge>,
+}
+
+impl Model for EdgeRecords {
+    ghost use Rattle.nj_statements.specs.Records.{RecordsModel};
+    ghost use Rattle.nj_statements.specs.Inside.BuiltHeld.{RecordsAreHeld, records_of};
+
+    ghost Value = { RecordsModel };
+
+    ghost view = { λ r. records_of r.blocks r.names r.details.items r.defaults.items
+        r.dyndeps.items };
+
+    ghost invariant = { λ r. RecordsAreHeld r.names r.details.items };
+}
+
+impl EdgeRecords {
+    /// The edges of a run again, with this graph.
+    pub fn with_graph(self, graph: EdgeGraph) -> Built
+        requires { AreOfGraph graph self }
+        ensures { result ≡ with_graph graph self }
+    {
+        let EdgeRecords {
+            blocks,
+            names,
+            details,
+            defaults,
+            dyndeps,
+        } = self;
+        Built {
+            graph,
+            blocks,
+            names,
+            details,
+            defaults,
+            dyndeps,
+        }
+    }
+
+    /// The fault of a dependency cycle: at the build statement of this edge on it, with this output
+    /// of the edge.
+    pub fn cycle_fault(&self, alloc: Global, edge: EdgeNo, output: Name) -> GraphFault
+        requires { edge.0 < length self.now.details }
+        ensures { IsFault (Some (fault_at (detail_at self.now.details edge.0).file
+            (detail_at self.now.details edge.0).spot (Cause.Cycle output))) result }
+    {
+        cycle_fault(alloc, &self.names, self.details[edge.0], output)
+    }
 }
 
 impl Building {
@@ -116,6 +174,29 @@ pub(crate) fn place_of(names: &Names, detail: Detail) -> PlaceRef<'_>
 }
 
 impl Built {
+    /// The files and the edges, and what is kept of the edges beside their files.
+    pub fn into_parts(self) -> (EdgeGraph, EdgeRecords)
+        ensures built { self ≡ with_graph result.0 result.1 }
+        ensures fits { AreOfGraph result.0 result.1 }
+    {
+        let Built {
+            graph,
+            blocks,
+            names,
+            details,
+            defaults,
+            dyndeps,
+        } = self;
+        let records = EdgeRecords {
+            blocks,
+            names,
+            details,
+            defaults,
+            dyndeps,
+        };
+        (graph, records)
+    }
+
     /// The files and the edges alone, for walks over them.
     pub fn graph(&self) -> &EdgeGraph
         ensures { result.now ≡ self.now.graph }

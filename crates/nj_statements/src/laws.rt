@@ -3,6 +3,7 @@
 
 ghost use Rattle.nj_scope.specs.Laws.{IsInReadingOrder};
 ghost use Rattle.nj_statements.specs.EdgeList.{edge_given, edges_read, assigned_given, assigned_read};
+ghost use Rattle.nj_statements.specs.Logged.{NamedInputsAreAdded};
 ghost use Rattle.nj_statements.specs.Laws.{AddsToOneEdge, OthersArePendingAsBefore, NamesStay};
 ghost use Rattle.nj_statements.specs.Laws.{EntriesAddToTheirEdges, EdgesMakeWhatIsDiscovered};
 ghost use Rattle.nj_statements.specs.Laws.{NoFileGetsTwoMakers};
@@ -46,4 +47,10 @@ pub fn pending_edges_rise()
 /// The dyndep files of the pending edges are in the order of their first edges, each once.
 pub fn dyndep_files_come_once()
     ensures { DyndepFilesComeOnce }
+{}
+
+/// What deps logs name for edges is added to their inputs, and nothing else changes: an edge that
+/// waits for its dyndep file still waits for it.
+pub fn named_inputs_are_added()
+    ensures { NamedInputsAreAdded }
 {}

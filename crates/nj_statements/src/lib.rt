@@ -16,9 +16,10 @@ mod stated_files;
 mod string_numbers;
 
 pub use building::Building;
-pub use built::{Built, EdgeDetail};
+pub use built::{Built, EdgeDetail, EdgeRecords};
 pub use dyndep_entries::{DyndepFile, Joining};
 pub use laws::{
     discovered_files_are_added, dyndep_files_come_once, edges_by_reading_order,
-    entries_add_to_their_edges, no_file_gets_two_makers, pending_edges_rise,
+    entries_add_to_their_edges, named_inputs_are_added, no_file_gets_two_makers,
+    pending_edges_rise,
 };

@@ -10,6 +10,7 @@ use Rattle.nj_statements.specs.declared.edge_record.Detail.{Detail}
 use Rattle.nj_statements.specs.declared.building.DyndepEdge.{DyndepEdge}
 use Rattle.nj_statements.specs.EdgeList.{Pending, AssignedModel}
 use Rattle.nj_statements.specs.Built.{EdgeDetail, BuiltModel}
+use Rattle.nj_statements.specs.Records.{RecordsModel}
 use Rattle.nj_statements.specs.Inside.Details.{text_at, spot_of, numbered_at, IsNumbered}
 
 abbrev pub detail_named : (names : List (List ℕ)) → Detail → EdgeDetail
@@ -31,6 +32,20 @@ built_of graph blocks names details defaults dyndeps = record {
   pending = map (pending_named graph.files) dyndeps;
   assigned = map (assigned_named names) details;
 }
+
+abbrev pub records_of : BlocksModel → (names : List (List ℕ)) → List Detail → (defaults : List FileNo) → List DyndepEdge → RecordsModel
+records_of blocks names details defaults dyndeps = record {
+  details = map (detail_named names) details;
+  blocks = blocks;
+  defaults = defaults;
+  pending = dyndeps;
+  assigned = map (assigned_named names) details;
+}
+
+-- all numbers of strings are known
+pub record RecordsAreHeld (names : List (List ℕ)) (details : List Detail) : Type 0 where
+  pub names_known : AllByRecursion (λ d. d.file < length names) details
+  pub assigned_known : AllByRecursion (λ d. IsNumbered names d.pool × IsNumbered names d.dyndep) details
 
 -- There is a detail of each edge, and all numbers are numbers of files and edges.
 pub record BuiltIsHeld (graph : EdgeGraph) (names : List (List ℕ)) (details : List Detail) (defaults : List FileNo)
