@@ -17,6 +17,10 @@ pub mod JoiningStrings
 pub mod JoiningPending
 pub mod LaterBindings
 pub mod ListedLemmas
+pub mod LogGraphs
+pub mod LogLaws
+pub mod LogLemmas
+pub mod LogRows
 pub mod MainFiles
 pub mod NameLemmas
 pub mod Naming

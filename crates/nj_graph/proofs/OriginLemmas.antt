@@ -8,17 +8,19 @@ use Rattle.std.proofs.lemmas.Option.{slice_get-get_or}
 use Rattle.nj_text.specs.Numbers.{leading_number_of}
 use Rattle.nj_manifest.specs.Statements.{LineModel, StatementModel, BindingModel, RuleModel, PoolModel, BuildModel, DefaultModel, IncludeModel, SubninjaModel}
 use Rattle.nj_scope.specs.Readings.{IsPrefix}
-use Rattle.nj_scope.specs.Scopes.{expanded}
+use Rattle.nj_scope.specs.Scopes.{expanded, value_in}
 use Rattle.nj_scope.specs.ReadingList.{Discovered, ReadStatement, scope_of, value_after, scopes_opened, files_opened, gathered}
 use Rattle.nj_names.specs.NameTables.{name_at}
 use Rattle.nj_faults.specs.declared.fault.Place.{Place}
 use Rattle.nj_statements.specs.EdgeList.{edges_read, edge_given}
-use Rattle.nj_statements.specs.Joining.{discover}
-use Rattle.nj_statements.proofs.DiscoverLemmas.{value_after-discover, scopes_opened-discover}
+use Rattle.nj_statements.specs.Joining.{also_discovered, discover}
+use Rattle.nj_statements.specs.Logged.{with_inputs_named}
+use Rattle.nj_statements.proofs.DiscoverLemmas.{bounds-same, value_after-discover, scopes_opened-discover, scopes_opened-same}
+use Rattle.nj_statements.proofs.LoggedLemmas.{as_read-named}
 use Rattle.nj_graph.specs.declared.origins.HeldPlace.{HeldPlace}
 use Rattle.nj_graph.specs.declared.origins.HeldPool.{HeldPool}
 use Rattle.nj_graph.specs.declared.origins.HeldOpening.{HeldOpening}
-use Rattle.nj_graph.specs.Origins.{place_of, PoolDetail, OpeningModel, OriginsModel, rule_place_given, rule_places, pool_detail_given, pool_details, opening_given, main_opening, openings_read, origins_read, path_opened, main_of}
+use Rattle.nj_graph.specs.Origins.{place_of, PoolDetail, OpeningModel, OriginsModel, rule_place_given, rule_places, pool_detail_given, pool_details, opening_given, main_opening, openings_read, origins_read, main_of}
 use Rattle.nj_graph.specs.Inside.OriginsHeld.{place_held, pool_held, opening_held, origins_held, AreNamed, origins_with}
 use Rattle.nj_graph.proofs.JoiningTables.{get-prefix}
 
@@ -215,6 +217,26 @@ opening-by e before other same count (PoolModel name lines) = refl
 opening-by e before other same count (BuildModel outputs rule inputs lines) = refl
 opening-by e before other same count (DefaultModel words) = refl
 
+-- one statement more, after statements with the same values and scopes
+origins-step : (main : List ℕ) (e : ReadStatement) (before others : List ReadStatement) → value_after others ≡ value_after before → scopes_opened others ≡ scopes_opened before
+    → origins_read main others ≡ origins_read main before → origins_read main (e ∷ others) ≡ origins_read main (e ∷ before)
+origins-step main e before others values count rest =
+    sym (origins-more main e others)
+    ∙ ap (λ (o : Option (Option Place)). record (origins_with e others (origins_read main others)) { rules = with_given (rule_places others) o }) (rule-by e before others e.item)
+    ∙ ap (λ (o : Option PoolDetail). record (origins_with e others (origins_read main others)) { rules = with_given (rule_places others) (rule_place_given e before e.item); pools = with_given (pool_details others) o })
+    (pool-by e before others values e.item)
+    ∙ ap (λ (o : Option OpeningModel). record (origins_with e before (origins_read main others)) { openings = with_given (openings_read main others) o })
+    (opening-by e before others values count e.item)
+    ∙ ap (origins_with e before) rest ∙ origins-more main e before
+
+-- what is named for edges changes nothing of it either
+pub origins-named : (main : List ℕ) (named : ℕ → List (List ℕ)) (entries : List ReadStatement) → origins_read main (with_inputs_named named entries) ≡ origins_read main entries
+unfolding with_inputs_named
+origins-named main named [] = refl
+origins-named main named (e ∷ before) =
+    let same = as_read-named named before in
+    origins-step main e before (with_inputs_named named before) (ap value_in (bounds-same before (with_inputs_named named before) same)) (scopes_opened-same before (with_inputs_named named before) same) (origins-named main named before)
+
 module _ (main : List ℕ) (edge : ℕ) (found : Discovered) where
   pub origins-discover : (entries : List ReadStatement) → origins_read main (discover edge found entries) ≡ origins_read main entries
   unfolding discover
@@ -225,13 +247,6 @@ module _ (main : List ℕ) (edge : ℕ) (found : Discovered) where
       others = discover edge found before
 
       by : (b : Bool) → origins_read main others ≡ origins_read main before
-          → origins_read main (if b then record e { discovered = Some found } ∷ before else e ∷ others) ≡ origins_read main (e ∷ before)
+          → origins_read main (if b then record (also_discovered found e) { was_joined = true } ∷ before else e ∷ others) ≡ origins_read main (e ∷ before)
       by true rest = refl
-      by false rest =
-          sym (origins-more main e others)
-          ∙ ap (λ (o : Option (Option Place)). record (origins_with e others (origins_read main others)) { rules = with_given (rule_places others) o }) (rule-by e before others e.item)
-          ∙ ap (λ (o : Option PoolDetail). record (origins_with e others (origins_read main others)) { rules = with_given (rule_places others) (rule_place_given e before e.item); pools = with_given (pool_details others) o })
-          (pool-by e before others (value_after-discover edge found before) e.item)
-          ∙ ap (λ (o : Option OpeningModel). record (origins_with e before (origins_read main others)) { openings = with_given (openings_read main others) o })
-          (opening-by e before others (value_after-discover edge found before) (scopes_opened-discover edge found before) e.item)
-          ∙ ap (origins_with e before) rest ∙ origins-more main e before
+      by false rest = origins-step main e before others (value_after-discover edge found before) (scopes_opened-discover edge found before) rest

@@ -1,6 +1,7 @@
 -- How the code meets the definitions beside this folder. No contract of a public call needs these.
 pub mod GraphHeld
 pub mod JoiningContracts
+pub mod LogSteps
 pub mod OriginsHeld
 pub mod PathsReached
 pub mod ReaderContracts

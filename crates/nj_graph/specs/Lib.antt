@@ -1,4 +1,5 @@
 -- what must be believed
+pub mod DepsLogs
 pub mod Errors
 pub mod Graph
 pub mod Joining

@@ -2,6 +2,7 @@
 
 ghost use Rattle.nj_scope.specs.Laws.{IsInReadingOrder};
 ghost use Rattle.nj_scope.specs.ReadingList.{gathered};
+ghost use Rattle.nj_graph.specs.DepsLogs.{SameLogChangesNothing};
 ghost use Rattle.nj_graph.specs.Joining.{JoinedStaysJoined};
 ghost use Rattle.nj_graph.specs.Origins.{rule_place_given, pool_detail_given, opening_given};
 ghost use Rattle.nj_graph.specs.Laws.{ReadIsFaultless, OpenFilesAreBounded, OpeningsAreBounded, OthersAreNotRead, MainRulesRise, LaterBindingsCount, LaterBindingsChangeNoEdge};
@@ -65,4 +66,9 @@ pub fn sign_before_the_first_name()
 pub fn words_mean_targets()
     ensures words { WordsMeanPaths }
     ensures empty { EmptyWordMeansNothing }
+{}
+
+/// The same deps log again changes nothing of the statements to which it was joined.
+pub fn same_log_changes_nothing()
+    ensures { SameLogChangesNothing }
 {}

@@ -4,6 +4,7 @@
 mod block_bindings;
 mod build_statements;
 mod declaring;
+mod deps_logs;
 mod dyndep_files;
 mod edge_assignments;
 mod edge_values;
@@ -27,8 +28,8 @@ pub use error::Error;
 pub use graph::{Graph, rules_by_name};
 pub use laws::{
     bindings_after_an_edge, items_are_found_in_turn, joined_dyndeps_stay_joined,
-    origins_by_reading_order, sign_before_the_first_name, statements_up_to_the_first_fault,
-    words_mean_targets,
+    origins_by_reading_order, same_log_changes_nothing, sign_before_the_first_name,
+    statements_up_to_the_first_fault, words_mean_targets,
 };
 pub use loading::{Loaded, load};
 pub use nj_edges::{EdgeGraph, EdgeNo, EdgeNumbers, FileNo, FileNumbers, Kind};

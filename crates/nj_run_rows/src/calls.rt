@@ -16,6 +16,7 @@ use crate::given::Given;
 use crate::rows::{Block, bytes_of, words_of};
 use deps_logs::put_of_log;
 use lexing::put_lexed;
+pub use log_parts::log_of;
 use marks::{put_mark, put_mark_of};
 use scopes::put_sources;
 pub use scopes::put_written;

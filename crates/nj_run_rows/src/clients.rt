@@ -1,10 +1,13 @@
 //! Work of a client of the libraries, all of whose faults go into one error.
 
+use crate::calls::log_of;
 use crate::changes::put_affected;
 use crate::given::Given;
+use crate::graphs::put_edges;
 use crate::rows::{bytes_of, first_of};
 use crate::walks::put_walk;
-use nj_graph::{GraphFault, Loaded, TextFault, join_dyndeps, load, pick_target};
+use nj_deps::DepsLog;
+use nj_graph::{Graph, GraphFault, Loaded, TextFault, join_dyndeps, load, pick_target};
 use nj_tools::{Error, Mark, MemorySink, SinkFault, ToolFault, write_compdb};
 use std::alloc::{AllocError, Global};
 
@@ -39,18 +42,39 @@ fn put_work(
     match kind {
         "turns" => put_walk(alloc, text, loaded.graph(), words),
         "client" => put_asked(alloc, text, &loaded, words),
+        "join-deps" => put_joined(alloc, text, loaded.into_graph(), given, words),
         _ => put_affected(alloc, text, loaded.graph(), words),
     }
 }
 
-/// What the files give, and for `affected-joined` what their dyndep files discover as well.
+/// What the files give, and for `affected-joined` and `join-deps` what their dyndep files discover
+/// as well.
 fn loaded_for(alloc: Global, given: &Given, kind: &str) -> Result<Loaded, Error> {
     let mut files = given.source()?;
     let loaded = load(alloc, &mut files, "build.ninja")?;
     match kind {
-        "affected-joined" => Ok(join_dyndeps(alloc, loaded, &mut files)?),
+        "affected-joined" | "join-deps" => Ok(join_dyndeps(alloc, loaded, &mut files)?),
         _ => Ok(loaded),
     }
+}
+
+/// Appends the edges once the deps logs of these names are joined, one after the other.
+fn put_joined(
+    alloc: Global,
+    text: &mut Vec<u8>,
+    graph: Graph,
+    given: &Given,
+    names: &str,
+) -> Result<(), Error> {
+    let mut graph = graph;
+    'logs: for name in names.split(' ') {
+        let parts = str::from_utf8(given.bytes(name)).unwrap_or("text not UTF-8");
+        if let Ok(log) = DepsLog::read(alloc, &log_of(alloc, parts)?) {
+            graph = graph.join_deps(alloc, &log)?;
+        }
+    }
+    put_edges(alloc, text, &graph)?;
+    Ok(())
 }
 
 /// Asks for a target, for a mark, and for the compilation database within so many bytes. Appends

@@ -93,7 +93,7 @@ fn put_edge(
 }
 
 /// Appends the edges, a line each.
-fn put_edges(alloc: Global, text: &mut Vec<u8>, graph: &Graph) -> Result<(), AllocError> {
+pub fn put_edges(alloc: Global, text: &mut Vec<u8>, graph: &Graph) -> Result<(), AllocError> {
     'edges: for number in 0..graph.edge_count() {
         put_edge(alloc, text, graph, EdgeNo(number))?;
     }

@@ -24,7 +24,7 @@ pub(crate) fn outcome(
         "load" | "cause" | "same-fault" | "kept" => of_loading(alloc, given, row),
         "request" => asked(alloc, row.rest),
         "quoted" => quoted(alloc, row.rest),
-        "turns" | "client" | "affected" | "affected-joined" => {
+        "turns" | "client" | "affected" | "affected-joined" | "join-deps" => {
             outcome_of_work(alloc, given, row.kind, row.rest)
         }
         "one-error" => taken_in(alloc),

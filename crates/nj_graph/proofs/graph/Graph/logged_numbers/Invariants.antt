@@ -1,0 +1,11 @@
+use Rattle.std.proofs.Common.{◌≡◌, List, length}
+use Rattle.nj_scope.specs.ReadingList.{ReadStatement}
+use Rattle.nj_graph.specs.Graph.{IsGraphOf}
+use Rattle.nj_graph.specs.Inside.LogSteps.{AreNumbersLogged}
+use Rattle.nj_graph.proofs.graph.Graph.logged_numbers.Given as goal
+
+abbrev pub invariant-edges : goal.invariant-edges
+invariant-edges l = record {
+  count : length l.numbers.items ≡ l.edge;
+  numbers : (entries : List ReadStatement) → IsGraphOf l.self entries → AreNumbersLogged l.log entries l.numbers.items;
+}

@@ -1,0 +1,52 @@
+-- A deps log that is joined to the graph of a run ("Deps" in the manual).
+use Rattle.std.specs.Prelude.{◌≡◌, ◌⊎◌, ℕ, Bool, not, if◌then◌else◌, Option, Some, None, option_and_then, Result, Ok, Err, List, [], map, position, codes, bytes_eq}
+use Rattle.nj_text.specs.Calls.{is_empty}
+use Rattle.nj_text.specs.Paths.{clean_path_of}
+use Rattle.nj_names.specs.NameTables.{name_at}
+use Rattle.nj_scope.specs.ReadingList.{ReadStatement}
+use Rattle.nj_edges.specs.Edges.{edge_at, first_output}
+use Rattle.nj_edges.specs.MoreInputs.{new_inputs}
+use Rattle.nj_deps.specs.Logs.{LogModel, OutputModel, output_of}
+use Rattle.nj_faults.specs.declared.fault.GraphFault.{GraphFault}
+use Rattle.nj_faults.specs.Faults.{no_memory}
+use Rattle.nj_statements.specs.Built.{IsCycleFault}
+use Rattle.nj_statements.specs.EdgeList.{edges_read, paths_of_edges}
+use Rattle.nj_statements.specs.Logged.{with_inputs_named}
+use Rattle.nj_graph.specs.Graph.{GraphModel, IsGraphOf, late_text_of}
+
+-- an edge whose value of `deps` is not empty, where its rule is used after all statements
+abbrev pub has_deps : List ReadStatement → (edge : ℕ) → Bool
+has_deps entries edge = not (is_empty (late_text_of entries edge (codes "deps")))
+
+-- the number under which a log has the first output of such an edge
+abbrev pub number_logged : LogModel → List ReadStatement → (edge : ℕ) → Option ℕ
+number_logged log entries edge =
+    if has_deps entries edge
+    then option_and_then (λ path. position (bytes_eq path) log.paths) (first_output (edge_at (paths_of_edges (edges_read entries)) edge))
+    else None
+
+-- the paths on which an output depends, in the order of the log
+abbrev pub paths_logged : LogModel → Option OutputModel → List (List ℕ)
+paths_logged log None = []
+paths_logged log (Some o) = map (name_at log.paths) o.inputs
+
+-- the same, by the number of the output, as clean paths
+abbrev pub inputs_logged : LogModel → Option ℕ → List (List ℕ)
+inputs_logged log number = map clean_path_of (paths_logged log (option_and_then (output_of log.outputs) number))
+
+-- What the log names for an edge with `deps` becomes an implicit input of it, unless it is an input of it already.
+abbrev pub with_log : LogModel → List ReadStatement → List ReadStatement
+with_log log entries =
+    with_inputs_named (λ edge. new_inputs (edge_at (paths_of_edges (edges_read entries)) edge) (inputs_logged log (number_logged log entries edge)))
+    entries
+
+-- The graph of the statements with what the log names; where these have a dependency cycle, its fault; or memory ran out.
+abbrev pub JoinsLog : LogModel → (stated : List ReadStatement) → Result GraphModel GraphFault → Type 0
+JoinsLog log stated (Ok graph) = IsGraphOf graph (with_log log stated)
+JoinsLog log stated (Err fault) = (fault ≡ no_memory) ⊎ IsCycleFault (edges_read (with_log log stated)) fault
+
+-- ---- laws
+
+-- The same log again changes nothing.
+abbrev pub SameLogChangesNothing : Type 0
+SameLogChangesNothing = (log : LogModel) (stated : List ReadStatement) → with_log log (with_log log stated) ≡ with_log log stated
