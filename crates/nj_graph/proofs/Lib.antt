@@ -33,6 +33,7 @@ pub mod ReadingLaws
 pub mod ReadingRows
 pub mod ResponseRows
 pub mod ParsedLemmas
+pub mod PickedTargets
 pub mod Positions
 pub mod SortLemmas
 pub mod Stated

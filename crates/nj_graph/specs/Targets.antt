@@ -1,9 +1,12 @@
--- The target that a word of the command line means.
-use Rattle.std.specs.Prelude.{◌≡◌, ◌⊎◌, ◌-◌, ℕ, if◌then◌else◌, Option, Some, option_and_then, ok_or, Result, Ok, Err, List, drop, take, length, slice_get, codes, bytes_eq}
+-- The targets that words of the command line mean.
+use Rattle.std.specs.Prelude.{◌≡◌, ◌⊎◌, ◌-◌, ℕ, if◌then◌else◌, Option, Some, option_and_then, ok_or, Result, Ok, Err, List, [], ◌∷◌, drop, take, length, slice_get, codes, bytes_eq}
+use Rattle.std.specs.Global.{Vec}
 use Rattle.nj_text.specs.Calls.{is_empty}
 use Rattle.nj_text.specs.Paths.{clean_path_of}
+use Rattle.nj_manifest.specs.LineSteps.{◌>>=◌}
 use Rattle.nj_names.specs.declared.files.FileNo.{FileNo}
 use Rattle.nj_edges.specs.Edges.{EdgePaths, edge_at, first_output, users_of, is_named}
+use Rattle.nj_names.specs.Files.{AreFiles}
 use Rattle.nj_faults.specs.declared.fault.GraphFault.{GraphFault}
 use Rattle.nj_faults.specs.declared.fault.Cause.TheVariants.{EmptyPath, UnknownTarget, NoOutEdge}
 use Rattle.nj_faults.specs.Faults.{no_memory, unplaced}
@@ -34,3 +37,18 @@ picked edges word = if is_empty word then Err (unplaced EmptyPath) else clean_ta
 abbrev pub Picks : (files : List (List ℕ)) → (expected : Result (List ℕ) GraphFault) → Result FileNo GraphFault → Type 0
 Picks files expected (Ok file) = (path : List ℕ) × (expected ≡ Ok path) × (slice_get files file.0 ≡ Some path)
 Picks files expected (Err fault) = (fault ≡ no_memory) ⊎ (expected ≡ Err fault)
+
+-- the paths of the targets that words name, or the fault of the first word that names none
+abbrev pub targets_named : List EdgePaths → (words : List (List ℕ)) → Result (List (List ℕ)) GraphFault
+targets_named edges [] = Ok []
+targets_named edges (word ∷ words) = picked edges word >>= (λ path. targets_named edges words >>= (λ paths. Ok (path ∷ paths)))
+
+-- the same, but the defaults if there are no words
+abbrev pub targets_or : (defaults : List (List ℕ)) → List EdgePaths → (words : List (List ℕ)) → Result (List (List ℕ)) GraphFault
+targets_or defaults edges [] = Ok defaults
+targets_or defaults edges (word ∷ words) = targets_named edges (word ∷ words)
+
+-- The files with these paths are answered, or the fault; or out of memory.
+abbrev pub PicksTargets : (files : List (List ℕ)) → (expected : Result (List (List ℕ)) GraphFault) → Result (Vec FileNo) GraphFault → Type 0
+PicksTargets files expected (Ok numbers) = (paths : List (List ℕ)) × (expected ≡ Ok paths) × AreFiles files numbers.items paths
+PicksTargets files expected (Err fault) = (fault ≡ no_memory) ⊎ (expected ≡ Err fault)

@@ -1,15 +1,17 @@
 //! Targets, as words of a command line name them.
 
-ghost use Rattle.std.specs.Prelude.{◌≡◌, ◌<◌, Some, length, option_map, slice_get};
+ghost use Rattle.std.specs.Prelude.{◌≡◌, ◌<◌, Some, All, IfOk, length, map, option_map, slice_get};
 ghost use Rattle.nj_names.specs.Files.{path_at};
 ghost use Rattle.nj_graph.specs.Graph.{edges_of, files_of};
-ghost use Rattle.nj_graph.specs.Targets.{target, first_made_of, made_target, clean_target, picked, Picks};
+ghost use Rattle.nj_graph.specs.Targets.{target, first_made_of, made_target, clean_target, picked, targets_named, targets_or, Picks, PicksTargets};
+ghost use Rattle.nj_statements.specs.Built.{defaults_in_force};
 
 use crate::graph::Graph;
 use nj_edges::FileNo;
 use nj_faults::{Cause, GraphFault, Name};
 use nj_text::{TextFault, clean_path};
 use std::alloc::Global;
+use std::convert::AsSlice;
 
 /// The file that a word of a command line means: the one at its path, which is cleaned first; for
 /// `FILE^` the first output of an edge that has FILE as an input, the edge of the smallest number
@@ -26,6 +28,53 @@ pub fn pick_target(alloc: Global, graph: &Graph, word: &[u8]) -> Result<FileNo, 
         Ok(path) => clean_target(alloc, graph, &path),
         Err(TextFault::EmptyPath) => Err(GraphFault::unplaced(Cause::EmptyPath)),
         Err(TextFault::OutOfMemory) => Err(GraphFault::out_of_memory()),
+    }
+}
+
+impl Graph {
+    /// The files that words of a command line mean, in their order, each as `pick_target` has it;
+    /// the defaults in force if there are no words.
+    ///
+    /// # Errors
+    ///
+    /// The fault of the first word that means no file; or an allocation failed.
+    pub fn pick_targets<W: AsSlice<u8>>(
+        &self,
+        alloc: Global,
+        words: &[W],
+    ) -> Result<Vec<FileNo>, GraphFault>
+        ensures picks { PicksTargets (files_of self.now)
+            (targets_or (defaults_in_force self.now.built.defaults (edges_of self.now))
+            (edges_of self.now) (map W.items words.now)) result }
+        ensures known { IfOk result (λ files.
+            All (λ file. file.0 < length (files_of self.now)) files.items) }
+    {
+        if words.is_empty() {
+            return Ok(Vec::from_slice(alloc, self.defaults())?);
+        }
+        self.pick_named(alloc, words)
+    }
+
+    /// The files that words of a command line mean, in their order: none if there are no words. For
+    /// this library's own crates.
+    ///
+    /// # Errors
+    ///
+    /// The fault of the first word that means no file; or an allocation failed.
+    pub fn pick_named<W: AsSlice<u8>>(
+        &self,
+        alloc: Global,
+        words: &[W],
+    ) -> Result<Vec<FileNo>, GraphFault>
+        ensures { PicksTargets (files_of self.now)
+            (targets_named (edges_of self.now) (map W.items words.now)) result }
+    {
+        let mut files = Vec::new(alloc);
+        'words: for word in words {
+            let file = pick_target(alloc, self, word.as_slice())?;
+            files.push(file)?;
+        }
+        Ok(files)
     }
 }
 
