@@ -1,0 +1,70 @@
+-- What small command lines ask for, worked out on the definitions.
+use Rattle.std.proofs.Common.{◌≡◌, ℕ, true, false, Some, None, List, [], ◌∷◌, codes, refl}
+use Rattle.std.specs.List.{filter}
+use Rattle.nj_faults.specs.declared.fault.Place.{Place}
+use Rattle.nj_audit.specs.declared.kinds.Kind.{Kind}
+use Rattle.nj_audit.specs.declared.kinds.Kind.TheVariants.{UnusedOutput, MissingSource, UnusedRule, UnusedPool, RepeatedCommand, DepfileWithoutDeps, RepeatedInput}
+use Rattle.nj_audit.specs.declared.kinds.Kinds.{Kinds}
+use Rattle.nj_audit.specs.Audit.{findings_asked_for}
+use Rattle.nj_audit.specs.Findings.{FindingModel}
+use Rattle.nj_audit.specs.Kinds.{all_kinds, first_unknown, is_asked_for}
+
+-- the kinds that these words ask for
+abbrev asked : (only except : List (List ℕ)) → List Kind
+asked only except = filter (is_asked_for only except) all_kinds
+
+no_options : asked [] [] ≡ MissingSource ∷ RepeatedCommand ∷ DepfileWithoutDeps ∷ []
+no_options = refl
+
+only_one : asked (codes "unused-rule" ∷ []) [] ≡ UnusedRule ∷ []
+only_one = refl
+
+-- in the order of the kinds, and once each
+only_three : asked (codes "repeated-input" ∷ codes "missing-source" ∷ codes "repeated-input" ∷ codes "unused-output" ∷ []) []
+    ≡ UnusedOutput ∷ MissingSource ∷ RepeatedInput ∷ []
+only_three = refl
+
+only_except_itself : asked (codes "unused-rule" ∷ []) (codes "unused-rule" ∷ []) ≡ []
+only_except_itself = refl
+
+except_one : asked [] (codes "repeated-command" ∷ []) ≡ MissingSource ∷ DepfileWithoutDeps ∷ []
+except_one = refl
+
+-- what is not taken need not be excepted
+except_others : asked [] (codes "unused-pool" ∷ codes "unused-variable" ∷ []) ≡ asked [] []
+except_others = refl
+
+only_and_except : asked (codes "unused-pool" ∷ codes "unused-rule" ∷ []) (codes "unused-pool" ∷ codes "missing-source" ∷ []) ≡ UnusedRule ∷ []
+only_and_except = refl
+
+-- ---- words that name no kind
+
+known : first_unknown (codes "unused-output" ∷ codes "unused-variable" ∷ []) (codes "depfile-without-deps" ∷ []) ≡ None
+known = refl
+
+first_of_two : first_unknown (codes "unused-rule" ∷ []) (codes "unused rule" ∷ codes "unused" ∷ []) ≡ Some (codes "unused rule")
+first_of_two = refl
+
+only_before_except : first_unknown ([] ∷ []) (codes "unused" ∷ []) ≡ Some []
+only_before_except = refl
+
+-- ---- findings
+
+abbrev only_rules : Kinds
+only_rules = record {
+  unused_output = false;
+  missing_source = false;
+  unused_rule = true;
+  unused_pool = false;
+  unused_variable = false;
+  repeated_command = false;
+  depfile_without_deps = false;
+  repeated_input = false;
+}
+
+abbrev finding : Place → Kind → FindingModel
+finding place kind = record { place = place; kind = kind; name = codes "a" }
+
+filtered : (p q : Place) → findings_asked_for only_rules (finding p UnusedOutput ∷ finding p UnusedRule ∷ finding q UnusedPool ∷ finding q UnusedRule ∷ [])
+    ≡ finding p UnusedRule ∷ finding q UnusedRule ∷ []
+filtered p q = refl

@@ -1,0 +1,6 @@
+pub mod ListLemmas
+pub mod NameLemmas
+mod ServingLemmas
+pub mod MarkLemmas
+pub mod KindLemmas
+mod KindRows

@@ -1,0 +1,69 @@
+-- The kinds of findings, and which of them the words of `--only` and of `--except` ask for.
+use Rattle.std.specs.Prelude.{◌≡◌, ℕ, ◌==◌, ◌&&◌, Bool, true, false, not, if◌then◌else◌}
+use Rattle.std.specs.Prelude.{Option, List, [], ◌∷◌, ◌++◌, codes, find, length, map}
+use Rattle.std.specs.Borrow.{Bor}
+use Rattle.nj_graph.specs.Edges.{is_among}
+use Rattle.nj_audit.specs.declared.kinds.Kind.{Kind}
+use Rattle.nj_audit.specs.declared.kinds.Kind.TheVariants.{UnusedOutput, MissingSource}
+use Rattle.nj_audit.specs.declared.kinds.Kind.TheVariants.{UnusedRule, UnusedPool}
+use Rattle.nj_audit.specs.declared.kinds.Kind.TheVariants.{UnusedVariable, RepeatedCommand}
+use Rattle.nj_audit.specs.declared.kinds.Kind.TheVariants.{DepfileWithoutDeps, RepeatedInput}
+use Rattle.nj_audit.specs.declared.kinds.Kinds.{Kinds}
+
+abbrev pub name_of : Kind → List ℕ
+name_of UnusedOutput = codes "unused-output"
+name_of MissingSource = codes "missing-source"
+name_of UnusedRule = codes "unused-rule"
+name_of UnusedPool = codes "unused-pool"
+name_of UnusedVariable = codes "unused-variable"
+name_of RepeatedCommand = codes "repeated-command"
+name_of DepfileWithoutDeps = codes "depfile-without-deps"
+name_of RepeatedInput = codes "repeated-input"
+
+abbrev pub is_on_by_default : Kind → Bool
+is_on_by_default MissingSource = true
+is_on_by_default RepeatedCommand = true
+is_on_by_default DepfileWithoutDeps = true
+is_on_by_default kind = false
+
+-- `--only` takes the kinds that it names; without it, those are taken that are on by default
+abbrev pub is_taken : (only : List (List ℕ)) → Kind → Bool
+is_taken only kind =
+    if length only == 0 then is_on_by_default kind else is_among only (name_of kind)
+
+-- a kind is asked for if it is taken and `--except` does not name it
+abbrev pub is_asked_for : (only except : List (List ℕ)) → Kind → Bool
+is_asked_for only except kind = is_taken only kind && not (is_among except (name_of kind))
+
+abbrev pub all_kinds : List Kind
+all_kinds =
+    UnusedOutput ∷ MissingSource ∷ UnusedRule ∷ UnusedPool ∷ UnusedVariable ∷ RepeatedCommand
+    ∷ DepfileWithoutDeps ∷ RepeatedInput ∷ []
+
+-- a word names no kind
+abbrev pub is_unknown : (word : List ℕ) → Bool
+is_unknown word = not (is_among (map name_of all_kinds) word)
+
+-- the first such word, those of `--only` before those of `--except`
+abbrev pub first_unknown : (only except : List (List ℕ)) → Option (List ℕ)
+first_unknown only except = find is_unknown (only ++ except)
+
+-- words that are lent
+abbrev pub texts : List (Bor (List ℕ)) → List (List ℕ)
+texts words = map (λ word. word.now) words
+
+-- ---- kinds as flags
+
+abbrev pub contains : Kinds → Kind → Bool
+contains kinds UnusedOutput = kinds.unused_output
+contains kinds MissingSource = kinds.missing_source
+contains kinds UnusedRule = kinds.unused_rule
+contains kinds UnusedPool = kinds.unused_pool
+contains kinds UnusedVariable = kinds.unused_variable
+contains kinds RepeatedCommand = kinds.repeated_command
+contains kinds DepfileWithoutDeps = kinds.depfile_without_deps
+contains kinds RepeatedInput = kinds.repeated_input
+
+-- the kinds are those that the words ask for
+abbrev pub AskFor : Kinds → (only except : List (List ℕ)) → Type 0
+AskFor kinds only except = (kind : Kind) → contains kinds kind ≡ is_asked_for only except kind

@@ -1,0 +1,195 @@
+//! The kinds of findings, and which of them are asked for.
+
+ghost use Rattle.std.specs.Prelude.{◌≡◌, None, Some, IfErr, IfOk, OnOk, option_map};
+ghost use Rattle.nj_graph.specs.Edges.{is_among};
+ghost use Rattle.nj_audit.specs.Kinds.{AskFor, contains, first_unknown, is_asked_for};
+ghost use Rattle.nj_audit.specs.Kinds.{is_on_by_default, is_taken, is_unknown, name_of, texts};
+
+/// A kind of finding.
+#[derive(Clone, Copy)]
+pub enum Kind {
+    UnusedOutput,
+    MissingSource,
+    UnusedRule,
+    UnusedPool,
+    UnusedVariable,
+    RepeatedCommand,
+    DepfileWithoutDeps,
+    RepeatedInput,
+}
+
+impl Kind {
+    /// All kinds, in the order in which their findings are written.
+    pub const ALL: [Kind; 8] = [
+        Kind::UnusedOutput,
+        Kind::MissingSource,
+        Kind::UnusedRule,
+        Kind::UnusedPool,
+        Kind::UnusedVariable,
+        Kind::RepeatedCommand,
+        Kind::DepfileWithoutDeps,
+        Kind::RepeatedInput,
+    ];
+
+    /// Its name on the command line and in JSON.
+    pub fn name(self) -> &'static str
+        ensures { result.now ≡ name_of self }
+    {
+        match self {
+            Kind::UnusedOutput => "unused-output",
+            Kind::MissingSource => "missing-source",
+            Kind::UnusedRule => "unused-rule",
+            Kind::UnusedPool => "unused-pool",
+            Kind::UnusedVariable => "unused-variable",
+            Kind::RepeatedCommand => "repeated-command",
+            Kind::DepfileWithoutDeps => "depfile-without-deps",
+            Kind::RepeatedInput => "repeated-input",
+        }
+    }
+
+    /// Its name in a plain line.
+    pub fn phrase(self) -> &'static str {
+        match self {
+            Kind::UnusedOutput => "unused output",
+            Kind::MissingSource => "missing source",
+            Kind::UnusedRule => "unused rule",
+            Kind::UnusedPool => "unused pool",
+            Kind::UnusedVariable => "unused variable",
+            Kind::RepeatedCommand => "repeated command",
+            Kind::DepfileWithoutDeps => "depfile without deps",
+            Kind::RepeatedInput => "repeated input",
+        }
+    }
+
+    /// What is found.
+    pub fn meaning(self) -> &'static str {
+        match self {
+            Kind::UnusedOutput => "an output that is no default, no input and no validation",
+            Kind::MissingSource => "a source that a command needs and that is not on the disk",
+            Kind::UnusedRule => "a rule that no edge uses",
+            Kind::UnusedPool => "a pool that no edge uses",
+            Kind::UnusedVariable => "a variable of an edge that neither its rule nor Ninja reads",
+            Kind::RepeatedCommand => "an edge with the command of an earlier edge",
+            Kind::DepfileWithoutDeps => "an edge with a depfile and no deps",
+            Kind::RepeatedInput => "an input that is given to its edge again",
+        }
+    }
+
+    /// Whether it is asked for where `--only` names no kinds.
+    pub fn is_on_by_default(self) -> bool
+        ensures { result ≡ is_on_by_default self }
+    {
+        matches!(
+            self,
+            Kind::MissingSource | Kind::RepeatedCommand | Kind::DepfileWithoutDeps
+        )
+    }
+}
+
+/// The kinds that are asked for, with a flag for each kind.
+#[derive(Clone, Copy)]
+pub struct Kinds {
+    pub unused_output: bool,
+    pub missing_source: bool,
+    pub unused_rule: bool,
+    pub unused_pool: bool,
+    pub unused_variable: bool,
+    pub repeated_command: bool,
+    pub depfile_without_deps: bool,
+    pub repeated_input: bool,
+}
+
+impl Kinds {
+    /// The kinds that the words of `--only` and of `--except` ask for.
+    ///
+    /// # Errors
+    ///
+    /// The first word that names no kind.
+    pub fn from_words<'a>(only: &[&'a str], except: &[&'a str]) -> Result<Kinds, &'a str>
+        ensures asked { IfOk result (λ kinds. AskFor kinds (texts only.now) (texts except.now)) }
+        ensures known { OnOk result (first_unknown (texts only.now) (texts except.now) ≡ None) }
+        ensures unknown { IfErr result
+            (λ word. first_unknown (texts only.now) (texts except.now) ≡ Some word.now) }
+    {
+        match first_unknown(only, except) {
+            Some(word) => Err(word),
+            None => Ok(Kinds::known_from_words(only, except)),
+        }
+    }
+
+    /// The kinds that words ask for, each of which names a kind.
+    fn known_from_words(only: &[&str], except: &[&str]) -> Kinds
+        ensures { AskFor result (texts only.now) (texts except.now) }
+    {
+        Kinds {
+            unused_output: is_asked_for(only, except, Kind::UnusedOutput),
+            missing_source: is_asked_for(only, except, Kind::MissingSource),
+            unused_rule: is_asked_for(only, except, Kind::UnusedRule),
+            unused_pool: is_asked_for(only, except, Kind::UnusedPool),
+            unused_variable: is_asked_for(only, except, Kind::UnusedVariable),
+            repeated_command: is_asked_for(only, except, Kind::RepeatedCommand),
+            depfile_without_deps: is_asked_for(only, except, Kind::DepfileWithoutDeps),
+            repeated_input: is_asked_for(only, except, Kind::RepeatedInput),
+        }
+    }
+
+    /// Whether a kind is one of them.
+    pub fn contains(self, kind: Kind) -> bool
+        ensures { result ≡ contains self kind }
+    {
+        match kind {
+            Kind::UnusedOutput => self.unused_output,
+            Kind::MissingSource => self.missing_source,
+            Kind::UnusedRule => self.unused_rule,
+            Kind::UnusedPool => self.unused_pool,
+            Kind::UnusedVariable => self.unused_variable,
+            Kind::RepeatedCommand => self.repeated_command,
+            Kind::DepfileWithoutDeps => self.depfile_without_deps,
+            Kind::RepeatedInput => self.repeated_input,
+        }
+    }
+}
+
+/// The first word that names no kind.
+fn first_unknown<'a>(only: &[&'a str], except: &[&'a str]) -> Option<&'a str>
+    ensures { option_map (λ word. word.now) result
+        ≡ first_unknown (texts only.now) (texts except.now) }
+{
+    only.iter()
+        .chain(except.iter())
+        .copied()
+        .find(|word| is_unknown(word))
+}
+
+/// Whether a word names no kind.
+fn is_unknown(word: &str) -> bool
+    ensures { result ≡ is_unknown word.now }
+{
+    !Kind::ALL.iter().any(|kind| word == kind.name())
+}
+
+/// Whether words ask for a kind.
+fn is_asked_for(only: &[&str], except: &[&str], kind: Kind) -> bool
+    ensures { result ≡ is_asked_for (texts only.now) (texts except.now) kind }
+{
+    is_taken(only, kind) && !is_named(except, kind)
+}
+
+/// Whether `--only` takes a kind. Without words it takes the kinds that are on by default.
+fn is_taken(only: &[&str], kind: Kind) -> bool
+    ensures { result ≡ is_taken (texts only.now) kind }
+{
+    if only.is_empty() {
+        kind.is_on_by_default()
+    } else {
+        is_named(only, kind)
+    }
+}
+
+/// Whether a word names a kind.
+fn is_named(words: &[&str], kind: Kind) -> bool
+    ensures { result ≡ is_among (texts words.now) (name_of kind) }
+{
+    let name = kind.name();
+    words.iter().any(|word| name == *word)
+}

@@ -1,0 +1,20 @@
+//! Findings about a manifest: what is probably a mistake in it, or of no use.
+#![tactic(auto)]
+
+mod auditing;
+mod commands;
+mod depfiles;
+mod findings;
+mod inputs;
+mod kinds;
+mod names;
+mod outputs;
+mod pools;
+mod rules;
+mod serving;
+mod sources;
+mod variables;
+
+pub use auditing::audit;
+pub use findings::{Finding, Findings};
+pub use kinds::{Kind, Kinds};

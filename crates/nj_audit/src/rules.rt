@@ -1,0 +1,55 @@
+//! Rules that no edge uses.
+
+ghost use Rattle.std.specs.Prelude.{◌≡◌, ◌++◌, ◌<◌, ℕ, [], IfOk, OnOk, false, length};
+ghost use Rattle.std.specs.Prelude.{slice_index_or};
+ghost use Rattle.std.specs.List.{cons_option};
+ghost use Rattle.nj_audit.specs.Audit.{is_used_rule, unused_rule, unused_rules};
+
+use crate::findings::Findings;
+use crate::kinds::Kind;
+use nj_graph::{EdgeNo, Graph};
+use std::alloc::{AllocError, Global};
+
+/// Appends the rules that no edge uses.
+pub fn find_unused_rules<'a>(
+    alloc: Global,
+    graph: &'a Graph,
+    found: &mut Findings<'a>,
+) -> Result<(), AllocError>
+    ensures { OnOk result (found.new ≡ found.old ++ unused_rules graph.entry.now) }
+{
+    let used = used_rules(alloc, graph)?;
+    'rules: for rule in 0..graph.rules().len() {
+        if !used[rule] {
+            push_rule(graph, rule, found)?;
+        }
+    }
+    Ok(())
+}
+
+/// Appends a rule that no edge uses. No statement declares `phony`.
+fn push_rule<'a>(graph: &'a Graph, rule: usize, found: &mut Findings<'a>) -> Result<(), AllocError>
+    requires within { rule < length graph.now.declarations.rules }
+    requires unused { is_used_rule graph.now rule ≡ false }
+    ensures { OnOk result (found.new
+        ≡ found.old ++ cons_option (unused_rule graph.entry.now rule) []) }
+{
+    match graph.rule_place(rule) {
+        Some(place) => found.push(place, Kind::UnusedRule, graph.rules()[rule].name()),
+        None => Ok(()),
+    }
+}
+
+/// Of each rule whether an edge uses it.
+fn used_rules(alloc: Global, graph: &Graph) -> Result<Vec<bool>, AllocError>
+    ensures len { IfOk result (λ used.
+        length used.items ≡ length graph.now.declarations.rules) }
+    ensures used { IfOk result (λ used. (rule : ℕ) → rule < length graph.now.declarations.rules
+        → slice_index_or used.items rule false ≡ is_used_rule graph.now rule) }
+{
+    let mut used = vec![in alloc; false; graph.rules().len()]?;
+    'edges: for number in 0..graph.edge_count() {
+        used[graph.edge_rule(EdgeNo(number))] = true;
+    }
+    Ok(used)
+}

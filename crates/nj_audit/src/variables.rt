@@ -1,0 +1,132 @@
+//! Variables of edges to which no line of their rules refers.
+
+ghost use Rattle.std.specs.Prelude.{◌≡◌, ◌++◌, ◌<◌, ℕ, List, [], ◌∷◌, IfOk, OnOk, length};
+ghost use Rattle.std.specs.List.{AllZip};
+ghost use Rattle.nj_scope.specs.ReadingList.{ReadStatement};
+ghost use Rattle.nj_graph.specs.Edges.{is_among};
+ghost use Rattle.nj_graph.specs.Graph.{IsGraphOf, edges_of};
+ghost use Rattle.nj_audit.specs.Audit.{is_known, names_in, rule_at};
+ghost use Rattle.nj_audit.specs.Audit.{unused_names, unused_variables};
+ghost use Rattle.nj_audit.specs.Audit.{unused_variables_at};
+ghost use Rattle.nj_audit.specs.Inside.References.{HasReferences};
+
+use crate::findings::Findings;
+use crate::kinds::Kind;
+use crate::names::Names;
+use nj_graph::{EdgeNo, Graph, LateValue, Part, Rule};
+use std::alloc::{AllocError, Global};
+
+/// Appends the names that blocks of edges bind, that no line of the edge's rule refers to, and that
+/// mean nothing to Ninja itself.
+pub fn find_unused_variables<'a>(
+    alloc: Global,
+    graph: &'a Graph,
+    found: &mut Findings<'a>,
+) -> Result<(), AllocError>
+    ensures { (entries : List ReadStatement) → IsGraphOf graph.entry.now entries
+        → OnOk result (found.new ≡ found.old ++ unused_variables graph.entry.now entries) }
+{
+    let references = references_of_rules(alloc, graph.rules())?;
+    'edges: for number in 0..graph.edge_count() {
+        let edge = EdgeNo(number);
+        push_unused_variables(graph, edge, &references[graph.edge_rule(edge)], found)?;
+    }
+    Ok(())
+}
+
+/// Appends those of an edge. The references are those of its rule.
+fn push_unused_variables<'a>(
+    graph: &'a Graph,
+    edge: EdgeNo,
+    references: &Names,
+    found: &mut Findings<'a>,
+) -> Result<(), AllocError>
+    requires edge { edge.0 < length (edges_of graph.now) }
+    requires references { HasReferences references.now (rule_at graph.now edge.0) }
+    ensures { (entries : List ReadStatement) → IsGraphOf graph.entry.now entries → OnOk result
+        (found.new ≡ found.old ++ unused_variables_at graph.entry.now entries edge.0) }
+{
+    'names: for index in 0..graph.block_name_count(edge) {
+        if let Some(name) = graph.block_name(edge, index) {
+            push_if_unused(graph, edge, name, references, found)?;
+        }
+    }
+    Ok(())
+}
+
+/// Appends a name that the block of an edge binds, unless it is used.
+fn push_if_unused<'a>(
+    graph: &'a Graph,
+    edge: EdgeNo,
+    name: &'a [u8],
+    references: &Names,
+    found: &mut Findings<'a>,
+) -> Result<(), AllocError>
+    requires edge { edge.0 < length (edges_of graph.now) }
+    requires references { HasReferences references.now (rule_at graph.now edge.0) }
+    ensures { OnOk result (found.new
+        ≡ found.old ++ unused_names graph.entry.now edge.0 (name.entry.now ∷ [])) }
+{
+    if is_known(name) || references.has(name) {
+        return Ok(());
+    }
+    found.push_at(graph, edge, Kind::UnusedVariable, name)
+}
+
+/// The names to which the lines of each rule refer.
+fn references_of_rules(alloc: Global, rules: &[Rule]) -> Result<Vec<Names>, AllocError>
+    ensures { IfOk result (λ references. AllZip HasReferences references.items rules.now) }
+{
+    let mut references = Vec::with_capacity(alloc, rules.len())?;
+    'rules: for rule in rules {
+        references.push(references_of(alloc, rule)?)?;
+    }
+    Ok(references)
+}
+
+/// The names to which the lines of a rule refer.
+fn references_of(alloc: Global, rule: &Rule) -> Result<Names, AllocError>
+    ensures { IfOk result (λ references. HasReferences references rule.now) }
+{
+    let mut references = Names::new(alloc);
+    'lines: for index in 0..rule.line_count() {
+        add_references(&mut references, rule.line_value(index))?;
+    }
+    Ok(references)
+}
+
+/// Adds the names to which a value refers.
+fn add_references(references: &mut Names, value: &LateValue) -> Result<(), AllocError>
+    ensures { OnOk result ((name : List ℕ) → is_among references.new name
+        ≡ is_among (references.old ++ names_in value.now) name) }
+{
+    'parts: for index in 0..value.len() {
+        match value.part(index) {
+            Part::Name(name) => {
+                references.add(name)?;
+            }
+            Part::Bytes(_) => {}
+        }
+    }
+    Ok(())
+}
+
+/// Whether a name means something to Ninja itself.
+fn is_known(name: &[u8]) -> bool
+    ensures { result ≡ is_known name.now }
+{
+    name == b"command".as_slice()
+        || name == b"depfile".as_slice()
+        || name == b"deps".as_slice()
+        || name == b"description".as_slice()
+        || name == b"dyndep".as_slice()
+        || name == b"generator".as_slice()
+        || name == b"in".as_slice()
+        || name == b"in_newline".as_slice()
+        || name == b"msvc_deps_prefix".as_slice()
+        || name == b"out".as_slice()
+        || name == b"pool".as_slice()
+        || name == b"restat".as_slice()
+        || name == b"rspfile".as_slice()
+        || name == b"rspfile_content".as_slice()
+}
