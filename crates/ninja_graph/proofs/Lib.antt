@@ -1,0 +1,5 @@
+mod LineLemmas
+mod FlagLemmas
+mod ManifestLemmas
+mod ReportLaws
+mod WritingLemmas

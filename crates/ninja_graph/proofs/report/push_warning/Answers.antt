@@ -1,0 +1,32 @@
+use Rattle.std.proofs.Common.{◌≡◌, Some, [], ◌∷◌, ◌++◌, option_map, true, false, sym, ap, subst, ◌∙◌, append-nil, true≢false}
+use Rattle.std.specs.Prelude.{option_copied}
+use Rattle.std.proofs.lemmas.Result.{on_ok_weaker}
+use Rattle.nj_graph.specs.Graph.{files_of}
+use Rattle.ninja_graph.specs.Reports.{HasWarnings}
+use Rattle.ninja_graph.specs.Reports.HasWarnings.{last}
+use Rattle.ninja_graph.specs.Reports.IsWarning.{made_from, nothing, unknown}
+use Rattle.ninja_graph.proofs.LineLemmas.{none-is}
+use Rattle.ninja_graph.proofs.report.push_warning.Goals as goal
+
+pub is_made_from-requires-clause-tells : goal.is_made_from-requires-clause-tells
+is_made_from-requires-clause-tells c entries graph = c.requires entries graph c.in-Some.file.0 (sym c.in_ok-file.ensures.file ∙ ap (option_map (λ f. f.0)) c.in-Some.is)
+
+pub returns-in_default : goal.returns-in_default
+returns-in_default c entries graph =
+    let folder = option_copied c.args.source_dir in
+    let missing = sym c.in_ok-file.ensures.file ∙ ap (option_map (λ f. f.0)) (none-is c.in_ok-file.field-0 c.in_default.not-Some) in
+    on_ok_weaker c.push_line.result (λ is paths held. subst (HasWarnings c.args.graph.now entries folder (paths ++ c.args.path.now ∷ [])) (sym is) (last held (unknown missing))) c.push_line.ensures
+
+pub returns-then-branch : goal.returns-then-branch
+returns-then-branch c entries graph =
+    let folder = option_copied c.args.source_dir in
+    let named = sym c.in_ok-file.ensures.file ∙ ap (option_map (λ f. f.0)) c.in-Some.is in
+    let made = (c.in_ok-is_made_from.ensures entries graph).0 c.if-branch.true in
+    on_ok_weaker c.push_made_from.result (λ is paths held. subst (HasWarnings c.args.graph.now entries folder (paths ++ c.args.path.now ∷ [])) (sym is) (last held (made_from named made))) c.push_made_from.ensures
+
+pub returns : goal.returns
+returns c entries graph paths held =
+    let folder = option_copied c.args.source_dir in
+    let named = sym c.in_ok-file.ensures.file ∙ ap (option_map (λ f. f.0)) c.in-Some.is in
+    subst (HasWarnings c.args.graph.now entries folder (paths ++ c.args.path.now ∷ [])) (append-nil c.args.warnings.now.items)
+    (last held (nothing named (λ made. true≢false (sym ((c.in_ok-is_made_from.ensures entries graph).1 made) ∙ c.if-branch.false))))

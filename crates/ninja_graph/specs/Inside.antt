@@ -1,0 +1,3 @@
+-- How the code meets the definitions beside this folder.
+pub mod Flags
+pub mod Reached

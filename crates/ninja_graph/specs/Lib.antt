@@ -1,0 +1,7 @@
+-- what must be believed
+pub mod Affected
+pub mod Manifest
+pub mod Reports
+pub mod Statuses
+-- how the code does that
+pub mod Inside

@@ -1,0 +1,89 @@
+//! The subcommand `affected`: the outputs that a change of files affects.
+
+use crate::failure::Failure;
+use crate::listing::Listed;
+use crate::report::write_report;
+use crate::status::Status;
+use crate::words::{flag, option, repeated};
+use clap::{ArgMatches, Command};
+use nj_graph::Graph;
+use nj_tools::WriteSink;
+use std::alloc::{AllocError, Global};
+use std::io::{self, BufRead, BufReader};
+
+const NAME: &str = "affected";
+
+const ABOUT: &str = "Read changed paths, and write the outputs that the change affects";
+
+const MORE: &str = "\
+A line of standard input is a changed path. Status 3 means that more may be affected: the error
+output names each path that no edge names, as a header that only a compiler tells of, and each from
+which the manifest itself is made.
+
+Where CMake wrote the manifest, sources have absolute paths, and with Meson they are relative:
+  git diff --name-only main | ninja-graph affected -C build --source-dir \"$PWD\"
+  git diff --name-only main | ninja-graph affected -C build --source-dir ..";
+
+/// The subcommand with its options.
+pub fn command<'a>(alloc: Global) -> Result<Command<'a>, AllocError> {
+    Command::new(alloc, NAME)
+        .about(ABOUT)
+        .after_help(MORE)
+        .arg(option(
+            alloc,
+            "source-dir",
+            "DIR",
+            "Take changed paths as paths in DIR",
+        ))?
+        .arg(repeated(
+            alloc,
+            "rule",
+            "NAME",
+            "List only outputs of edges with this rule, or one of these",
+        ))?
+        .arg(option(
+            alloc,
+            "prefix",
+            "TEXT",
+            "List only outputs whose paths begin with TEXT",
+        ))?
+        .arg(flag(alloc, "no-phony", "List no outputs of phony edges"))
+}
+
+/// Writes the outputs that a change of the files at the paths of standard input affects.
+pub fn answer(rt: HostRuntime, graph: &Graph, options: &ArgMatches<'_>) -> Result<Status, Failure> {
+    let paths = changed_paths(rt)?;
+    let listed = Listed {
+        rules: options.get_strs("rule").unwrap_or(&[]),
+        prefix: options.get_str("prefix").unwrap_or(""),
+        no_phony: options.get_flag("no-phony"),
+    };
+    let mut out = WriteSink::new(rt.stdout());
+    let mut err = WriteSink::new(rt.stderr());
+    let source_dir = options.get_str("source-dir");
+    Ok(write_report(
+        rt.alloc(),
+        graph,
+        source_dir,
+        &paths,
+        listed,
+        &mut out,
+        &mut err,
+    )?)
+}
+
+/// The lines of standard input, without the empty ones.
+fn changed_paths(rt: HostRuntime) -> Result<Vec<Vec<u8>>, Failure> {
+    read_lines(rt).map_err(Failure::Input)
+}
+
+fn read_lines(rt: HostRuntime) -> io::Result<Vec<Vec<u8>>> {
+    let mut lines = Vec::new(rt.alloc());
+    'lines: for line in BufReader::new(rt.alloc(), rt.reader())?.split(rt.alloc(), b'\n') {
+        let line = line?;
+        if !line.is_empty() {
+            lines.push(line)?;
+        }
+    }
+    Ok(lines)
+}

@@ -1,0 +1,94 @@
+//! Answers questions about the graph of a Ninja build.
+#![tactic(auto)]
+
+mod affected;
+mod changes;
+mod failure;
+mod listing;
+mod manifest;
+mod reading;
+mod report;
+mod status;
+mod words;
+
+use crate::failure::Failure;
+use crate::reading::read_graph;
+use crate::status::Status;
+use clap::ArgMatches;
+use clap::error::ErrorKind as WordError;
+use nj_tools::Error;
+use std::io::{ErrorKind, Write};
+use std::process::ExitCode;
+use std::{env, mem};
+
+fn main(rt: HostRuntime) -> ExitCode {
+    let status = match run(rt) {
+        Ok(status) => status,
+        Err(failure) => report_failure(rt, &failure),
+    };
+    ExitCode::from(status.code())
+}
+
+/// Reports why there is no answer. Where an output failed, that is not said to another one.
+fn report_failure(rt: HostRuntime, failure: &Failure) -> Status {
+    let status = failure.status();
+    if !matches!(status, Status::OutputFailed) {
+        let _ = match failure.line(rt.alloc()) {
+            Ok(line) => rt.stderr().write_all(&line),
+            Err(_) => rt.stderr().write_all(b"ninja-graph: out of memory\n"),
+        };
+    }
+    status
+}
+
+/// Runs the program with its words.
+fn run(rt: HostRuntime) -> Result<Status, Failure> {
+    let words = arguments(rt)?;
+    match words::command(rt.alloc())?.try_get_matches_from(&words) {
+        Ok(matches) => answer(rt, &matches),
+        Err(error) => Ok(print_error(rt, &error)),
+    }
+}
+
+/// The program's arguments, without its name.
+fn arguments(rt: HostRuntime) -> Result<Vec<String>, Failure> {
+    match env::args(&rt) {
+        Ok(words) => match words.skip(1).collect(rt.alloc()) {
+            Ok(words) => Ok(words),
+            Err(_) => Err(Failure::Graph(Error::OutOfMemory)),
+        },
+        Err(error) if error.kind() == ErrorKind::OutOfMemory => {
+            Err(Failure::Graph(Error::OutOfMemory))
+        }
+        Err(_) => Err(Failure::Words),
+    }
+}
+
+/// Prints the text that `clap` has for other words, among them those that ask for help.
+fn print_error(rt: HostRuntime, error: &clap::Error) -> Status {
+    let printed = error.print(&rt);
+    match error.kind() {
+        WordError::DisplayHelp | WordError::DisplayVersion => match printed {
+            Ok(()) => Status::Done,
+            Err(_) => Status::OutputFailed,
+        },
+        WordError::OutOfMemory => Status::Fault,
+        _ => Status::Usage,
+    }
+}
+
+/// Answers what a subcommand asks of its graph.
+fn answer(rt: HostRuntime, matches: &ArgMatches<'_>) -> Result<Status, Failure> {
+    let Some((name, options)) = matches.subcommand() else {
+        return Ok(Status::Usage);
+    };
+    let loaded = read_graph(rt, options)?;
+    let graph = loaded.graph();
+    let answered = match name {
+        "affected" => affected::answer(rt, graph, options),
+        _ => Ok(Status::Usage),
+    };
+    // The process ends here, and its memory with it.
+    mem::forget(loaded);
+    answered
+}

@@ -1,0 +1,51 @@
+//! The words of a command line.
+
+use crate::affected;
+use clap::{Arg, ArgAction, Command};
+use std::alloc::{AllocError, Global};
+
+/// The version of the program.
+const VERSION: &str = "0.1.0";
+
+/// The program with its subcommands.
+pub fn command<'a>(alloc: Global) -> Result<Command<'a>, AllocError> {
+    Command::new(alloc, "ninja-graph")
+        .no_binary_name(true)
+        .bin_name("ninja-graph")?
+        .about("Answers questions about the graph of a Ninja build, and builds nothing")
+        .version(VERSION)
+        .subcommand_required(true)
+        .disable_help_subcommand(true)
+        .subcommand(of_graph(alloc, affected::command(alloc)?)?)
+}
+
+/// A subcommand with the options that name its graph.
+fn of_graph<'a>(alloc: Global, command: Command<'a>) -> Result<Command<'a>, AllocError> {
+    let folder = Arg::new(alloc, "folder").short('C').value_name("DIR");
+    let file = Arg::new(alloc, "file").short('f').value_name("FILE");
+    command
+        .arg(folder.help("Change to DIR before anything else"))?
+        .arg(file.help("Read FILE in place of build.ninja"))?
+        .arg(flag(
+            alloc,
+            "dyndep",
+            "Join what dyndep files that are there add to edges",
+        ))
+}
+
+/// `--NAME VALUE`
+pub fn option<'a>(alloc: Global, name: &'a str, value: &'a str, help: &'a str) -> Arg<'a> {
+    let named = Arg::new(alloc, name).long(name);
+    named.value_name(value).help(help)
+}
+
+/// `--NAME VALUE`, which may be given more than once.
+pub fn repeated<'a>(alloc: Global, name: &'a str, value: &'a str, help: &'a str) -> Arg<'a> {
+    option(alloc, name, value, help).action(ArgAction::Append)
+}
+
+/// `--NAME`
+pub fn flag<'a>(alloc: Global, name: &'a str, help: &'a str) -> Arg<'a> {
+    let named = Arg::new(alloc, name).long(name);
+    named.action(ArgAction::SetTrue).help(help)
+}
