@@ -5,6 +5,9 @@ import sys
 import tarfile
 from collections import namedtuple
 
+from dist import wheel
+from dist.binaries import libc_needed
+from dist.contents import LIBRARY
 from dist.debian import LIBRARIES, LIBRARY_PACKAGE, PROGRAM_PACKAGE
 from lib.programs import ROOT
 from lint.version import version
@@ -16,7 +19,6 @@ Prefix = namedtuple("Prefix", "name folder libraries environment")
 
 ARCHIVE = f"ninja-explain-{version()}-linux-x86_64"
 DEBS = [f"{it.name}_{version()}_amd64.deb" for it in (PROGRAM_PACKAGE, LIBRARY_PACKAGE)]
-FILES = {f"{ARCHIVE}.tar.gz", *DEBS, "PROVENANCE", "SHA256SUMS"}
 
 
 def run(*words, check=False, **how):
@@ -30,6 +32,16 @@ def run(*words, check=False, **how):
 def pack(built, out):
     words = ["--crates", built.crates, "--library", built.library]
     return run(sys.executable, ROOT / "scripts/dist", *words, out)
+
+
+def wheel_of(built):
+    """The name of the wheel, which says what its library needs."""
+    return wheel.name(version(), libc_needed(built.library / f"{LIBRARY}.so.1"))
+
+
+def files_of(built):
+    """The names of all files that are packed."""
+    return {f"{ARCHIVE}.tar.gz", *DEBS, wheel_of(built), "PROVENANCE", "SHA256SUMS"}
 
 
 def unpack_archive(packed, folder):

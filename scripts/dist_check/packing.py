@@ -6,7 +6,7 @@ import tarfile
 
 from dist import provenance
 from dist.binaries import libc_of
-from dist_check.packed import ARCHIVE, DEBS, FILES, pack, run
+from dist_check.packed import ARCHIVE, DEBS, files_of, pack, run
 from lib import verdicts
 from lib.checks import check, expect
 
@@ -42,15 +42,15 @@ def verdicts_in_a_log():
 
 
 @check
-def all_files_are_there(packed):
-    yield from expect("the files", {it.name for it in packed.iterdir()}, FILES)
+def all_files_are_there(built, packed):
+    yield from expect("the files", {it.name for it in packed.iterdir()}, files_of(built))
 
 
 @check
 def twice_gives_the_same_bytes(built, packed, folder):
     ran = pack(built, folder / "again")
     yield from expect("the status", (ran.returncode, ran.stderr), (0, ""))
-    for name in sorted(FILES):
+    for name in sorted(files_of(built)):
         if (packed / name).read_bytes() != (folder / "again" / name).read_bytes():
             yield f"{name} has other bytes"
 

@@ -4,7 +4,7 @@ import re
 import shutil
 
 from dist.contents import LIBRARY, PROGRAMS
-from dist_check.packed import ARCHIVE, DEBS, Built, pack, run
+from dist_check.packed import ARCHIVE, DEBS, Built, files_of, pack, run
 from lib.checks import check, expect
 from lib.programs import ROOT
 
@@ -93,9 +93,9 @@ def change(file, at):
 
 
 @check(needs=["sha256sum"])
-def changed_packages(packed, folder):
+def changed_packages(built, packed, folder):
     """One changed byte of a file is found by its checksum, and no other file is named."""
-    for name in (f"{ARCHIVE}.tar.gz", *DEBS, "PROVENANCE"):
+    for name in sorted(files_of(built) - {"SHA256SUMS"}):
         copy = folder / name
         shutil.copytree(packed, copy)
         change(copy / name, (copy / name).stat().st_size // 2)

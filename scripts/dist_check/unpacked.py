@@ -5,11 +5,13 @@ What is expected is in examples/hello and examples/project for everyone to read.
 
 import gzip
 import os
+import re
 import shlex
+import sys
 
 from dist.contents import LIBRARY
-from dist_check.packed import prefixes, run
-from lib.checks import check, expect
+from dist_check.packed import prefixes, run, wheel_of
+from lib.checks import Skipped, check, expect
 from lib.options import BASH_SCRIPT, FISH_SCRIPT, TOOLS, ask
 from lib.programs import DONE, EXAMPLES, FAULT, ROOT, Ending, Program
 from lint.version import version
@@ -147,3 +149,23 @@ def name_of_library(packed, folder):
         ran = run("readelf", "--wide", "--dynamic", prefix.libraries / f"{LIBRARY}.so")
         if f"Library soname: [{LIBRARY}.so.1]" not in ran.stdout:
             yield f"{prefix.name}: {ran.stdout}"
+
+
+# ---- the Python package
+
+
+@check
+def wheel_alone(built, packed, folder):
+    """The wheel installs in a virtual environment without a network, and its tests pass there."""
+    ran = run(sys.executable, "-m", "venv", folder / "env")
+    if ran.returncode:
+        raise Skipped(f"there is no venv: {ran.stdout.splitlines()[:1]}")
+    python = folder / "env/bin/python"
+    options = ["--no-index", "--quiet", "--disable-pip-version-check"]
+    run(python, "-m", "pip", "install", *options, packed / wheel_of(built), check=True)
+    ours = ("NINJA_EXPLAIN_LIBRARY", "PYTHONPATH")
+    alone = {key: value for key, value in os.environ.items() if key not in ours}
+    words = ["-m", "unittest", "discover", "-s", ROOT / "python/tests"]
+    ran = run(python, *words, cwd=folder, env=alone)
+    if ran.returncode or not re.search(r"^Ran [1-9]\d* tests", ran.stderr, re.M):
+        yield f"status {ran.returncode}: {ran.stderr}"
