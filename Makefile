@@ -1,8 +1,10 @@
 # The toolchain is the command `rt`; `rt version` names it.
 PROGRAM := crates/ninja_explain
 BUILT := $(PROGRAM)/out/ninja_explain
-# It runs rows: `make sweep` refuses memory to its sinks, and `make smoke` has it read deps logs.
-ROWS := crates/nj_run_rows
+# They run rows: `make sweep` refuses memory to the sinks of one, and `make smoke` has the other one
+# read deps logs.
+RUN_ROWS := crates/nj_run_rows/out/nj_run_rows
+CALL_ROWS := crates/nj_call_rows/out/nj_call_rows
 # Four programs as clients write them.
 AFFECTED := crates/affected_tests/out/affected_tests
 DRAW := crates/draw_graph/out/draw_graph
@@ -106,7 +108,7 @@ lint:
 
 # Runs the built programs on real files, and the short sweeps. With CHECKS='NAME..' it runs the checks
 # of these names alone, as lint and sweep do.
-smoke: $(BUILT) $(AFFECTED) $(DRAW) $(KEYS) $(AUDIT) $(ROWS)/out/nj_run_rows
+smoke: $(BUILT) $(AFFECTED) $(DRAW) $(KEYS) $(AUDIT) $(CALL_ROWS)
 	@python3 scripts/smoke --jobs $(JOBS) $(CHECKS)
 
 # Runs the library for C and the examples on it beside the program, and on what it must refuse.
@@ -124,16 +126,16 @@ fuzz-c:
 
 # Makes everything that can fail do so once, changes each byte of small projects, runs every tool on
 # 100,000 edges, and runs the program on 100,000 hostile manifests.
-sweep: $(BUILT) $(ROWS)/out/nj_run_rows
+sweep: $(BUILT) $(RUN_ROWS)
 	@python3 scripts/sweep --jobs $(JOBS) $(CHECKS)
 
 # `make` and `make gate` build it.
 $(BUILT): $(wildcard crates/*/src/*.rt)
 	$(MAKE) all
 
-# `make gate` builds it.
-$(ROWS)/out/nj_run_rows: $(wildcard crates/*/src/*.rt)
-	cd $(ROWS) && rt run > /dev/null
+# `make gate` builds them.
+$(RUN_ROWS) $(CALL_ROWS): $(wildcard crates/*/src/*.rt)
+	cd $(dir $@).. && rt run > /dev/null
 
 # `make gate` leaves them.
 $(AFFECTED) $(DRAW) $(KEYS) $(AUDIT): $(wildcard crates/*/src/*.rt)

@@ -18,7 +18,7 @@ from gate_table import crates_below
 from run_tests import has_tests
 
 TOP = Path(__file__).resolve().parent.parent
-ROWS = "nj_run_rows"
+ROWS = ("nj_call_rows", "nj_run_rows")
 PARTS = ("src", "specs", "proofs")
 
 
@@ -34,8 +34,7 @@ def above(crate, below):
 def to_run(crate, below):
     """The crates whose tests, rows or stored runs are run."""
     found = [name for name, named in below.items() if crate in named and has_tests(name)]
-    if ROWS in above(crate, below):
-        found.append(ROWS)
+    found += (name for name in ROWS if name in above(crate, below))
     is_run = has_tests(crate) or (TOP / "crates" / crate / "src/main.rt").is_file()
     return [crate, *found] if is_run else found
 

@@ -2,7 +2,7 @@
 """Feeds the library for C with what libFuzzer makes of seeds: fuzz_c.py [--seconds N] [--jobs N]
 
 fuzz_c.c says what an input is, and what has to hold. The seeds are the projects of examples/ and of
-lib/projects.py, and the rows of crates/nj_run_rows with the files that they run on; the dictionary
+lib/projects.py, and the rows of crates/nj_*_rows with the files that they run on; the dictionary
 has what means something in a manifest (lib/strangers.py), and the words of the program. What was
 found new is kept in lib/fuzz_c/corpus, from which the next run begins.
 
@@ -198,7 +198,7 @@ def seed(files, lines):
 
 
 def seeds_of_rows():
-    for path in sorted((CRATES / "nj_run_rows/data").glob("*.rows")):
+    for path in sorted(CRATES.glob("nj_*_rows/data/*.rows")):
         for files, rows in projects_of(path.read_text()):
             rows = [row for row in rows if row[0] in CALLS]
             for at in range(0, len(rows), ROWS):

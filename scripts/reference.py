@@ -22,7 +22,7 @@ from map import crates, first_sentence, root_of
 
 PAGE = ROOT / "docs/REFERENCE.md"
 # What makes calls to show or test them.
-CALLERS = "nj_run_rows", "library_example"
+CALLERS = "nj_rows", "nj_call_rows", "nj_run_rows", "library_example"
 HEAD = re.compile(r'^( *)pub (?:extern "C" |unsafe |const )*fn (\w+)', re.M)
 IMPL = re.compile(r"^impl\b(?:<[^{]*?>)? (?:[\w:<>, ']+ for )?(\w+)[^{]*\{", re.M)
 TYPE = re.compile(r"^pub (struct|enum|trait) (\w+)", re.M)
@@ -188,7 +188,7 @@ def library(crate, calls, types, texts, counts):
 def page():
     found = {}
     for crate in crates():
-        if root_of(crate).name == "lib.rt":
+        if root_of(crate).name == "lib.rt" and crate not in CALLERS:
             public = exported(crate)
             files = sorted((CRATES / crate).glob("src/**/*.rt"))
             calls = [call for file in files for call in calls_in(crate, file, public)]

@@ -32,8 +32,8 @@ CRATES = TOP / "crates"
 # What reads files alone, and how it says how much passed.
 LINT = "lint"
 LINTED = re.compile(r"^(\d+) checks passed, (\d+) failed")
-# It takes longest, so it begins first.
-LONGEST = "nj_run_rows"
+# They take longest, so they begin first.
+LONGEST = ("nj_call_rows", "nj_run_rows")
 # How `rt try` says that a program ended, and how often what may differ is told.
 ENDED = re.compile(r"^run=ended status=(\d+) .*proved=no$", re.M)
 ROWS = re.compile(r"^(\d+) rows, (\d+) differ$")
@@ -185,7 +185,7 @@ def work_for(names):
     """What is to be run, as calls and names, the longest first."""
     work = [(run_tests, name) for name in names if has_tests(name)]
     work += [(run_program, name) for name in names if (CRATES / name / "src/main.rt").is_file()]
-    return sorted(work, key=lambda it: it[1] != LONGEST)
+    return sorted(work, key=lambda it: it[1] not in LONGEST)
 
 
 def run_all(work, jobs):

@@ -26,7 +26,7 @@ if __name__ == "__main__":
         "draw": Program(built("draw_graph")),
         "keys": Program(built("cache_keys")),
         "audit": Program(built("audit_build")),
-        "runner": Program(built("nj_run_rows")),
+        "runner": Program(built("nj_call_rows")),
         "jobs": words.jobs,
     }
     sys.exit(checks.run(words.names, given, words.jobs))

@@ -2,7 +2,7 @@
 
 A small project in C is built by `ninja` and `cc`. Its deps log after a build, after another one
 with other includes and after `ninja -t recompact`, and the second of these cut off at every byte,
-are rows of crates/nj_run_rows. What is wanted of each is what `ninja -t deps` writes of a copy, and
+are rows of crates/nj_call_rows. What is wanted of each is what `ninja -t deps` writes of a copy, and
 up to which byte Ninja keeps the copy.
 """
 

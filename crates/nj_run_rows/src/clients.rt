@@ -1,28 +1,25 @@
 //! Work of a client of the libraries, all of whose faults go into one error.
 
-use crate::calls::log_of;
-use crate::changes::put_affected;
-use crate::given::Given;
-use crate::graphs::put_edges;
-use crate::rows::{bytes_of, first_of};
 use crate::walks::put_walk;
-use nj_deps::DepsLog;
-use nj_graph::{Graph, GraphFault, Loaded, TextFault, join_dyndeps, load, pick_target};
+use nj_cli::MemoryFiles;
+use nj_graph::{Graph, GraphFault, Loaded, TextFault, load, pick_target};
+use nj_rows::{Given, bytes_of, first_of};
 use nj_tools::{Error, Mark, MemorySink, SinkFault, ToolFault, write_compdb};
 use std::alloc::{AllocError, Global};
 
-/// What work on the graph of the files gives, or the text of its error.
-pub(crate) fn outcome_of_work(
+/// Appends what work on the graph of the files gives, or the text of its error: `turns`, a walk, or
+/// `client`, several calls.
+pub(crate) fn put_work(
     alloc: Global,
+    text: &mut Vec<u8>,
     given: &Given,
     kind: &str,
     words: &str,
-) -> Result<Vec<u8>, AllocError> {
-    let mut text = Vec::new(alloc);
-    if let Err(error) = put_work(alloc, &mut text, given, kind, words) {
-        put_error(alloc, &mut text, &error)?;
+) -> Result<(), AllocError> {
+    match put_work_or_fail(alloc, text, given, kind, words) {
+        Ok(()) => Ok(()),
+        Err(error) => put_error(alloc, text, &error),
     }
-    Ok(text)
 }
 
 /// Appends the text of an error, as a line.
@@ -31,87 +28,72 @@ fn put_error(alloc: Global, text: &mut Vec<u8>, error: &Error) -> Result<(), All
 }
 
 /// Appends what work on the graph of the files gives.
-fn put_work(
+fn put_work_or_fail(
     alloc: Global,
     text: &mut Vec<u8>,
     given: &Given,
     kind: &str,
     words: &str,
 ) -> Result<(), Error> {
-    let loaded = loaded_for(alloc, given, kind)?;
-    match kind {
-        "turns" => put_walk(alloc, text, loaded.graph(), words),
-        "client" => put_asked(alloc, text, &loaded, words),
-        "join-deps" => put_joined(alloc, text, loaded.into_graph(), given, words),
-        _ => put_affected(alloc, text, loaded.graph(), words),
-    }
+    let mut files = given.source(alloc)?;
+    let loaded = read_files(alloc, &mut files)?;
+    put_work_on(alloc, text, loaded.graph(), kind, words)
 }
 
-/// What the files give, and for `affected-joined` and `join-deps` what their dyndep files discover
-/// as well.
-fn loaded_for(alloc: Global, given: &Given, kind: &str) -> Result<Loaded, Error> {
-    let mut files = given.source()?;
-    let loaded = load(alloc, &mut files, "build.ninja")?;
-    match kind {
-        "affected-joined" | "join-deps" => Ok(join_dyndeps(alloc, loaded, &mut files)?),
-        _ => Ok(loaded),
-    }
+/// What the files give. It has no clause, so that the proofs of what calls it need not go through
+/// those of `load`.
+fn read_files(alloc: Global, files: &mut MemoryFiles) -> Result<Loaded, GraphFault> {
+    load(alloc, files, "build.ninja")
 }
 
-/// Appends the edges once the deps logs of these names are joined, one after the other.
-fn put_joined(
+/// Appends what work on a graph gives.
+fn put_work_on(
     alloc: Global,
     text: &mut Vec<u8>,
-    graph: Graph,
-    given: &Given,
-    names: &str,
+    graph: &Graph,
+    kind: &str,
+    words: &str,
 ) -> Result<(), Error> {
-    let mut graph = graph;
-    'logs: for name in names.split(' ') {
-        let parts = str::from_utf8(given.bytes(name)).unwrap_or("text not UTF-8");
-        if let Ok(log) = DepsLog::read(alloc, &log_of(alloc, parts)?) {
-            graph = graph.join_deps(alloc, &log)?;
-        }
+    match kind {
+        "turns" => put_walk(alloc, text, graph, words),
+        _ => put_asked(alloc, text, graph, words),
     }
-    put_edges(alloc, text, &graph)?;
-    Ok(())
 }
 
 /// Asks for a target, for a mark, and for the compilation database within so many bytes. Appends
 /// `done` if nothing fails.
-fn put_asked(alloc: Global, text: &mut Vec<u8>, loaded: &Loaded, words: &str) -> Result<(), Error> {
+fn put_asked(alloc: Global, text: &mut Vec<u8>, graph: &Graph, words: &str) -> Result<(), Error> {
     let (target, words) = first_of(words);
     let (mark, limit) = first_of(words);
-    pick_target(alloc, loaded.graph(), &bytes_of(alloc, target)?)?;
+    pick_target(alloc, graph, &bytes_of(alloc, target)?)?;
     Mark::read(alloc, mark)?;
-    let mut sink = MemorySink::new(alloc, limit.parse().ok());
-    write_compdb(alloc, loaded.graph(), ".", &[], false, &mut sink)?;
+    ask_for_database(alloc, graph, limit.parse().ok())?;
     text.extend_from_slice(b"done\n")?;
     Ok(())
 }
 
-/// What becomes of the faults of several calls in one error, a line each, and after them two faults
-/// of tools.
-pub(crate) fn taken_in(alloc: Global) -> Result<Vec<u8>, AllocError> {
-    let lack: nj_graph::Error = GraphFault::out_of_memory().into();
-    let lack_in_text: nj_graph::Error = TextFault::OutOfMemory.into();
-    let errors: [Error; 5] = [
-        lack.into(),
-        lack_in_text.into(),
-        ToolFault::OutOfMemory.into(),
-        SinkFault.into(),
-        TextFault::EmptyPath.into(),
-    ];
-    let mut text = Vec::new(alloc);
-    'errors: for error in &errors {
-        put_shown(alloc, &mut text, error)?;
-    }
-    put_faults(alloc, &mut text)?;
-    Ok(text)
+/// Asks for the compilation database, which is written to a sink that takes so many bytes.
+fn ask_for_database(alloc: Global, graph: &Graph, limit: Option<usize>) -> Result<(), Error> {
+    let mut sink = MemorySink::new(alloc, limit);
+    write_compdb(alloc, graph, ".", &[], false, &mut sink)?;
+    Ok(())
+}
+
+/// Appends what becomes of the faults of several calls in one error, a line each, and after them two
+/// faults of tools.
+pub(crate) fn put_taken_in(alloc: Global, text: &mut Vec<u8>) -> Result<(), AllocError> {
+    let lack = nj_graph::Error::from(GraphFault::out_of_memory());
+    put_shown(alloc, text, lack.into())?;
+    let lack_in_text = nj_graph::Error::from(TextFault::OutOfMemory);
+    put_shown(alloc, text, lack_in_text.into())?;
+    put_shown(alloc, text, ToolFault::OutOfMemory.into())?;
+    put_shown(alloc, text, SinkFault.into())?;
+    put_shown(alloc, text, TextFault::EmptyPath.into())?;
+    put_faults(alloc, text)
 }
 
 /// Appends an error as Rust shows it, and its text.
-fn put_shown(alloc: Global, text: &mut Vec<u8>, error: &Error) -> Result<(), AllocError> {
+fn put_shown(alloc: Global, text: &mut Vec<u8>, error: Error) -> Result<(), AllocError> {
     text.extend_from_slice(format!(in alloc; "{error:?}: {error}\n")?.as_bytes())
 }
 

@@ -1,77 +1,49 @@
 //! What rows ask for, as text.
 
-use crate::calls::of_call;
-use crate::clients::{outcome_of_work, taken_in};
-use crate::faults::{cause, comparison, first_fault, kept, line_of};
-use crate::given::Given;
-use crate::graphs::put_of_graph;
-use crate::pages::paged;
-use crate::requests::{asked, quoted};
-use crate::rows::{Block, bytes_of};
-use crate::runs::{cut_off, run, run_and_read, run_by_request};
+use crate::clients::{put_taken_in, put_work};
+use crate::pages::put_pages;
+use crate::requests::{put_asked, put_quoted};
+use crate::runs::{put_cut_off, put_run, put_run_and_read, put_run_by_request};
 use crate::sinks::{put_to_memory, put_to_writer};
-use nj_graph::{Graph, load};
+use nj_rows::{Block, Given, Outcomes};
 use std::alloc::{AllocError, Global};
 
-/// What a row asks for.
-pub(crate) fn outcome(
+/// The rows of this program.
+#[derive(Clone, Copy)]
+pub(crate) struct Runs;
+
+impl Outcomes for Runs {
+    fn outcome(
+        &self,
+        alloc: Global,
+        given: &Given,
+        row: &Block<'_>,
+    ) -> Result<Vec<u8>, AllocError> {
+        let mut text = Vec::new(alloc);
+        put_outcome(alloc, &mut text, given, row)?;
+        Ok(text)
+    }
+}
+
+/// Appends what a row asks for.
+fn put_outcome(
     alloc: Global,
+    text: &mut Vec<u8>,
     given: &Given,
     row: &Block<'_>,
-) -> Result<Vec<u8>, AllocError> {
+) -> Result<(), AllocError> {
     match row.kind {
-        "run" | "run-and-read" | "run-request" | "cut-off" | "pages" => of_run(alloc, given, row),
-        "load" | "cause" | "same-fault" | "kept" => of_loading(alloc, given, row),
-        "request" => asked(alloc, row.rest),
-        "quoted" => quoted(alloc, row.rest),
-        "turns" | "client" | "affected" | "affected-joined" | "join-deps" => {
-            outcome_of_work(alloc, given, row.kind, row.rest)
-        }
-        "one-error" => taken_in(alloc),
-        "memory" => put_to_memory(alloc, row.rest),
-        "writer" => put_to_writer(alloc, row.rest),
-        "hash-keys" => given.keys.compared(alloc),
-        _ => match of_call(alloc, given, row)? {
-            Some(text) => Ok(text),
-            None => of_graph(alloc, given, row),
-        },
+        "run" => put_run(alloc, text, given, row.rest),
+        "run-and-read" => put_run_and_read(alloc, text, given, row.rest),
+        "run-request" => put_run_by_request(alloc, text, given, row.rest),
+        "cut-off" => put_cut_off(alloc, text, given, row.rest),
+        "pages" => put_pages(alloc, text, given, row.rest),
+        "request" => put_asked(alloc, text, row.rest),
+        "quoted" => put_quoted(alloc, text, row.rest),
+        "turns" | "client" => put_work(alloc, text, given, row.kind, row.rest),
+        "one-error" => put_taken_in(alloc, text),
+        "memory" => put_to_memory(alloc, text, row.rest),
+        "writer" => put_to_writer(alloc, text, row.rest),
+        _ => text.extend_from_slice(b"no row is of this kind\n"),
     }
-}
-
-/// How a run ends.
-fn of_run(alloc: Global, given: &Given, row: &Block<'_>) -> Result<Vec<u8>, AllocError> {
-    match row.kind {
-        "run-and-read" => run_and_read(alloc, given, row.rest),
-        "run-request" => run_by_request(alloc, given, row.rest),
-        "cut-off" => cut_off(alloc, given, row.rest),
-        "pages" => paged(alloc, given, row.rest),
-        _ => run(alloc, given, row.rest),
-    }
-}
-
-/// What a load gives.
-fn of_loading(alloc: Global, given: &Given, row: &Block<'_>) -> Result<Vec<u8>, AllocError> {
-    match row.kind {
-        "cause" => cause(alloc, given, row.rest),
-        "same-fault" => comparison(alloc, given, row.rest),
-        "kept" => kept(alloc, given, row.rest),
-        _ => first_fault(alloc, given, row.rest),
-    }
-}
-
-/// What the graph of the files has, or the line of their first fault.
-fn of_graph(alloc: Global, given: &Given, row: &Block<'_>) -> Result<Vec<u8>, AllocError> {
-    let mut files = given.source()?;
-    match load(alloc, &mut files, "build.ninja") {
-        Ok(loaded) => given_by(alloc, loaded.graph(), row),
-        Err(fault) => line_of(alloc, &fault),
-    }
-}
-
-/// What a graph has.
-fn given_by(alloc: Global, graph: &Graph, row: &Block<'_>) -> Result<Vec<u8>, AllocError> {
-    let word = bytes_of(alloc, row.rest)?;
-    let mut text = Vec::new(alloc);
-    put_of_graph(alloc, &mut text, graph, row.kind, &word)?;
-    Ok(text)
 }

@@ -1,36 +1,33 @@
 //! Runs of `commands` in pages.
 
-use crate::given::Given;
-use crate::rows::words_of;
-use nj_cli::{MemoryFiles, MemorySink, run_words};
+use crate::runs::status_of;
+use nj_cli::{MemoryFiles, MemorySink};
+use nj_rows::{Given, words_of};
 use std::alloc::{AllocError, Global};
 
-/// What pages of so many commands write, each resumed at the mark of the page before, and the mark
-/// that the last one reports.
-pub(crate) fn paged(alloc: Global, given: &Given, takes: &str) -> Result<Vec<u8>, AllocError> {
-    let mut files = given.source()?;
-    let mut text = Vec::new(alloc);
-    put_pages(alloc, &mut text, &mut files, takes)?;
-    Ok(text)
-}
-
-/// Appends what the pages write, and the last mark.
-fn put_pages(
+/// Appends what pages of so many commands write, each resumed at the mark of the page before, and
+/// the mark that the last one reports.
+pub(crate) fn put_pages(
     alloc: Global,
     text: &mut Vec<u8>,
-    files: &mut MemoryFiles,
+    given: &Given,
     takes: &str,
 ) -> Result<(), AllocError> {
+    let mut files = given.source(alloc)?;
     let mut mark = String::from_str(alloc, "start")?;
     'pages: for take in takes.split(' ') {
-        mark = put_page(alloc, text, files, take, &mark)?;
+        mark = put_page(alloc, text, &mut files, take, &mark)?;
     }
+    put_mark(text, &mark)
+}
+
+/// Appends a mark as a line; nothing if it is empty.
+fn put_mark(text: &mut Vec<u8>, mark: &str) -> Result<(), AllocError> {
     if mark.is_empty() {
         return Ok(());
     }
     text.extend_from_slice(mark.as_bytes())?;
-    text.push(b'\n')?;
-    Ok(())
+    text.extend_from_slice(b"\n")
 }
 
 /// Appends what a page of so many commands writes, from a mark on. Returns the mark that it reports.
@@ -43,9 +40,19 @@ fn put_page(
 ) -> Result<String, AllocError> {
     let words = format!(in alloc; "-t commands --take {take} --resume {mark}")?;
     let words = words_of(alloc, words.as_str())?;
+    put_run_of(alloc, text, files, &words)
+}
+
+/// Appends what a run writes. Returns the mark that it reports.
+fn put_run_of(
+    alloc: Global,
+    text: &mut Vec<u8>,
+    files: &mut MemoryFiles,
+    words: &[String],
+) -> Result<String, AllocError> {
     let mut output = MemorySink::new(alloc, None);
     let mut error = MemorySink::new(alloc, None);
-    run_words(alloc, files, &words, &mut output, &mut error);
+    status_of(alloc, files, words, &mut output, &mut error);
     text.extend_from_slice(output.bytes())?;
     mark_reported(alloc, error.bytes())
 }

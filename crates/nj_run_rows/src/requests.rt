@@ -1,7 +1,7 @@
 //! What words ask for, as a text.
 
-use crate::rows::words_of;
 use nj_cli::{Action, InputsStyle, Mark, Request, TargetsView, UsageFault, read_words};
+use nj_rows::words_of;
 use std::alloc::{AllocError, Global};
 use std::fmt::Write;
 
@@ -120,29 +120,41 @@ fn request_text(alloc: Global, request: &Request) -> Result<String, AllocError> 
     Ok(text)
 }
 
-/// What words ask for, or the line of their fault, with a line end.
-pub(crate) fn asked(alloc: Global, words: &str) -> Result<Vec<u8>, AllocError> {
-    let words = words_of(alloc, words)?;
-    let mut line = match read_words(alloc, &words) {
-        Ok(request) => request_text(alloc, &request)?.into_bytes(),
-        Err(fault) => fault.line(alloc)?,
-    };
-    line.push(b'\n')?;
-    Ok(line)
-}
-
-/// What the fault of words quotes, and its text.
-pub(crate) fn quoted(alloc: Global, words: &str) -> Result<Vec<u8>, AllocError> {
+/// Appends what words ask for, or the line of their fault.
+pub(crate) fn put_asked(alloc: Global, text: &mut Vec<u8>, words: &str) -> Result<(), AllocError> {
     let words = words_of(alloc, words)?;
     match read_words(alloc, &words) {
-        Ok(_) => Vec::from_slice(alloc, b"no fault\n"),
-        Err(fault) => quoted_by(alloc, &fault),
+        Ok(request) => put_request(alloc, text, &request),
+        Err(fault) => put_fault(alloc, text, &fault),
     }
 }
 
-/// What a fault quotes, and its text.
-fn quoted_by(alloc: Global, fault: &UsageFault) -> Result<Vec<u8>, AllocError> {
-    let text = match fault {
+/// Appends what a request asks for, as a line.
+fn put_request(alloc: Global, text: &mut Vec<u8>, request: &Request) -> Result<(), AllocError> {
+    let asked = request_text(alloc, request)?;
+    text.extend_from_slice(asked.as_bytes())?;
+    text.extend_from_slice(b"\n")
+}
+
+/// Appends the line of a fault.
+fn put_fault(alloc: Global, text: &mut Vec<u8>, fault: &UsageFault) -> Result<(), AllocError> {
+    let line = fault.line(alloc)?;
+    text.extend_from_slice(&line)?;
+    text.extend_from_slice(b"\n")
+}
+
+/// Appends what the fault of words quotes, and its text.
+pub(crate) fn put_quoted(alloc: Global, text: &mut Vec<u8>, words: &str) -> Result<(), AllocError> {
+    let words = words_of(alloc, words)?;
+    match read_words(alloc, &words) {
+        Ok(_) => text.extend_from_slice(b"no fault\n"),
+        Err(fault) => put_quoted_by(alloc, text, &fault),
+    }
+}
+
+/// Appends what a fault quotes, and its text.
+fn put_quoted_by(alloc: Global, text: &mut Vec<u8>, fault: &UsageFault) -> Result<(), AllocError> {
+    let line = match fault {
         UsageFault::ForeignOption { option, tool } => {
             format!(in alloc; "{} of {}: {fault}\n", option.text(), tool.as_str())?
         }
@@ -152,5 +164,5 @@ fn quoted_by(alloc: Global, fault: &UsageFault) -> Result<Vec<u8>, AllocError> {
         | UsageFault::BadWords(word) => format!(in alloc; "{}: {fault}\n", word.as_str())?,
         _ => format!(in alloc; "nothing: {fault}\n")?,
     };
-    Vec::from_slice(alloc, text.as_bytes())
+    text.extend_from_slice(line.as_bytes())
 }

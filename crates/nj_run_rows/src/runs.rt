@@ -1,84 +1,124 @@
 //! How runs end.
 
-use crate::given::Given;
-use crate::rows::{first_of, words_of};
 use nj_cli::{
     Action, FileSource, Mark, MemoryFiles, MemorySink, Request, SourceFault, Status, run_tool,
     run_words,
 };
+use nj_rows::{Given, first_of, words_of};
 use std::alloc::{AllocError, Global};
 
-/// How a run with these words ends.
-pub(crate) fn run(alloc: Global, given: &Given, words: &str) -> Result<Vec<u8>, AllocError> {
-    run_over(alloc, given, &mut given.source()?, words)
+/// Makes a run, and returns its status. It has no clause, so that the proofs of what calls it need
+/// not go through those of `run_words`.
+pub(crate) fn status_of(
+    alloc: Global,
+    files: &mut MemoryFiles,
+    words: &[String],
+    output: &mut MemorySink,
+    error: &mut MemorySink,
+) -> Status {
+    run_words(alloc, files, words, output, error)
 }
 
-/// How a run with these words ends over the files.
-fn run_over(
+/// The output of a run.
+fn output_of(alloc: Global, given: &Given) -> MemorySink {
+    MemorySink::new(alloc, given.output)
+}
+
+/// The error output of a run.
+fn error_of(alloc: Global, given: &Given) -> MemorySink {
+    MemorySink::new(alloc, given.error)
+}
+
+/// Appends how a run with these words ends.
+pub(crate) fn put_run(
     alloc: Global,
+    text: &mut Vec<u8>,
+    given: &Given,
+    words: &str,
+) -> Result<(), AllocError> {
+    let mut files = given.source(alloc)?;
+    put_run_over(alloc, text, given, &mut files, words)
+}
+
+/// Appends how a run with these words ends over the files.
+fn put_run_over(
+    alloc: Global,
+    text: &mut Vec<u8>,
     given: &Given,
     files: &mut MemoryFiles,
     words: &str,
-) -> Result<Vec<u8>, AllocError> {
+) -> Result<(), AllocError> {
     let words = words_of(alloc, words)?;
-    let mut output = given.output();
-    let mut error = given.error();
-    let status = run_words(alloc, files, &words, &mut output, &mut error);
-    ending(alloc, status, output.bytes(), error.bytes())
+    let mut output = output_of(alloc, given);
+    let mut error = error_of(alloc, given);
+    let status = status_of(alloc, files, &words, &mut output, &mut error);
+    put_ending(text, status, output.bytes(), error.bytes())
 }
 
-/// How a run ends, and whether the next reading is the one that fails.
-pub(crate) fn run_and_read(
+/// Appends how a run ends, and whether the next reading is the one that fails.
+pub(crate) fn put_run_and_read(
     alloc: Global,
+    text: &mut Vec<u8>,
     given: &Given,
     words: &str,
-) -> Result<Vec<u8>, AllocError> {
-    let mut files = given.source()?;
-    let mut text = run_over(alloc, given, &mut files, words)?;
+) -> Result<(), AllocError> {
+    let mut files = given.source(alloc)?;
+    put_run_over(alloc, text, given, &mut files, words)?;
     let line: &[u8] = match files.read(alloc, "") {
         Err(SourceFault::Io) => b"the next reading fails\n",
         _ => b"the next reading does not fail\n",
     };
-    text.extend_from_slice(line)?;
-    Ok(text)
+    text.extend_from_slice(line)
 }
 
-/// What a run wrote, its status in brackets, and what it wrote to its error output. If this does
-/// not end with a line end, `<end>` is there in its place.
-fn ending(
-    alloc: Global,
+/// Appends what a run wrote, its status in brackets, and what it wrote to its error output. If this
+/// does not end with a line end, `<end>` is there in its place.
+fn put_ending(
+    text: &mut Vec<u8>,
     status: Status,
     output: &[u8],
     error: &[u8],
-) -> Result<Vec<u8>, AllocError> {
-    let mut text = Vec::from_slice(alloc, output)?;
+) -> Result<(), AllocError> {
+    text.extend_from_slice(output)?;
     text.push(b'[')?;
     text.push(b'0'.saturating_add(status.code()))?;
     if error.is_empty() {
-        text.extend_from_slice(b"]\n")?;
-        return Ok(text);
+        return text.extend_from_slice(b"]\n");
     }
     text.extend_from_slice(b"] ")?;
     text.extend_from_slice(error)?;
     if !error.ends_with(b"\n") {
         text.extend_from_slice(b"<end>\n")?;
     }
-    Ok(text)
+    Ok(())
 }
 
-/// How a run ends that a request asks for: for at most two commands that a target needs in a file.
-pub(crate) fn run_by_request(
+/// Appends how a run ends that a request asks for: for at most two commands that a target needs in
+/// a file.
+pub(crate) fn put_run_by_request(
     alloc: Global,
+    text: &mut Vec<u8>,
     given: &Given,
     file_and_target: &str,
-) -> Result<Vec<u8>, AllocError> {
+) -> Result<(), AllocError> {
     let (file, target) = first_of(file_and_target);
     let request = request_for(alloc, file, target)?;
-    let mut files = given.source()?;
-    let mut output = given.output();
-    let mut error = given.error();
-    let status = run_tool(alloc, &mut files, &request, &mut output, &mut error);
-    ending(alloc, status, output.bytes(), error.bytes())
+    let mut files = given.source(alloc)?;
+    put_request(alloc, text, given, &mut files, &request)
+}
+
+/// Appends how a run ends that a request asks for.
+fn put_request(
+    alloc: Global,
+    text: &mut Vec<u8>,
+    given: &Given,
+    files: &mut MemoryFiles,
+    request: &Request,
+) -> Result<(), AllocError> {
+    let mut output = output_of(alloc, given);
+    let mut error = error_of(alloc, given);
+    let status = run_tool(alloc, files, request, &mut output, &mut error);
+    put_ending(text, status, output.bytes(), error.bytes())
 }
 
 /// A request for the first two commands that a target needs in a file.
@@ -98,16 +138,32 @@ fn request_for(alloc: Global, file: &str, target: &str) -> Result<Request, Alloc
     })
 }
 
-/// What a run writes, and how many of the outputs that take fewer bytes, down to none, end it with
-/// the status 4 and contain the front of this.
-pub(crate) fn cut_off(alloc: Global, given: &Given, words: &str) -> Result<Vec<u8>, AllocError> {
+/// Appends what a run writes, and how many of the outputs that take fewer bytes, down to none, end
+/// it with the status 4 and contain the front of this.
+pub(crate) fn put_cut_off(
+    alloc: Global,
+    text: &mut Vec<u8>,
+    given: &Given,
+    words: &str,
+) -> Result<(), AllocError> {
     let words = words_of(alloc, words)?;
-    let mut files = given.source()?;
-    let mut output = given.output();
-    run_words(alloc, &mut files, &words, &mut output, &mut given.error());
-    let mut text = Vec::from_slice(alloc, output.bytes())?;
-    put_cut(alloc, &mut text, &mut files, &words)?;
-    Ok(text)
+    let mut files = given.source(alloc)?;
+    put_output(alloc, text, given, &mut files, &words)?;
+    put_cut(alloc, text, &mut files, &words)
+}
+
+/// Appends what a run writes to its output.
+fn put_output(
+    alloc: Global,
+    text: &mut Vec<u8>,
+    given: &Given,
+    files: &mut MemoryFiles,
+    words: &[String],
+) -> Result<(), AllocError> {
+    let mut output = output_of(alloc, given);
+    let mut error = error_of(alloc, given);
+    status_of(alloc, files, words, &mut output, &mut error);
+    text.extend_from_slice(output.bytes())
 }
 
 /// Appends how many of the outputs that take fewer bytes than the text end a run as they should.
@@ -132,6 +188,6 @@ fn put_cut(
 fn ends_at(alloc: Global, files: &mut MemoryFiles, words: &[String], front: &[u8]) -> bool {
     let mut output = MemorySink::new(alloc, Some(front.len()));
     let mut error = MemorySink::new(alloc, None);
-    let status = run_words(alloc, files, words, &mut output, &mut error);
+    let status = status_of(alloc, files, words, &mut output, &mut error);
     status.code() == 4 && output.bytes() == front && error.bytes().is_empty()
 }

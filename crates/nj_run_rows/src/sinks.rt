@@ -1,6 +1,6 @@
 //! Sinks, to which whole texts are written.
 
-use crate::rows::first_of;
+use nj_rows::first_of;
 use nj_tools::{MemorySink, WriteSink, write_whole};
 use std::alloc::{AllocError, Global};
 use std::io;
@@ -9,18 +9,25 @@ use std::io::{ErrorKind, Write};
 /// What is written to the sinks.
 const LINES: &[u8] = b"mk a\nmk b1\n";
 
-/// What a sink in memory takes of two lines within a limit, and how often it failed.
-pub(crate) fn put_to_memory(alloc: Global, limit: &str) -> Result<Vec<u8>, AllocError> {
+/// Appends what a sink in memory takes of two lines within a limit, and how often it failed.
+pub(crate) fn put_to_memory(
+    alloc: Global,
+    text: &mut Vec<u8>,
+    limit: &str,
+) -> Result<(), AllocError> {
     let mut sink = MemorySink::new(alloc, limit.parse().ok());
     let is_well = write_whole(&mut sink, LINES).is_ok();
-    let mut text = Vec::from_slice(alloc, sink.bytes())?;
-    put_ending(alloc, &mut text, is_well, "failures", sink.failures())?;
-    Ok(text)
+    text.extend_from_slice(sink.bytes())?;
+    put_ending(alloc, text, is_well, "failures", sink.failures())
 }
 
-/// What a writer takes of two lines that takes at most so many bytes at a call, and whose call of
-/// this number is interrupted; and how often it was called.
-pub(crate) fn put_to_writer(alloc: Global, numbers: &str) -> Result<Vec<u8>, AllocError> {
+/// Appends what a writer takes of two lines that takes at most so many bytes at a call, and whose
+/// call of this number is interrupted; and how often it was called.
+pub(crate) fn put_to_writer(
+    alloc: Global,
+    text: &mut Vec<u8>,
+    numbers: &str,
+) -> Result<(), AllocError> {
     let (most, interrupted) = first_of(numbers);
     let mut writer = Slow {
         taken: Vec::new(alloc),
@@ -29,9 +36,8 @@ pub(crate) fn put_to_writer(alloc: Global, numbers: &str) -> Result<Vec<u8>, All
         interrupted: interrupted.parse().unwrap_or(0),
     };
     let is_well = write_whole(&mut WriteSink::new(&mut writer), LINES).is_ok();
-    let mut text = Vec::from_slice(alloc, &writer.taken)?;
-    put_ending(alloc, &mut text, is_well, "calls", writer.calls)?;
-    Ok(text)
+    text.extend_from_slice(&writer.taken)?;
+    put_ending(alloc, text, is_well, "calls", writer.calls)
 }
 
 /// Appends how a writing ended, as a line.

@@ -1,7 +1,7 @@
 //! Walks over the edges that targets need.
 
-use crate::rows::{bytes_of, first_of};
 use nj_graph::{Graph, pick_target};
+use nj_rows::{bytes_of, first_of};
 use nj_tools::{Error, Mark, Needs};
 use std::alloc::{AllocError, Global};
 
@@ -15,12 +15,23 @@ pub(crate) fn put_walk(
 ) -> Result<(), Error> {
     let (target, words) = first_of(words);
     let (mark, most) = first_of(words);
-    let targets = [pick_target(alloc, graph, &bytes_of(alloc, target)?)?];
+    let target = pick_target(alloc, graph, &bytes_of(alloc, target)?)?;
     let mark = Mark::read(alloc, mark)?;
-    let mut needs = Needs::resume(alloc, graph.edge_graph(), &targets, &mark)?;
-    let count = count_left(&mut needs);
-    put_counts(alloc, text, count, needs.turns(), most)?;
+    let targets = [target];
+    let needs = Needs::resume(alloc, graph.edge_graph(), &targets, &mark)?;
+    put_rest(alloc, text, needs, most)?;
     Ok(())
+}
+
+/// Appends how many edges a walk has left, and its turns.
+fn put_rest(
+    alloc: Global,
+    text: &mut Vec<u8>,
+    mut needs: Needs<'_>,
+    most: &str,
+) -> Result<(), AllocError> {
+    let edges = count_left(&mut needs);
+    put_counts(alloc, text, edges, needs.turns(), most)
 }
 
 /// How many edges are left.

@@ -1,0 +1,54 @@
+//! What deps logs add to the edges of the files of a row.
+
+use crate::graphs::put_edges;
+use crate::loads::read_files;
+use crate::log_parts::log_of;
+use nj_deps::DepsLog;
+use nj_graph::{Graph, GraphFault, join_dyndeps};
+use nj_rows::Given;
+use std::alloc::{AllocError, Global};
+
+/// Appends the edges of `build.ninja`, to which its dyndep files and then the logs of these files
+/// are joined, one after the other; or the line of the first fault.
+pub(crate) fn put_joined(
+    alloc: Global,
+    text: &mut Vec<u8>,
+    given: &Given,
+    names: &str,
+) -> Result<(), AllocError> {
+    match joined(alloc, given, names) {
+        Ok(graph) => put_edges(alloc, text, &graph),
+        Err(fault) => put_line(alloc, text, &fault),
+    }
+}
+
+/// Appends the line of a fault.
+fn put_line(alloc: Global, text: &mut Vec<u8>, fault: &GraphFault) -> Result<(), AllocError> {
+    text.extend_from_slice(&fault.line(alloc)?)?;
+    text.extend_from_slice(b"\n")
+}
+
+/// The graph with its dyndep files and these logs.
+fn joined(alloc: Global, given: &Given, names: &str) -> Result<Graph, GraphFault> {
+    let mut graph = with_dyndeps(alloc, given)?;
+    'logs: for name in names.split(' ') {
+        graph = with_log(alloc, graph, given.bytes(name))?;
+    }
+    Ok(graph)
+}
+
+/// The graph of the files with their dyndep files.
+fn with_dyndeps(alloc: Global, given: &Given) -> Result<Graph, GraphFault> {
+    let mut files = given.source(alloc)?;
+    let loaded = read_files(alloc, &mut files, "build.ninja")?;
+    Ok(join_dyndeps(alloc, loaded, &mut files)?.into_graph())
+}
+
+/// The graph with the log of these parts. A log that cannot be read adds nothing.
+fn with_log(alloc: Global, graph: Graph, parts: &[u8]) -> Result<Graph, GraphFault> {
+    let log = log_of(alloc, str::from_utf8(parts).unwrap_or("text not UTF-8"))?;
+    match DepsLog::read(alloc, &log) {
+        Ok(log) => graph.join_deps(alloc, &log),
+        Err(_) => Ok(graph),
+    }
+}

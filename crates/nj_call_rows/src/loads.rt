@@ -1,0 +1,145 @@
+//! What the files of a row are loaded as: their graph, or their first fault.
+
+use crate::changes::put_affected;
+use crate::graphs::put_of_graph;
+use crate::printer::put_shown;
+use nj_graph::{GraphFault, Loaded, join_dyndeps, load};
+use nj_rows::{Given, first_of};
+use nj_scope::MemoryFiles;
+use std::alloc::{AllocError, Global};
+
+/// Appends what is asked of the files, of which `main` is the main one: `load`, the line of their
+/// first fault, or `accepted`; `cause`, the cause of that fault; `kept`, the files that are kept;
+/// `affected` and `affected-joined`, what a change of the files at the paths `words` affects; any
+/// other kind, a part of their graph.
+pub(crate) fn put_of_files(
+    alloc: Global,
+    text: &mut Vec<u8>,
+    given: &Given,
+    main: &str,
+    kind: &str,
+    words: &[u8],
+) -> Result<(), AllocError> {
+    let mut files = given.source(alloc)?;
+    put_loaded(alloc, text, &mut files, main, kind, words)
+}
+
+/// What the files give, of which `main` is the main one. It has no clause, so that the proofs of
+/// what calls it need not go through those of `load`.
+pub(crate) fn read_files(
+    alloc: Global,
+    files: &mut MemoryFiles,
+    main: &str,
+) -> Result<Loaded, GraphFault> {
+    load(alloc, files, main)
+}
+
+/// Appends what is asked of the files.
+fn put_loaded(
+    alloc: Global,
+    text: &mut Vec<u8>,
+    files: &mut MemoryFiles,
+    main: &str,
+    kind: &str,
+    words: &[u8],
+) -> Result<(), AllocError> {
+    match loaded_for(alloc, files, main, kind) {
+        Ok(loaded) => put_success(alloc, text, loaded, kind, words),
+        Err(fault) => put_fault(alloc, text, fault, kind),
+    }
+}
+
+/// What the files give, and for `affected-joined` what their dyndep files discover as well.
+fn loaded_for(
+    alloc: Global,
+    files: &mut MemoryFiles,
+    main: &str,
+    kind: &str,
+) -> Result<Loaded, GraphFault> {
+    let loaded = read_files(alloc, files, main)?;
+    match kind {
+        "affected-joined" => join_dyndeps(alloc, loaded, files),
+        _ => Ok(loaded),
+    }
+}
+
+/// Appends what is asked of files that have no fault.
+fn put_success(
+    alloc: Global,
+    text: &mut Vec<u8>,
+    loaded: Loaded,
+    kind: &str,
+    words: &[u8],
+) -> Result<(), AllocError> {
+    put_part_of(alloc, text, &loaded, kind, words)
+}
+
+/// Appends this part of what files give.
+fn put_part_of(
+    alloc: Global,
+    text: &mut Vec<u8>,
+    loaded: &Loaded,
+    kind: &str,
+    words: &[u8],
+) -> Result<(), AllocError> {
+    match kind {
+        "load" | "cause" => text.extend_from_slice(b"accepted\n"),
+        "kept" => put_kept(text, loaded),
+        "affected" | "affected-joined" => put_affected(alloc, text, loaded.graph(), words),
+        _ => put_of_graph(alloc, text, loaded.graph(), kind, words),
+    }
+}
+
+/// Appends the first fault of files.
+fn put_fault(
+    alloc: Global,
+    text: &mut Vec<u8>,
+    fault: GraphFault,
+    kind: &str,
+) -> Result<(), AllocError> {
+    put_fault_as(alloc, text, &fault, kind)
+}
+
+/// Appends a fault: its line, for `cause` its cause as Rust shows it, and for changes how it is
+/// shown.
+fn put_fault_as(
+    alloc: Global,
+    text: &mut Vec<u8>,
+    fault: &GraphFault,
+    kind: &str,
+) -> Result<(), AllocError> {
+    match kind {
+        "cause" => text.extend_from_slice(format!(in alloc; "{:?}", fault.cause)?.as_bytes())?,
+        "affected" | "affected-joined" => put_shown(alloc, text, fault)?,
+        _ => text.extend_from_slice(&fault.line(alloc)?)?,
+    }
+    text.extend_from_slice(b"\n")
+}
+
+/// Appends the files that are kept, a line each.
+fn put_kept(text: &mut Vec<u8>, loaded: &Loaded) -> Result<(), AllocError> {
+    'files: for index in 0..loaded.files().count() {
+        text.extend_from_slice(loaded.files().path(index).unwrap_or(b"-".as_slice()))?;
+        text.push(b'\n')?;
+    }
+    Ok(())
+}
+
+/// Appends whether the first faults of two main files are equal.
+pub(crate) fn put_comparison(
+    alloc: Global,
+    text: &mut Vec<u8>,
+    given: &Given,
+    mains: &str,
+) -> Result<(), AllocError> {
+    let (first, second) = first_of(mains);
+    let mut files = given.source(alloc)?;
+    let first = read_files(alloc, &mut files, first).err();
+    let second = read_files(alloc, &mut files, second).err();
+    let answer: &[u8] = if first == second {
+        b"equal\n"
+    } else {
+        b"different\n"
+    };
+    text.extend_from_slice(answer)
+}
