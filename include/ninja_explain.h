@@ -213,8 +213,9 @@ int32_t nx_add_absent(nx_session *session, const void *path, size_t path_length)
 /*
  * Loads the main file at a path and all files that it includes, from those that were handed in; a
  * file that was not is taken for an empty one, and is wanted. If `joins_dyndeps` is not 0, the dyndep
- * files to which edges are bound are joined too, and a failed join is a failed load. What was loaded
- * before is freed, and what nx_affected or nx_page listed, whatever the status is.
+ * files to which edges are bound are joined too, and a failed join is a failed load. Those of them that
+ * were not handed in are wanted all at once, as soon as no other file is. What was loaded before is
+ * freed, and what nx_affected or nx_page listed, whatever the status is.
  * NX_DONE; NX_FAULT, with the first fault; NX_WANTED if files are wanted that were not handed in:
  * hand them in, or record that they are absent, and load again; NX_NOT_UTF8; NX_OUT_OF_MEMORY. There
  * is a graph only after NX_DONE and a fault only after NX_FAULT, and files are wanted only after
@@ -225,8 +226,9 @@ int32_t nx_load(nx_session *session, const void *main, size_t main_length,
 
 /*
  * The path at an index among the files that the last load or run wanted and that were not handed in,
- * in the order in which it came to them. More may be wanted once these are there. The list stays as
- * it is until the next load or run, so files can be handed in while it is gone through.
+ * in the order in which it came to them, dyndep files of a load in the order of the first edges that
+ * are bound to them. More may be wanted once these are there. The list stays as it is until the next
+ * load or run, so files can be handed in while it is gone through.
  * NX_DONE, NX_NOTHING past the end, NX_SHORT.
  */
 int32_t nx_wanted(nx_session *session, size_t index, void *buffer, size_t size, size_t *needed);

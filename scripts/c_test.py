@@ -22,6 +22,7 @@ import sys
 import tempfile
 from functools import partial
 from pathlib import Path
+from unittest import mock
 
 from lib.programs import DONE, EXAMPLES, FAULT, ROOT, USAGE, Ending, Program
 from lib.projects import MAIN, PROJECTS, as_bytes, write_cmake, write_files
@@ -38,6 +39,7 @@ sys.path.insert(0, str(PYTHON))
 sys.dont_write_bytecode = True
 import ninja_explain  # noqa: E402
 from ninja_explain import Graph  # noqa: E402
+from ninja_explain._calls import WANTED, Session, text_arguments  # noqa: E402
 
 COMPILER = ["cc", "-std=c11", "-Wall", "-Wextra", "-Werror", "-O1", "-g", f"-I{ROOT / 'include'}"]
 WRAPPED = ["-Wl,--wrap=malloc", "-Wl,--wrap=realloc", "-Wl,--wrap=free"]
@@ -104,6 +106,7 @@ class Tests:
         self.static = self.compiled("static", source, ARCHIVE)
         self.shared = self.compiled("shared", source, LIBRARY, f"-Wl,-rpath,{LIBRARY.parent}")
         self.driver = self.compiled("driver", driver, ARCHIVE, *WRAPPED)
+        self.loads = self.compiled("loads", ROOT / "scripts/c_loads.c", ARCHIVE)
 
     def compiled(self, name, *words):
         path = self.folder / name
@@ -383,6 +386,119 @@ def try_projects(tests):
         try_recipes(tests, "CMake", build, [str(EXAMPLES / "cmake/src/words.c"), "words.h"])
 
 
+# ---- how many loads
+
+
+def bound_edge(name, file):
+    """An edge that is bound to a dyndep file."""
+    return f"build {name}: r || {file}\n  dyndep = {file}\n"
+
+
+def dyndep(name):
+    return f"ninja_dyndep_version = 1\nbuild {name}: dyndep | {name}.h\n"
+
+
+def nested(count):
+    """Files that include one another."""
+    names = [MAIN, *(f"{number}.ninja" for number in range(1, count))]
+    return {name: f"include {below}\n" for name, below in zip(names, names[1:])} | {names[-1]: ""}
+
+
+def many_dyndeps(count):
+    """Edges each of which is bound to a dyndep file of its own."""
+    names = [f"o{number}" for number in range(count)]
+    edges = "".join(bound_edge(name, f"{name}.dd") for name in names)
+    return {MAIN: RULE + edges} | {f"{name}.dd": dyndep(name) for name in names}
+
+
+def included_dyndeps(count):
+    """The same in a file of its own for each edge, and a file to which two edges are bound."""
+    files = {f"{number}.ninja": bound_edge(f"o{number}", f"{number}.dd") for number in range(count)}
+    opening = "".join(f"subninja {name}\n" for name in files)
+    files |= {f"{number}.dd": dyndep(f"o{number}") for number in range(1, count)}
+    files |= {MAIN: f"{RULE}{opening}{bound_edge('last', '0.dd')}"}
+    return files | {"0.dd": dyndep("o0") + dyndep("last").split("\n", 1)[1]}
+
+
+def named_in_turn(count):
+    """Files each of which binds the name of the next one."""
+    opening = "include $next\n" * count
+    files = {f"{number}.ninja": f"next = {number + 1}.ninja\n" for number in range(1, count)}
+    return {MAIN: f"next = 1.ninja\n{opening}"} | files | {f"{count}.ninja": ""}
+
+
+# For each kind of files how many loads they may take, whether dyndep files are joined, and which file
+# is still wanted after the last load.
+LOADS = {
+    "one file": ({MAIN: RULE}, 2, False, None),
+    "nested includes": (nested(MOST_DEEP), MOST_DEEP + 1, False, None),
+    "a tree of includes": (many_files, 4, False, None),
+    "200 dyndep files": (many_dyndeps(200), 3, True, None),
+    "5,000 dyndep files": (many_dyndeps(5000), 3, True, None),
+    "5,000 dyndep files, not joined": (many_dyndeps(5000), 2, False, None),
+    "dyndep files of included edges": (included_dyndeps(100), 4, True, None),
+    "998 files in turn": (named_in_turn(998), 1000, False, None),
+    "1,200 files in turn": (named_in_turn(1200), 1000, False, "999.ninja"),
+}
+
+
+def python_loads(folder, joins):
+    """How many loads a folder takes by Python, how many files are handed in, and which file is still
+    wanted then."""
+    calls, call = [], Session.call
+
+    def counted(session, name, *arguments):
+        calls.append(name)
+        return call(session, name, *arguments)
+
+    wanted = None
+    with mock.patch.object(Session, "call", counted):
+        try:
+            Graph.load(folder=folder, joins_dyndeps=joins)
+        except OSError as error:
+            wanted = error.filename
+    return calls.count("nx_load"), calls.count("nx_add_file"), wanted
+
+
+def try_loads(tests):
+    """Counts the loads of each kind of files, by C and by Python."""
+    for name, (files, most, joins, wanted) in LOADS.items():
+        folder = tests.folder / "loads"
+        shutil.rmtree(folder, ignore_errors=True)
+        files = files() if callable(files) else files
+        write_files(folder, {path: as_bytes(text) for path, text in files.items()})
+        count = most - 1 if wanted else len(files) if joins else len(files) - dyndep_count(files)
+        end = f"{wanted} is wanted after too many loads" if wanted else "status 0"
+        text = f"{most} loads of {count} files: {end}\n".encode()
+        ran = tests.loads.run([str(folder), str(int(joins))], tests.folder)
+        tests.expect("loads", f"{name}, C", ran, Ending(FAULT if wanted else DONE, text, b""))
+        loads, supplied, last = python_loads(folder, joins)
+        tests.expect("loads", f"{name}, Python", (loads, last), (most, wanted))
+        tests.expect("loads", f"{name}, Python", supplied - bool(wanted), count)
+
+
+def dyndep_count(files):
+    return sum(path.endswith(".dd") for path in files)
+
+
+def try_wanted(tests):
+    """Dyndep files are wanted in the order of their first edges, each once, but for those that were
+    handed in; and only when no other file is."""
+    edges = [bound_edge(name, file) for name, file in zip("abcd", ["2", "1", "2", "3"])]
+    session = Session()
+    supply(session, MAIN, f"{RULE}include 0\n{''.join(edges)}")
+    supply(session, "1", dyndep("b"))
+    for wanted in ["0"], ["2", "3"]:
+        status = session.call("nx_load", *text_arguments(MAIN), 1)
+        tests.expect("loads", "what is wanted", (status, session.texts("nx_wanted")), (WANTED, wanted))
+        for path in wanted:
+            supply(session, path, "")
+
+
+def supply(session, path, text):
+    session.call("nx_add_file", *text_arguments(path), text.encode(), len(text))
+
+
 # ---- faults
 
 
@@ -516,6 +632,8 @@ def main():
         tests = Tests(folder, words.program, words.affected, words.cases)
         try_names(tests)
         try_projects(tests)
+        try_loads(tests)
+        try_wanted(tests)
         try_faults(tests)
         try_flood(tests)
         try_package(tests)

@@ -12,9 +12,9 @@ from ninja_explain._calls import WANTED, Session, decoded, encoded, text_argumen
 
 # The size of the largest file that is read, in bytes.
 LARGEST = 1 << 30
-# How many times a manifest is loaded at most. Each load names the files that it lacks, and only a
-# file that another one names takes a load of its own.
-MOST_LOADS = 10_000
+# How many times a manifest is loaded at most. Each load names all files that it lacks, and only a
+# file that another one of these names takes a load of its own.
+MOST_LOADS = 1_000
 
 
 class Files(Protocol):

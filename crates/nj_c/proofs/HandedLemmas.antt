@@ -166,3 +166,7 @@ sets-new before after path file none same is = record {
 pub if-ok : {A B : Type 0} {P Q : Type 0} (result : Result A B) → (P → Q) → OnOk result P → OnOk result Q
 if-ok (Ok done) then is = then is
 if-ok (Err fault) then is = is
+
+pub some-map : {X Y : Type 0} (f : X → Y) (o : Option X) → is_some (option_map f o) ≡ is_some o
+some-map f None = refl
+some-map f (Some x) = refl

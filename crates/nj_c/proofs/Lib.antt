@@ -1,8 +1,10 @@
 mod AsBox
 mod AskLemmas
 mod BufferLemmas
+mod DyndepLemmas
 mod HandedLemmas
 mod ItemLemmas
+mod JoinLemmas
 mod LoadLemmas
 mod LoadRows
 mod MachineValues

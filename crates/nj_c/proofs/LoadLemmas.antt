@@ -1,130 +1,174 @@
 -- What a load gives, and what a session keeps of it.
 use Rattle.std.specs.Global.{Vec}
-use Rattle.std.proofs.Common.{◌≡◌, ◌≢◌, inl, inr, ℕ, Bool, true, false, Result, Ok, Err, List, [], map, refl, sym, ap, subst, ◌∙◌, ◌∷◌, true≢false}
+use Rattle.std.proofs.Common.{◌≡◌, ◌≢◌, ◌⊎◌, inl, inr, ℕ, suc, ◌==◌, Bool, true, false, if◌then◌else◌, Option, Some, None, is_some, unwrap_or, Result, Ok, Err, List, [], ◌∷◌, length, map, refl, sym, ap, subst, ◌∙◌, arith, true≢false}
+use Rattle.std.proofs.lemmas.Bool.Decides.{eqb_tells}
+use Rattle.std.specs.List.{AllByRecursion, filter_map}
 use Rattle.std.specs.Str.{is_utf8}
 use Rattle.nj_scope.specs.Sources.{SourceState}
+use Rattle.nj_scope.specs.ReadingList.{ReadStatement}
 use Rattle.nj_faults.specs.declared.fault.GraphFault.{GraphFault}
-use Rattle.nj_graph.specs.Graph.{GraphModel}
+use Rattle.nj_graph.specs.Graph.{GraphModel, IsGraphOf}
 use Rattle.nj_graph.specs.Loads.{LoadedModel, Loads}
+use Rattle.nj_graph.specs.Joining.{Joins}
 use Rattle.nj_c.specs.declared.session_state.Kept.{Kept}
 use Rattle.nj_c.specs.declared.status.Status.{Status}
 use Rattle.nj_c.specs.declared.status.Status.TheVariants.{Done, Nothing, Short, Fault, Wanted, NotLoaded, BadNumber, BadMark, NotUtf8, NotOpen, OutOfMemory}
 use Rattle.nj_c.specs.HandedIn.{Handed, handed_in, handed_state, wanted_paths, ReadsAsHanded, SameFiles}
-use Rattle.nj_c.specs.Loading.{unread, GivesGraph, KeepsNothing, ListsNothing, LoadsGraph, LoadsKept, SameRun}
-use Rattle.nj_c.specs.Inside.Results.{FinishesLoad, KeepsFault, KeepsGraph, KeepsResult}
+use Rattle.nj_c.specs.Loading.{unread, graph_loaded, lacking_dyndeps, paths_or, paths_to_load, GivesGraph, KeepsNothing, ListsNothing, LoadsFiles, LoadsKept, SameRun}
+use Rattle.nj_c.specs.Inside.Results.{AreStatements, FinishesLoad, KeepsLoad, KeepsResult}
+use Rattle.nj_c.proofs.JoinLemmas.{is-nil, not-nil, none-wanted-after, found-joined, same-files}
 
--- the graph of what was loaded
-pub gives_same : (state : SourceState) (loaded : LoadedModel) (joins : Bool) (graph : GraphModel) → joins ≡ false → graph ≡ loaded.graph
-    → GivesGraph state state loaded joins (Ok graph)
-gives_same state loaded joins graph unjoined is = subst (λ b. GivesGraph state state loaded b (Ok graph)) (sym unjoined) (refl, is)
+-- ---- where nothing is wanted
 
-pub gives_joined : (between after : SourceState) (loaded : LoadedModel) (joins : Bool) (result : Result GraphModel GraphFault) → joins ≡ true
-    → GivesGraph between after loaded true result → GivesGraph between after loaded joins result
-gives_joined between after loaded joins result wanted gives = subst (λ b. GivesGraph between after loaded b result) (sym wanted) gives
+none-long : {X : Type 0} (xs : List X) → length xs ≡ 0 → xs ≡ []
+none-long [] is = refl
+none-long (x ∷ xs) is = let none : suc (length xs) ≡ 0 = is in absurd (omega (arith, none))
 
-pub loads_gives : (before between after : SourceState) (main : List ℕ) (joins : Bool) (loaded : LoadedModel) (result : Result GraphModel GraphFault)
-    → Loads main before between (Ok loaded) → GivesGraph between after loaded joins result → LoadsGraph before after main joins result
-loads_gives before between after main joins loaded (Ok graph) loads gives = (between, loaded, loads, gives)
-loads_gives before between after main joins loaded (Err fault) loads gives = inr (between, loaded, loads, gives)
+pub none-counted : {X : Type 0} (xs : List X) → true ≡ (length xs == 0) → xs ≡ []
+none-counted xs is = by (eqb_tells (length xs) 0)
+  where
+    by : ((length xs == 0) ≡ true × (length xs ≡ 0)) ⊎ ((length xs == 0) ≡ false × (length xs ≢ 0)) → xs ≡ []
+    by (inl (tells, none)) = none-long xs none
+    by (inr (tells, some)) = absurd (true≢false (is ∙ tells))
 
--- what the source declares stays
-loads-same : (before after : SourceState) (main : List ℕ) (result : Result LoadedModel GraphFault) → Loads main before after result
-    → (path : List ℕ) → after.files path ≡ before.files path
-loads-same before after main result loads path = loads.1.read.files path
+first-none : (paths others : List (List ℕ)) → paths_or paths others ≡ [] → (paths ≡ []) × (others ≡ [])
+first-none [] others is = (refl, is)
+first-none (path ∷ paths) others is = absurd (not-nil path paths is)
 
-gives-files : (main : List ℕ) (before between after : SourceState) (joins : Bool) (loaded : LoadedModel) (result : Result GraphModel GraphFault)
-    → Loads main before between (Ok loaded) → GivesGraph between after loaded joins result → (path : List ℕ) → after.files path ≡ between.files path
-gives-files main before between after false loaded (Ok graph) loads gives path = ap (λ s. s.files path) gives.0
-gives-files main before between after false loaded (Err fault) loads gives path = absurd gives
-gives-files main before between after true loaded (Ok graph) loads gives path = (gives.2 loads.2.entries loads.2.graph_is).1.read.files path
-gives-files main before between after true loaded (Err fault) loads gives path = (gives loads.2.entries loads.2.graph_is).1.read.files path
+-- what is wanted, and what was found, by the state of the source
+abbrev wanted-of : SourceState → List (List ℕ)
+wanted-of s = filter_map (λ r. if is_some (s.files r.path) then None else Some r.path) (unwrap_or s.readings [])
 
-pub same_files : (before after : SourceState) (main : List ℕ) (joins : Bool) (result : Result GraphModel GraphFault) → LoadsGraph before after main joins result
-    → (path : List ℕ) → after.files path ≡ before.files path
-same_files before after main joins (Ok graph) (between, loaded, loads, gives) path =
-    gives-files main before between after joins loaded (Ok graph) loads gives path ∙ loads-same before between main (Ok loaded) loads path
-same_files before after main joins (Err fault) (inl loads) path = loads-same before after main (Err fault) loads path
-same_files before after main joins (Err fault) (inr (between, loaded, loads, gives)) path =
-    gives-files main before between after joins loaded (Err fault) loads gives path ∙ loads-same before between main (Ok loaded) loads path
+abbrev FoundBy : SourceState → Type 0
+FoundBy s = AllByRecursion (λ r. r.bytes ≡ unwrap_or (s.files r.path) (Some [])) (unwrap_or s.readings [])
+
+-- all that was read was handed in, and the same was handed in as before
+pub record AllWasHanded (between after : Handed) : Type 0 where
+  pub wanted : wanted_paths after ≡ []
+  pub found : ReadsAsHanded after
+  pub same : SameFiles between after
+
+as-before : (between after : Handed) → handed_state after ≡ handed_state between → wanted_paths between ≡ [] → ReadsAsHanded between → AllWasHanded between after
+as-before between after is none found = record {
+  wanted = ap wanted-of is ∙ none;
+  found = subst FoundBy (sym is) found;
+  same = λ path. ap (λ s. s.files path) is;
+}
+
+handed-loaded : (main : List ℕ) (before : SourceState) (between after : Handed) (loaded : LoadedModel) (joins : Bool) (result : Result GraphModel GraphFault)
+    → Loads main before (handed_state between) (Ok loaded) → paths_to_load between joins (Ok loaded) ≡ [] → ReadsAsHanded between
+    → GivesGraph (handed_state between) (handed_state after) joins (Ok loaded) result → AllWasHanded between after
+handed-loaded main before between after loaded false result loads none found gives =
+    as-before between after gives.0 (first-none (wanted_paths between) (lacking_dyndeps between false loaded.graph) none).0 found
+handed-loaded main before between after loaded true result loads none found (joined, is, joins) =
+    let nothing = first-none (wanted_paths between) (lacking_dyndeps between true loaded.graph) none in
+    let stated = loads.2.entries in let graph = loads.2.graph_is in let reads = joins stated graph in
+    record {
+      wanted = none-wanted-after between after loaded stated graph nothing.0 nothing.1 found joined reads;
+      found = found-joined between after loaded stated graph nothing.0 nothing.1 found joined reads;
+      same = same-files between after loaded stated graph nothing.0 nothing.1 found joined reads;
+    }
+
+all-handed-in : (main : List ℕ) (before : SourceState) (between after : Handed) (loaded : Result LoadedModel GraphFault) (joins : Bool) (result : Result GraphModel GraphFault)
+    → Loads main before (handed_state between) loaded → paths_to_load between joins loaded ≡ [] → ReadsAsHanded between
+    → GivesGraph (handed_state between) (handed_state after) joins loaded result → AllWasHanded between after
+all-handed-in main before between after (Ok loaded) joins result loads none found gives = handed-loaded main before between after loaded joins result loads none found gives
+all-handed-in main before between after (Err fault) joins result loads none found gives = as-before between after gives.0 none found
 
 -- ---- what is kept of a load
 
-abbrev is-nil : List (List ℕ) → Bool
-is-nil [] = true
-is-nil (p ∷ ps) = false
+are-statements : (main : List ℕ) (before after : SourceState) (loaded : Result LoadedModel GraphFault) → Loads main before after loaded
+    → (entries : List ReadStatement) × AreStatements loaded entries
+are-statements main before after (Ok loaded) loads = (loads.2.entries, loads.2.graph_is)
+are-statements main before after (Err fault) loads = ([], tt)
 
 no-items : (paths : List (Vec ℕ)) → map (λ p. p.items) paths ≡ [] → paths ≡ []
 no-items [] is = refl
 no-items (p ∷ ps) is = absurd (true≢false (sym (ap is-nil is)))
 
-module _ (before middle : Kept) (files : Handed) (main : List ℕ) (joins : Bool) (begun : middle.files ≡ unread before.files) (none : KeepsNothing middle)
-    (nothing : ListsNothing middle) (run : SameRun before middle) where
-  -- the session after the load, whose result is not kept yet
+module _ (before middle : Kept) (files : Handed) (main : List ℕ) (joins : Bool) (loaded : Result LoadedModel GraphFault)
+    (begun : middle.files ≡ unread before.files) (none : KeepsNothing middle) (nothing : ListsNothing middle) (run : SameRun before middle)
+    (loads : Loads main (handed_state (unread before.files)) (handed_state files) loaded) where
+  -- the session after the load, of which nothing is kept yet
   abbrev read : Kept
   read = record middle { files = files }
 
-  abbrev Loaded : Result GraphModel GraphFault → Type 0
-  Loaded result = LoadsGraph (handed_state (unread before.files)) (handed_state files) main joins result
+  same : SameFiles before.files files
+  same path = loads.1.read.files path
 
-  same : (result : Result GraphModel GraphFault) → Loaded result → SameFiles before.files files
-  same result loads = same_files (handed_state (unread before.files)) (handed_state files) main joins result loads
+  module _ (after : Kept) (others : Handed) (same-then : SameFiles before.files others) where
+    lacks : after ≡ record middle { files = others } → LoadsKept before after main joins OutOfMemory
+    lacks is = subst (λ k. LoadsKept before k main joins OutOfMemory) (sym is)
+        (same-then, nothing, record { output = run.output; errors = run.errors }, record { graph = none.graph; fault = none.fault; wanted = none.wanted })
 
-  lacks : (after : Kept) (result : Result GraphModel GraphFault) → Loaded result → after ≡ read → LoadsKept before after main joins OutOfMemory
-  lacks after result loads is = subst (λ k. LoadsKept before k main joins OutOfMemory) (sym is)
-      (same result loads, nothing, record { output = run.output; errors = run.errors }, record { graph = none.graph; fault = none.fault; wanted = none.wanted })
+    keeps : (result : Result GraphModel GraphFault) (status : Status) → LoadsFiles before.files others main joins result
+        → KeepsResult (record middle { files = others }) after result status → LoadsKept before after main joins status
+    keeps (Ok graph) status whole (is, done) = subst (LoadsKept before after main joins) (sym done)
+        (subst (λ k. LoadsKept before k main joins Done) (sym is)
+        (same-then, nothing, record { output = run.output; errors = run.errors }, (graph, refl, none.fault, none.wanted, whole)))
+    keeps (Err fault) Fault whole (other, is) = subst (λ k. LoadsKept before k main joins Fault) (sym is)
+        (same-then, nothing, record { output = run.output; errors = run.errors }, (fault, none.graph, refl, none.wanted, other, whole))
+    keeps (Err fault) OutOfMemory whole is = lacks is
+    keeps (Err fault) Done whole kept = absurd kept
+    keeps (Err fault) Nothing whole kept = absurd kept
+    keeps (Err fault) Short whole kept = absurd kept
+    keeps (Err fault) Wanted whole kept = absurd kept
+    keeps (Err fault) NotLoaded whole kept = absurd kept
+    keeps (Err fault) BadNumber whole kept = absurd kept
+    keeps (Err fault) BadMark whole kept = absurd kept
+    keeps (Err fault) NotUtf8 whole kept = absurd kept
+    keeps (Err fault) NotOpen whole kept = absurd kept
 
-  module _ (wanted : Vec (Vec ℕ)) (are : map (λ p. p.items) wanted.items ≡ wanted_paths files) (found : ReadsAsHanded files) where
-    whole : wanted.items ≡ [] → wanted_paths files ≡ []
-    whole empty = sym are ∙ ap (map (λ p. p.items)) empty
+  out_of_memory : (after : Kept) → after ≡ read → LoadsKept before after main joins OutOfMemory
+  out_of_memory after is = lacks after files same is
 
-    some : wanted.items ≢ [] → wanted_paths files ≢ []
-    some any none-there = any (no-items wanted.items (are ∙ none-there))
+  finishes : (found : ReadsAsHanded files) (wanted : Vec (Vec ℕ)) → map (λ p. p.items) wanted.items ≡ paths_to_load files joins loaded → (after : Kept) (status : Status)
+      → KeepsLoad read after joins loaded wanted status → LoadsKept before after main joins status
+  finishes found wanted are after status (inl (waits, is, some)) = subst (LoadsKept before after main joins) (sym waits)
+      (subst (λ k. LoadsKept before k main joins Wanted) (sym is) (
+        same,
+        nothing,
+        record { output = run.output; errors = run.errors },
+        (none.graph, none.fault, record { loaded = loaded; loads = loads; found = found; are = are; some = λ empty. some (no-items wanted.items (are ∙ empty)) }),
+      ))
+  finishes found wanted are after status (inr (others, result, empty, gives, kept)) =
+      let none-to-load : paths_to_load files joins loaded ≡ [] = sym are ∙ ap (map (λ p. p.items)) empty in
+      let all = all-handed-in main (handed_state (unread before.files)) files others loaded joins result loads none-to-load found gives in
+      keeps after others (λ path. all.same path ∙ same path) result status
+      (record {
+        between = files;
+        loaded = loaded;
+        loads = loads;
+        none_to_load = none-to-load;
+        gives = gives;
+        found = all.found;
+        none_wanted = all.wanted;
+      }) kept
 
-    wants : (after : Kept) (result : Result GraphModel GraphFault) → Loaded result → (after ≡ record read { wanted = wanted }) × (wanted.items ≢ [])
-        → LoadsKept before after main joins Wanted
-    wants after result loads (is, any) = subst (λ k. LoadsKept before k main joins Wanted) (sym is)
-        (same result loads, nothing, record { output = run.output; errors = run.errors }, (result, none.graph, none.fault, are, (loads, found), some any))
-
-    of-graph : (after : Kept) (graph : GraphModel) (status : Status) → Loaded (Ok graph) → KeepsGraph read after graph wanted status → LoadsKept before after main joins status
-    of-graph after graph Done loads (is, empty) = subst (λ k. LoadsKept before k main joins Done) (sym is)
-        (same (Ok graph) loads, nothing, record { output = run.output; errors = run.errors }, (graph, refl, none.fault, none.wanted, (loads, found), whole empty))
-    of-graph after graph Wanted loads keeps = wants after (Ok graph) loads keeps
-    of-graph after graph Nothing loads keeps = absurd keeps
-    of-graph after graph Short loads keeps = absurd keeps
-    of-graph after graph Fault loads keeps = absurd keeps
-    of-graph after graph NotLoaded loads keeps = absurd keeps
-    of-graph after graph BadNumber loads keeps = absurd keeps
-    of-graph after graph BadMark loads keeps = absurd keeps
-    of-graph after graph NotUtf8 loads keeps = absurd keeps
-    of-graph after graph NotOpen loads keeps = absurd keeps
-    of-graph after graph OutOfMemory loads keeps = absurd keeps
-
-    of-fault : (after : Kept) (fault : GraphFault) (status : Status) → Loaded (Err fault) → KeepsFault read after fault wanted status → LoadsKept before after main joins status
-    of-fault after fault Fault loads (is, empty, other) = subst (λ k. LoadsKept before k main joins Fault) (sym is)
-        (same (Err fault) loads, nothing, record { output = run.output; errors = run.errors }, (fault, none.graph, refl, none.wanted, other, (loads, found), whole empty))
-    of-fault after fault Wanted loads keeps = wants after (Err fault) loads keeps
-    of-fault after fault OutOfMemory loads is = lacks after (Err fault) loads is
-    of-fault after fault Done loads keeps = absurd keeps
-    of-fault after fault Nothing loads keeps = absurd keeps
-    of-fault after fault Short loads keeps = absurd keeps
-    of-fault after fault NotLoaded loads keeps = absurd keeps
-    of-fault after fault BadNumber loads keeps = absurd keeps
-    of-fault after fault BadMark loads keeps = absurd keeps
-    of-fault after fault NotUtf8 loads keeps = absurd keeps
-    of-fault after fault NotOpen loads keeps = absurd keeps
-
-    of-result : (after : Kept) (result : Result GraphModel GraphFault) (status : Status) → Loaded result → KeepsResult read after result wanted status
-        → LoadsKept before after main joins status
-    of-result after (Ok graph) status loads keeps = of-graph after graph status loads keeps
-    of-result after (Err fault) status loads keeps = of-fault after fault status loads keeps
-
-  pub loads_kept : (after : Kept) (result : Result GraphModel GraphFault) (status : Status) → LoadsGraph (handed_state middle.files) (handed_state files) main joins result
-      → FinishesLoad read after result status → LoadsKept before after main joins status
-  loads_kept after result status loads (inl (wanted, are, found, keeps)) =
-      of-result wanted are found after result status (subst (λ f. LoadsGraph (handed_state f) (handed_state files) main joins result) begun loads) keeps
-  loads_kept after result status loads (inr (is, left)) = subst (LoadsKept before after main joins) (sym is)
-      (lacks after result (subst (λ f. LoadsGraph (handed_state f) (handed_state files) main joins result) begun loads) left)
+  pub loads_kept : (after : Kept) (status : Status) → FinishesLoad read after joins loaded status → LoadsKept before after main joins status
+  loads_kept after status (inl (wanted, are, found, keeps)) =
+      let stated = are-statements main (handed_state (unread before.files)) (handed_state files) loaded loads in
+      finishes found wanted (are stated.0 stated.1) after status keeps
+  loads_kept after status (inr (is, left)) = subst (LoadsKept before after main joins) (sym is) (out_of_memory after left)
 
 pub not_loaded : (before after : Kept) (main : List ℕ) (joins : Bool) → after.files ≡ unread before.files → KeepsNothing after → ListsNothing after
     → SameRun before after → is_utf8 main ≡ false → LoadsKept before after main joins NotUtf8
 not_loaded before after main joins files none nothing run text = ((λ path. ap (λ f. handed_in f path) files), nothing, run, (none, text))
+
+-- ---- how the graph is given
+
+pub gives_fault : (state : SourceState) (joins : Bool) (loaded : Result LoadedModel GraphFault) (fault : GraphFault) → loaded ≡ Err fault
+    → GivesGraph state state joins loaded (Err fault)
+gives_fault state joins loaded fault is = subst (λ l. GivesGraph state state joins l (Err fault)) (sym is) (refl, refl)
+
+pub gives_loaded : (state : SourceState) (joins : Bool) (result : Result LoadedModel GraphFault) (loaded : LoadedModel) → result ≡ Ok loaded → joins ≡ false
+    → GivesGraph state state joins result (Ok loaded.graph)
+gives_loaded state joins result loaded is unjoined =
+    subst (λ l. GivesGraph state state joins l (Ok loaded.graph)) (sym is) (subst (λ b. GivesGraph state state b (Ok loaded) (Ok loaded.graph)) (sym unjoined) (refl, refl))
+
+pub gives_joined : (between after : SourceState) (joins : Bool) (whole : Result LoadedModel GraphFault) (loaded : LoadedModel) (joined : Result LoadedModel GraphFault)
+    (result : Result GraphModel GraphFault) → whole ≡ Ok loaded → joins ≡ true
+    → ((stated : List ReadStatement) → IsGraphOf loaded.graph stated → Joins stated loaded.files between after joined) → result ≡ graph_loaded joined
+    → GivesGraph between after joins whole result
+gives_joined between after joins whole loaded joined result is asked reads given =
+    subst (λ l. GivesGraph between after joins l result) (sym is) (subst (λ b. GivesGraph between after b (Ok loaded) result) (sym asked) (joined, given, reads))

@@ -10,6 +10,7 @@ use Rattle.nj_scope.specs.Readings.{Reading, reading_of, paths_of, IsPrefix}
 use Rattle.nj_scope.specs.ReadingList.{ReadStatement}
 use Rattle.nj_faults.specs.declared.fault.GraphFault.{GraphFault}
 use Rattle.nj_graph.specs.Graph.{GraphModel}
+use Rattle.nj_statements.specs.EdgeList.{AssignedModel}
 use Rattle.nj_faults.specs.Limits.{most_within}
 use Rattle.nj_graph.specs.Reading.{End, Whole, Refused, Lacking, ReadingModel, Opens, and_then, item_read, main_place, main_read, main_site, opened_in, opened_site, outcome_read, place_at, text_read}
 use Rattle.nj_graph.specs.Runs.{ReachedModel, IsEnd, IsLacking}
@@ -17,16 +18,16 @@ use Rattle.nj_graph.specs.Loads.{LoadedModel, LoadedOr, Loads, main_reached, rea
 use Rattle.nj_graph.proofs.ReadingRows.{on_files}
 use Rattle.nj_c.specs.declared.session_state.Kept.{Kept}
 use Rattle.nj_c.specs.declared.status.Status.TheVariants.{Done, Fault, Wanted, OutOfMemory}
-use Rattle.nj_c.specs.HandedIn.{Handed, handed_in, handed_state, reads_as}
-use Rattle.nj_c.specs.Loading.{unread, KeepsNothing, ListsNothing, LoadsGraph, LoadsKept}
+use Rattle.nj_c.specs.HandedIn.{Handed, handed_in, handed_state, reads_as, wanted_paths}
+use Rattle.nj_c.specs.Loading.{unread, lacking_dyndeps, paths_or, paths_to_load, KeepsNothing, ListsNothing, LoadsKept}
 
 -- ---- after any other status than that files are wanted
 
 none-after-done : (before after : Kept) (main : List ℕ) (joins : Bool) → LoadsKept before after main joins Done → after.wanted.items ≡ []
-none-after-done before after main joins (same, lists, run, (graph, is, sound, none, loads, whole)) = none
+none-after-done before after main joins (same, lists, run, (graph, is, sound, none, whole)) = none
 
 none-after-a-fault : (before after : Kept) (main : List ℕ) (joins : Bool) → LoadsKept before after main joins Fault → after.wanted.items ≡ []
-none-after-a-fault before after main joins (same, lists, run, (fault, unloaded, is, none, other, loads, whole)) = none
+none-after-a-fault before after main joins (same, lists, run, (fault, unloaded, is, none, other, whole)) = none
 
 nothing-without-memory : (before after : Kept) (main : List ℕ) (joins : Bool) → LoadsKept before after main joins OutOfMemory → KeepsNothing after × ListsNothing after
 nothing-without-memory before after main joins (same, lists, run, nothing) = (nothing, lists)
@@ -221,12 +222,9 @@ module _ (before after : Kept) (is : unread before.files ≡ begun) (same : (pat
       ap (λ file. cons_option (cond (is_some file) None (Some r.path)) others) (as-begun r.path)
       ∙ ap (cons_option (cond (is_some (handed_in begun r.path)) None (Some r.path))) (are-wanted rs)
 
-  loaded-by : (result : Result GraphModel GraphFault) → LoadsGraph (handed_state (unread before.files)) (handed_state after.files) m false result
-      → (loaded : Result LoadedModel GraphFault) × Loads m (handed_state begun) (handed_state after.files) loaded
-  loaded-by (Ok graph) (between, loaded, loads, gives) =
-      (Ok loaded, subst (λ s. Loads m s (handed_state after.files) (Ok loaded)) (ap handed_state is) (subst (λ s. Loads m (handed_state (unread before.files)) s (Ok loaded)) (sym gives.0) loads))
-  loaded-by (Err fault) (inl loads) = (Err fault, subst (λ s. Loads m s (handed_state after.files) (Err fault)) (ap handed_state is) loads)
-  loaded-by (Err fault) (inr (between, loaded, loads, gives)) = absurd gives
+  loaded-by : (loaded : Result LoadedModel GraphFault) → Loads m (handed_state (unread before.files)) (handed_state after.files) loaded
+      → Loads m (handed_state begun) (handed_state after.files) loaded
+  loaded-by loaded loads = subst (λ s. Loads m s (handed_state after.files) loaded) (ap handed_state is) loads
 
   are-first : (loaded : Result LoadedModel GraphFault) → Loads m (handed_state begun) (handed_state after.files) loaded
       → AreGiven after.files.read → AreFirst after.files.read
@@ -234,13 +232,22 @@ module _ (before after : Kept) (is : unread before.files ≡ begun) (same : (pat
       let these : files ≡ after.files.read = read.added ∙ sym (ap (λ o. unwrap_or o []) read.read.reported) in
       first-paths after.files after.files.read loaded are (subst (λ fs. LoadedOr (handed_state begun) (handed_state after.files) fs (main_reached m) loaded) these or)
 
+-- without dyndep files those that were read and not handed in are wanted
+paths_or-none : (paths : List (List ℕ)) → paths_or paths [] ≡ paths
+paths_or-none [] = refl
+paths_or-none (path ∷ paths) = refl
+
+read-alone : (h : Handed) (loaded : Result LoadedModel GraphFault) → paths_to_load h false loaded ≡ wanted_paths h
+read-alone h (Ok loaded) = paths_or-none (wanted_paths h)
+read-alone h (Err fault) = refl
+
 -- The file that is included is wanted, and no other.
 pub wants-what-is-named : (before after : Kept) → unread before.files ≡ begun → LoadsKept before after m false Wanted → map (λ p. p.items) after.wanted.items ≡ a ∷ []
-wants-what-is-named before after is (same, lists, run, (result, no-graph, no-fault, wanted, (loads, found), some)) =
-    let are = are-wanted before after is same after.files.read in
-    let loaded = loaded-by before after is same result loads in
-    let first = are-first before after is same loaded.0 loaded.1 (are-given before after is same after.files.read found) in
-    wanted ∙ are ∙ one-wanted (paths_of after.files.read) first (λ none. some (are ∙ none))
+wants-what-is-named before after is (same, lists, run, (no-graph, no-fault, wants)) =
+    let are = read-alone after.files wants.loaded ∙ are-wanted before after is same after.files.read in
+    let loaded = loaded-by before after is same wants.loaded wants.loads in
+    let first = are-first before after is same wants.loaded loaded (are-given before after is same after.files.read wants.found) in
+    wants.are ∙ are ∙ one-wanted (paths_of after.files.read) first (λ none. wants.some (are ∙ none))
 
 -- So no load can make up that another one is.
 wants-no-other : (before after : Kept) → unread before.files ≡ begun → LoadsKept before after m false Wanted
@@ -251,3 +258,29 @@ wants-no-other before after is loads other = true≢false (ap has_two (sym other
     has_two [] = false
     has_two (p ∷ []) = false
     has_two (p ∷ q ∷ ps) = true
+
+-- ---- dyndep files
+
+abbrev bound_to : Option (List ℕ) → AssignedModel
+bound_to file = record { pool = None; dyndep = file }
+
+abbrev with_bound : GraphModel → List (Option (List ℕ)) → GraphModel
+with_bound g files = record g { built = record g.built { assigned = map bound_to files } }
+
+abbrev with_d : Handed
+with_d = record { paths = m ∷ codes "d" ∷ []; files = Some [] ∷ None ∷ []; read = given m ∷ [] }
+
+-- Both that are not there are wanted, each once, in the order of their first edges; `d` is known to be absent, and one path is not
+-- UTF-8.
+all-at-once : (g : GraphModel) → lacking_dyndeps with_d true (with_bound g (Some (codes "b") ∷ Some (codes "d") ∷ None ∷ Some (255 ∷ []) ∷ Some a ∷ Some (codes "b") ∷ []))
+    ≡ codes "b" ∷ a ∷ []
+unfolding on_files
+all-at-once g = refl
+
+none-unless-joined : (g : GraphModel) → lacking_dyndeps with_d false (with_bound g (Some a ∷ [])) ≡ []
+none-unless-joined g = refl
+
+-- Before them come the files that were read and not handed in.
+read-files-first : (file : LoadedModel) → paths_to_load (record with_d { read = given m ∷ given a ∷ [] }) true (Ok (record file { graph = with_bound file.graph (Some (codes "b") ∷ []) })) ≡ a ∷ []
+unfolding on_files
+read-files-first file = refl

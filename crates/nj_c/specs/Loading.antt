@@ -1,8 +1,10 @@
 -- What opening a session, handing in files and loading do.
-use Rattle.std.specs.Prelude.{◌≡◌, ◌≢◌, ◌⊎◌, ℕ, ℤ, Bool, true, false, List, [], map, Option, Some, None, MatchOption, Result, Ok, Err}
+use Rattle.std.specs.Prelude.{◌≡◌, ◌≢◌, ◌⊎◌, ℕ, ℤ, Bool, true, false, ◌&&◌, not, if◌then◌else◌, List, [], ◌∷◌, map, bytes_eq, Option, Some, None, is_some, MatchOption, Result, Ok, Err}
+use Rattle.std.specs.List.{filter, filter_map}
 use Rattle.std.specs.Str.{is_utf8}
 use Rattle.nj_scope.specs.ReadingList.{ReadStatement}
 use Rattle.nj_scope.specs.Sources.{SourceState}
+use Rattle.nj_edges.specs.Repeats.{each_once}
 use Rattle.nj_faults.specs.declared.fault.GraphFault.{GraphFault}
 use Rattle.nj_faults.specs.Faults.{no_memory}
 use Rattle.nj_graph.specs.Graph.{GraphModel, IsGraphOf}
@@ -12,7 +14,7 @@ use Rattle.nj_c.specs.declared.session_state.Kept.{Kept}
 use Rattle.nj_c.specs.declared.status.Status.{Status}
 use Rattle.nj_c.specs.declared.status.Status.TheVariants.{Done, Fault, Wanted, NotUtf8, NotOpen, OutOfMemory}
 use Rattle.nj_c.specs.Statuses.{code_of}
-use Rattle.nj_c.specs.HandedIn.{Handed, handed_state, wanted_paths, ReadsAsHanded, SameFiles, SetsFile}
+use Rattle.nj_c.specs.HandedIn.{Handed, handed_in, handed_state, wanted_paths, ReadsAsHanded, SameFiles, SetsFile}
 
 -- a status was returned, of which this is so
 abbrev pub Returns : ℤ → (Status → Type 0) → Type 0
@@ -59,34 +61,69 @@ abbrev pub TakesPath : (before after : Kept) → (path : List ℕ) → (file : O
 TakesPath before after path file status =
     (files : Handed) × (after ≡ record before { files = files }) × TakesFile before.files files path file status
 
--- ---- loading
-
--- all that is loaded, and its dyndep files are joined if that is wanted
-abbrev pub GivesGraph : (between after : SourceState) → LoadedModel → (joins : Bool) → Result GraphModel GraphFault → Type 0
-GivesGraph between after loaded false (Ok graph) = (after ≡ between) × (graph ≡ loaded.graph)
-GivesGraph between after loaded false (Err fault) = ⊥
-GivesGraph between after loaded true (Ok graph) =
-    (joined : LoadedModel) × (graph ≡ joined.graph)
-    × ((stated : List ReadStatement) → IsGraphOf loaded.graph stated → Joins stated loaded.files between after (Ok joined))
-GivesGraph between after loaded true (Err fault) =
-    (stated : List ReadStatement) → IsGraphOf loaded.graph stated → Joins stated loaded.files between after (Err fault)
-
--- the load of a main file by a source, without dyndep files or with them
-abbrev pub LoadsGraph : (before after : SourceState) → (main : List ℕ) → (joins : Bool) → Result GraphModel GraphFault → Type 0
-LoadsGraph before after main joins (Ok graph) =
-    (between : SourceState) × (loaded : LoadedModel) × Loads main before between (Ok loaded) × GivesGraph between after loaded joins (Ok graph)
-LoadsGraph before after main joins (Err fault) =
-    Loads main before after (Err fault)
-    ⊎ ((between : SourceState) × (loaded : LoadedModel) × Loads main before between (Ok loaded) × GivesGraph between after loaded joins (Err fault))
+-- ---- what a load reads and wants
 
 -- the files that were handed in, of which nothing was read yet
 abbrev pub unread : Handed → Handed
 unread h = record { paths = h.paths; files = h.files; read = [] }
 
--- the load of a main file from what was handed in
-abbrev pub LoadsFiles : (before after : Handed) → (main : List ℕ) → (joins : Bool) → Result GraphModel GraphFault → Type 0
-LoadsFiles before after main joins result =
-    LoadsGraph (handed_state (unread before)) (handed_state after) main joins result × ReadsAsHanded after
+-- the dyndep files to which edges are bound, in the order of the edges
+abbrev pub dyndeps_of : GraphModel → List (List ℕ)
+dyndeps_of g = filter_map (λ a. a.dyndep) g.built.assigned
+
+-- nothing was handed in for a path; one that is not UTF-8 is never asked for
+abbrev pub is_lacking : Handed → (path : List ℕ) → Bool
+is_lacking h path = is_utf8 path && not (is_some (handed_in h path))
+
+-- the dyndep files that are to be joined and were not handed in, each once
+abbrev pub lacking_dyndeps : Handed → (joins : Bool) → GraphModel → List (List ℕ)
+lacking_dyndeps h joins g = if joins then each_once bytes_eq (filter (is_lacking h) (dyndeps_of g)) else []
+
+abbrev pub paths_or : (paths others : List (List ℕ)) → List (List ℕ)
+paths_or [] others = others
+paths_or (path ∷ paths) others = path ∷ paths
+
+-- The paths that are wanted once a main file and what it includes are loaded: those that were read and not handed in; where
+-- there are none of these, all dyndep files that are to be joined and were not handed in.
+abbrev pub paths_to_load : Handed → (joins : Bool) → Result LoadedModel GraphFault → List (List ℕ)
+paths_to_load h joins (Ok loaded) = paths_or (wanted_paths h) (lacking_dyndeps h joins loaded.graph)
+paths_to_load h joins (Err fault) = wanted_paths h
+
+-- ---- loading
+
+abbrev pub graph_loaded : Result LoadedModel GraphFault → Result GraphModel GraphFault
+graph_loaded (Ok loaded) = Ok loaded.graph
+graph_loaded (Err fault) = Err fault
+
+-- the graph of what was loaded, to which its dyndep files are joined if that is asked for
+abbrev pub JoinsGraph : (between after : SourceState) → (joins : Bool) → LoadedModel → Result GraphModel GraphFault → Type 0
+JoinsGraph between after false loaded result = (after ≡ between) × (result ≡ Ok loaded.graph)
+JoinsGraph between after true loaded result =
+    (joined : Result LoadedModel GraphFault) × (result ≡ graph_loaded joined)
+    × ((stated : List ReadStatement) → IsGraphOf loaded.graph stated → Joins stated loaded.files between after joined)
+
+abbrev pub GivesGraph : (between after : SourceState) → (joins : Bool) → Result LoadedModel GraphFault → Result GraphModel GraphFault → Type 0
+GivesGraph between after joins (Ok loaded) result = JoinsGraph between after joins loaded result
+GivesGraph between after joins (Err fault) result = (after ≡ between) × (result ≡ Err fault)
+
+-- A main file was loaded from what was handed in, and nothing was wanted; so all that was read then, dyndep files among it, was
+-- handed in.
+pub record LoadsFiles (before after : Handed) (main : List ℕ) (joins : Bool) (result : Result GraphModel GraphFault) : Type 0 where
+  pub between : Handed
+  pub loaded : Result LoadedModel GraphFault
+  pub loads : Loads main (handed_state (unread before)) (handed_state between) loaded
+  pub none_to_load : paths_to_load between joins loaded ≡ []
+  pub gives : GivesGraph (handed_state between) (handed_state after) joins loaded result
+  pub found : ReadsAsHanded after
+  pub none_wanted : wanted_paths after ≡ []
+
+-- A main file was loaded from what was handed in, and paths are wanted, which are listed.
+pub record WantsFiles (before after : Kept) (main : List ℕ) (joins : Bool) : Type 0 where
+  pub loaded : Result LoadedModel GraphFault
+  pub loads : Loads main (handed_state (unread before.files)) (handed_state after.files) loaded
+  pub found : ReadsAsHanded after.files
+  pub are : map (λ p. p.items) after.wanted.items ≡ paths_to_load after.files joins loaded
+  pub some : paths_to_load after.files joins loaded ≢ []
 
 -- the paths that were read and not handed in are listed
 abbrev pub ListsWanted : Kept → Type 0
@@ -98,17 +135,15 @@ pub record KeepsNothing (kept : Kept) : Type 0 where
   pub fault : kept.fault ≡ None
   pub wanted : kept.wanted.items ≡ []
 
--- What a load leaves, by its status. All files that it read were handed in, unless some are wanted.
+-- what a load leaves, by its status
 abbrev pub LoadsAs : (before after : Kept) → (main : List ℕ) → (joins : Bool) → Status → Type 0
 LoadsAs before after main joins Done =
     (graph : GraphModel) × (after.graph ≡ Some graph) × (after.fault ≡ None) × (after.wanted.items ≡ [])
-    × LoadsFiles before.files after.files main joins (Ok graph) × (wanted_paths after.files ≡ [])
+    × LoadsFiles before.files after.files main joins (Ok graph)
 LoadsAs before after main joins Fault =
     (fault : GraphFault) × (after.graph ≡ None) × (after.fault ≡ Some fault) × (after.wanted.items ≡ []) × (fault ≢ no_memory)
-    × LoadsFiles before.files after.files main joins (Err fault) × (wanted_paths after.files ≡ [])
-LoadsAs before after main joins Wanted =
-    (result : Result GraphModel GraphFault) × (after.graph ≡ None) × (after.fault ≡ None) × ListsWanted after
-    × LoadsFiles before.files after.files main joins result × (wanted_paths after.files ≢ [])
+    × LoadsFiles before.files after.files main joins (Err fault)
+LoadsAs before after main joins Wanted = (after.graph ≡ None) × (after.fault ≡ None) × WantsFiles before after main joins
 LoadsAs before after main joins NotUtf8 = KeepsNothing after × (is_utf8 main ≡ false)
 LoadsAs before after main joins OutOfMemory = KeepsNothing after
 LoadsAs before after main joins other = ⊥

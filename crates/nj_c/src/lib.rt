@@ -27,6 +27,7 @@ mod status;
 mod supplied_files;
 mod taken_box;
 mod values;
+mod wanted_files;
 
 pub use bulk::{nx_inputs, nx_outputs, nx_users};
 pub use counts::{nx_edge_count, nx_file_count, nx_rule_count};

@@ -1,12 +1,11 @@
 //! Loads.
 
-ghost use Rattle.std.specs.Prelude.{◌≡◌, true, map, not, nat_eq};
-ghost use Rattle.nj_c.specs.declared.status.Status.TheVariants.{Wanted};
+ghost use Rattle.std.specs.Prelude.{◌≡◌, map, not, nat_eq};
 ghost use Rattle.nj_c.specs.Asking.{GivesTextAt, IfOpen, KeptUnlessDone};
 ghost use Rattle.nj_c.specs.HandedIn.{handed_state};
-ghost use Rattle.nj_c.specs.Loading.{unread, Changes, GivesGraph, KeepsNothing, ListsNothing, LoadsGraph, LoadsKept, SameRun};
+ghost use Rattle.nj_c.specs.Loading.{graph_loaded, unread, Changes, GivesGraph, KeepsNothing, ListsNothing, LoadsKept, SameRun};
 ghost use Rattle.nj_c.specs.Statuses.{code_of};
-ghost use Rattle.nj_c.specs.Inside.Results.{FinishesLoad, KeepsFault, KeepsGraph, KeepsResult};
+ghost use Rattle.nj_c.specs.Inside.Results.{FinishesLoad, KeepsFault, KeepsLoad, KeepsResult};
 
 use crate::buffers::copy_text;
 use crate::sealed_box::Seal;
@@ -14,6 +13,7 @@ use crate::session::Session;
 use crate::session_state::Kept;
 use crate::status::Status;
 use crate::supplied_files::HandedIn;
+use crate::wanted_files::wanted_after;
 use nj_graph::{Cause, Graph, GraphFault, Loaded, join_dyndeps, load};
 use std::alloc::Global;
 use std::mem;
@@ -83,7 +83,6 @@ fn load_in(alloc: Global, seal: Seal, main: &[u8], joins: bool) -> (Seal, Status
 }
 
 // Loads the main file at a path.
-#[tactic(auto, using(crate::proofs::LoadLemmas::loads_kept, crate::proofs::LoadLemmas::not_loaded))]
 fn load_main(alloc: Global, kept: &mut Kept, main: &[u8], joins: bool) -> Status
     ensures { LoadsKept kept.old kept.new main.now joins result }
 {
@@ -91,21 +90,8 @@ fn load_main(alloc: Global, kept: &mut Kept, main: &[u8], joins: bool) -> Status
     let Ok(main) = str::from_utf8(main) else {
         return Status::NotUtf8;
     };
-    let result = load_graph(alloc, &mut kept.files, main, joins);
-    finish_load(alloc, kept, result)
-}
-
-// Keeps what a load gave, or the paths that it wanted.
-fn finish_load(alloc: Global, kept: &mut Kept, loaded: Result<Graph, GraphFault>) -> Status
-    ensures { FinishesLoad kept.old kept.new loaded result }
-{
-    match kept.files.wanted(alloc) {
-        Ok(wanted) => keep_result(kept, loaded, wanted),
-        Err(_) => {
-            drop(loaded);
-            Status::OutOfMemory
-        }
-    }
+    let loaded = load(alloc, &mut kept.files, main);
+    finish_load(alloc, kept, loaded, joins)
 }
 
 // Forgets what was loaded, read and listed.
@@ -123,86 +109,85 @@ fn forget_load(kept: &mut Kept)
     kept.mark.clear();
 }
 
-// The graph that a load gives.
-#[tactic(auto, using(crate::proofs::LoadLemmas::loads_gives))]
-fn load_graph(
+// Keeps the paths that are wanted, or what the load gives.
+fn finish_load(
     alloc: Global,
-    files: &mut HandedIn,
-    main: &str,
+    kept: &mut Kept,
+    loaded: Result<Loaded, GraphFault>,
     joins: bool,
-) -> Result<Graph, GraphFault>
-    ensures { LoadsGraph (handed_state files.old) (handed_state files.new) main.now joins result }
+) -> Status
+    ensures { FinishesLoad kept.old kept.new joins loaded result }
 {
-    match load(alloc, files, main) {
-        Ok(loaded) => graph_of(alloc, files, loaded, joins),
-        Err(fault) => Err(fault),
+    match wanted_after(alloc, &kept.files, &loaded, joins) {
+        Ok(wanted) => keep_load(alloc, kept, loaded, wanted, joins),
+        Err(_) => {
+            drop(loaded);
+            Status::OutOfMemory
+        }
     }
 }
 
-// The graph of what was loaded.
-#[tactic(auto, using(crate::proofs::LoadLemmas::gives_same, crate::proofs::LoadLemmas::gives_joined))]
-fn graph_of(
+// Keeps these paths, or where there is none, what the load gives.
+fn keep_load(
     alloc: Global,
-    files: &mut HandedIn,
-    loaded: Loaded,
+    kept: &mut Kept,
+    loaded: Result<Loaded, GraphFault>,
+    wanted: Vec<Vec<u8>>,
     joins: bool,
-) -> Result<Graph, GraphFault>
-    ensures { GivesGraph (handed_state files.old) (handed_state files.new) loaded joins result }
-{
-    if joins {
-        joined_graph(alloc, files, loaded)
-    } else {
-        Ok(loaded.into_graph())
-    }
-}
-
-fn joined_graph(alloc: Global, files: &mut HandedIn, loaded: Loaded) -> Result<Graph, GraphFault>
-    ensures { GivesGraph (handed_state files.old) (handed_state files.new) loaded true result }
-{
-    match join_dyndeps(alloc, loaded, files) {
-        Ok(joined) => Ok(joined.into_graph()),
-        Err(fault) => Err(fault),
-    }
-}
-
-// Keeps what a load gave, unless it wanted files.
-fn keep_result(kept: &mut Kept, loaded: Result<Graph, GraphFault>, wanted: Vec<Vec<u8>>) -> Status
-    ensures { KeepsResult kept.old kept.new loaded wanted result }
-{
-    match loaded {
-        Ok(graph) => keep_graph(kept, graph, wanted),
-        Err(fault) => keep_fault(kept, fault, wanted),
-    }
-}
-
-fn keep_graph(kept: &mut Kept, graph: Graph, wanted: Vec<Vec<u8>>) -> Status
-    ensures { KeepsGraph kept.old kept.new graph wanted result }
+) -> Status
+    ensures { KeepsLoad kept.old kept.new joins loaded wanted result }
 {
     if wanted.as_slice().is_empty() {
-        drop(kept.graph.replace(graph));
-        return Status::Done;
+        let result = joined_graph(alloc, &mut kept.files, loaded, joins);
+        return keep_result(kept, result);
     }
-    drop(graph);
-    keep_wanted(kept, wanted)
+    drop(loaded);
+    drop(mem::replace(&mut kept.wanted, wanted));
+    Status::Wanted
 }
 
-fn keep_fault(kept: &mut Kept, fault: GraphFault, wanted: Vec<Vec<u8>>) -> Status
-    ensures { KeepsFault kept.old kept.new fault wanted result }
+// The graph of what was loaded, to which its dyndep files are joined if that is asked for.
+#[tactic(auto, using(crate::proofs::LoadLemmas::gives_fault, crate::proofs::LoadLemmas::gives_loaded, crate::proofs::LoadLemmas::gives_joined))]
+fn joined_graph(
+    alloc: Global,
+    files: &mut HandedIn,
+    loaded: Result<Loaded, GraphFault>,
+    joins: bool,
+) -> Result<Graph, GraphFault>
+    ensures { GivesGraph (handed_state files.old) (handed_state files.new) joins loaded result }
+{
+    let loaded = loaded?;
+    if !joins {
+        return Ok(loaded.into_graph());
+    }
+    graph_of(join_dyndeps(alloc, loaded, files))
+}
+
+fn graph_of(loaded: Result<Loaded, GraphFault>) -> Result<Graph, GraphFault>
+    ensures { result ≡ graph_loaded loaded }
+{
+    Ok(loaded?.into_graph())
+}
+
+// Keeps the graph or the fault of a load, unless an allocation failed.
+fn keep_result(kept: &mut Kept, loaded: Result<Graph, GraphFault>) -> Status
+    ensures { KeepsResult kept.old kept.new loaded result }
+{
+    match loaded {
+        Ok(graph) => {
+            drop(kept.graph.replace(graph));
+            Status::Done
+        }
+        Err(fault) => keep_fault(kept, fault),
+    }
+}
+
+fn keep_fault(kept: &mut Kept, fault: GraphFault) -> Status
+    ensures { KeepsFault kept.old kept.new fault result }
 {
     if matches!(fault.cause, Cause::OutOfMemory) {
         return Status::OutOfMemory;
     }
-    if wanted.as_slice().is_empty() {
-        drop(kept.fault.replace(fault));
-        return Status::Fault;
-    }
-    keep_wanted(kept, wanted)
-}
-
-fn keep_wanted(kept: &mut Kept, wanted: Vec<Vec<u8>>) -> Status
-    ensures kept { kept.new ≡ record kept.old { wanted = wanted } }
-    ensures status { result ≡ Wanted }
-{
-    drop(mem::replace(&mut kept.wanted, wanted));
-    Status::Wanted
+    drop(kept.fault.replace(fault));
+    Status::Fault
 }

@@ -3,7 +3,7 @@
 ghost use Rattle.std.specs.Prelude.{◌≡◌};
 ghost use Rattle.nj_c.specs.Loading.{Changes};
 ghost use Rattle.nj_c.specs.Targets.{PicksFile};
-ghost use Rattle.nj_c.specs.Inside.Results.{KeepsTargetFault};
+ghost use Rattle.nj_c.specs.Inside.Results.{KeepsFault};
 
 use crate::sealed_box::Seal;
 use crate::session::Session;
@@ -49,7 +49,7 @@ fn pick_file(alloc: Global, seal: Seal, word: &[u8], file: &mut usize) -> (Seal,
 
 // Keeps the fault, unless an allocation failed.
 fn keep_fault(seal: Seal, fault: GraphFault) -> (Seal, Status)
-    ensures { KeepsTargetFault seal.kept result.0.kept fault result.1 }
+    ensures { KeepsFault seal.kept result.0.kept fault result.1 }
 {
     if matches!(fault.cause, Cause::OutOfMemory) {
         return (seal, Status::OutOfMemory);

@@ -3,7 +3,7 @@
 ghost use Rattle.std.specs.Prelude.{◌≡◌, ◌<◌, ◌++◌, [], ◌∷◌, false, is_some, length, map, set, position, bytes_eq, IfOk, IfSome, OnOk, OnErr};
 ghost use Rattle.std.specs.List.{flat_map, list_any};
 ghost use Rattle.nj_scope.specs.Sources.{outcome_bytes};
-ghost use Rattle.nj_c.specs.HandedIn.{wanted_paths, ReadsAsHanded, SetsFile};
+ghost use Rattle.nj_c.specs.HandedIn.{handed_in, wanted_paths, ReadsAsHanded, SetsFile};
 ghost use Rattle.nj_c.specs.Inside.HandedHeld.{read_bytes, wanted_of};
 
 use nj_edges::{FileNo, Files};
@@ -119,6 +119,13 @@ impl HandedIn {
         ensures found { ReadsAsHanded self.now }
     {
         wanted_in(alloc, &self.read)
+    }
+
+    /// Whether something was handed in for a path: bytes, or that no file is there.
+    pub(crate) fn has(&self, path: &[u8]) -> bool
+        ensures { result ≡ is_some (handed_in self.now path.now) }
+    {
+        self.paths.number(path).is_some()
     }
 
     // The number of the file at a path.

@@ -1,44 +1,45 @@
 -- What is kept of the result of a load.
-use Rattle.std.specs.Prelude.{◌≡◌, ◌≢◌, ◌⊎◌, ℕ, [], map, Some, Result, Ok, Err}
+use Rattle.std.specs.Prelude.{◌≡◌, ◌≢◌, ◌⊎◌, ℕ, Bool, List, [], map, Some, Result, Ok, Err, ⊤}
 use Rattle.std.specs.Global.{Vec}
+use Rattle.nj_scope.specs.ReadingList.{ReadStatement}
 use Rattle.nj_faults.specs.declared.fault.GraphFault.{GraphFault}
 use Rattle.nj_faults.specs.Faults.{no_memory}
-use Rattle.nj_graph.specs.Graph.{GraphModel}
-use Rattle.nj_c.specs.HandedIn.{wanted_paths, ReadsAsHanded}
+use Rattle.nj_graph.specs.Graph.{GraphModel, IsGraphOf}
+use Rattle.nj_graph.specs.Loads.{LoadedModel}
+use Rattle.nj_c.specs.HandedIn.{Handed, handed_state, ReadsAsHanded}
+use Rattle.nj_c.specs.Loading.{paths_to_load, GivesGraph}
 use Rattle.nj_c.specs.declared.session_state.Kept.{Kept}
 use Rattle.nj_c.specs.declared.status.Status.{Status}
 use Rattle.nj_c.specs.declared.status.Status.TheVariants.{Done, Fault, Wanted, OutOfMemory}
 
--- the paths that a load wanted are kept, which are some
-abbrev pub KeepsPaths : (before after : Kept) → (wanted : Vec (Vec ℕ)) → Type 0
-KeepsPaths before after wanted = (after ≡ record before { wanted = wanted }) × (wanted.items ≢ [])
+-- the statements of what was loaded, if it was
+abbrev pub AreStatements : Result LoadedModel GraphFault → List ReadStatement → Type 0
+AreStatements (Ok loaded) entries = IsGraphOf loaded.graph entries
+AreStatements (Err fault) entries = ⊤
 
--- a graph is kept, or files are wanted
-abbrev pub KeepsGraph : (before after : Kept) → GraphModel → (wanted : Vec (Vec ℕ)) → Status → Type 0
-KeepsGraph before after graph wanted Done = (after ≡ record before { graph = Some graph }) × (wanted.items ≡ [])
-KeepsGraph before after graph wanted Wanted = KeepsPaths before after wanted
-KeepsGraph before after graph wanted other = ⊥
+-- a fault is kept, unless an allocation failed
+abbrev pub KeepsFault : (before after : Kept) → GraphFault → Status → Type 0
+KeepsFault before after fault Fault = (fault ≢ no_memory) × (after ≡ record before { fault = Some fault })
+KeepsFault before after fault OutOfMemory = after ≡ before
+KeepsFault before after fault other = ⊥
 
--- a fault is kept, or files are wanted, or an allocation failed
-abbrev pub KeepsFault : (before after : Kept) → GraphFault → (wanted : Vec (Vec ℕ)) → Status → Type 0
-KeepsFault before after fault wanted Fault = (after ≡ record before { fault = Some fault }) × (wanted.items ≡ []) × (fault ≢ no_memory)
-KeepsFault before after fault wanted Wanted = KeepsPaths before after wanted
-KeepsFault before after fault wanted OutOfMemory = after ≡ before
-KeepsFault before after fault wanted other = ⊥
+-- the graph or the fault of a load is kept
+abbrev pub KeepsResult : (before after : Kept) → Result GraphModel GraphFault → Status → Type 0
+KeepsResult before after (Ok graph) status = (after ≡ record before { graph = Some graph }) × (status ≡ Done)
+KeepsResult before after (Err fault) status = KeepsFault before after fault status
 
-abbrev pub KeepsResult : (before after : Kept) → Result GraphModel GraphFault → (wanted : Vec (Vec ℕ)) → Status → Type 0
-KeepsResult before after (Ok graph) wanted status = KeepsGraph before after graph wanted status
-KeepsResult before after (Err fault) wanted status = KeepsFault before after fault wanted status
+-- these paths are kept, or where there is none, what the load gives
+abbrev pub KeepsLoad : (before after : Kept) → (joins : Bool) → Result LoadedModel GraphFault → (wanted : Vec (Vec ℕ)) → Status → Type 0
+KeepsLoad before after joins loaded wanted status =
+    ((status ≡ Wanted) × (after ≡ record before { wanted = wanted }) × (wanted.items ≢ []))
+    ⊎ ((files : Handed) × (result : Result GraphModel GraphFault) × (wanted.items ≡ [])
+    × GivesGraph (handed_state before.files) (handed_state files) joins loaded result
+    × KeepsResult (record before { files = files }) after result status)
 
--- the paths that are wanted of what was read, and what is kept of that and of the result; or an allocation failed
-abbrev pub FinishesLoad : (before after : Kept) → Result GraphModel GraphFault → Status → Type 0
-FinishesLoad before after result status =
-    ((wanted : Vec (Vec ℕ)) × (map (λ p. p.items) wanted.items ≡ wanted_paths before.files) × ReadsAsHanded before.files
-    × KeepsResult before after result wanted status)
+-- what is kept of a load by the paths that are wanted; or an allocation failed
+abbrev pub FinishesLoad : (before after : Kept) → (joins : Bool) → Result LoadedModel GraphFault → Status → Type 0
+FinishesLoad before after joins loaded status =
+    ((wanted : Vec (Vec ℕ))
+    × ((entries : List ReadStatement) → AreStatements loaded entries → map (λ p. p.items) wanted.items ≡ paths_to_load before.files joins loaded)
+    × ReadsAsHanded before.files × KeepsLoad before after joins loaded wanted status)
     ⊎ ((status ≡ OutOfMemory) × (after ≡ before))
-
--- a fault of a target is kept, unless an allocation failed
-abbrev pub KeepsTargetFault : (before after : Kept) → GraphFault → Status → Type 0
-KeepsTargetFault before after fault Fault = (fault ≢ no_memory) × (after ≡ record before { fault = Some fault })
-KeepsTargetFault before after fault OutOfMemory = after ≡ before
-KeepsTargetFault before after fault other = ⊥

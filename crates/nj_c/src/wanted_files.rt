@@ -1,0 +1,137 @@
+//! The files that a load wants.
+
+ghost use Rattle.std.specs.Prelude.{◌≡◌, List, map, bytes_eq, if◌then◌else◌, IfOk, OnOk};
+ghost use Rattle.std.specs.List.{filter};
+ghost use Rattle.nj_edges.specs.Files.{with_path};
+ghost use Rattle.nj_edges.specs.Repeats.{each_once};
+ghost use Rattle.nj_scope.specs.ReadingList.{ReadStatement};
+ghost use Rattle.nj_graph.specs.Graph.{IsGraphOf};
+ghost use Rattle.nj_c.specs.HandedIn.{wanted_paths, ReadsAsHanded};
+ghost use Rattle.nj_c.specs.Loading.{dyndeps_of, is_lacking, lacking_dyndeps, paths_or, paths_to_load};
+ghost use Rattle.nj_c.specs.Inside.Results.{AreStatements};
+
+use crate::supplied_files::HandedIn;
+use nj_edges::{FileNo, Files};
+use nj_graph::{Cause, EdgeNo, Graph, GraphFault, Loaded};
+use nj_scope::FileSource;
+use std::alloc::{AllocError, Global};
+
+/// The paths that are wanted after the main file was loaded, with what it includes.
+pub(crate) fn wanted_after(
+    alloc: Global,
+    files: &HandedIn,
+    loaded: &Result<Loaded, GraphFault>,
+    joins: bool,
+) -> Result<Vec<Vec<u8>>, AllocError>
+    ensures wanted { (entries : List ReadStatement) → AreStatements loaded.now entries
+        → IfOk result (λ paths. map (λ p. p.items) paths.items
+        ≡ paths_to_load files.now joins loaded.now) }
+    ensures found { ReadsAsHanded files.now }
+{
+    match loaded {
+        Ok(loaded) => wanted_with(alloc, files, loaded.graph(), joins),
+        Err(fault) => wanted_with_fault(alloc, files, fault),
+    }
+}
+
+// Where a fault ended the load: the paths that were read and not handed in.
+fn wanted_with_fault(
+    alloc: Global,
+    files: &HandedIn,
+    fault: &GraphFault,
+) -> Result<Vec<Vec<u8>>, AllocError>
+    ensures wanted { IfOk result (λ paths. map (λ p. p.items) paths.items
+        ≡ wanted_paths files.now) }
+    ensures found { ReadsAsHanded files.now }
+{
+    let wanted = files.wanted(alloc)?;
+    if matches!(fault.cause, Cause::OutOfMemory) {
+        return Err(AllocError);
+    }
+    Ok(wanted)
+}
+
+// Where the load gave a graph: these paths, or if there is none, the dyndep files.
+fn wanted_with(
+    alloc: Global,
+    files: &HandedIn,
+    graph: &Graph,
+    joins: bool,
+) -> Result<Vec<Vec<u8>>, AllocError>
+    ensures wanted { (entries : List ReadStatement) → IsGraphOf graph.now entries
+        → IfOk result (λ paths. map (λ p. p.items) paths.items
+        ≡ paths_or (wanted_paths files.now) (lacking_dyndeps files.now joins graph.now)) }
+    ensures found { ReadsAsHanded files.now }
+{
+    let wanted = files.wanted(alloc)?;
+    if joins && wanted.as_slice().is_empty() {
+        drop(wanted);
+        return dyndeps_to_load(alloc, files, graph);
+    }
+    Ok(wanted)
+}
+
+// The dyndep files to which edges are bound and that were not handed in, each once.
+fn dyndeps_to_load(
+    alloc: Global,
+    files: &HandedIn,
+    graph: &Graph,
+) -> Result<Vec<Vec<u8>>, AllocError>
+    ensures { (entries : List ReadStatement) → IsGraphOf graph.now entries
+        → IfOk result (λ paths. map (λ p. p.items) paths.items
+        ≡ each_once bytes_eq (filter (is_lacking files.now) (dyndeps_of graph.now))) }
+{
+    let lacking = lacking_dyndeps(alloc, files, graph)?;
+    let paths = copied_paths(alloc, &lacking);
+    drop(lacking);
+    paths
+}
+
+// The same, in a table.
+fn lacking_dyndeps(alloc: Global, files: &HandedIn, graph: &Graph) -> Result<Files, AllocError>
+    ensures { (entries : List ReadStatement) → IsGraphOf graph.now entries
+        → IfOk result (λ lacking. lacking
+        ≡ each_once bytes_eq (filter (is_lacking files.now) (dyndeps_of graph.now))) }
+{
+    let mut lacking = Files::new(alloc, files.hash_keys());
+    'edges: for number in 0..graph.edge_count() {
+        if let Some(path) = graph.dyndep(EdgeNo(number)) {
+            name_if_lacking(files, path, &mut lacking)?;
+        }
+    }
+    Ok(lacking)
+}
+
+// Names a path that was not handed in.
+fn name_if_lacking(files: &HandedIn, path: &[u8], lacking: &mut Files) -> Result<(), AllocError>
+    ensures { OnOk result (lacking.new
+        ≡ (if is_lacking files.now path.now then with_path lacking.old path.now
+        else lacking.old)) }
+{
+    if is_lacking(files, path) {
+        lacking.name(path)?;
+    }
+    Ok(())
+}
+
+// Whether nothing was handed in for a path; one that is not UTF-8 is never asked for.
+fn is_lacking(files: &HandedIn, path: &[u8]) -> bool
+    ensures { result ≡ is_lacking files.now path.now }
+{
+    match str::from_utf8(path) {
+        Ok(_) => !files.has(path),
+        Err(_) => false,
+    }
+}
+
+// The paths of a table, in its order.
+fn copied_paths(alloc: Global, files: &Files) -> Result<Vec<Vec<u8>>, AllocError>
+    ensures { IfOk result (λ paths. map (λ p. p.items) paths.items ≡ files.now) }
+{
+    let mut paths = Vec::new(alloc);
+    'files: for number in 0..files.count() {
+        let path = Vec::from_slice(alloc, files.path(FileNo(number)))?;
+        paths.push(path)?;
+    }
+    Ok(paths)
+}
