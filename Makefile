@@ -1,12 +1,12 @@
 # The toolchain is the command `rt`; `rt version` names it.
 PROGRAM := crates/ninja_explain
 BUILT := $(PROGRAM)/out/ninja_explain
+GRAPH := crates/ninja_graph/out/ninja_graph
 # They run rows: `make sweep` refuses memory to the sinks of one, and `make smoke` has the other one
 # read deps logs.
 RUN_ROWS := crates/nj_run_rows/out/nj_run_rows
 CALL_ROWS := crates/nj_call_rows/out/nj_call_rows
-# Four programs as clients write them.
-AFFECTED := crates/affected_tests/out/affected_tests
+# Three programs as clients write them.
 DRAW := crates/draw_graph/out/draw_graph
 KEYS := crates/cache_keys/out/cache_keys
 AUDIT := crates/audit_build/out/audit_build
@@ -22,14 +22,14 @@ FILES := $(shell cd $(PROJECT) && find * -type f)
 JOBS ?= $(shell nproc)
 
 # What `make install` installs, and where it puts things, with DESTDIR in front of every path.
-BIN := bin/ninja-explain
+NAMES := ninja-explain ninja-graph
 PREFIX ?= /usr/local
 SHARE := $(DESTDIR)$(PREFIX)/share
-INSTALLED_PROGRAM := $(DESTDIR)$(PREFIX)/bin/ninja-explain
-INSTALLED_PAGE := $(SHARE)/man/man1/ninja-explain.1
-INSTALLED_BASH := $(SHARE)/bash-completion/completions/ninja-explain
-INSTALLED_ZSH := $(SHARE)/zsh/site-functions/_ninja-explain
-INSTALLED_FISH := $(SHARE)/fish/vendor_completions.d/ninja-explain.fish
+INSTALLED_PROGRAMS := $(DESTDIR)$(PREFIX)/bin
+INSTALLED_PAGES := $(SHARE)/man/man1
+INSTALLED_BASH := $(SHARE)/bash-completion/completions
+INSTALLED_ZSH := $(SHARE)/zsh/site-functions
+INSTALLED_FISH := $(SHARE)/fish/vendor_completions.d
 INSTALLED_HEADERS := $(DESTDIR)$(PREFIX)/include
 INSTALLED_LIBRARY := $(DESTDIR)$(PREFIX)/$(LIBRARY)
 INSTALLED_PC := $(DESTDIR)$(PREFIX)/lib/pkgconfig/ninja_explain.pc
@@ -37,13 +37,16 @@ INSTALLED_PC := $(DESTDIR)$(PREFIX)/lib/pkgconfig/ninja_explain.pc
 .PHONY: pages all c run test check gate lint smoke c-test sweep install install-c uninstall dist dist-check
 .PHONY: fuzz-c wheel save-proofs load-proofs clean
 
-# Proves and builds the program as bin/ninja-explain. `rt all` proves the program and the crates below
-# it, several at once; `rt run` then builds the program from what was proved.
+# Proves and builds the programs as bin/ninja-explain and bin/ninja-graph. `rt all` proves a program and
+# the crates below it, several at once; `rt run` then builds the program from what was proved.
 all:
 	python3 scripts/prove.py ninja_explain --jobs $(JOBS)
+	python3 scripts/prove.py ninja_graph --jobs $(JOBS)
 	cd $(PROGRAM) && rt run --jobs 1 < stdin > /dev/null
+	cd $(dir $(GRAPH)).. && rt run --jobs 1 -- --version > /dev/null
 	mkdir -p bin
 	cp $(BUILT) bin/ninja-explain
+	cp $(GRAPH) bin/ninja-graph
 
 # Proves the library for C and builds it in lib/, static and shared, with a file for pkg-config that
 # finds it here. docs/C.md describes it.
@@ -108,12 +111,12 @@ lint:
 
 # Runs the built programs on real files, and the short sweeps. With CHECKS='NAME..' it runs the checks
 # of these names alone, as lint and sweep do.
-smoke: $(BUILT) $(AFFECTED) $(DRAW) $(KEYS) $(AUDIT) $(CALL_ROWS)
+smoke: $(BUILT) $(GRAPH) $(DRAW) $(KEYS) $(AUDIT) $(CALL_ROWS)
 	@python3 scripts/smoke --jobs $(JOBS) $(CHECKS)
 
 # Runs the library for C and the examples on it beside the program, and on what it must refuse.
-c-test: $(BUILT) $(AFFECTED) $(LIBRARY).so
-	python3 scripts/c_test.py --jobs $(JOBS) $(BUILT) $(AFFECTED)
+c-test: $(BUILT) $(GRAPH) $(LIBRARY).so
+	python3 scripts/c_test.py --jobs $(JOBS) $(BUILT) $(GRAPH)
 
 # Feeds the library for C with what libFuzzer makes of our seeds, for SECONDS, on as many processors as
 # JOBS gives. It needs clang with libFuzzer's runtime, says so before anything is built where there is
@@ -129,8 +132,8 @@ fuzz-c:
 sweep: $(BUILT) $(RUN_ROWS)
 	@python3 scripts/sweep --jobs $(JOBS) $(CHECKS)
 
-# `make` and `make gate` build it.
-$(BUILT): $(wildcard crates/*/src/*.rt)
+# `make` and `make gate` build them.
+$(BUILT) $(GRAPH): $(wildcard crates/*/src/*.rt)
 	$(MAKE) all
 
 # `make gate` builds them.
@@ -138,21 +141,22 @@ $(RUN_ROWS) $(CALL_ROWS): $(wildcard crates/*/src/*.rt)
 	cd $(dir $@).. && rt run > /dev/null
 
 # `make gate` leaves them.
-$(AFFECTED) $(DRAW) $(KEYS) $(AUDIT): $(wildcard crates/*/src/*.rt)
+$(DRAW) $(KEYS) $(AUDIT): $(wildcard crates/*/src/*.rt)
 	cd $(dir $@).. && rt run -- -f /dev/null < /dev/null > /dev/null
 
-# Installs the program that `make` built, its man page, and completions for three shells; and the
+# Installs the programs that `make` built, their man pages, and completions for three shells; and the
 # library for C where `make c` built it. Refuses what names no logic in which it was proved.
 install:
-	@test -x "$(BIN)" || \
-	{ echo "there is no $(BIN) to install: prove and build it first, with 'make'" >&2; exit 1; }
-	@python3 scripts/is_proved.py "$(BIN)"
+	@for name in $(NAMES); do test -x "bin/$$name" || \
+	{ echo "there is no bin/$$name to install: prove and build it first, with 'make'" >&2; exit 1; }; done
+	@python3 scripts/is_proved.py $(NAMES:%=bin/%)
 	@if [ -d lib ]; then $(MAKE) install-c; fi
-	install -D -m 755 "$(BIN)" "$(INSTALLED_PROGRAM)"
-	install -D -m 644 man/ninja-explain.1 "$(INSTALLED_PAGE)"
-	install -D -m 644 completions/ninja-explain.bash "$(INSTALLED_BASH)"
-	install -D -m 644 completions/_ninja-explain "$(INSTALLED_ZSH)"
-	install -D -m 644 completions/ninja-explain.fish "$(INSTALLED_FISH)"
+	install -D -m 755 -t "$(INSTALLED_PROGRAMS)" $(NAMES:%=bin/%)
+	install -D -m 644 -t "$(INSTALLED_PAGES)" $(NAMES:%=man/%.1)
+	for name in $(NAMES); do \
+	install -D -m 644 completions/$$name.bash "$(INSTALLED_BASH)/$$name" || exit 1; done
+	install -D -m 644 -t "$(INSTALLED_ZSH)" $(NAMES:%=completions/_%)
+	install -D -m 644 -t "$(INSTALLED_FISH)" $(NAMES:%=completions/%.fish)
 
 # Installs the library for C with its header.
 install-c:
@@ -166,15 +170,16 @@ install-c:
 
 # Removes what `make install` with the same PREFIX and DESTDIR installed, except folders.
 uninstall:
-	rm -f "$(INSTALLED_PROGRAM)" "$(INSTALLED_PAGE)" "$(INSTALLED_BASH)" "$(INSTALLED_ZSH)" \
-	"$(INSTALLED_FISH)" "$(INSTALLED_HEADERS)/ninja_explain.h" \
+	for name in $(NAMES); do rm -f "$(INSTALLED_PROGRAMS)/$$name" "$(INSTALLED_PAGES)/$$name.1" \
+	"$(INSTALLED_BASH)/$$name" "$(INSTALLED_ZSH)/_$$name" "$(INSTALLED_FISH)/$$name.fish"; done
+	rm -f "$(INSTALLED_HEADERS)/ninja_explain.h" \
 	"$(INSTALLED_HEADERS)/ninja_explain_files.h" "$(INSTALLED_LIBRARY).a" "$(INSTALLED_LIBRARY).so.1" \
 	"$(INSTALLED_LIBRARY).so" "$(INSTALLED_PC)"
 
 # Packs the program and the library for C, which are proved first if they were not, in dist/: an
 # archive, Debian packages, what they were made from, and checksums. With LOG=FILE the verdicts come
 # from a log of the gate; else they are those that `make` and `make c` kept.
-dist: $(BUILT) $(LIBRARY).so
+dist: $(BUILT) $(GRAPH) $(LIBRARY).so
 	@python3 scripts/dist $(if $(LOG),--log "$(LOG)")
 
 # Packs the Python package with the library for C in dist/.
@@ -183,7 +188,7 @@ wheel: $(LIBRARY).so
 
 # Packs twice, plants what must be refused, and runs in empty folders what was unpacked there; with
 # debootstrap and as root, also in a Debian that it makes.
-dist-check: $(BUILT) $(LIBRARY).so
+dist-check: $(BUILT) $(GRAPH) $(LIBRARY).so
 	@python3 scripts/dist_check --jobs $(JOBS) $(CHECKS)
 
 # Packs in FILE what checks kept in this clone; in another clone, `make load-proofs FILE=..` unpacks it,

@@ -98,9 +98,9 @@ BOUND = f"{RULE}build a: r i || d\n  dyndep = d\n"
 class Tests:
     """What was built for the tests, and what was found."""
 
-    def __init__(self, folder, program, affected, cases):
+    def __init__(self, folder, program, graph, cases):
         self.sweep, self.folder = Sweep("c_test"), Path(folder)
-        self.program, self.affected = Program(program), Program(affected)
+        self.program, self.graph = Program(program), Program(graph)
         self.cases = cases
         source, driver = ROOT / "examples/c/commands.c", ROOT / "scripts/c_calls.c"
         self.static = self.compiled("static", source, ARCHIVE)
@@ -285,7 +285,7 @@ def try_recipes(tests, name, folder, paths):
     tests.expect("recipes", f"{name}, compdb", (found.status, same), (DONE, True))
     given = "".join(f"{path}\n" for path in paths).encode()
     found = python.run([str(affected)], folder, given)
-    wanted = tests.affected.run([], folder, given)
+    wanted = tests.graph.run(["affected"], folder, given)
     tests.expect("recipes", f"{name}, affected {paths[:5]}", found, wanted)
     found, wanted = python.run([str(pages)], folder), tests.program.run(COMMANDS, folder)
     tests.expect("recipes", f"{name}, pages", found, wanted)
@@ -624,12 +624,12 @@ def try_valgrind(tests):
 def main():
     parser = argparse.ArgumentParser(description=__doc__.split("\n")[0])
     parser.add_argument("program", help="the built program")
-    parser.add_argument("affected", help="the built program affected_tests")
+    parser.add_argument("graph", help="the built program ninja-graph")
     parser.add_argument("--cases", type=int, default=1000, help="how many changed manifests")
     parser.add_argument("--jobs", type=int, default=os.cpu_count(), help="how many run at once")
     words = parser.parse_args()
     with tempfile.TemporaryDirectory() as folder:
-        tests = Tests(folder, words.program, words.affected, words.cases)
+        tests = Tests(folder, words.program, words.graph, words.cases)
         try_names(tests)
         try_projects(tests)
         try_loads(tests)

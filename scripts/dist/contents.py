@@ -8,7 +8,7 @@ from dataclasses import dataclass
 from lib.programs import ROOT
 
 # The name of each program, and its crate.
-PROGRAMS = {"ninja-explain": "ninja_explain"}
+PROGRAMS = {"ninja-explain": "ninja_explain", "ninja-graph": "ninja_graph"}
 LIBRARY = "libninja_explain"
 LIBRARY_CRATE = "nj_c"
 # Where each of the completions of a program is from, and where it goes to.

@@ -1,4 +1,4 @@
-"""The tools and options of the program, and how shells complete them."""
+"""The tools and options of ninja-explain, and how shells complete its words and ninja-graph's."""
 
 import os
 import re
@@ -48,7 +48,7 @@ def options_of_clap():
 BASH_SCRIPT = """\
 source "$1"; shift
 COMP_WORDS=("$@"); COMP_CWORD=$(($# - 1))
-_ninja_explain
+"_${1//-/_}"
 printf '%s\\n' "${COMPREPLY[@]}"
 """
 FISH_SCRIPT = 'source $argv[1]; complete -C "$argv[2]"'
@@ -65,13 +65,14 @@ def ask(shell, folder, programs):
     return list(filter(None, ran.stdout.split("\n")))
 
 
-def offered_by_bash(words, folder, programs=None):
+def offered_by_bash(words, folder, programs=None, name="ninja-explain"):
     """What bash offers in place of the last of the words."""
-    return ask(["bash", "-c", BASH_SCRIPT, "bash", BASH, "ninja-explain", *words], folder, programs)
+    file = ROOT / f"completions/{name}.bash"
+    return ask(["bash", "-c", BASH_SCRIPT, "bash", file, name, *words], folder, programs)
 
 
-def offered_by_fish(words, folder, programs=None):
+def offered_by_fish(words, folder, programs=None, name="ninja-explain"):
     """The same, without descriptions."""
-    line = " ".join(["ninja-explain", *words])
-    found = ask(["fish", "--no-config", "-c", FISH_SCRIPT, FISH, line], folder, programs)
+    file, line = ROOT / f"completions/{name}.fish", " ".join([name, *words])
+    found = ask(["fish", "--no-config", "-c", FISH_SCRIPT, file, line], folder, programs)
     return [offer.split("\t")[0].rstrip("/") for offer in found]

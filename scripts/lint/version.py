@@ -1,7 +1,7 @@
 """Compares the version in VERSION with the places that name it.
 
-The first section of CHANGELOG.md is that version's, and the foot of each man page has it. The C
-interface has a version of its own.
+The first section of CHANGELOG.md is that version's, and the foot of each man page has it, and what
+ninja-graph writes for `--version`. The C interface has a version of its own.
 """
 
 import re
@@ -11,6 +11,7 @@ from lib.programs import ROOT
 
 VERSION = ROOT / "VERSION"
 CHANGES = ROOT / "CHANGELOG.md"
+WORDS = ROOT / "crates/ninja_graph/src/words.rt"
 # The line of a man page with its name, section, date and foot.
 TITLE = re.compile(r'^\.TH \S+ 1 \d{4}-\d{2}-\d{2} "([^"]*)" "User Commands"$', re.M)
 
@@ -36,3 +37,9 @@ def man_pages_have_it():
     for page in sorted((ROOT / "man").glob("*.1")):
         wanted = [f"{page.stem} {version()}"]
         yield from expect(f"{page.name}, its foot", TITLE.findall(page.read_text()), wanted)
+
+
+@check
+def ninja_graph_writes_it():
+    found = re.findall(r'^const VERSION: &str = "(.*)";$', WORDS.read_text(), re.M)
+    yield from expect(f"{WORDS.name}, its version", found, [version()])

@@ -1,16 +1,19 @@
-"""Runs affected-tests after changes from which the manifest itself is made.
+"""Runs ninja-graph's `affected` after changes, among them such from which the manifest itself is made.
 
 What is wanted was worked out by hand from the manifests below, in which each way to make a manifest
-stands once, and from what CMake writes for examples/cmake, where it is installed.
+stands once, from that of examples/project, and from what CMake writes for examples/cmake, where it is
+installed.
 """
 
-from lib.checks import check, expect
-from lib.programs import EXAMPLES
-from lib.projects import write_cmake, write_files
+import re
+import subprocess
 
-CMAKE = EXAMPLES / "cmake"
-# The statuses of affected-tests.
-DONE, WARNED = 0, 3
+from lib.checks import check, expect
+from lib.programs import EXAMPLES, ROOT, Program
+from lib.projects import write_cmake, write_files
+from smoke.graph import DONE, LOOK
+
+PROJECT, CMAKE = EXAMPLES / "project", EXAMPLES / "cmake"
 FILES = {
     "build.ninja": b"""\
 anew =
@@ -68,51 +71,169 @@ def told(paths):
     return lines(f"{path}: the manifest is made from it" for path in paths)
 
 
-def run(program, folder, words, paths):
-    return program.run(words, folder, lines(paths).encode()).as_text()
+def run(graph, folder, words, paths):
+    return graph.run(["affected", *words], folder, lines(paths).encode()).as_text()
 
 
 @check
-def manifest_is_made_from(affected, folder):
+def manifest_is_made_from(graph, folder):
     write_files(folder, FILES)
     for path, outputs in MADE_FROM.items():
-        wanted = WARNED, lines(outputs), told([path])
-        yield from expect(path, run(affected, folder, [], [path]), wanted)
+        wanted = LOOK, lines(outputs), told([path])
+        yield from expect(path, run(graph, folder, [], [path]), wanted)
     for path, outputs in OTHERS.items():
-        yield from expect(path, run(affected, folder, [], [path]), (DONE, lines(outputs), ""))
+        yield from expect(path, run(graph, folder, [], [path]), (DONE, lines(outputs), ""))
     wanted = DONE, lines(["part", "dd", "app", "plain"]), ""
-    yield from expect("no manifest", run(affected, folder, [], OTHERS), wanted)
+    yield from expect("no manifest", run(graph, folder, [], OTHERS), wanted)
 
 
 @check
-def warnings_are_in_order(affected, folder):
+def of_project(graph):
+    changed = ["text/lines.c", "README.md", "./main.c"]
+    found = ["out/lines.o", "out/libtext.a", "out/main.o", "out/count", "out/words_test", "test"]
+    ran = run(graph, PROJECT, [], changed)
+    yield from expect("all", ran, (LOOK, lines(found), lines(["README.md"])))
+    ran = run(graph, PROJECT, ["--rule", "check"], ["text/lines.c"])
+    yield from expect("test", ran, (DONE, lines(["test"]), ""))
+    ran = run(graph, PROJECT, ["--rule", "check"], ["main.c"])
+    yield from expect("no test", ran, (DONE, "", ""))
+    ran = run(graph, PROJECT, ["--rule", "link", "--prefix", "out/w"], changed)
+    yield from expect("one program", ran, (LOOK, lines(["out/words_test"]), lines(["README.md"])))
+    words = ["--source-dir", "text/include/..", "--prefix", "out/lib"]
+    ran = run(graph, PROJECT, words, ["words.c"])
+    yield from expect("folder", ran, (DONE, lines(["out/libtext.a"]), ""))
+
+
+@check
+def of_rules(graph, folder):
+    """Several rules, none that there is, and no phony edges."""
+    words = ["--rule", "check", "--rule=ar"]
+    ran = run(graph, PROJECT, words, ["text/lines.c"])
+    yield from expect("two rules", ran, (DONE, lines(["out/libtext.a", "test"]), ""))
+    ran = run(graph, PROJECT, ["--rule", "none"], ["text/lines.c"])
+    yield from expect("no such rule", ran, (DONE, "", ""))
+    write_files(folder, FILES)
+    words, told_of = ["--no-phony"], told(["settings.txt"])
+    ran = run(graph, folder, words, ["settings.txt"])
+    yield from expect("no phony", ran, (LOOK, lines(["stamp"]), told_of))
+    ran = run(graph, folder, [*words, "--rule", "phony"], ["settings.txt"])
+    yield from expect("phony alone, and none", ran, (LOOK, "", told_of))
+
+
+@check
+def dyndep_files(graph, folder):
+    """With `--dyndep` what such a file adds is an input too."""
+    files = {**FILES, "dd": b"ninja_dyndep_version = 1\nbuild app: dyndep | plain.in\n"}
+    write_files(folder, files)
+    ran = run(graph, folder, ["--dyndep"], ["plain.in"])
+    yield from expect("joined", ran, (DONE, lines(["app", "plain"]), ""))
+
+
+@check
+def warnings_are_in_order(graph, folder):
     """Each path has its warning, whatever the others are, and the tests are written all the same."""
     write_files(folder, FILES)
     paths = ["app.c", "none.c", "./configure", "dd.in", "rules.ninja", "configure", "part.c"]
-    found = run(affected, folder, ["--prefix", "app"], paths)
+    found = run(graph, folder, ["--prefix", "app"], paths)
     told_of = lines(["none.c"]) + told(["./configure", "rules.ninja", "configure"])
-    yield from expect("all", found, (WARNED, lines(["app"]), told_of))
-    found = run(affected, folder, ["--rule", "none"], ["configure"])
-    yield from expect("no test", found, (WARNED, "", told(["configure"])))
+    yield from expect("all", found, (LOOK, lines(["app"]), told_of))
+    found = run(graph, folder, ["--rule", "none"], ["configure"])
+    yield from expect("no test", found, (LOOK, "", told(["configure"])))
 
 
 @check
-def main_file_is_made(affected, folder):
+def main_file_is_made(graph, folder):
     write_files(folder, FILES)
     for name in "made.ninja", ".//made.ninja":
-        wanted = WARNED, lines(["made.ninja", "other"]), told(["made.in"])
-        yield from expect(name, run(affected, folder, ["-f", name], ["made.in"]), wanted)
+        wanted = LOOK, lines(["made.ninja", "other"]), told(["made.in"])
+        yield from expect(name, run(graph, folder, ["-f", name], ["made.in"]), wanted)
+
+
+OBJECT = "CMakeFiles/text.dir/src/words.c.o"
 
 
 @check(needs=["cmake", "ninja", "cc"])
-def cmake_lists(affected, folder):
+def of_cmake(graph, folder):
+    write_cmake(folder)
+    header = "include/text/words.h"
+    here = ["--source-dir", str(CMAKE)]
+    found = lines([OBJECT, "libtext.a", "count", "text", "all"])
+    ran = run(graph, folder, here, [header, "src/words.c"])
+    yield from expect("CMake", ran, (LOOK, found, lines([header])))
+    ran = run(graph, folder, [*here, "--prefix", "count"], [header, "src/words.c"])
+    yield from expect("its program", ran, (LOOK, lines(["count"]), lines([header])))
+    ran = run(graph, folder, [*here, "--no-phony"], ["src/words.c"])
+    yield from expect("no phony", ran, (DONE, lines([OBJECT, "libtext.a", "count"]), ""))
+
+
+@check(needs=["cmake", "ninja", "cc"])
+def cmake_lists(graph, folder):
     write_cmake(folder)
     here = ["--source-dir", str(CMAKE), "--prefix", "count"]
-    found = run(affected, folder, here, ["CMakeLists.txt"])
-    yield from expect("its lists", found, (WARNED, "", told(["CMakeLists.txt"])))
-    found = run(affected, folder, here, ["src/words.c", "CMakeLists.txt"])
-    yield from expect("both", found, (WARNED, lines(["count"]), told(["CMakeLists.txt"])))
-    found = run(affected, folder, here, ["src/words.c"])
+    found = run(graph, folder, here, ["CMakeLists.txt"])
+    yield from expect("its lists", found, (LOOK, "", told(["CMakeLists.txt"])))
+    found = run(graph, folder, here, ["src/words.c", "CMakeLists.txt"])
+    yield from expect("both", found, (LOOK, lines(["count"]), told(["CMakeLists.txt"])))
+    found = run(graph, folder, here, ["src/words.c"])
     yield from expect("a source", found, (DONE, lines(["count"]), ""))
-    output = run(affected, folder, here[:2], ["CMakeLists.txt"]).output
+    output = run(graph, folder, here[:2], ["CMakeLists.txt"]).output
     yield from expect("the manifest", "build.ninja" in output.splitlines(), True)
+
+
+# ---- the recipes of the man page for tests
+
+PAGE = ROOT / "man/ninja-graph.1"
+SOURCES = {
+    "text.c": b"int text(void) { return 0; }\n",
+    "one.c": b"int text(void);\nint main(void) { return text(); }\n",
+    "two.c": b"int main(void) { return 0; }\n",
+    "CMakeLists.txt": b"""\
+cmake_minimum_required(VERSION 3.16)
+project(tested C)
+enable_testing()
+add_library(text text.c)
+add_executable(one one.c)
+target_link_libraries(one text)
+add_executable(two two.c)
+add_test(NAME first COMMAND one)
+add_test(NAME second COMMAND two)
+""",
+    "meson.build": b"""\
+project('tested', 'c')
+text = static_library('text', 'text.c')
+test('first', executable('one', 'one.c', link_with: text))
+test('second', executable('two', 'two.c'))
+""",
+}
+
+
+def recipe(start):
+    """The command of the page that begins in this way."""
+    blocks = re.findall(r"^\.EX\n(.*?)^\.EE", PAGE.read_text(), re.M | re.S)
+    plain = [re.sub(r"\\\(aq", "'", it.replace("\\-", "-").replace("\\e", "\\")) for it in blocks]
+    return next(it for it in plain if it.startswith(start))
+
+
+def tests_differ(graph, folder, configure, source_dir, start):
+    """The tests that the recipe finds, after a change of a source that one of them needs."""
+    write_files(folder, SOURCES)
+    for words in configure, ["ninja", "-C", "build"]:
+        subprocess.run(words, cwd=folder, stdout=subprocess.DEVNULL, check=True)
+    words = ["-C", "build", "--source-dir", source_dir, "--no-phony"]
+    status, output, error = run(graph, folder, words, ["text.c"])
+    yield from expect("affected", (status, error), (DONE, ""))
+    (folder / "affected.txt").write_text(output)
+    ran = Program("sh").run(["-c", recipe(start)], folder).as_text()
+    yield from expect("tests", ran, (0, "first\n", ""))
+
+
+@check(needs=["cmake", "ctest", "ninja", "cc", "jq"])
+def recipe_for_ctest(graph, folder):
+    configure = ["cmake", "-G", "Ninja", "-B", "build"]
+    yield from tests_differ(graph, folder, configure, str(folder), "ctest ")
+
+
+@check(needs=["meson", "ninja", "cc", "jq"])
+def recipe_for_meson(graph, folder):
+    configure = ["meson", "setup", "build"]
+    yield from tests_differ(graph, folder, configure, "..", "meson introspect")

@@ -1,10 +1,11 @@
-"""Runs the completions of bash and fish on examples/project, with the program, and on paths that
-are hostile to a shell.
+"""Runs the completions of both programs in bash and fish on examples/project, and on paths that are
+hostile to a shell.
 """
 
-from lib.checks import check
+from lib.checks import check, expect
 from lib.options import offered_by_bash, offered_by_fish
 from lib.programs import EXAMPLES
+from smoke.graph import DONE, SUBCOMMANDS
 
 PROJECT = EXAMPLES / "project"
 
@@ -46,27 +47,79 @@ LINES = [
 HOSTILE = "rule r\n  command = c\nbuild a$ b: r\nbuild $$(touch$ run): r\nbuild `touch$ run`: r\n"
 
 
-def differences(offered, program, folder, hostile):
+# The same for ninja-graph, whose options smoke.graph compares with its help.
+GRAPH_LINES = [
+    ([""], " ".join(SUBCOMMANDS)),
+    (["a"], "affected"),
+    (["--v"], "--version"),
+    (["affected", ""], ""),
+    (["affected", "--rule", ""], RULES),
+    (["affected", "--rule", "ar", "--rule", "c"], "cc check"),
+    (["affected", "-C", "../hello", "--rule", ""], "cc link phony"),
+    (["affected", "-C..", "-f", "hello/build.ninja", "--rule", ""], "cc link phony"),
+    (["affected", "--source-dir", "te"], "text"),
+    (["affected", "-C", "te"], "text"),
+    (["affected", "-f", ""], FILES),
+]
+
+
+def graph_lines():
+    """These lines, and the options of each subcommand."""
+    yield from GRAPH_LINES
+    for name, (options, _) in SUBCOMMANDS.items():
+        yield [name, "--"], " ".join([*options, "--dyndep", "--help"])
+
+
+def links(folder, programs):
+    """A folder in which a shell finds these programs by their names."""
+    found_first = folder / "bin"
+    found_first.mkdir()
+    for name, program in programs.items():
+        (found_first / name).symlink_to(program.path)
+    return str(found_first)
+
+
+def lines_differ(offered, programs, lines, name):
+    for words, wanted in lines:
+        # `--` ends the options, and fish does not offer it
+        found = set(offered(words, PROJECT, programs, name)) - {"--"}
+        if found != set(wanted.split()):
+            yield f"after {name} {' '.join(words)!r} it offers {found}"
+
+
+def explain_differs(offered, program, folder, hostile):
     """What a shell offers that it should not, or does not offer."""
-    programs, project = folder / "bin", folder / "project"
-    programs.mkdir()
+    programs, project = links(folder, {"ninja-explain": program}), folder / "project"
     project.mkdir()
-    (programs / "ninja-explain").symlink_to(program.path)
     (project / "build.ninja").write_text(HOSTILE)
-    found = set(offered(["-t", "commands", ""], project, str(programs)))
+    found = set(offered(["-t", "commands", ""], project, programs))
     if found != hostile or (project / "run").exists():
         yield f"it offers {found} as hostile targets"
-    for words, wanted in LINES:
-        found = offered(words, PROJECT, str(programs))
-        if sorted(found) != sorted(wanted.split()):
-            yield f"after {' '.join(words)!r} it offers {found}"
+    yield from lines_differ(offered, programs, LINES, "ninja-explain")
+
+
+def graph_differs(offered, program, graph, folder):
+    # the program itself is not asked; that it has these options is checked beside its help
+    programs = links(folder, {"ninja-explain": program})
+    yield from expect("its help", graph.run(["--help"], folder).status, DONE)
+    yield from lines_differ(offered, programs, graph_lines(), "ninja-graph")
 
 
 @check(needs=["bash"])
 def bash(program, folder):
-    return differences(offered_by_bash, program, folder, {"a b"})
+    return explain_differs(offered_by_bash, program, folder, {"a b"})
+
+
+@check(needs=["bash"])
+def bash_for_graph(program, graph, folder):
+    return graph_differs(offered_by_bash, program, graph, folder)
 
 
 @check(needs=["fish"])
 def fish(program, folder):
-    return differences(offered_by_fish, program, folder, {"a b", "$(touch run)", "`touch run`"})
+    return explain_differs(offered_by_fish, program, folder, {"a b", "$(touch run)", "`touch run`"})
+
+
+@check(needs=["fish"])
+def fish_for_graph(program, graph, folder):
+    return graph_differs(offered_by_fish, program, graph, folder)

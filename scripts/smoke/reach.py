@@ -1,4 +1,4 @@
-"""Runs affected-tests and draw-graph on real projects.
+"""Runs draw-graph on real projects.
 
 The projects are examples/project and, where CMake is installed, what it writes for examples/cmake.
 What is wanted was worked out by hand from their manifests, which are small. Where Graphviz is
@@ -13,8 +13,8 @@ from lib.programs import EXAMPLES, Program
 from lib.projects import write_cmake
 
 PROJECT, CMAKE = EXAMPLES / "project", EXAMPLES / "cmake"
-# The statuses of affected-tests; draw-graph has the first three.
-DONE, FAULT, USAGE, UNKNOWN = range(4)
+# Its statuses.
+DONE, FAULT, USAGE = range(3)
 NODE = re.compile(r'  (\w+) \[(?:shape=(\w+), )?(?:label|tooltip)="(.*)"\];')
 # What CMake appends to the names of its rules depends on its version.
 TARGET_OF_RULE = re.compile(r"(C_\w+?_(?:COMPILER|LINKER)|C_COMPILER)__\w+")
@@ -23,10 +23,6 @@ ARROW = re.compile(r"  (\w+) -> (\w+)( \[style=dashed\])?;")
 
 def run(program, folder, words, text=""):
     return program.run(words, folder, text.encode()).as_text()
-
-
-def lines(*strings):
-    return "".join(f"{text}\n" for text in strings)
 
 
 def edges(text):
@@ -74,23 +70,6 @@ TEST = {
 
 
 @check
-def project_affected(affected):
-    changed = lines("text/lines.c", "README.md", "./main.c")
-    found = lines("out/lines.o", "out/libtext.a", "out/main.o", "out/count", "out/words_test", "test")
-    unknown = lines("README.md")
-    yield from expect("targets", run(affected, PROJECT, [], changed), (UNKNOWN, found, unknown))
-    tests = ["--rule", "check"]
-    ran = run(affected, PROJECT, tests, lines("text/lines.c"))
-    yield from expect("test", ran, (DONE, lines("test"), ""))
-    yield from expect("no test", run(affected, PROJECT, tests, lines("main.c")), (DONE, "", ""))
-    ran = run(affected, PROJECT, ["--rule", "link", "--prefix", "out/w"], changed)
-    yield from expect("one program", ran, (UNKNOWN, lines("out/words_test"), unknown))
-    words = ["--source-dir", "text/include/..", "--prefix", "out/lib"]
-    ran = run(affected, PROJECT, words, lines("words.c"))
-    yield from expect("folder", ran, (DONE, lines("out/libtext.a"), ""))
-
-
-@check
 def project_drawn(draw):
     yield from drawing_differs("defaults", draw, PROJECT, [], LIBRARY | COUNT)
     yield from drawing_differs("test", draw, PROJECT, ["test"], LIBRARY | TEST)
@@ -112,7 +91,7 @@ def drawings_are_for_graphviz(draw):
     yield from expect("drawn", ">out/count<" in ran.output, True)
 
 
-def faults(name, program, prefix):
+def faults(name, program):
     status, output, error = run(program, PROJECT, ["--nothing"])
     yield from expect(f"{name}, words", (status, output), (USAGE, ""))
     yield from expect(f"{name}, usage", error.startswith(f"usage: {name} ["), True)
@@ -120,31 +99,19 @@ def faults(name, program, prefix):
     ran = run(program, PROJECT, ["-f", "none.ninja"])
     yield from expect(f"{name}, no file", ran, (FAULT, "", missing))
     with open("/dev/full", "wb") as full:
-        ran = program.run(prefix, PROJECT, b"main.c\n", output=full)
+        ran = program.run([], PROJECT, output=full)
     found = ran.status, ran.error.count(b"\n")
     yield from expect(f"{name}, full output", found, (FAULT, 1))
 
 
 @check
-def refusals(affected, draw):
-    yield from faults("affected-tests", affected, ["--prefix", "out"])
-    yield from faults("draw-graph", draw, [])
+def refusals(draw):
+    yield from faults("draw-graph", draw)
     unknown = "draw-graph: unknown target 'nothing'\n"
     yield from expect("no target", run(draw, PROJECT, ["nothing"]), (FAULT, "", unknown))
 
 
 OBJECT = "CMakeFiles/text.dir/src/words.c.o"
-
-
-@check(needs=["cmake", "ninja", "cc"])
-def cmake_affected(affected, folder):
-    write_cmake(folder)
-    changed, header = lines("include/text/words.h", "src/words.c"), lines("include/text/words.h")
-    here = ["--source-dir", str(CMAKE)]
-    found = lines(OBJECT, "libtext.a", "count", "text", "all")
-    yield from expect("CMake", run(affected, folder, here, changed), (UNKNOWN, found, header))
-    ran = run(affected, folder, [*here, "--prefix", "count"], changed)
-    yield from expect("its program", ran, (UNKNOWN, lines("count"), header))
 
 
 @check(needs=["cmake", "ninja", "cc"])

@@ -1,0 +1,85 @@
+# Completion of ninja-graph in bash. Rules come from ninja-explain.
+
+# The options of a subcommand, without those that every subcommand takes.
+_ninja_graph_options() {
+    case $1 in
+        affected) echo '--source-dir --rule --prefix --no-phony' ;;
+    esac
+}
+
+# The rules in the scope of the main file in the folder. Their names have only letters, digits and
+# `_.-`.
+_ninja_graph_rules() {
+    (cd "$folder" 2>/dev/null && ninja-explain -f "$file" -t rules 2>/dev/null)
+}
+
+# What the word of an option is without quotes, with the home folder for `~`.
+_ninja_graph_plain() {
+    local text=${1//[\\\"\']/}
+    echo "${text/#'~/'/$HOME/}"
+}
+
+# Reads the words before the cursor into variables of the caller: the subcommand, the folder, the main
+# file, whether `--` ended the options, and the option whose value is at the cursor.
+_ninja_graph_words() {
+    local index option
+    for ((index = 1; index < COMP_CWORD; index++)); do
+        option=${COMP_WORDS[index]}
+        if [[ ! $subcommand && $option != -* ]]; then
+            subcommand=$option
+            continue
+        fi
+        [[ $ended ]] && continue
+        case $option in
+            --) ended=yes ;;
+            -C | -f | --source-dir | --rule | --prefix)
+                [[ ${COMP_WORDS[index + 1]} == '=' ]] && ((index++))
+                if ((++index >= COMP_CWORD)); then
+                    wanted=$option
+                elif [[ $option == -C ]]; then
+                    folder=$(_ninja_graph_plain "${COMP_WORDS[index]}")
+                elif [[ $option == -f ]]; then
+                    file=$(_ninja_graph_plain "${COMP_WORDS[index]}")
+                fi
+                ;;
+            -C*) folder=$(_ninja_graph_plain "${option#-C}") ;;
+            -f*) file=$(_ninja_graph_plain "${option#-f}") ;;
+        esac
+    done
+}
+
+# Offers a value of the option that wants one.
+_ninja_graph_offer_value() {
+    # bash cuts `--rule=x` into three words
+    [[ $current == '=' ]] && current=''
+    case $wanted in
+        -C | --source-dir) offer=(-d) ;;
+        -f) offer=(-f) ;;
+        --rule) offer=(-W "$(_ninja_graph_rules)") ;;
+    esac
+}
+
+# What is offered is in COMPREPLY, or else it is what `compgen` makes of the words in `offer`.
+_ninja_graph() {
+    local subcommand='' folder=. file=build.ninja ended='' wanted=''
+    local current=${COMP_WORDS[COMP_CWORD]} offer=()
+    COMPREPLY=()
+    _ninja_graph_words
+
+    if [[ $wanted ]]; then
+        _ninja_graph_offer_value
+    elif [[ ! $subcommand && $current == -* ]]; then
+        offer=(-W '-h --help -V --version')
+    elif [[ ! $subcommand ]]; then
+        offer=(-W affected)
+    elif [[ ! $ended && $current == -* ]]; then
+        offer=(-W "-C -f --dyndep -h --help -- $(_ninja_graph_options "$subcommand")")
+    fi
+
+    [[ ${offer[0]} == -[fd] ]] && compopt -o filenames 2>/dev/null
+    if ((${#COMPREPLY[@]} == 0 && ${#offer[@]} > 0)); then
+        mapfile -t COMPREPLY < <(compgen "${offer[@]}" -- "$current")
+    fi
+}
+
+complete -F _ninja_graph ninja-graph

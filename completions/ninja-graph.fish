@@ -1,0 +1,64 @@
+# Completion of ninja-graph in fish. Rules come from ninja-explain.
+
+# Prints the subcommands, each with what it writes.
+function __ninja_graph_subcommands
+    printf '%s\t%s\n' affected 'The outputs that a change of files affects'
+end
+
+# Whether one of these is the subcommand; without any, whether there is none yet.
+function __ninja_graph_is
+    set -l words (commandline -opc)
+    if set -q words[2]
+        contains -- $words[2] $argv
+    else
+        test (count $argv) -eq 0
+    end
+end
+
+function __ninja_graph_has_subcommand
+    not __ninja_graph_is
+end
+
+# Prints the value that an option of one letter has before the cursor.
+function __ninja_graph_value
+    set -l follows no
+    for word in (commandline -opc)[2..-1]
+        if test $follows = yes
+            printf '%s\n' $word
+            return
+        else if test "$word" = --
+            return
+        else if test "$word" = $argv[1]
+            set follows yes
+        else if string match -q -- "$argv[1]?*" $word
+            string sub -s 3 -- $word
+            return
+        end
+    end
+end
+
+# Prints the rules in the scope of the main file in the folder. The folder of the shell stays.
+function __ninja_graph_rules
+    set -l file (__ninja_graph_value -f)
+    set -l folder (__ninja_graph_value -C)
+    test -n "$file"; or set file build.ninja
+    test -n "$folder"; or set folder .
+    env -C $folder ninja-explain -f $file -t rules 2>/dev/null
+end
+
+complete -c ninja-graph -f
+
+complete -c ninja-graph -n __ninja_graph_is -a '(__ninja_graph_subcommands)'
+complete -c ninja-graph -s h -l help -d 'Write a help'
+complete -c ninja-graph -n __ninja_graph_is -s V -l version -d 'Write the version'
+complete -c ninja-graph -n __ninja_graph_has_subcommand -s C -x -d 'Change to this folder first' \
+    -a '(__fish_complete_directories)'
+complete -c ninja-graph -n __ninja_graph_has_subcommand -s f -r -F -d 'The main file (default: build.ninja)'
+complete -c ninja-graph -n __ninja_graph_has_subcommand -l dyndep -d 'Join what dyndep files add'
+
+complete -c ninja-graph -n '__ninja_graph_is affected' -l source-dir -x \
+    -d 'The folder of the changed paths' -a '(__fish_complete_directories)'
+complete -c ninja-graph -n '__ninja_graph_is affected' -l rule -x -d 'Only edges with this rule' \
+    -a '(__ninja_graph_rules)'
+complete -c ninja-graph -n '__ninja_graph_is affected' -l prefix -x -d 'Only paths that begin so'
+complete -c ninja-graph -n '__ninja_graph_is affected' -l no-phony -d 'No outputs of phony edges'

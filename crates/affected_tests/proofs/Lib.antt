@@ -1,4 +1,0 @@
-mod LineLemmas
-mod FlagLemmas
-mod ManifestLemmas
-mod ReportLaws

@@ -1,8 +1,0 @@
-use Rattle.affected_tests.proofs.ReportLaws.{complete, unique}
-use Rattle.affected_tests.proofs.report.report_law.Goals as goal
-
-pub returns-clause-complete : goal.returns-clause-complete
-returns-clause-complete c = complete
-
-pub returns-clause-unique : goal.returns-clause-unique
-returns-clause-unique c = unique

@@ -1,0 +1,104 @@
+"""Runs ninja-graph with words and outputs of all kinds; what each subcommand writes is checked beside
+this file.
+"""
+
+import re
+
+from lib.checks import check, expect
+from lib.programs import EXAMPLES, ROOT
+
+PROJECT = EXAMPLES / "project"
+# Its statuses.
+DONE, FAULT, USAGE, LOOK, OUTPUT_FAILED = range(5)
+# The subcommands, each with the options that it has besides those of all, and words with which it
+# answers on examples/project.
+SUBCOMMANDS = {
+    "affected": (["--source-dir", "--rule", "--prefix", "--no-phony"], []),
+}
+EVERY_SUBCOMMAND = ["-C", "-f", "--dyndep", "-h, --help"]
+# A changed path for those who read some.
+CHANGED = b"main.c\n"
+
+
+def run(graph, folder, words, text=CHANGED):
+    return graph.run(words, folder, text).as_text()
+
+
+def named_options(text):
+    """The options that a help names."""
+    return re.findall(r"^ +(-[\w-]+(?:, --[\w-]+)?)", text, re.M)
+
+
+@check
+def help_and_version(graph, folder):
+    """They read no file: the folder is empty."""
+    for word in "-h", "--help":
+        status, output, error = run(graph, folder, [word])
+        yield from expect(word, (status, error), (DONE, ""))
+        found = re.findall(r"^  ([a-z]+) ", output, re.M)
+        yield from expect(f"subcommands of {word}", found, list(SUBCOMMANDS))
+        for name, (options, _) in SUBCOMMANDS.items():
+            status, output, error = run(graph, folder, [name, word])
+            yield from expect(f"{name} {word}", (status, error), (DONE, ""))
+            usage = f"Usage: ninja-graph {name} ["
+            yield from expect(f"usage of {name} {word}", usage in output, True)
+            wanted = sorted([*options, *EVERY_SUBCOMMAND])
+            yield from expect(f"options of {name} {word}", sorted(named_options(output)), wanted)
+    version = f"ninja-graph {(ROOT / 'VERSION').read_text()}"
+    for word in "-V", "--version":
+        yield from expect(word, run(graph, folder, [word]), (DONE, version, ""))
+
+
+@check
+def wrong_words(graph):
+    for words in [], ["nothing"], ["--nothing"], ["-f", "build.ninja"], ["help"]:
+        status, output, error = run(graph, PROJECT, words)
+        yield from expect(words, (status, output, error == ""), (USAGE, "", False))
+    for name, (_, answered) in SUBCOMMANDS.items():
+        for words in ["--nothing"], ["-f"], ["-C"], ["-f", "a", "-f", "b"], ["-V"], ["--dyndep=x"]:
+            status, output, error = run(graph, PROJECT, [name, *words, *answered])
+            yield from expect([name, *words], (status, output, error == ""), (USAGE, "", False))
+    ran = graph.run_by_shell(["affected"], PROJECT, after="$(printf '\\377')")
+    yield from expect("not UTF-8", ran, (USAGE, b"", b"ninja-graph: cannot read the arguments\n"))
+
+
+@check
+def faults(graph, folder):
+    (folder / "bad.ninja").write_text("build a: nothing b\n")
+    for name, (_, words) in SUBCOMMANDS.items():
+        fault = "none.ninja:1:1: cannot find 'none.ninja'\n"
+        ran = run(graph, PROJECT, [name, "-f", "none.ninja", *words])
+        yield from expect(f"{name}, no file", ran, (FAULT, "", fault))
+        status, output, error = run(graph, folder, [name, "-f", "bad.ninja", *words])
+        yield from expect(f"{name}, a fault", (status, output), (FAULT, ""))
+        yield from expect(f"{name}, its place", error.startswith("bad.ninja:1:"), True)
+        status, output, error = run(graph, folder, [name, "-C", "none", *words])
+        yield from expect(f"{name}, no folder", (status, output), (FAULT, ""))
+        start = "ninja-graph: cannot enter the folder of -C: "
+        yield from expect(f"{name}, its text", error.startswith(start), True)
+
+
+@check
+def folders(graph, folder):
+    """What `-C` does is what a run in that folder does, and `-f` is taken from there."""
+    for name, (_, words) in SUBCOMMANDS.items():
+        wanted = run(graph, PROJECT, [name, *words])
+        yield from expect(f"{name}, answer", (wanted.status, wanted.output == ""), (DONE, False))
+        ran = run(graph, folder, [name, "-C", str(PROJECT), "-f", ".//build.ninja", *words])
+        found = ran._replace(output=ran.output.replace(".//build.ninja", "build.ninja"))
+        yield from expect(name, found, wanted)
+
+
+@check
+def outputs(graph):
+    """Outputs that are full or closed."""
+    asked = [["--help"], ["--version"], *([name, *words] for name, (_, words) in SUBCOMMANDS.items())]
+    for words in asked:
+        with open("/dev/full", "wb") as full:
+            ran = graph.run(words, PROJECT, CHANGED, output=full)
+        yield from expect(f"full, {words}", ran, (OUTPUT_FAILED, b"", b""))
+        ran = graph.run_by_shell(words, PROJECT, CHANGED, after=">&-")
+        yield from expect(f"closed, {words}", ran, (OUTPUT_FAILED, b"", b""))
+    with open("/dev/full", "wb") as full:
+        ran = graph.run(["affected"], PROJECT, b"none.c\n", error=full)
+    yield from expect("full error output", ran, (OUTPUT_FAILED, b"", b""))
