@@ -97,6 +97,20 @@ def edges_of(program, folder):
     return edges, files
 
 
+def serving(edges):
+    """The edges with a command, and those that they need."""
+    makers = {output: number for number, edge in enumerate(edges) for output in edge[0]}
+    found = [number for number, edge in enumerate(edges) if edge[1] != "phony"]
+    known = set(found)
+    for number in found:
+        for path in edges[number][2]:
+            maker = makers.get(path)
+            if maker is not None and maker not in known:
+                known.add(maker)
+                found.append(maker)
+    return [edges[number] for number in found]
+
+
 def wanted_of(program, folder, defaults):
     """The findings, as pairs of kinds and names. No pool of the projects is unused."""
     edges, files = edges_of(program, folder)
@@ -114,7 +128,8 @@ def wanted_of(program, folder, defaults):
             wanted.append(("depfile without deps", outputs[0]))
         for path, count in Counter(inputs).items():
             wanted += [("repeated input", path)] * (count - 1)
-    sources = {path for _, _, inputs, _ in edges for path in inputs if path not in files}
+    inputs = {path for edge in serving(edges) for path in edge[2]}
+    sources = {path for path in inputs if path not in files}
     wanted += [("missing source", path) for path in sources if not (folder / path).exists()]
     used = {rule for _, rule, _, _ in edges}
     wanted += [("unused rule", rule) for rule in explain(program, folder, "rules") if rule not in used]
@@ -185,6 +200,15 @@ build c d e | f: r
 build g: phony d
 default a e
 """
+PHONY = b"""\
+rule r
+  command = r $in $out
+build a: phony lost
+build b: phony a lost
+build c: phony kept
+build d: phony c
+build e: r d
+"""
 NO_DEFAULTS = b"rule r\n  command = r\nbuild a\"\\\xc3\xa9: r b\nbuild c: r b\n"
 
 
@@ -198,6 +222,14 @@ def uses(audit, program, folder):
     write_files(folder, {"build.ninja": NO_DEFAULTS})
     wanted = Counter({("missing source", "b"): 1, ("repeated command", "c"): 1})
     yield from audit_differs(audit, folder, wanted)
+
+
+@check
+def sources_of_phony_edges(audit, folder):
+    """A source counts if an edge with a command needs it, by whatever chain of phony edges."""
+    write_files(folder, {"build.ninja": PHONY})
+    found = FOUND, "build.ninja:5:1: missing source 'kept'\n", ""
+    yield from expect("phony edges", run(audit, folder, []), found)
 
 
 @check

@@ -19,20 +19,36 @@ DONE, FAULT, USAGE, STOPPED = range(4)
 class Edge:
     """A build statement: without a command and a response file if it is phony."""
 
-    def __init__(self, outputs, inputs, command="", content=""):
-        self.outputs, self.inputs = outputs.split(), inputs.split()
-        self.command, self.content = command, content
+    def __init__(self, outputs, inputs, command="", file="", content=""):
+        self.outputs, self.inputs = outputs.split(), list(by_kind(inputs.split()))
+        self.command, self.file, self.content = command, file, content
+
+
+def by_kind(words):
+    """The inputs among words of a build statement, each with the bars that come before its kind."""
+    bars = ""
+    for word in words:
+        if word.strip("|"):
+            yield bars, word
+        else:
+            bars = word
 
 
 # The edges of the crate's data, in the order of `ninja -t commands`, and the phony ones.
 LISTED = [
-    Edge("gen/version.h", "version.txt stamp.sh", "sh stamp.sh version.txt > gen/version.h"),
-    Edge("main.o", "main.c headers", "cc -O2 -c main.c -o main.o"),
-    Edge("words.o", "words.c include/words.h checked", "cc -O2 -c words.c -o words.o"),
+    Edge("gen/version.h", "version.txt | stamp.sh", "sh stamp.sh version.txt > gen/version.h"),
+    Edge("main.o", "main.c || headers", "cc -O2 -c main.c -o main.o"),
+    Edge("words.o", "words.c | include/words.h || checked", "cc -O2 -c words.c -o words.o"),
     Edge("lines.o", "lines.c", "cc -O2 -c lines.c -o lines.o"),
-    Edge("libwords.a", "words.o lines.o", "ar rcs libwords.a @libwords.a.rsp", "words.o\nlines.o"),
+    Edge(
+        "libwords.a",
+        "words.o lines.o",
+        "ar rcs libwords.a @libwords.a.rsp",
+        "libwords.a.rsp",
+        "words.o\nlines.o",
+    ),
     Edge("count", "main.o libwords.a", "cc main.o libwords.a -o count"),
-    Edge("test.o", "test.c lint", "cc -O2 -c test.c -o test.o"),
+    Edge("test.o", "test.c || lint", "cc -O2 -c test.c -o test.o"),
     Edge("words_test", "words.o test.o", "cc words.o test.o -o words_test"),
 ]
 PHONY = [
@@ -59,10 +75,12 @@ class Keys:
         if edge is None:
             return b""
         if edge not in self.known:
-            texts = [edge.command, edge.content, str(len(edge.inputs))]
+            texts = [edge.command, edge.file, edge.content]
             fields = [field(text.encode()) for text in texts]
-            for file in edge.inputs:
-                fields += [field(file.encode()), field(self.key(file))]
+            fields.append(b"%d:" % len(edge.outputs))
+            fields += [field(output.encode()) for output in edge.outputs]
+            for bars, path in edge.inputs:
+                fields += [field(bars.encode()), field(path.encode()), field(self.key(path))]
             self.known[edge] = hashlib.sha256(b"".join(fields)).digest()
         return self.known[edge]
 
@@ -79,7 +97,7 @@ def read_edge(program, output):
     query = run(program, PROJECT, ["-t", "query", output]).output.splitlines()
     start = next(at for at, line in enumerate(query) if line.startswith("  input: "))
     end = query.index("  outputs:")
-    inputs = [line.lstrip(" |") for line in query[start + 1 : end]]
+    inputs = query[start + 1 : end]
     command = run(program, PROJECT, ["-t", "commands", "-s", output]).output.rstrip("\n")
     return Edge(output, " ".join(inputs), command)
 

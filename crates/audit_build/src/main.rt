@@ -1,25 +1,11 @@
 //! Prints findings about a manifest: what is probably a mistake in it, or of no use.
 #![tactic(auto)]
 
-mod auditing;
-mod commands;
-mod depfiles;
-mod findings;
-mod inputs;
-mod kinds;
-mod names;
-mod outputs;
-mod pools;
-mod rules;
-mod sources;
-mod variables;
 mod writing;
 
-use crate::auditing::audit;
-use crate::findings::Findings;
-use crate::kinds::{Kind, Kinds};
 use crate::writing::{append_json, append_kind, append_line};
 use clap::{Arg, ArgAction, ArgMatches, Command};
+use nj_audit::{Findings, Kind, Kinds, audit};
 use nj_disk::DiskFiles;
 use nj_graph::{FileNo, Graph, load};
 use std::alloc::{AllocError, Global};

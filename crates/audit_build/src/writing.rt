@@ -1,7 +1,6 @@
 //! How findings are written.
 
-use crate::findings::Finding;
-use crate::kinds::Kind;
+use nj_audit::{Finding, Kind};
 use serde_json::Value;
 use std::alloc::AllocError;
 use std::io::{self, Write};

@@ -4,14 +4,10 @@
 ghost use Rattle.std.specs.Prelude.{◌<◌, All, IfOk, length};
 ghost use Rattle.nj_graph.specs.Graph.{files_of};
 
-mod fields;
-mod keys;
-mod pages;
-
-use crate::pages::{Page, page_from};
 use clap::{Arg, ArgAction, ArgMatches, Command};
 use nj_disk::DiskFiles;
 use nj_graph::{FileNo, Graph, GraphFault, load, pick_target};
+use nj_keys::{Bases, Page, page_from};
 use nj_needs::Mark;
 use nj_tools::Error;
 use std::alloc::{AllocError, Global};
@@ -68,6 +64,7 @@ fn load_page(rt: HostRuntime, words: &ArgMatches<'_>) -> Result<Page, Error> {
     page_from(
         rt.alloc(),
         graph,
+        &Bases::new(rt.alloc()),
         &targets,
         &mark,
         words.get_one::<u64>("take"),

@@ -1,5 +1,0 @@
-pub mod ListLemmas
-pub mod NameLemmas
-pub mod MarkLemmas
-pub mod KindLemmas
-mod KindRows

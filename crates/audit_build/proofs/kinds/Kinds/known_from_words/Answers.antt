@@ -1,7 +1,0 @@
-use Rattle.audit_build.proofs.KindLemmas.{ask-for}
-use Rattle.audit_build.proofs.kinds.Kinds.known_from_words.Goals as goal
-
-pub returns : goal.returns
-returns c =
-    ask-for _ _ _ c.is_asked_for.ensures c.is_asked_for-2.ensures c.is_asked_for-3.ensures c.is_asked_for-4.ensures
-    c.is_asked_for-5.ensures c.is_asked_for-6.ensures c.is_asked_for-7.ensures c.is_asked_for-8.ensures

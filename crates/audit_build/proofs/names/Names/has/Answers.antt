@@ -1,9 +1,0 @@
-use Rattle.std.proofs.Common.{ap, ◌∙◌}
-use Rattle.nj_graph.specs.Edges.{is_among}
-use Rattle.audit_build.proofs.NameLemmas.{found-is}
-use Rattle.audit_build.proofs.names.Names.has.Goals as goal
-
-pub returns : goal.returns
-returns c =
-    c.contains.ensures ∙ found-is (λ name. name.items) c.self.inside.names.keys c.args.name.now
-    ∙ ap (λ names. is_among names c.args.name.now) c.self.view_is

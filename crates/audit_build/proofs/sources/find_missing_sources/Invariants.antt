@@ -1,7 +1,0 @@
-use Rattle.std.proofs.Common.{◌≡◌, ◌++◌}
-use Rattle.std.specs.List.{filter_map}
-use Rattle.audit_build.specs.AuditBuild.{missing_source, numbers}
-use Rattle.audit_build.proofs.sources.find_missing_sources.Given as goal
-
-abbrev pub invariant-files : goal.invariant-files
-invariant-files l = l.found ≡ l.fn.found ++ filter_map (missing_source l.graph l.missing) (numbers l.number)

@@ -1,6 +1,0 @@
-mod FieldLaws
-mod FieldLemmas
-mod KeyLaws
-mod LineLaws
-mod MakerLemmas
-mod OpenLemmas

@@ -1,8 +1,0 @@
-use Rattle.cache_keys.proofs.LineLaws.{join, one}
-use Rattle.cache_keys.proofs.pages.lines_law.Goals as goal
-
-pub returns-clause-unique : goal.returns-clause-unique
-returns-clause-unique c = one
-
-pub returns-clause-join : goal.returns-clause-join
-returns-clause-join c = join

@@ -1,4 +1,0 @@
--- what must be believed
-pub mod CacheKeys
--- how the code does that
-pub mod Inside
