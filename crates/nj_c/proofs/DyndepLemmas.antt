@@ -9,7 +9,7 @@ use Rattle.std.proofs.lemmas.List.Elements.{filter-append, filter_map-append}
 use Rattle.nj_manifest.specs.Statements.{StatementModel, BindingModel, RuleModel, PoolModel, BuildModel, DefaultModel, IncludeModel, SubninjaModel}
 use Rattle.nj_scope.specs.ReadingList.{ReadStatement}
 use Rattle.nj_edges.specs.Edges.{is_among}
-use Rattle.nj_edges.specs.Files.{with_path}
+use Rattle.nj_names.specs.NameTables.{with_name}
 use Rattle.nj_edges.specs.Repeats.{each_once}
 use Rattle.nj_statements.specs.EdgeList.{AssignedModel, EdgeModel, assigned_at, assigned_of, assigned_read, edge_of_build, edges_read}
 use Rattle.nj_statements.proofs.OnceLemmas.{once-known, once-new}
@@ -44,10 +44,10 @@ one-for-each g entries is =
 
 -- ---- those that are lacking
 
-with-once : (xs : List (List ℕ)) (x : List ℕ) → with_path (each_once bytes_eq xs) x ≡ each_once bytes_eq (xs ++ x ∷ [])
+with-once : (xs : List (List ℕ)) (x : List ℕ) → with_name (each_once bytes_eq xs) x ≡ each_once bytes_eq (xs ++ x ∷ [])
 with-once xs x = by (is_among xs x) refl
   where
-    by : (b : Bool) → is_among xs x ≡ b → with_path (each_once bytes_eq xs) x ≡ each_once bytes_eq (xs ++ x ∷ [])
+    by : (b : Bool) → is_among xs x ≡ b → with_name (each_once bytes_eq xs) x ≡ each_once bytes_eq (xs ++ x ∷ [])
     by true known = ap (λ b. cond b (each_once bytes_eq xs) (each_once bytes_eq xs ++ x ∷ [])) (among-once xs x ∙ known) ∙ sym (once-known xs x known)
     by false new = ap (λ b. cond b (each_once bytes_eq xs) (each_once bytes_eq xs ++ x ∷ [])) (among-once xs x ∙ new) ∙ sym (once-new xs x new)
 
@@ -63,11 +63,11 @@ module _ (h : Handed) where
       ∙ ap (each_once bytes_eq) (filter-append (is_lacking h) (filter_map (λ a. a.dyndep) assigned) (cons_option a.dyndep []))
       ∙ ap (λ b. each_once bytes_eq (filter (is_lacking h) (filter_map (λ a. a.dyndep) assigned) ++ filter (is_lacking h) (cons_option b []))) is
 
-  one-path : (paths : List (List ℕ)) (path : List ℕ) → cond (is_lacking h path) (with_path (each_once bytes_eq paths) path) (each_once bytes_eq paths)
+  one-path : (paths : List (List ℕ)) (path : List ℕ) → cond (is_lacking h path) (with_name (each_once bytes_eq paths) path) (each_once bytes_eq paths)
       ≡ each_once bytes_eq (paths ++ filter (is_lacking h) (path ∷ []))
   one-path paths path = by (is_lacking h path)
     where
-      by : (b : Bool) → cond b (with_path (each_once bytes_eq paths) path) (each_once bytes_eq paths) ≡ each_once bytes_eq (paths ++ cond b (path ∷ []) [])
+      by : (b : Bool) → cond b (with_name (each_once bytes_eq paths) path) (each_once bytes_eq paths) ≡ each_once bytes_eq (paths ++ cond b (path ∷ []) [])
       by true = with-once paths path
       by false = ap (each_once bytes_eq) (sym (append-nil paths))
 
@@ -76,9 +76,9 @@ module _ (h : Handed) where
     none = record { pool = None; dyndep = None }
 
     pub named-more : (old new : List (List ℕ)) (path : List ℕ) → (assigned_at assigned n).dyndep ≡ Some path → old ≡ lacking (take n assigned)
-        → new ≡ cond (is_lacking h path) (with_path old path) old → new ≡ lacking (take (n + 1) assigned)
+        → new ≡ cond (is_lacking h path) (with_name old path) old → new ≡ lacking (take (n + 1) assigned)
     named-more old new path is held named =
-        named ∙ ap (λ paths. cond (is_lacking h path) (with_path paths path) paths) held
+        named ∙ ap (λ paths. cond (is_lacking h path) (with_name paths path) paths) held
         ∙ one-path (filter (is_lacking h) (filter_map (λ a. a.dyndep) (take n assigned))) path
         ∙ sym (more (take n assigned) (get_or assigned n none) (Some path) is) ∙ ap lacking (sym (take_more assigned n none below))
 

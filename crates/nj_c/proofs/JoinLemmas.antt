@@ -1,21 +1,20 @@
 -- A joining reads the dyndep files of edges, and nothing else.
-use Rattle.std.proofs.Common.{◌≡◌, ◌⊎◌, inl, inr, ℕ, Bool, true, false, cond, not, ◌&&◌, Option, Some, None, is_some, unwrap_or, Result, Ok, Err, List, [], ◌∷◌, ◌++◌, map, length, bytes_eq, refl, sym, ap, subst, ◌∙◌, append-nil, arith, true≢false, IfSome}
+use Rattle.std.proofs.Common.{◌≡◌, inl, inr, ℕ, Bool, true, false, cond, not, ◌&&◌, Option, Some, None, is_some, unwrap_or, Result, Ok, Err, List, [], ◌∷◌, ◌++◌, length, bytes_eq, refl, sym, ap, subst, ◌∙◌, append-nil, arith, true≢false, IfSome}
 use Rattle.std.specs.Prelude.{filter, ⊤}
 use Rattle.std.specs.Str.{is_utf8}
 use Rattle.std.specs.List.{AllByRecursion, cons_option, filter_map}
 use Rattle.std.proofs.lemmas.List.{append_cancel_left, append_assoc, map-append}
-use Rattle.nj_manifest.specs.LineSteps.{NameModel}
-use Rattle.nj_manifest.specs.Statements.{LineModel, OutputsModel, InputsModel, StatementModel, BindingModel, RuleModel, PoolModel, BuildModel, DefaultModel, IncludeModel, SubninjaModel}
+use Rattle.nj_manifest.specs.Statements.{StatementModel, BindingModel, RuleModel, PoolModel, BuildModel, DefaultModel, IncludeModel, SubninjaModel}
 use Rattle.nj_scope.specs.Readings.{Reading, paths_of, IsPrefix}
 use Rattle.nj_scope.specs.Sources.{IsAsGiven}
-use Rattle.nj_scope.specs.ReadingList.{Discovered, ReadStatement}
+use Rattle.nj_scope.specs.ReadingList.{ReadStatement}
 use Rattle.nj_edges.specs.Edges.{is_among}
 use Rattle.nj_edges.specs.Repeats.{each_once}
 use Rattle.nj_edges.proofs.EdgeLemmas.{all-append}
 use Rattle.nj_faults.specs.declared.fault.GraphFault.{GraphFault}
 use Rattle.nj_statements.specs.EdgeList.{AssignedModel, EdgeModel, Pending, assigned_of, assigned_read, dyndep_of, edge_of_build, edges_read, pending_at, pending_read}
 use Rattle.nj_statements.specs.Joining.{dyndep_files}
-use Rattle.nj_graph.specs.Graph.{GraphModel, IsGraphOf}
+use Rattle.nj_graph.specs.Graph.{IsGraphOf}
 use Rattle.nj_graph.specs.Reading.{End, Whole, Refused, Lacking}
 use Rattle.nj_graph.specs.Runs.{IsEnd, IsLacking, EndsSo, ReachedModel, paths_with}
 use Rattle.nj_graph.specs.Loads.{LoadedModel, LoadedOr}
@@ -103,10 +102,10 @@ module _ (h : Handed) where
 
   -- ---- by what edges are bound to
 
-  given-at : (edge : ℕ) (joined : Option Discovered) (file : Option (List ℕ)) → GivenIfBound file → AllByRecursion (λ p. IsGiven p.file) (pending_at edge joined file)
-  given-at edge (Some found) file given = tt
-  given-at edge None (Some file) given = (given, tt)
-  given-at edge None None given = tt
+  given-at : (edge : ℕ) (was_joined : Bool) (file : Option (List ℕ)) → GivenIfBound file → AllByRecursion (λ p. IsGiven p.file) (pending_at edge was_joined file)
+  given-at edge true file given = tt
+  given-at edge false (Some file) given = (given, tt)
+  given-at edge false None given = tt
 
   abbrev AreGiven : List AssignedModel → Type 0
   AreGiven assigned = AllByRecursion (λ a. GivenIfBound a.dyndep) assigned
@@ -117,9 +116,9 @@ module _ (h : Handed) where
   given-item e before (BuildModel outputs rule inputs lines) others given =
       let own : EdgeModel = edge_of_build e before outputs rule inputs lines in
       let P : AssignedModel → Type 0 = λ a. GivenIfBound a.dyndep in
-      all-append (λ p. IsGiven p.file) (pending_read before) (pending_at (length (edges_read before)) e.discovered (dyndep_of before own))
+      all-append (λ p. IsGiven p.file) (pending_read before) (pending_at (length (edges_read before)) e.was_joined (dyndep_of before own))
       (others (all-left P (assigned_read before) (assigned_of before own ∷ []) given))
-      (given-at (length (edges_read before)) e.discovered (dyndep_of before own) (all-right P (assigned_read before) (assigned_of before own ∷ []) given).0)
+      (given-at (length (edges_read before)) e.was_joined (dyndep_of before own) (all-right P (assigned_read before) (assigned_of before own ∷ []) given).0)
   given-item e before (BindingModel bound word) others given = others given
   given-item e before (RuleModel name lines) others given = others given
   given-item e before (PoolModel name lines) others given = others given

@@ -2,7 +2,7 @@
 
 ghost use Rattle.std.specs.Prelude.{◌≡◌, List, map, bytes_eq, if◌then◌else◌, IfOk, OnOk};
 ghost use Rattle.std.specs.List.{filter};
-ghost use Rattle.nj_edges.specs.Files.{with_path};
+ghost use Rattle.nj_names.specs.NameTables.{with_name};
 ghost use Rattle.nj_edges.specs.Repeats.{each_once};
 ghost use Rattle.nj_scope.specs.ReadingList.{ReadStatement};
 ghost use Rattle.nj_graph.specs.Graph.{IsGraphOf};
@@ -105,7 +105,7 @@ fn lacking_dyndeps(alloc: Global, files: &HandedIn, graph: &Graph) -> Result<Fil
 // Names a path that was not handed in.
 fn name_if_lacking(files: &HandedIn, path: &[u8], lacking: &mut Files) -> Result<(), AllocError>
     ensures { OnOk result (lacking.new
-        ≡ (if is_lacking files.now path.now then with_path lacking.old path.now
+        ≡ (if is_lacking files.now path.now then with_name lacking.old path.now
         else lacking.old)) }
 {
     if is_lacking(files, path) {

@@ -1,4 +1,4 @@
-use Rattle.std.proofs.Common.{◌<◌, length, ◌∙◌, arith}
+use Rattle.std.proofs.Common.{◌<◌, length, arith}
 use Rattle.nj_c.proofs.DyndepLemmas.{copied-more}
 use Rattle.nj_c.proofs.wanted_files.copied_paths.Goals as goal
 

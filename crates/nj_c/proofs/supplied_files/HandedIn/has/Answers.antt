@@ -1,4 +1,4 @@
-use Rattle.std.proofs.Common.{◌≡◌, is_some, map, position, bytes_eq, sym, ap, ◌∙◌}
+use Rattle.std.proofs.Common.{is_some, map, sym, ap, ◌∙◌}
 use Rattle.std.proofs.lemmas.List.{length-map}
 use Rattle.nj_scope.specs.Sources.{outcome_bytes}
 use Rattle.nj_c.specs.HandedIn.{handed_in}
