@@ -58,17 +58,19 @@ fn load_page(rt: HostRuntime, words: &ArgMatches<'_>) -> Result<Page, Error> {
     let mut files = DiskFiles::new(rt, rt.alloc(), None)?;
     let main = words.get_str("file").unwrap_or("build.ninja");
     let loaded = load(rt.alloc(), &mut files, main)?;
-    let graph = loaded.graph();
-    let targets = words.get_strs("targets").unwrap_or(&[]);
-    let targets = picked_files(rt.alloc(), graph, targets)?;
-    page_from(
-        rt.alloc(),
-        graph,
-        &Bases::new(rt.alloc()),
-        &targets,
-        &mark,
-        words.get_one::<u64>("take"),
-    )
+    page_of(rt.alloc(), loaded.graph(), words, &mark)
+}
+
+/// The page of a graph that the words ask for, after a mark.
+fn page_of(
+    alloc: Global,
+    graph: &Graph,
+    words: &ArgMatches<'_>,
+    mark: &Mark,
+) -> Result<Page, Error> {
+    let targets = picked_files(alloc, graph, words.get_strs("targets").unwrap_or(&[]))?;
+    let take = words.get_one::<u64>("take");
+    page_from(alloc, graph, &Bases::new(alloc), &targets, mark, take)
 }
 
 /// The files that the words mean; the default targets if there are none.
