@@ -463,7 +463,7 @@ def python_loads(folder, joins):
 def try_loads(tests):
     """Counts the loads of each kind of files, by C and by Python."""
     for name, (files, most, joins, wanted) in LOADS.items():
-        folder = tests.folder / "loads"
+        folder = tests.folder / "counted"
         shutil.rmtree(folder, ignore_errors=True)
         files = files() if callable(files) else files
         write_files(folder, {path: as_bytes(text) for path, text in files.items()})
