@@ -21,8 +21,10 @@ FILES := $(shell cd $(PROJECT) && find * -type f)
 # run at once.
 JOBS ?= $(shell nproc)
 
-# What `make install` installs, and where it puts things, with DESTDIR in front of every path.
+# What `make install` installs, from which folder, and where it puts things, with DESTDIR in front of
+# every path.
 NAMES := ninja-explain ninja-graph
+BIN := bin
 PREFIX ?= /usr/local
 SHARE := $(DESTDIR)$(PREFIX)/share
 INSTALLED_PROGRAMS := $(DESTDIR)$(PREFIX)/bin
@@ -147,11 +149,11 @@ $(DRAW) $(KEYS) $(AUDIT): $(wildcard crates/*/src/*.rt)
 # Installs the programs that `make` built, their man pages, and completions for three shells; and the
 # library for C where `make c` built it. Refuses what names no logic in which it was proved.
 install:
-	@for name in $(NAMES); do test -x "bin/$$name" || \
-	{ echo "there is no bin/$$name to install: prove and build it first, with 'make'" >&2; exit 1; }; done
-	@python3 scripts/is_proved.py $(NAMES:%=bin/%)
+	@for name in $(NAMES); do test -x "$(BIN)/$$name" || \
+	{ echo "there is no $(BIN)/$$name to install: prove and build it first, with 'make'" >&2; exit 1; }; done
+	@python3 scripts/is_proved.py $(NAMES:%="$(BIN)/%")
 	@if [ -d lib ]; then $(MAKE) install-c; fi
-	install -D -m 755 -t "$(INSTALLED_PROGRAMS)" $(NAMES:%=bin/%)
+	install -D -m 755 -t "$(INSTALLED_PROGRAMS)" $(NAMES:%="$(BIN)/%")
 	install -D -m 644 -t "$(INSTALLED_PAGES)" $(NAMES:%=man/%.1)
 	for name in $(NAMES); do \
 	install -D -m 644 completions/$$name.bash "$(INSTALLED_BASH)/$$name" || exit 1; done

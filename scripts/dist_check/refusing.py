@@ -78,12 +78,19 @@ def other_libraries(built, folder):
 
 
 @check(needs=["cc", "make"])
-def make_install(folder):
-    """`make install` of an unproved program installs nothing."""
-    words = [f"BIN={unproved(folder)}", f"DESTDIR={folder / 'root'}"]
-    ran = run("make", "--silent", "-C", ROOT, "install", *words)
-    if not ran.returncode or "names no logic" not in ran.stderr or (folder / "root").exists():
-        yield f"the status is {ran.returncode}, and it says {ran.stderr!r}"
+def make_install(built, folder):
+    """Where one program is unproved, `make install` installs nothing."""
+    other, root = unproved(folder), folder / "root"
+    for name in PROGRAMS:
+        programs = folder / f"{name} unproved"
+        programs.mkdir()
+        for it, crate in PROGRAMS.items():
+            source = other if it == name else built.crates / crate / "out" / crate
+            shutil.copy(source, programs / it)
+        words = [f"BIN={programs}", f"DESTDIR={root}"]
+        ran = run("make", "--silent", "-C", ROOT, "install", *words)
+        if not ran.returncode or f"{programs / name} names no logic" not in ran.stderr or root.exists():
+            yield f"{name}: the status is {ran.returncode}, and it says {ran.stderr!r}"
 
 
 def change(file, at):

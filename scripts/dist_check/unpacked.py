@@ -9,8 +9,8 @@ import re
 import shlex
 import sys
 
-from dist.contents import LIBRARY
-from dist_check.packed import prefixes, run, wheel_of
+from dist.contents import LIBRARY, PROGRAMS
+from dist_check.packed import ARCHIVE, prefixes, run, wheel_of
 from lib.checks import Skipped, check, expect
 from lib.options import BASH_SCRIPT, FISH_SCRIPT, TOOLS, ask
 from lib.programs import DONE, EXAMPLES, FAULT, ROOT, Ending, Program
@@ -26,8 +26,8 @@ COMPLETIONS = {
 }
 
 
-def program_of(prefix):
-    return Program(prefix.folder / "bin/ninja-explain")
+def program_of(prefix, name="ninja-explain"):
+    return Program(prefix.folder / "bin" / name)
 
 
 @check
@@ -38,6 +38,9 @@ def main_job(packed, folder):
         yield from expect(prefix.name, found, Ending(DONE, HELLO, b""))
         found = program.run([], folder, BAD)
         yield from expect(f"{prefix.name}, a fault", found, Ending(FAULT, b"", BAD_LINE))
+        found = program_of(prefix, "ninja-graph").run(["--version"], folder)
+        wanted = f"ninja-graph {version()}\n".encode()
+        yield from expect(f"{prefix.name}, ninja-graph", found, Ending(DONE, wanted, b""))
 
 
 def pages(prefix):
@@ -94,18 +97,23 @@ def fish_completion(packed, folder):
 
 @check
 def zsh_completion(packed, folder):
-    """The file is there, under the name by which zsh finds it."""
+    """The file of each program is there, under the name by which zsh finds it."""
     found = {
         str(file.relative_to(folder)): file.read_bytes()
         for prefix in prefixes(packed, folder)
-        for file in prefix.folder.rglob("_ninja-explain")
+        for name in PROGRAMS
+        for file in prefix.folder.rglob(f"_{name}")
     }
-    text = (ROOT / "completions/_ninja-explain").read_bytes()
-    places = [
-        *(str(it.relative_to(folder)) for it in (folder / "archive").rglob("site-functions/_*")),
-        "debian/usr/share/zsh/vendor-completions/_ninja-explain",
-    ]
-    yield from expect("its files", found, dict.fromkeys(places, text))
+    places = (
+        f"archive/{ARCHIVE}/share/zsh/site-functions",
+        "debian/usr/share/zsh/vendor-completions",
+    )
+    wanted = {
+        f"{place}/_{name}": (ROOT / "completions" / f"_{name}").read_bytes()
+        for place in places
+        for name in PROGRAMS
+    }
+    yield from expect("its files", found, wanted)
 
 
 # ---- the library
