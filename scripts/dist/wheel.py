@@ -11,6 +11,7 @@ import time
 import tomllib
 import zipfile
 
+from dist.binaries import numbers
 from dist.contents import LIBRARY, Item, copy
 from lib.programs import ROOT
 
@@ -20,8 +21,9 @@ SUFFIXES = {".py", ".typed"}
 
 
 def tag(libc):
-    """The tag of a wheel whose library needs this version of the C library."""
-    major, minor = libc.split(".")[:2]
+    """The tag of a wheel whose library needs this version of the C library. On x86-64 pip knows none
+    of an older version than 2.5."""
+    major, minor = max([2, 5], numbers(libc)[:2])
     return f"py3-none-manylinux_{major}_{minor}_x86_64"
 
 
