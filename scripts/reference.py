@@ -174,10 +174,9 @@ def section(call, makers):
 
 def library(crate, calls, types, texts, counts):
     yield from [f"## `{crate}`", "", f"{first_sentence(root_of(crate), '//!')}.", ""]
-    owners = dict.fromkeys([*types, *(call.owner for call in calls)])
-    for owner in [it for it in ["", *owners] if it is not None]:
+    for owner in dict.fromkeys(["", *types, *(call.owner for call in calls)]):
         mine = [call for call in calls if call.owner == owner]
-        if owner and (mine or types.get(owner)) and owner in owners:
+        if owner and (mine or types.get(owner)):
             yield from [f"### `{owner}`", "", "\n".join(types.get(owner, [])), ""]
         for call in mine:
             used = re.compile(rf"\b{call.name}\(")
