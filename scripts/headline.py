@@ -20,7 +20,7 @@ PHRASES = {
     "and every list of targets,": ["nj_cli/Targets targets_of"],
     "`commands` writes the commands of": ["nj_cli/Headline WritesTheNeeded", "nj_tools/CommandStrings command_lines"],
     "exactly the edges that are not phony and that the targets need through any chain of inputs,"
-    " each once, after all edges that make its inputs,": [
+    " each exactly once, after all edges that make its inputs,": [
         "nj_cli/Headline AreNeeded",
         "nj_needs/Needs Reached",
         "nj_cycles/Cycles NeedsByChain",

@@ -1,0 +1,143 @@
+"""Checks the pages that people write: their links, the names in them, and how long they are."""
+
+import re
+from functools import cache
+from pathlib import Path
+
+import headline
+import reference
+from lib.checks import check, expect
+from lib.programs import CRATES, ROOT
+
+README, PROOFS, GLOSSARY = ROOT / "README.md", ROOT / "docs/PROOFS.md", ROOT / "docs/GLOSSARY.md"
+# Pages whose names have to be declared somewhere.
+NAMING = [README, PROOFS, GLOSSARY, ROOT / "docs/ARCHITECTURE.md", ROOT / "docs/NINJA-GRAPH.md"]
+MOST_LINES = {README: 150, PROOFS: 250}
+# The most words that a sentence may have on average.
+MOST_WORDS = 20
+CODE = re.compile(r"^```.*?^```$", re.M | re.S)
+GENERATED = re.compile(r"<!-- (?:\w+: )?\w+ -->.*?<!-- end -->", re.S)
+NAME = re.compile(r"\w*[a-z]\w*(?:::\w+)*")
+
+
+def pages():
+    found = {*ROOT.glob("*.md"), *(ROOT / "docs").glob("*.md"), *CRATES.glob("*/README.md")}
+    return sorted(found - {reference.PAGE, headline.PAGE})
+
+
+# ---- links
+
+
+def anchors(text):
+    """The anchors of the headings of a page."""
+    heads = re.findall(r"^#+ (.*)$", CODE.sub("", text), re.M)
+    return {re.sub(r"[^\w\- ]", "", head.lower()).replace(" ", "-") for head in heads}
+
+
+@check
+def links_lead_somewhere():
+    for page in pages():
+        prose = re.sub(r"`[^`\n]*`", "", CODE.sub("", page.read_text()))
+        for link, anchor in re.findall(r"\]\(([^)#\s]*)(?:#([^)\s]*))?\)", prose):
+            if "://" in link:
+                continue
+            to = page.parent / link if link else page
+            if not to.exists():
+                yield f"{page.relative_to(ROOT)}: there is no {link}"
+            elif anchor and to.suffix == ".md" and anchor not in anchors(to.read_text()):
+                yield f"{page.relative_to(ROOT)}: {to.name} has no heading {anchor}"
+
+
+# ---- names
+
+
+@cache
+def declared():
+    """The words of the sources, and the names of their files."""
+    kinds = "crates/**/*.rt", "crates/**/*.antt", "crates/**/*.edit", "scripts/**/*.py", "bench/*.py"
+    kinds += "include/*", "Makefile", "crates/*/data/*", "examples/**/*.ninja", "python/**/*.py"
+    files = {file for kind in kinds for file in ROOT.glob(kind) if file.is_file()}
+    files.discard(Path(__file__))
+    words = {name for file in files for name in (file.name, file.stem)}
+    words |= {part for file in files for part in file.parent.parts}
+    for file in files:
+        if "/out/" not in str(file):
+            words.update(re.findall(r"\w+", file.read_text(errors="replace")))
+    return words
+
+
+def undeclared(text):
+    """The names in a page that no source has, with a `_`, a `::` or a capital inside."""
+    for name in re.findall(r"`([^`\n]+)`", CODE.sub("", GENERATED.sub("", text))):
+        is_code = re.search(r"_\w|::|[a-z][A-Z]", name)
+        if is_code and NAME.fullmatch(name) and not name.endswith("_"):
+            if not set(name.split("::")) <= declared():
+                yield name
+
+
+@check
+def names_are_declared():
+    for page in NAMING:
+        for name in sorted(set(undeclared(page.read_text()))):
+            yield f"{page.relative_to(ROOT)}: {name} is not in the sources"
+
+
+@check
+def wrong_names_are_seen():
+    text = PROOFS.read_text()
+    for old, new in ("`RunsWords`", "`RunsWord_s`"), ("`Mark::read`", "`Mark::read_s`"):
+        yield from expect(new, list(undeclared(text.replace(old, new, 1))), [new.strip("`")])
+
+
+@check
+def glossary_says_where():
+    """Each file of definitions in the last column of docs/GLOSSARY.md exists."""
+    for row in re.findall(r"^\|.*\| (`nj_[^|]*) \|$", GLOSSARY.read_text(), re.M):
+        for crate, name in re.findall(r"`(nj_\w+)`, `([\w/]+)`", row):
+            source = "\n".join(file.read_text() for file in (CRATES / crate).glob("src/**/*.rt"))
+            is_type = re.search(rf"^pub (?:struct|enum|trait) {name}\b", source, re.M)
+            if not (CRATES / crate / f"specs/{name}.antt").is_file() and not is_type:
+                yield f"{GLOSSARY.name}: {crate} has no {name}"
+
+
+@check
+def pictures_name_crates():
+    for picture in sorted((ROOT / "docs").glob("*.svg")):
+        for name in re.findall(r"\bnj_\w+", picture.read_text()):
+            if not (CRATES / name).is_dir():
+                yield f"{picture.name}: there is no crate {name}"
+
+
+# ---- lengths
+
+
+def sentences(text):
+    """The sentences of a page and of the cells of its tables, without code and headings."""
+    text = re.sub(r"^#.*$", "", CODE.sub("", text), flags=re.M)
+    for paragraph in re.split(r"\n\s*\n|\n(?=[-|])", text):
+        parts = paragraph.split("|") if paragraph.lstrip().startswith("|") else [paragraph]
+        for part in parts:
+            yield from filter(str.strip, re.split(r"(?<=[.:;?!])\s", part.strip(" -\n")))
+
+
+@check
+def pages_are_short():
+    for page, most in MOST_LINES.items():
+        count = len(page.read_text().splitlines())
+        if count > most:
+            yield f"{page.name} has {count} lines, and may have {most}"
+
+
+@check
+def sentences_are_short():
+    prose = re.sub(r"^\|.*$", "", PROOFS.read_text(), flags=re.M)
+    words = [len(sentence.split()) for sentence in sentences(prose)]
+    if sum(words) > MOST_WORDS * len(words):
+        yield f"{PROOFS.name}: {sum(words) / len(words):.1f} words in a sentence on average"
+
+
+@check
+def headline_is_one():
+    """README.md has the headline whose words docs/HEADLINE.md explains."""
+    bold = re.search(r"^\*\*(For every accepted .*?)\*\*$", README.read_text(), re.M | re.S)
+    yield from expect("the headline", " ".join(bold[1].split()), " ".join(headline.PHRASES))
