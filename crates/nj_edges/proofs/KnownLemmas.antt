@@ -1,5 +1,5 @@
 -- Lemmas on an input that is added by the number of its file.
-use Rattle.std.proofs.Common.{◌≡◌, ◌<◌, ℕ, cond, List, [], ◌∷◌, ◌++◌, length, slice_get, Option, Some, None, bytes_eq, refl, sym, ap, arith}
+use Rattle.std.proofs.Common.{◌≡◌, ℕ, cond, List, [], ◌∷◌, ◌++◌, slice_get, Option, Some, None, bytes_eq, sym, ap}
 use Rattle.std.specs.List.{list_any}
 use Rattle.nj_names.proofs.ListLemmas.{among-get}
 use Rattle.nj_names.specs.declared.files.FileNo.{FileNo}

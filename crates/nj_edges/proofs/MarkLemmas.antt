@@ -1,6 +1,6 @@
 -- Lemmas on files that are marked with the edges that have them as inputs.
-use Rattle.std.proofs.Common.{◌≡◌, ◌≢◌, ◌<◌, ◌≤◌, ◌+◌, ◌==◌, ◌||◌, ◌⊎◌, inl, inr, ℕ, zero, suc, Bool, true, false, cond, if◌then◌else◌, List, [], ◌∷◌, ◌++◌, map, length, slice_get, slice_index_or, get_or, set, replicate, Option, Some, None, unwrap_or, bytes_eq, refl, sym, ap, subst, ◌∙◌, true≢false, arith, append-nil, append_assoc, length-append}
-use Rattle.std.specs.List.{AllByRecursion, IsDistinct, list_any}
+use Rattle.std.proofs.Common.{◌≡◌, ◌≢◌, ◌<◌, ◌≤◌, ◌+◌, ◌==◌, ◌||◌, ◌⊎◌, inl, inr, ℕ, zero, suc, Bool, true, false, cond, if◌then◌else◌, List, [], ◌∷◌, ◌++◌, map, length, slice_get, slice_index_or, set, replicate, Option, Some, None, unwrap_or, bytes_eq, refl, sym, ap, subst, ◌∙◌, true≢false, arith, append-nil, append_assoc, length-append}
+use Rattle.std.specs.List.{IsDistinct}
 use Rattle.std.proofs.Math.Bool.{or-false, or-true}
 use Rattle.std.proofs.lemmas.Bool.{cases_lt, ne_eqb}
 use Rattle.std.proofs.lemmas.Bool.Decides.{eqb_tells}
@@ -18,8 +18,8 @@ use Rattle.nj_edges.specs.Inside.EdgesHeld.{AreNumbers, has_number, is_edge, pat
 use Rattle.nj_names.specs.Files.{AreFiles, path_at}
 use Rattle.nj_names.specs.NameTables.{with_name}
 use Rattle.nj_edges.specs.Joining.{JoinTable, changed_at, is_joined, join_of, none_added, with_added_input, with_joined}
-use Rattle.nj_edges.specs.MoreInputs.{InputTable, at_next_edge, inputs_so_far, with_new_input}
-use Rattle.nj_edges.specs.Inside.MarksHeld.{AreMarked, MarksFiles, MarksInputs, is_marked}
+use Rattle.nj_edges.specs.MoreInputs.{InputTable, inputs_so_far, with_new_input}
+use Rattle.nj_edges.specs.Inside.MarksHeld.{AreMarked, MarksInputs, is_marked}
 use Rattle.nj_edges.proofs.AddLemmas as add
 use Rattle.nj_edges.proofs.EdgeLemmas.{get-path, has-among, same-number}
 

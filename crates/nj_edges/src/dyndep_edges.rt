@@ -7,7 +7,7 @@ ghost use Rattle.nj_edges.specs.Inside.EdgesHeld.{AreNumbers, IsWithin};
 ghost use Rattle.nj_names.specs.Files.{AreFiles};
 ghost use Rattle.nj_edges.specs.Graph.{FinishesAs};
 ghost use Rattle.nj_edges.specs.Joining.{none_added, join_of, with_added_output, with_added_input, with_joined, is_made_so_far, is_joined};
-ghost use Rattle.nj_edges.specs.Inside.JoiningHeld.{AddedInputsAreWithin, AddedOutputsAreWithin, AreJoinedMakers, AreSet, InputsAreWithin, added_inputs_of, added_outputs_of, flat, joined_inputs, joined_outputs, joined_row, joined_rows, joined_with, needed_inputs};
+ghost use Rattle.nj_edges.specs.Inside.JoiningHeld.{AddedInputsAreWithin, AddedOutputsAreWithin, AreJoinedMakers, AreSet, InputsAreWithin, added_inputs_of, added_outputs_of, flat, joined_inputs, joined_outputs, joined_row, joined_rows, joined_with, span_from};
 
 use crate::edges::{EdgeNo, EdgeRow, Edges, KindEnds, OpenStarts, Span};
 use crate::graph::{EdgeGraph, Finished, row_at};
@@ -405,77 +405,52 @@ fn push_edge(
         added.entry.inputs.now (length lists.old.outputs.items) (length lists.old.inputs.items)
         row found ∷ []) }
 {
-    let output_start = lists.outputs.as_slice().len();
-    let input_start = lists.inputs.as_slice().len();
-    push_outputs(
+    let order_only = row.inputs.start + row.kinds.implicit_inputs;
+    let needed = part(stated.inputs, row.inputs.start, order_only);
+    let new_inputs = added_inputs_of(added.inputs, found);
+    let outputs = push_lists(
         &mut lists.outputs,
-        stated.outputs,
-        added.outputs,
-        row,
-        found,
+        part(stated.outputs, row.outputs.start, row.outputs.end),
+        added_outputs_of(added.outputs, found),
+        &[],
     )?;
-    let implicit_inputs = push_inputs(&mut lists.inputs, stated.inputs, added.inputs, row, found)?;
+    let inputs = push_lists(
+        &mut lists.inputs,
+        needed,
+        new_inputs,
+        part(stated.inputs, order_only, row.inputs.end),
+    )?;
     lists.rows.push(EdgeRow {
-        outputs: Span {
-            start: output_start,
-            end: lists.outputs.as_slice().len(),
-        },
-        inputs: Span {
-            start: input_start,
-            end: lists.inputs.as_slice().len(),
-        },
-        validations: row.validations,
+        outputs,
+        inputs,
         kinds: KindEnds {
-            explicit_outputs: row.kinds.explicit_outputs,
-            explicit_inputs: row.kinds.explicit_inputs,
-            implicit_inputs,
+            implicit_inputs: needed.len() + new_inputs.len(),
+            ..row.kinds
         },
-        is_phony: row.is_phony,
-    })?;
-    Ok(())
+        ..row
+    })
 }
 
-// Appends the outputs of an edge, with those that were added to it.
-fn push_outputs(
+// Appends these lists, one after the other. Returns where they are.
+fn push_lists(
     list: &mut Vec<FileNo>,
-    outputs: &[FileNo],
-    added: &[FileNo],
-    row: EdgeRow,
-    found: Option<AddedSpans>,
-) -> Result<(), AllocError>
-    requires outputs { IsWithin row.outputs (length outputs.now) }
-    requires added { AddedOutputsAreWithin (length added.now) found }
-    ensures { OnOk result (list.new.items
-        ≡ list.old.items ++ joined_outputs outputs.now added.now row found) }
-{
-    list.extend_from_slice(part(outputs, row.outputs.start, row.outputs.end))?;
-    list.extend_from_slice(added_outputs_of(added, found))?;
-    Ok(())
-}
-
-// Appends the inputs of an edge, with those that were added to it. Returns how many are not
-// order-only.
-fn push_inputs(
-    list: &mut Vec<FileNo>,
-    inputs: &[FileNo],
-    added: &[FileNo],
-    row: EdgeRow,
-    found: Option<AddedSpans>,
-) -> Result<usize, AllocError>
-    requires inputs { InputsAreWithin (length inputs.now) row }
-    requires added { AddedInputsAreWithin (length added.now) found }
-    ensures inputs { OnOk result (list.new.items
-        ≡ list.old.items ++ joined_inputs inputs.now added.now row found) }
-    ensures count { IfOk result (λ count. count
-        ≡ length (needed_inputs inputs.now row ++ added_inputs_of added.now found)) }
+    first: &[FileNo],
+    second: &[FileNo],
+    third: &[FileNo],
+) -> Result<Span, AllocError>
+    ensures items { OnOk result (list.new.items
+        ≡ list.old.items ++ first.now ++ second.now ++ third.now) }
+    ensures span { IfOk result (λ span. span ≡ span_from (length list.old.items)
+        (length (first.now ++ second.now ++ third.now))) }
 {
     let start = list.as_slice().len();
-    let order_only = row.inputs.start + row.kinds.implicit_inputs;
-    list.extend_from_slice(part(inputs, row.inputs.start, order_only))?;
-    list.extend_from_slice(added_inputs_of(added, found))?;
-    let count = list.as_slice().len() - start;
-    list.extend_from_slice(part(inputs, order_only, row.inputs.end))?;
-    Ok(count)
+    list.extend_from_slice(first)?;
+    list.extend_from_slice(second)?;
+    list.extend_from_slice(third)?;
+    Ok(Span {
+        start,
+        end: list.as_slice().len(),
+    })
 }
 
 // Where the files that were added to an edge are.

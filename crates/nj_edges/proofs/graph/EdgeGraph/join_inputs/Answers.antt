@@ -1,6 +1,6 @@
 use Rattle.std.proofs.Common.{◌≡◌, ◌∙◌, length, replicate, bytes_eq, None, ap, subst, sym}
 use Rattle.std.specs.List.{IsDistinct}
-use Rattle.nj_edges.specs.Joining.{JoinTable, join_of}
+use Rattle.nj_edges.specs.Joining.{JoinTable}
 use Rattle.nj_edges.specs.Inside.MarksHeld.{AreMarked, MarksInputs}
 use Rattle.nj_edges.proofs.MarkLemmas.{start-marks}
 use Rattle.nj_edges.proofs.graph.EdgeGraph.join_inputs.Goals as goal

@@ -1,4 +1,4 @@
-use Rattle.std.proofs.Common.{◌≡◌, ◌∙◌, false, ℕ, List, Some, None, option_map, is_some, bytes_eq, slice_get, ap, subst, sym}
+use Rattle.std.proofs.Common.{◌≡◌, ◌∙◌, false, ℕ, List, Some, is_some, bytes_eq, slice_get, ap, subst, sym}
 use Rattle.std.specs.List.{list_any}
 use Rattle.nj_names.proofs.NameLemmas.{found-at}
 use Rattle.nj_edges.specs.MoreInputs.{InputTable}
