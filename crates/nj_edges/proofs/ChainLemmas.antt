@@ -1,11 +1,12 @@
 -- How a shortest chain is found.
-use Rattle.std.proofs.Common.{◌≡◌, ◌≢◌, ◌<◌, ◌≤◌, ◌+◌, ◌-◌, ◌^◌, ◌==◌, inl, inr, ℕ, zero, suc, Bool, true, false, cond, nat_lt, List, [], ◌∷◌, ◌++◌, map, length, take, get_or, Option, Some, None, slice_get, bytes_eq, refl, sym, ap, subst, ◌∙◌, arith, eqb-true, length-append, reverse}
-use Rattle.std.specs.Prelude.{Contains, slice_index, slice_index_or}
+use Rattle.std.proofs.Common.{◌≡◌, ◌≢◌, ◌<◌, ◌≤◌, ◌+◌, ◌-◌, ◌^◌, ◌==◌, inl, inr, ℕ, zero, suc, Bool, true, false, cond, nat_lt, List, [], ◌∷◌, ◌++◌, map, length, take, get_or, Option, Some, None, slice_get, bytes_eq, refl, sym, ap, subst, ◌∙◌, arith, eqb-true, length-append, option_map, reverse}
+use Rattle.std.specs.Prelude.{Contains, IfSome, slice_index, slice_index_or}
+use Rattle.std.specs.Global.{Vec}
 use Rattle.std.specs.List.{All, IsDistinct}
 use Rattle.std.proofs.lemmas.Bool.{cases_lt}
 use Rattle.std.proofs.lemmas.Bool.Decides.{nat_tests}
 use Rattle.std.proofs.lemmas.List.{get_or-append_right, get_or-map, get_or_append_left, get_or_past, get_or_push, length-map, length_push, map_push, reverse-append, take_all, take_more}
-use Rattle.std.proofs.lemmas.List.Elements.{All-get_or}
+use Rattle.std.proofs.lemmas.List.Elements.{All-cons, All-get_or, All-nil}
 use Rattle.std.proofs.lemmas.Option.{get_or_from_slice_get, slice_get-get_or, slice_get_within}
 use Rattle.std.proofs.lemmas.Slice.Eq.{bytes_eq-Decides}
 use Rattle.nj_names.specs.NumberSets.{NumberSetModel, has, with_number}
@@ -16,7 +17,7 @@ use Rattle.nj_edges.specs.declared.edges.EdgeNo.{EdgeNo}
 use Rattle.nj_edges.specs.declared.edges.Kind.{Kind}
 use Rattle.nj_names.specs.declared.files.FileNo.{FileNo}
 use Rattle.nj_edges.specs.Chains.{inputs_with, IsChain, IsStep, Lead, PathIs}
-use Rattle.nj_edges.specs.Edges.{EdgePaths, edge_at, inputs_of, kind_at, maker_of}
+use Rattle.nj_edges.specs.Edges.{EdgePaths, edge_at, inputs_of, is_among, kind_at, maker_of, outputs_of}
 use Rattle.nj_edges.specs.EdgeGraphs.{EdgeGraph}
 use Rattle.nj_names.specs.Files.{path_at, AreFiles}
 use Rattle.nj_edges.specs.Inside.ChainsHeld.{AddsMakers, Arrives, ChainIs, ComeFromEarlier, HasInput, IsArrival, IsReachedFrom, IsShortestFrom, IsStepAt, LeadFrom, MakesInput, MakesInputBefore, SearchesChain, StepToIs, Traces, with_arrival}
@@ -24,6 +25,7 @@ use Rattle.nj_edges.specs.Inside.ChainsHeld.Traces.{back, start}
 use Rattle.nj_edges.specs.Inside.ChangesHeld.{FindsMore}
 use Rattle.nj_edges.proofs.ChangeLemmas.{files-paths, finds-none, finds-one}
 use Rattle.nj_edges.proofs.EdgeLemmas.{get-path, same-number}
+use Rattle.nj_edges.proofs.GraphLemmas.{first-below}
 use Rattle.nj_edges.proofs.NeededLemmas.{finds-maker, finds-source}
 use Rattle.nj_edges.proofs.SearchLemmas.{farther, farther-known, farther-new, found-all, found-nearer, search-begins, search-continues}
 
@@ -65,6 +67,7 @@ module _ (g : EdgeGraph) (distinct : IsDistinct bytes_eq g.files) (wv : Bool) (e
         edge_is = refl;
         index_is = refl;
         is_step = record {
+          file = file_known;
           input =
               slice_get-get_or (inputs_of e ++ validations) index [] (omega (arith, here, length-append (inputs_of e) validations))
               ∙ ap Some (get_or_append_left (inputs_of e) validations [] index here ∙ ap (λ ps. get_or ps index []) (sym paths) ∙ get_or-map (path_at g.files) inputs index d [] below);
@@ -90,6 +93,7 @@ module _ (g : EdgeGraph) (distinct : IsDistinct bytes_eq g.files) (wv : Bool) (e
         edge_is = refl;
         index_is = refl;
         is_step = record {
+          file = file_known;
           input =
               slice_get-get_or (inputs_of e ++ validations) index [] (omega (arith, below, count, inputs-count, length-append (inputs_of e) validations))
               ∙ ap Some (
@@ -463,3 +467,33 @@ module _ (g : EdgeGraph) (wv : Bool) (first : ℕ) (to : List ℕ) where
 pub path-is : (g : EdgeGraph) (wv : Bool) (from to : FileNo) (first : ℕ) (path : Option (List Step)) → from ≢ to → maker_of g.edges (path_at g.files from) ≡ Some first → ChainIs g wv first (path_at g.files to) path → PathIs g wv from to path
 path-is g wv from to first None apart maker chain = path-none g wv from to first maker chain
 path-is g wv from to first (Some steps) apart maker chain = path-some g wv from to first steps apart maker chain
+
+-- ---- what the steps of a chain name
+
+module _ (g : EdgeGraph) (wv : Bool) where
+  made-below : (path : List ℕ) (n : ℕ) → maker_of g.edges path ≡ Some n → n < length g.edges
+  made-below path n made = first-below (λ e. is_among (outputs_of e) path) g.edges n made
+
+  steps-known : (from : List ℕ) (steps : List Step) (to : List ℕ) → Lead g wv from steps to
+      → All (λ (s : Step). s.edge.0 < length g.edges) steps × All (λ (s : Step). s.file.0 < length g.files) steps
+  steps-known from [] to leads = (All-nil (λ (s : Step). s.edge.0 < length g.edges), All-nil (λ (s : Step). s.file.0 < length g.files))
+  steps-known from (s ∷ steps) to (made, step, leads) =
+      let rest = steps-known (path_at g.files s.file) steps to leads in (
+        All-cons (λ (s : Step). s.edge.0 < length g.edges) s steps (made-below from s.edge.0 made) rest.0,
+        All-cons (λ (s : Step). s.file.0 < length g.files) s steps step.file rest.1,
+      )
+
+  chain-known : (from : List ℕ) (steps : List Step) (to : List ℕ) → IsChain g wv from steps to
+      → All (λ (s : Step). s.edge.0 < length g.edges) steps × All (λ (s : Step). s.file.0 < length g.files) steps
+  chain-known from [] to none_is = absurd none_is
+  chain-known from (s ∷ steps) to leads = steps-known from (s ∷ steps) to leads
+
+  pub path-edges : (from : List ℕ) (first : ℕ) (to : List ℕ) (path : Option (Vec Step)) → maker_of g.edges from ≡ Some first
+      → ChainIs g wv first to (option_map (λ steps. steps.items) path) → IfSome path (λ steps. All (λ (s : Step). s.edge.0 < length g.edges) steps.items)
+  path-edges from first to None maker chain = tt
+  path-edges from first to (Some steps) maker chain = (chain-known from steps.items to (chain.leads from maker)).0
+
+  pub path-files : (from : List ℕ) (first : ℕ) (to : List ℕ) (path : Option (Vec Step)) → maker_of g.edges from ≡ Some first
+      → ChainIs g wv first to (option_map (λ steps. steps.items) path) → IfSome path (λ steps. All (λ (s : Step). s.file.0 < length g.files) steps.items)
+  path-files from first to None maker chain = tt
+  path-files from first to (Some steps) maker chain = (chain-known from steps.items to (chain.leads from maker)).1

@@ -18,10 +18,10 @@ abbrev step : (edge file : ℕ) → Option Kind → Step
 step edge file kind = record { edge = record { 0 = edge }; index = 0; file = record { 0 = file }; kind = kind }
 
 by-phony : IsChain graph false b (step 2 2 (Some OrderOnly) ∷ step 1 0 (Some Explicit) ∷ []) a
-by-phony = (refl, record { input = refl; kind = refl }, (refl, record { input = refl; kind = refl }, refl))
+by-phony = (refl, record { file = omega arith; input = refl; kind = refl }, (refl, record { file = omega arith; input = refl; kind = refl }, refl))
 
 by-validation : IsChain graph true v (step 3 0 None ∷ []) a
-by-validation = (refl, record { input = refl; kind = refl }, refl)
+by-validation = (refl, record { file = omega arith; input = refl; kind = refl }, refl)
 
 only-by-validation : (steps : List Step) → IsChain graph false v steps a → ⊥
 only-by-validation [] none = none

@@ -1,5 +1,5 @@
 -- Chains of inputs by which a file needs another.
-use Rattle.std.specs.Prelude.{◌≡◌, ◌≢◌, ◌⊎◌, ℕ, ◌≤◌, Bool, if◌then◌else◌, Option, None, Some, List, [], ◌∷◌, ◌++◌, length, slice_get, nat_lt}
+use Rattle.std.specs.Prelude.{◌≡◌, ◌≢◌, ◌⊎◌, ℕ, ◌<◌, ◌≤◌, Bool, if◌then◌else◌, Option, None, Some, List, [], ◌∷◌, ◌++◌, length, slice_get, nat_lt}
 use Rattle.nj_edges.specs.declared.chains.Step.{Step}
 use Rattle.nj_edges.specs.declared.edges.Kind.{Kind}
 use Rattle.nj_names.specs.declared.files.FileNo.{FileNo}
@@ -15,8 +15,9 @@ inputs_with with_validations e = inputs_of e ++ (if with_validations then e.vali
 abbrev pub kind_with : EdgePaths → (index : ℕ) → Option Kind
 kind_with e index = if nat_lt index (length (inputs_of e)) then Some (kind_at e index) else None
 
--- a step goes from an edge to an input of it
+-- a step goes from an edge to a file that is an input of it
 pub record IsStep (g : EdgeGraph) (with_validations : Bool) (step : Step) : Type 0 where
+  pub file : step.file.0 < length g.files
   pub input : slice_get (inputs_with with_validations (edge_at g.edges step.edge.0)) step.index ≡ Some (path_at g.files step.file)
   pub kind : step.kind ≡ kind_with (edge_at g.edges step.edge.0) step.index
 

@@ -1,6 +1,6 @@
 //! Chains of inputs by which a file needs another.
 
-ghost use Rattle.std.specs.Prelude.{◌≡◌, ◌<◌, ◌∷◌, [], None, option_map, length, slice_index, IfOk, OnOk};
+ghost use Rattle.std.specs.Prelude.{◌≡◌, ◌<◌, ◌∷◌, [], None, option_map, length, slice_index, All, IfOk, IfSome, OnOk};
 ghost use Rattle.nj_names.specs.NumberSets.{has, with_number};
 ghost use Rattle.nj_edges.specs.Chains.{PathIs};
 ghost use Rattle.nj_names.specs.Files.{path_at};
@@ -59,8 +59,12 @@ impl EdgeGraph {
     ) -> Result<Option<Vec<Step>>, AllocError>
         requires from { from.0 < length self.now.files }
         requires to { to.0 < length self.now.files }
-        ensures { IfOk result (λ path. PathIs self.now with_validations from to
+        ensures path { IfOk result (λ path. PathIs self.now with_validations from to
             (option_map (λ steps. steps.items) path)) }
+        ensures edges_known { IfOk result (λ path. IfSome path (λ steps.
+            All (λ step. step.edge.0 < length self.now.edges) steps.items)) }
+        ensures files_known { IfOk result (λ path. IfSome path (λ steps.
+            All (λ step. step.file.0 < length self.now.files) steps.items)) }
     {
         if from == to {
             return Ok(None);
