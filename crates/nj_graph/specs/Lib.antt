@@ -19,6 +19,8 @@ pub use Rattle.nj_text.specs.Words
 pub use Rattle.nj_scope.specs.ReadingList
 pub use Rattle.nj_scope.specs.Rules
 pub use Rattle.nj_edges.specs.Changes
+pub use Rattle.nj_edges.specs.Chains
+pub use Rattle.nj_edges.specs.Distances
 pub use Rattle.nj_edges.specs.Edges
 pub use Rattle.nj_names.specs.Files
 pub use Rattle.nj_statements.specs.Built
