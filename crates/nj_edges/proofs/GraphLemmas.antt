@@ -2,7 +2,7 @@
 use Rattle.std.proofs.Common.{◌≡◌, ◌<◌, ◌≤◌, ◌+◌, ◌-◌, ℕ, zero, suc, Bool, true, false, cond, List, [], ◌∷◌, ◌++◌, map, length, take, drop, slice_get, slice_range, get_or, Option, Some, None, is_some, option_map, unwrap_or, refl, sym, ap, subst, ◌∙◌, true≢false, arith, append_assoc}
 use Rattle.std.specs.Prelude.{All, Contains}
 use Rattle.std.specs.List.{AllByRecursion}
-use Rattle.std.proofs.lemmas.List.{take-append-drop, take-map, length-map}
+use Rattle.std.proofs.lemmas.List.{drop-map, take-append-drop, take-map, length-map}
 use Rattle.std.proofs.lemmas.List.Elements.{All-from_recursion, All-weaker}
 use Rattle.std.proofs.lemmas.List.Folds.{drop_split}
 use Rattle.std.proofs.lemmas.Option.{slice_get_within, get_or_from_slice_get}
@@ -20,7 +20,7 @@ use Rattle.nj_edges.specs.EdgeTables.{EdgeTable, no_files}
 use Rattle.nj_names.specs.Files.{path_at, AreFiles}
 use Rattle.nj_edges.specs.Inside.GraphHeld.{ends_of}
 use Rattle.nj_edges.specs.Needs.{makers_of_inputs}
-use Rattle.nj_edges.proofs.EdgeLemmas.{all-get, all-take, first-more, get-path, maker-read, length-open, within-numbers}
+use Rattle.nj_edges.proofs.EdgeLemmas.{all-drop, all-get, all-take, first-more, get-path, maker-read, length-open, within-numbers}
 
 -- ---- no edge is being read
 
@@ -213,6 +213,28 @@ module _ (files : List (List ℕ)) (makers : List (Option ℕ)) (outputs inputs 
       files-are (take row.kinds.explicit_outputs (within outputs row.outputs)) (edge_at g.edges edge).explicit_outputs
       (all-take (λ f. f.0 < length files) row.kinds.explicit_outputs (within outputs row.outputs) (within-numbers (length files) outputs row.outputs held.outputs_are))
       (sym (take-map (path_at files) row.kinds.explicit_outputs (within outputs row.outputs)) ∙ ap (λ (e : EdgePaths). e.explicit_outputs) (edge-is edge row h))
+
+  pub implicit-inputs-at : (edge : ℕ) (row : EdgeRow) → slice_get rows edge ≡ Some row
+      → AreFiles g.files (slice_range (within inputs row.inputs) row.kinds.explicit_inputs row.kinds.implicit_inputs) (edge_at g.edges edge).implicit_inputs
+  implicit-inputs-at edge row h =
+      let numbers = within inputs row.inputs in
+      let from = row.kinds.explicit_inputs in
+      let count = row.kinds.implicit_inputs - row.kinds.explicit_inputs in
+      files-are (slice_range numbers from row.kinds.implicit_inputs) (edge_at g.edges edge).implicit_inputs
+      (all-take (λ f. f.0 < length files) count (drop from numbers) (all-drop (λ f. f.0 < length files) from numbers (within-numbers (length files) inputs row.inputs held.inputs_are)))
+      (sym (take-map (path_at files) count (drop from numbers)) ∙ ap (take count) (sym (drop-map (path_at files) from numbers)) ∙ ap (λ (e : EdgePaths). e.implicit_inputs) (edge-is edge row h))
+
+  pub order-only-inputs-at : (edge : ℕ) (row : EdgeRow) → slice_get rows edge ≡ Some row → AreFiles g.files (drop row.kinds.implicit_inputs (within inputs row.inputs)) (edge_at g.edges edge).order_only_inputs
+  order-only-inputs-at edge row h =
+      files-are (drop row.kinds.implicit_inputs (within inputs row.inputs)) (edge_at g.edges edge).order_only_inputs
+      (all-drop (λ f. f.0 < length files) row.kinds.implicit_inputs (within inputs row.inputs) (within-numbers (length files) inputs row.inputs held.inputs_are))
+      (sym (drop-map (path_at files) row.kinds.implicit_inputs (within inputs row.inputs)) ∙ ap (λ (e : EdgePaths). e.order_only_inputs) (edge-is edge row h))
+
+  pub implicit-outputs-at : (edge : ℕ) (row : EdgeRow) → slice_get rows edge ≡ Some row → AreFiles g.files (drop row.kinds.explicit_outputs (within outputs row.outputs)) (edge_at g.edges edge).implicit_outputs
+  implicit-outputs-at edge row h =
+      files-are (drop row.kinds.explicit_outputs (within outputs row.outputs)) (edge_at g.edges edge).implicit_outputs
+      (all-drop (λ f. f.0 < length files) row.kinds.explicit_outputs (within outputs row.outputs) (within-numbers (length files) outputs row.outputs held.outputs_are))
+      (sym (drop-map (path_at files) row.kinds.explicit_outputs (within outputs row.outputs)) ∙ ap (λ (e : EdgePaths). e.implicit_outputs) (edge-is edge row h))
 
   pub validations-at : (edge : ℕ) (row : EdgeRow) → slice_get rows edge ≡ Some row → AreFiles g.files (within validations row.validations) (edge_at g.edges edge).validations
   validations-at edge row h =

@@ -5,6 +5,7 @@ mod affected;
 mod chains;
 mod dyndep_edges;
 mod edges;
+mod files_by_kind;
 mod graph;
 mod input_makers;
 mod list_parts;

@@ -1,0 +1,48 @@
+//! The files of an edge by their kinds.
+
+ghost use Rattle.std.specs.Prelude.{◌<◌, length, All};
+ghost use Rattle.nj_edges.specs.Edges.{edge_at};
+ghost use Rattle.nj_names.specs.Files.{AreFiles};
+
+use crate::edges::EdgeNo;
+use crate::graph::{EdgeGraph, row_at};
+use crate::list_parts::{after, part};
+use nj_names::FileNo;
+
+impl EdgeGraph {
+    /// The implicit outputs of an edge, which come after the explicit ones.
+    pub fn implicit_output_files(&self, edge: EdgeNo) -> &[FileNo]
+        requires { edge.0 < length self.now.edges }
+        ensures files { AreFiles self.now.files result.now
+            (edge_at self.now.edges edge.0).implicit_outputs }
+        ensures known { All (λ file. file.0 < length self.now.files) result.now }
+    {
+        let row = row_at(&self.rows, edge.0);
+        let outputs = part(&self.outputs, row.outputs.start, row.outputs.end);
+        after(outputs, row.kinds.explicit_outputs)
+    }
+
+    /// The implicit inputs of an edge, which come after the explicit ones.
+    pub fn implicit_input_files(&self, edge: EdgeNo) -> &[FileNo]
+        requires { edge.0 < length self.now.edges }
+        ensures files { AreFiles self.now.files result.now
+            (edge_at self.now.edges edge.0).implicit_inputs }
+        ensures known { All (λ file. file.0 < length self.now.files) result.now }
+    {
+        let row = row_at(&self.rows, edge.0);
+        let inputs = part(&self.inputs, row.inputs.start, row.inputs.end);
+        part(inputs, row.kinds.explicit_inputs, row.kinds.implicit_inputs)
+    }
+
+    /// The order-only inputs of an edge, which come after all others.
+    pub fn order_only_input_files(&self, edge: EdgeNo) -> &[FileNo]
+        requires { edge.0 < length self.now.edges }
+        ensures files { AreFiles self.now.files result.now
+            (edge_at self.now.edges edge.0).order_only_inputs }
+        ensures known { All (λ file. file.0 < length self.now.files) result.now }
+    {
+        let row = row_at(&self.rows, edge.0);
+        let inputs = part(&self.inputs, row.inputs.start, row.inputs.end);
+        after(inputs, row.kinds.implicit_inputs)
+    }
+}
