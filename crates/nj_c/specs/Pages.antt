@@ -11,7 +11,7 @@ use Rattle.nj_needs.specs.Graphs.{makers_of, row_of}
 use Rattle.nj_needs.specs.Marks.{is_valid}
 use Rattle.nj_needs.specs.Walks.{WalkState, BeginsAt}
 use Rattle.nj_graph.specs.Graph.{GraphModel, edges_of, files_of}
-use Rattle.nj_tools.specs.CommandStrings.{StopsAt, written}
+use Rattle.nj_needs.specs.PageWalks.{StopsAt, written}
 use Rattle.nj_c.specs.declared.session_state.Kept.{Kept}
 use Rattle.nj_c.specs.declared.status.Status.{Status}
 use Rattle.nj_c.specs.declared.status.Status.TheVariants.{Done, NotLoaded, BadNumber, BadMark, OutOfMemory}

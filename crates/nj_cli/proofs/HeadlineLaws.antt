@@ -26,7 +26,8 @@ use Rattle.nj_requests.specs.Actions as ask
 use Rattle.nj_args.specs.RunMarks.{run_mark_text}
 use Rattle.nj_args.proofs.RunMarks.{run-mark_reads_back}
 use Rattle.nj_args.specs.declared.usage_fault.UsageFault.TheVariants.{BadMark}
-use Rattle.nj_tools.specs.CommandStrings.{command_lines, written}
+use Rattle.nj_needs.specs.PageWalks.{written}
+use Rattle.nj_tools.specs.CommandStrings.{command_lines}
 use Rattle.nj_tools.specs.Inside.Commands.{command_line}
 use Rattle.nj_cli.specs.Answers.{leads, commands_left, IsMarkOf, for_targets, page_text, output_of, Ending, finished, stopped, faulty, PageEnds, EndsFor, Finishes, EndsWith}
 use Rattle.nj_cli.specs.Headline.{AreNeeded, WritesTheNeeded, IsRun, ArePageStrings, PageStringsJoin, StoppedRunsContinue, OneEnding}

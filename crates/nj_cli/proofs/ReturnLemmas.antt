@@ -30,7 +30,8 @@ use Rattle.nj_needs.specs.Walks.{WalkState, BeginsAt, rest_of}
 use Rattle.nj_needs.proofs.Bridges.{paths-at, row-paths}
 use Rattle.nj_requests.specs.Actions.{ActionModel, commands, single_commands}
 use Rattle.nj_requests.specs.Actions as ask
-use Rattle.nj_tools.specs.CommandStrings.{command_lines, written, left_after, StopsAt, single, own_commands_in, own_commands}
+use Rattle.nj_needs.specs.PageWalks.{written, left_after, StopsAt}
+use Rattle.nj_tools.specs.CommandStrings.{command_lines, single, own_commands_in, own_commands}
 use Rattle.nj_tools.specs.Sinks.{SinkState, Takes}
 use Rattle.nj_tools.specs.Compdb.{compdb_text, unheld_edge}
 use Rattle.nj_tools.specs.Listings.{inputs_text}

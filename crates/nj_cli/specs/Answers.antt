@@ -12,7 +12,8 @@ use Rattle.nj_edges.specs.Needs.{makers_of_inputs}
 use Rattle.nj_needs.specs.Graphs.{row_of_paths, is_phony_in}
 use Rattle.nj_needs.specs.Marks.{is_valid, rest}
 use Rattle.nj_needs.specs.Pages.{IsMarkAfter}
-use Rattle.nj_tools.specs.CommandStrings.{command_lines, written, left_after, own_commands_in}
+use Rattle.nj_needs.specs.PageWalks.{written, left_after}
+use Rattle.nj_tools.specs.CommandStrings.{command_lines, own_commands_in}
 use Rattle.nj_tools.specs.Compdb.{compdb_text, unheld_edge}
 use Rattle.nj_tools.specs.Lines.{line}
 use Rattle.nj_tools.specs.Listings.{inputs_text, targets_text}

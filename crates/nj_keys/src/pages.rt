@@ -1,12 +1,12 @@
 //! The lines of commands, in pages.
 
-ghost use Rattle.std.specs.Prelude.{◌≡◌, ◌-◌, ◌<◌, ◌++◌, ◌⊎◌, [], true, false, All, List, IfErr, IfOk, OnOk, length, option_map, unwrap_or};
+ghost use Rattle.std.specs.Prelude.{◌≡◌, ◌<◌, ◌++◌, ◌⊎◌, [], true, false, All, List, IfErr, IfOk, OnOk, length, unwrap_or};
 ghost use Rattle.nj_graph.specs.ReadingList.{ReadStatement};
 ghost use Rattle.nj_graph.specs.Edges.{edge_at, first_output};
 ghost use Rattle.nj_needs.specs.Graphs.{makers_of, row_of};
 ghost use Rattle.nj_needs.specs.Marks.{is_valid};
 ghost use Rattle.nj_needs.specs.Walks.{rest_of, BeginsAt, WalkState};
-ghost use Rattle.nj_tools.specs.CommandStrings.{written, StopsAt};
+ghost use Rattle.nj_needs.specs.PageWalks.{written, StopsAt};
 ghost use Rattle.nj_graph.specs.Graph.{edges_of, files_of, IsGraphOf};
 ghost use Rattle.nj_keys.specs.Keys.{line, ListsKeys};
 ghost use Rattle.nj_keys.specs.Inside.Keeping.{kept_key};
@@ -77,28 +77,13 @@ fn next_page(
     let mut kept: Vec<Option<Key>> = vec![in alloc; None; graph.edge_count()]?;
     let keys = kept.as_mut_slice();
     let mut lines = Vec::new(alloc);
-    let mut remaining = take;
-    'commands: while remaining != Some(0) {
-        let Some(edge) = needs.next() else {
-            return Ok(Page { lines, mark: None });
-        };
+    let mut room = take;
+    'commands: while let Some(edge) = needs.next_on_page(&mut room) {
         keep_key(alloc, graph, bases, keys, edge)?;
         push_line(&mut lines, graph, keys, edge)?;
-        remaining = one_fewer(remaining);
     }
-    let mark = needs.mark(alloc)?;
-    let mark = needs.next().map(|_| mark);
+    let mark = needs.mark_after_page(alloc, room)?;
     Ok(Page { lines, mark })
-}
-
-// How many may still be taken after one was.
-fn one_fewer(remaining: Option<u64>) -> Option<u64>
-    ensures { result ≡ option_map (λ count. count - 1) remaining }
-{
-    match remaining {
-        Some(count) => Some(count.saturating_sub(1)),
-        None => None,
-    }
 }
 
 // Appends the line of an edge, with the key that is kept of it.

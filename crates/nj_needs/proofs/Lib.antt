@@ -14,6 +14,7 @@ pub mod Members
 pub mod NeedsLemmas
 pub mod OrderLaws
 pub mod PageLaws
+pub mod PageWalkLemmas
 pub mod PlaceLaws
 pub mod RebuildLemmas
 pub mod ResumeLemmas

@@ -10,6 +10,7 @@ pub mod Marks
 pub mod Needs
 pub mod Order
 pub mod Pages
+pub mod PageWalks
 pub mod Resuming
 pub mod Turns
 pub mod Walks

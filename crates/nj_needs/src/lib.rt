@@ -12,6 +12,7 @@ mod mark_numbers;
 mod marks;
 mod needs;
 mod next_edge;
+mod page_walk;
 mod resume_point;
 mod resuming;
 mod walk;

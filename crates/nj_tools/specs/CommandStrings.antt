@@ -1,5 +1,5 @@
 -- What `commands` writes: for each edge its command, as a line.
-use Rattle.std.specs.Prelude.{◌≡◌, ◌≢◌, ℕ, not, Option, Some, None, List, [], ◌∷◌, map, take, drop, filter, codes}
+use Rattle.std.specs.Prelude.{ℕ, not, List, [], ◌∷◌, map, filter, codes}
 use Rattle.std.specs.Prelude.{nat_eq}
 use Rattle.std.specs.List.{flat_map}
 use Rattle.nj_scope.specs.ReadingList.{ReadStatement}
@@ -7,38 +7,15 @@ use Rattle.nj_names.specs.declared.files.FileNo.{FileNo}
 use Rattle.nj_edges.specs.EdgeGraphs.{EdgeGraph}
 use Rattle.nj_edges.specs.Edges.{EdgePaths}
 use Rattle.nj_names.specs.Files.{path_at}
-use Rattle.nj_needs.specs.MarkTexts.{ReadsBack}
-use Rattle.nj_needs.specs.Graphs.{row_of_paths, is_phony_in, row_of, makers_of, count_of}
+use Rattle.nj_needs.specs.Graphs.{row_of_paths, is_phony_in}
 use Rattle.nj_needs.specs.Order.{made_by}
 use Rattle.nj_edges.specs.Repeats.{each_once}
-use Rattle.nj_needs.specs.Pages.{IsMarkAfter}
-use Rattle.nj_needs.specs.Walks.{WalkState}
 use Rattle.nj_graph.specs.Graph.{late_text_of}
 use Rattle.nj_tools.specs.Lines.{line}
 
 -- the commands of edges, by number, in their order; edges whose commands are the same have a line each
 abbrev pub command_lines : List ReadStatement → (numbers : List ℕ) → List ℕ
 command_lines entries numbers = flat_map (λ number. line (late_text_of entries number (codes "command"))) numbers
-
--- ---- the needed edges
-
--- of the edges that are left, those that are written, and those that are left after that, where at most `limit` edges are taken
-abbrev pub written : (limit : Option ℕ) → (left : List ℕ) → List ℕ
-written None left = left
-written (Some limit) left = take limit left
-
-abbrev pub left_after : (limit : Option ℕ) → (left : List ℕ) → List ℕ
-left_after None left = []
-left_after (Some limit) left = drop limit left
-
--- The mark at which the writing stops: `None` if no edge is left; else the mark of the last edge written, or, if none was, the mark
--- at which the walk was before. Its text gives that mark.
-abbrev pub StopsAt : WalkState → (limit : Option ℕ) → (mark : Option (List ℕ)) → Type 0
-StopsAt walk limit None = left_after limit walk.left ≡ []
-StopsAt walk limit (Some mark) =
-    (left_after limit walk.left ≢ [])
-    × IsMarkAfter (makers_of walk.graph) (count_of walk.graph) (row_of walk.graph walk.targets) walk.mark (written limit walk.left) mark
-    × ReadsBack mark
 
 -- ---- the targets' own makers
 

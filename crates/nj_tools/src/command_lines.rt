@@ -1,12 +1,13 @@
 //! The commands of edges, a line each.
 
-ghost use Rattle.std.specs.Prelude.{◌≡◌, ℕ, ◌<◌, ◌-◌, ◌++◌, List, [], ◌∷◌, length, All, IfOk, IfSome, OnOk, option_map};
+ghost use Rattle.std.specs.Prelude.{◌≡◌, ℕ, ◌<◌, ◌++◌, List, [], ◌∷◌, length, All, IfOk, IfSome, OnOk};
 ghost use Rattle.nj_scope.specs.ReadingList.{ReadStatement};
 ghost use Rattle.nj_graph.specs.Graph.{edges_of, files_of, IsGraphOf};
 ghost use Rattle.nj_tools.specs.Inside.Blocks.{PutsText};
 ghost use Rattle.nj_needs.specs.Order.{made_by};
+ghost use Rattle.nj_needs.specs.PageWalks.{written, StopsAt};
 ghost use Rattle.nj_needs.specs.Walks.{number_of};
-ghost use Rattle.nj_tools.specs.CommandStrings.{command_lines, written, StopsAt, single, own_commands};
+ghost use Rattle.nj_tools.specs.CommandStrings.{command_lines, single, own_commands};
 ghost use Rattle.nj_tools.specs.Inside.Collections.{own_makers};
 ghost use Rattle.nj_tools.specs.Inside.Commands.{command_line};
 ghost use Rattle.nj_tools.specs.Inside.Seen.{AreSeen, new_commands};
@@ -43,18 +44,12 @@ pub fn write_commands<S: Sink>(
     ensures mark { IfOk result (λ mark. StopsAt needs.old take mark) }
 {
     let mut text = Vec::new(alloc);
-    let mut remaining = take;
-    'commands: while remaining != Some(0) {
-        let Some(edge) = needs.next() else {
-            write_whole(out, &text)?;
-            return Ok(None);
-        };
+    let mut room = take;
+    'commands: while let Some(edge) = needs.next_on_page(&mut room) {
         write_command(graph, edge, &mut text, out)?;
-        remaining = one_fewer(remaining);
     }
     write_whole(out, &text)?;
-    let mark = needs.mark(alloc)?;
-    Ok(needs.next().map(|_| mark))
+    Ok(needs.mark_after_page(alloc, room)?)
 }
 
 /// Writes the commands of the edges that make these targets, a line each, and each once.
@@ -106,16 +101,6 @@ fn new_maker(graph: &Graph, file: FileNo, seen: &mut [bool]) -> Option<EdgeNo>
         return None;
     }
     Some(edge)
-}
-
-// How many may still be taken after one was.
-fn one_fewer(remaining: Option<u64>) -> Option<u64>
-    ensures { result ≡ option_map (λ count. count - 1) remaining }
-{
-    match remaining {
-        Some(count) => Some(count.saturating_sub(1)),
-        None => None,
-    }
 }
 
 // Appends the command of an edge to the pending text, and writes that if it fills a block.

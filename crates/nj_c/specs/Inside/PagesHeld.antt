@@ -11,7 +11,7 @@ use Rattle.nj_needs.specs.Marks.{is_valid}
 use Rattle.nj_needs.specs.Pages.{IsMarkAfter}
 use Rattle.nj_needs.specs.Walks.{WalkState}
 use Rattle.nj_graph.specs.Graph.{GraphModel}
-use Rattle.nj_tools.specs.CommandStrings.{left_after, written}
+use Rattle.nj_needs.specs.PageWalks.{left_after, written}
 use Rattle.nj_c.specs.declared.pages.Page.{Page}
 use Rattle.nj_c.specs.declared.status.Status.{Status}
 use Rattle.nj_c.specs.declared.status.Status.TheVariants.{BadNumber, BadMark, OutOfMemory}

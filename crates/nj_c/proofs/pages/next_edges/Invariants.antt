@@ -1,7 +1,7 @@
 use Rattle.std.proofs.Common.{◌≡◌, ◌++◌, ◌-◌, Some, length}
 use Rattle.nj_needs.specs.Graphs.{row_of, makers_of, count_of}
 use Rattle.nj_needs.specs.Pages.{IsMarkAfter}
-use Rattle.nj_tools.specs.CommandStrings.{written, left_after}
+use Rattle.nj_needs.specs.PageWalks.{written, left_after}
 use Rattle.nj_c.specs.Inside.PagesHeld.{numbers_of}
 use Rattle.nj_c.proofs.pages.next_edges.Given as goal
 

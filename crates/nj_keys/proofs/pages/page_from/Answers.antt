@@ -1,7 +1,7 @@
 use Rattle.std.proofs.Common.{ap, ◌∙◌, subst}
 use Rattle.nj_needs.specs.Walks.{rest_of}
 use Rattle.nj_graph.specs.Graph.{edges_of}
-use Rattle.nj_tools.specs.CommandStrings.{written}
+use Rattle.nj_needs.specs.PageWalks.{written}
 use Rattle.nj_keys.specs.Keys.{ListsKeys}
 use Rattle.nj_keys.proofs.pages.page_from.Goals as goal
 
