@@ -32,7 +32,8 @@ use Rattle.nj_tools.specs.Inside.Commands.{command_line}
 use Rattle.nj_cli.specs.Answers.{leads, commands_left, IsMarkOf, for_targets, page_text, output_of, Ending, finished, stopped, faulty, PageEnds, EndsFor, Finishes, EndsWith}
 use Rattle.nj_cli.specs.Headline.{AreNeeded, WritesTheNeeded, IsRun, ArePageStrings, PageStringsJoin, StoppedRunsContinue, OneEnding}
 use Rattle.nj_cli.specs.Headline.ArePageStrings.{no_runs, finishes, stops}
-use Rattle.nj_cli.specs.Targets.{edges_by_path, NoEdgeNeedsItself, targets_named, targets_of}
+use Rattle.nj_graph.specs.Targets.{targets_named}
+use Rattle.nj_cli.specs.Targets.{edges_by_path, NoEdgeNeedsItself, targets_of}
 
 -- ---- the targets and the mark of a run that is not refused
 

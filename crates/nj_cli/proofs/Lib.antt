@@ -6,4 +6,3 @@ mod KeptRuns
 pub mod Reports
 mod Rows
 pub mod RunLemmas
-pub mod TargetLemmas

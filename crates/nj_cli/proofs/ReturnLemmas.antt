@@ -41,7 +41,8 @@ use Rattle.nj_tools.specs.declared.tool_fault.ToolFault.{ToolFault}
 use Rattle.nj_requests.specs.declared.style.InputsStyle.{InputsStyle}
 use Rattle.nj_tools.specs.declared.tool_fault.ToolFault.TheVariants as tool
 use Rattle.nj_tools.proofs.SinkLemmas.{Takes-nil}
-use Rattle.nj_cli.specs.Targets.{edges_by_path, NoEdgeNeedsItself, targets_named, or_defaults, with_validations, targets_of}
+use Rattle.nj_graph.specs.Targets.{targets_named, targets_or}
+use Rattle.nj_cli.specs.Targets.{edges_by_path, NoEdgeNeedsItself, with_validations, targets_of}
 use Rattle.nj_cli.specs.Answers.{leads, commands_left, IsMarkOf, for_targets, page_text, single_commands_text, output_of, Ending, finished, stopped, faulty, out_of_range, PageEnds, EndsFor, Finishes, text_fault, EndsWith}
 use Rattle.nj_cli.specs.Inside.RunSteps.{ReturnsFor, fault_of_mark, fault_of_tool}
 use Rattle.nj_cli.specs.declared.run_fault.RunFault.{RunFault}
@@ -50,7 +51,7 @@ use Rattle.nj_cli.specs.declared.run_fault.RunFault.TheVariants as fault
 -- the targets of a run, by those that its words name
 abbrev targets_from : List ReadStatement → (validations : Bool) → Result (List (List ℕ)) GraphFault → Result (List (List ℕ)) GraphFault
 targets_from entries validations named =
-    named >>= (λ targets. Ok (with_validations validations (edges_by_path entries) (or_defaults entries targets)))
+    named >>= (λ targets. Ok (with_validations validations (edges_by_path entries) targets))
 
 -- how `compdb` ends, by the first edge that JSON cannot contain
 abbrev compdb_ending : List ReadStatement → (unheld : Option ℕ) → Ending
@@ -76,23 +77,35 @@ module _ (entries : List ReadStatement) (g : GraphModel) (is : IsGraphOf g entri
 
   -- ---- targets
 
-  targets-are : (validations : Bool) (words : List (List ℕ)) (outcome : Result (List (List ℕ)) GraphFault) → targets_named (edges_of g) words ≡ outcome
+  -- the defaults of the graph are the defaults of the statements
+  defaults-are : defaults_in_force g.built.defaults (edges_of g) ≡ defaults_in_force (defaults_read entries) (edges_by_path entries)
+  defaults-are =
+      ap (λ (ds : List (List ℕ)). defaults_in_force ds (edges_of g)) is.built.defaults
+      ∙ ap (λ (es : List EdgePaths). defaults_in_force (defaults_read entries) es) edges-are
+
+  -- the targets of the graph, or its defaults
+  abbrev targets_of_graph : (words : List (List ℕ)) → Result (List (List ℕ)) GraphFault
+  targets_of_graph words = targets_or (defaults_in_force g.built.defaults (edges_of g)) (edges_of g) words
+
+  targets-are : (validations : Bool) (words : List (List ℕ)) (outcome : Result (List (List ℕ)) GraphFault) → targets_of_graph words ≡ outcome
       → targets_of entries validations words ≡ targets_from entries validations outcome
   targets-are validations words outcome named =
-      ap (targets_from entries validations) (ap (λ (es : List EdgePaths). targets_named es words) (sym edges-are) ∙ named)
+      ap (targets_from entries validations)
+      (ap (λ (ds : List (List ℕ)). targets_or ds (edges_by_path entries) words) (sym defaults-are)
+      ∙ ap (λ (es : List EdgePaths). targets_or (defaults_in_force g.built.defaults (edges_of g)) es words) (sym edges-are) ∙ named)
 
   -- a word that names no target
-  pub targets-refused : (validations : Bool) (words : List (List ℕ)) (f : GraphFault) → (f ≡ no_memory) ⊎ (targets_named (edges_of g) words ≡ Err f)
+  pub targets-refused : (validations : Bool) (words : List (List ℕ)) (f : GraphFault) → (f ≡ no_memory) ⊎ (targets_of_graph words ≡ Err f)
       → (f ≡ no_memory) ⊎ (targets_of entries validations words ≡ Err f)
   targets-refused validations words f (inl none) = inl none
   targets-refused validations words f (inr named) = inr (targets-are validations words (Err f) named)
 
   -- all words name targets
-  pub targets-picked : (validations : Bool) (words paths : List (List ℕ)) (numbers : List FileNo) → targets_named (edges_of g) words ≡ Ok paths
-      → AreFiles (files_of g) numbers (with_validations validations (edges_by_path entries) (or_defaults entries paths))
+  pub targets-picked : (validations : Bool) (words paths : List (List ℕ)) (numbers : List FileNo) → targets_of_graph words ≡ Ok paths
+      → AreFiles (files_of g) numbers (with_validations validations (edges_by_path entries) paths)
       → (targets : List (List ℕ)) × (targets_of entries validations words ≡ Ok targets) × AreFiles (files_of g) numbers targets
   targets-picked validations words paths numbers named are =
-      (with_validations validations (edges_by_path entries) (or_defaults entries paths), targets-are validations words (Ok paths) named, are)
+      (with_validations validations (edges_by_path entries) paths, targets-are validations words (Ok paths) named, are)
 
   -- what is to be validated comes after them
   pub grown-are : (targets : List (List ℕ)) (numbers grown : List FileNo) → AreFiles (files_of g) numbers targets
@@ -102,14 +115,6 @@ module _ (entries : List ReadStatement) (g : GraphModel) (is : IsGraphOf g entri
       let paths : grown_targets (edges_of g) (map (path_at (files_of g)) numbers) ≡ grown_targets (edges_by_path entries) targets =
       ap (grown_targets (edges_of g)) (paths-at (files_of g) numbers targets are) ∙ ap (λ (es : List EdgePaths). grown_targets es targets) edges-are in
       subst (AreFiles (files_of g) grown) paths is_grown
-
-  -- the defaults of the graph are the defaults of the statements
-  pub defaults-are : (numbers : List FileNo) → AreFiles (files_of g) numbers (defaults_in_force g.built.defaults (edges_of g))
-      → AreFiles (files_of g) numbers (or_defaults entries [])
-  defaults-are numbers are =
-      let lines : defaults_in_force g.built.defaults (edges_of g) ≡ defaults_in_force (defaults_read entries) (edges_by_path entries) =
-      ap (λ (ds : List (List ℕ)). defaults_in_force ds (edges_of g)) is.built.defaults ∙ ap (λ (es : List EdgePaths). defaults_in_force (defaults_read entries) es) edges-are in
-      subst (AreFiles (files_of g) numbers) lines are
 
   -- no target: the outcome is the fault
   pub commands-refused : (words : List (List ℕ)) (validations : Bool) (take : Option ℕ) (start : List ℕ) (f : GraphFault) (s : SinkState)

@@ -22,7 +22,8 @@ use Rattle.nj_tools.specs.RuleLists.{rules_text}
 use Rattle.nj_requests.specs.Actions.{ActionModel, commands, single_commands}
 use Rattle.nj_requests.specs.Actions as ask
 use Rattle.nj_args.specs.RunMarks.{run_mark_text}
-use Rattle.nj_cli.specs.Targets.{edges_by_path, targets_named, targets_of}
+use Rattle.nj_graph.specs.Targets.{targets_named}
+use Rattle.nj_cli.specs.Targets.{edges_by_path, targets_of}
 use Rattle.nj_cli.specs.declared.status.Status.{Status}
 use Rattle.nj_cli.specs.declared.status.Status.TheVariants.{Done, Fault, Stopped, OutputFailed}
 

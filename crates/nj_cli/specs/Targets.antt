@@ -8,26 +8,16 @@ use Rattle.nj_cycles.specs.Cycles.{IsAcyclic}
 use Rattle.nj_statements.specs.Built.{defaults_in_force}
 use Rattle.nj_statements.specs.EdgeList.{edges_read, paths_of_edges, defaults_read}
 use Rattle.nj_faults.specs.declared.fault.GraphFault.{GraphFault}
-use Rattle.nj_graph.specs.Targets.{picked}
+use Rattle.nj_graph.specs.Targets.{targets_or}
 use Rattle.nj_needs.specs.Growing.{grown_targets}
 
 -- the edges of statements, by their paths
 abbrev pub edges_by_path : List ReadStatement → List EdgePaths
 edges_by_path entries = paths_of_edges (edges_read entries)
 
--- the paths of the targets that words name, or the fault of the first word that names none
-abbrev pub targets_named : List EdgePaths → (words : List (List ℕ)) → Result (List (List ℕ)) GraphFault
-targets_named edges [] = Ok []
-targets_named edges (word ∷ words) = picked edges word >>= (λ path. targets_named edges words >>= (λ paths. Ok (path ∷ paths)))
-
 -- no edge needs itself by a chain
 abbrev pub NoEdgeNeedsItself : List EdgePaths → Type 0
 NoEdgeNeedsItself edges = IsAcyclic (makers_of_inputs edges) (length edges)
-
--- the defaults in force if there are no targets
-abbrev pub or_defaults : List ReadStatement → (targets : List (List ℕ)) → List (List ℕ)
-or_defaults entries [] = defaults_in_force (defaults_read entries) (edges_by_path entries)
-or_defaults entries (path ∷ paths) = path ∷ paths
 
 -- with `--validations` what is to be validated when they are built comes after them
 abbrev pub with_validations : (validations : Bool) → List EdgePaths → (targets : List (List ℕ)) → List (List ℕ)
@@ -37,5 +27,5 @@ with_validations true edges targets = grown_targets edges targets
 -- the targets of a run with these words
 abbrev pub targets_of : List ReadStatement → (validations : Bool) → (words : List (List ℕ)) → Result (List (List ℕ)) GraphFault
 targets_of entries validations words = do
-  targets ← targets_named (edges_by_path entries) words
-  Ok (with_validations validations (edges_by_path entries) (or_defaults entries targets))
+  targets ← targets_or (defaults_in_force (defaults_read entries) (edges_by_path entries)) (edges_by_path entries) words
+  Ok (with_validations validations (edges_by_path entries) targets)

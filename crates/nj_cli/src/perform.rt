@@ -10,7 +10,7 @@ ghost use Rattle.nj_cli.specs.Answers.{text_fault, follows_validations};
 ghost use Rattle.nj_cli.specs.Inside.RunSteps.{ReturnsFor};
 
 use crate::run_fault::RunFault;
-use crate::run_targets::{pick_targets, targets_of};
+use crate::run_targets::targets_of;
 use nj_graph::{Cause, EdgeNo, Graph, GraphFault};
 use nj_needs::{Mark, Needs};
 use nj_requests::{Action, InputsStyle, TargetsView};
@@ -143,7 +143,7 @@ fn run_query<O: Sink>(
         → ReturnsFor entries (ask.query (map string_bytes words.now))
         (O.state out.old) (O.state out.new) result }
 {
-    let files = pick_targets(alloc, graph, words)?;
+    let files = graph.pick_named(alloc, words)?;
     write_query(alloc, graph, &files, out)?;
     Ok(None)
 }

@@ -32,11 +32,6 @@ use Rattle.std.specs.Global.{Vec}
 use Rattle.nj_names.specs.declared.files.FileNo.{FileNo}
 use Rattle.nj_names.specs.Files.{AreFiles}
 
--- the files of the targets, or the fault; or out of memory
-abbrev pub PicksTargets : (files : List (List ℕ)) → (expected : Result (List (List ℕ)) GraphFault) → Result (Vec FileNo) GraphFault → Type 0
-PicksTargets files expected (Ok numbers) = (paths : List (List ℕ)) × (expected ≡ Ok paths) × AreFiles files numbers.items paths
-PicksTargets files expected (Err fault) = (fault ≡ no_memory) ⊎ (expected ≡ Err fault)
-
 -- the graph of the statements of the files, or what is wrong with these
 abbrev pub GraphOr : RequestModel → (before after : SourceState) → List Reading → Result LoadedModel GraphFault → Type 0
 GraphOr request before after files (Ok loaded) =
