@@ -1,7 +1,7 @@
 -- Lemmas on copied strings of keys.
 use Rattle.std.proofs.Common.{◌≡◌, ◌<◌, ◌≤◌, ◌+◌, ◌-◌, ◌⊎◌, inl, inr, ℕ, zero, suc, Bool, true, false, ◌||◌, if◌then◌else◌, List, [], ◌∷◌, ◌++◌, take, drop, length, slice_get, max, Option, None, Some, is_some, refl, sym, ap, subst, ◌∙◌, true≢false, arith, append_assoc, length-append}
 use Rattle.std.specs.Prelude.{slice_range, slice_set, nat_le, IfSome}
-use Rattle.std.proofs.lemmas.List.{append-nil, drop-append-le, take-append-le, length-drop}
+use Rattle.std.proofs.lemmas.List.{drop-append-le, take-append-le, length-drop}
 use Rattle.std.proofs.lemmas.Bool.{leb-true}
 use Rattle.std.proofs.lemmas.List.Folds.{list_any_more}
 use Rattle.std.proofs.lemmas.Option.{slice_get_within, get_or_from_slice_get}
@@ -10,16 +10,15 @@ use Rattle.nj_text.specs.Words.{PartModel, Text, Name}
 use Rattle.nj_scope.specs.Readings.{IsPrefix}
 use Rattle.nj_scope.specs.Rules.{RuleLineModel, given}
 use Rattle.nj_scope.specs.RulesHeld.{key_at, IsNumber}
-use Rattle.nj_scope.specs.Scopes.{expanded}
 use Rattle.nj_edge_env.specs.Blocks.{bound_in}
 use Rattle.nj_edge_env.specs.declared.late_edge.LateEdge.{LateEdge}
 use Rattle.nj_edge_env.specs.declared.key_memo.KeyText.{KeyText}
 use Rattle.nj_scope.specs.ReadingList.{value_after}
 use Rattle.nj_edge_env.specs.LateEdges.{late_names}
 use Rattle.nj_edge_env.specs.LateStrings.{LateNames, late_in, rule_value, refers, refers_in}
-use Rattle.nj_edge_env.specs.Inside.StringsHeld.{Settles, ForEdge, SettlesIn, IsKeyText, AreKeyStrings, no_higher, text_known, taller, with_text, AppendsPlain, AppendsLate}
+use Rattle.nj_edge_env.specs.Inside.StringsHeld.{Settles, ForEdge, SettlesIn, IsKeyText, AreKeyStrings, no_higher, text_known, taller, with_text, AppendsPlain, AppendsLate, AppendsParts}
 use Rattle.nj_edge_env.proofs.GivenLemmas.{same_name, rule_value_is, given_at, of_paths, of_block, of_rule, of_file, way, once_paths, once_block, once_rule, once_file, expanded_same}
-use Rattle.nj_edge_env.proofs.TextLemmas.{text_turn, name_turn, none_turn}
+use Rattle.nj_edge_env.proofs.TextLemmas.{text_turn, name_turn}
 
 -- ---- depth
 
@@ -91,12 +90,6 @@ module _ (quoting : Bool) (e : LateEdge) where
 
 -- ---- the parts of a value
 
-pub record PartsSoFar (quoting : Bool) (e : LateEdge) (depth : ℕ) (parts : List PartModel) (old : List ℕ) (known : List (Option KeyText)) (new : List ℕ) (height : Option ℕ) : Type 0 where
-  pub grows : IsPrefix old new
-  pub text : ForEdge e (λ n. new ≡ old ++ expanded (late_in depth quoting n) parts)
-  pub strings : AreKeyStrings quoting e known new
-  pub settles : IfSome height (λ d. (d ≤ depth) × ((other : List ℕ) → refers parts other ≡ true → SettlesIn e d other))
-
 set_at : {X : Type 0} (xs : List X) (i j : ℕ) (x y : X) → slice_get (slice_set xs i x) j ≡ Some y → ((j ≡ i) × (x ≡ y)) ⊎ (slice_get xs j ≡ Some y)
 set_at [] i j x y h = inr h
 set_at (z ∷ xs) zero zero x y h = inl (refl, cc)
@@ -110,7 +103,7 @@ module _ (quoting : Bool) (e : LateEdge) (depth : ℕ) (old : List ℕ) where
   none_settles : (name : List ℕ) → rule_value (bound_in e.blocks.now e.edge) e.rule.now.lines name ≡ None → (d : ℕ) → SettlesIn e (suc d) name
   none_settles name none d = λ other r. let h = sym none ∙ r.1 in absurd cc
 
-  pub plain_appended : (name : List ℕ) (known : List (Option KeyText)) (new : List ℕ) → AreKeyStrings quoting e known old → AppendsPlain quoting e name old new None → AppendsLate quoting e depth name old known new (Some 0)
+  pub plain_appended : (name : List ℕ) (known : List (Option KeyText)) (new : List ℕ) → AreKeyStrings quoting e known old → AppendsPlain quoting e name old new None → AppendsLate quoting e (suc depth) name old known new (Some 0)
   plain_appended name known new are plain = record {
     grows = plain.1;
     text = λ entries around by scope. plain.2 entries around by scope depth;
@@ -119,7 +112,7 @@ module _ (quoting : Bool) (e : LateEdge) (depth : ℕ) (old : List ℕ) where
   }
 
   pub known_appended : (name : List ℕ) (known : List (Option KeyText)) (number : ℕ) (t : KeyText) (bytes new : List ℕ) → bytes ≡ old → AreKeyStrings quoting e known old → IsNumber e.rule.now.lines name number
-      → text_known known number depth ≡ Some t → new ≡ bytes ++ slice_range bytes t.start t.end → AppendsLate quoting e depth name old known new (Some t.height)
+      → text_known known number depth ≡ Some t → new ≡ bytes ++ slice_range bytes t.start t.end → AppendsLate quoting e (suc depth) name old known new (Some t.height)
   known_appended name known number t bytes new same are is at more =
       let k = known_at quoting e known number depth t at in
       let text = are number t k.0 in
@@ -131,18 +124,10 @@ module _ (quoting : Bool) (e : LateEdge) (depth : ℕ) (old : List ℕ) where
             let n = late_names e (value_after entries (e.scope ∷ around)) in
             now ∙ ap (λ xs. old ++ xs) (text.text entries around by scope ∙ ap (late_in (suc t.height) quoting n) is.is ∙ sym (late_settled quoting n (suc t.height) (suc depth) name (omega (arith, k.1)) settled));
         strings = key_strings_kept quoting e known old new (slice_range old t.start t.end, now) are;
-        settles = (k.1, settled);
+        settles = (let low = k.1 in omega arith, settled);
       }
 
   -- ---- a line of the rule
-
-  pub parts_none : (value : List PartModel) (known : List (Option KeyText)) (new : List ℕ) → AreKeyStrings quoting e known old → new ≡ old → PartsSoFar quoting e depth (take 0 value) old known new (Some 0)
-  parts_none value known new are same = record {
-    grows = ([], same ∙ sym (append-nil old));
-    text = λ entries around by scope. same ∙ sym (append-nil old);
-    strings = subst (AreKeyStrings quoting e known) (sym same) are;
-    settles = (omega arith, λ other r. absurd (true≢false (sym r)));
-  }
 
   refers_turn : (value : List PartModel) (i : ℕ) (part : PartModel) (other : List ℕ) → slice_get value i ≡ Some part → refers (take (i + 1) value) other ≡ (refers (take i value) other || refers_in part other)
   refers_turn value i part other here =
@@ -150,7 +135,7 @@ module _ (quoting : Bool) (e : LateEdge) (depth : ℕ) (old : List ℕ) where
       ∙ ap (λ p. refers (take i value) other || refers_in p other) (get_or_from_slice_get value i part part here)
 
   pub parts_bytes : (value : List PartModel) (i : ℕ) (part : PartModel) (bytes : List ℕ) (known : List (Option KeyText)) (before after : List ℕ) (height : Option ℕ) → slice_get value i ≡ Some part → part ≡ Text bytes
-      → PartsSoFar quoting e depth (take i value) old known before height → after ≡ before ++ bytes → PartsSoFar quoting e depth (take (i + 1) value) old known after height
+      → AppendsParts quoting e depth (take i value) old known before height → after ≡ before ++ bytes → AppendsParts quoting e depth (take (i + 1) value) old known after height
   parts_bytes value i part bytes known before after height here is so more = record {
     grows = grows_on old before after so.grows (bytes, more);
     text = λ entries around by scope.
@@ -172,13 +157,13 @@ module _ (quoting : Bool) (e : LateEdge) (depth : ℕ) (old : List ℕ) where
       by None s = tt
       by (Some d) s = (s.0, λ other r. s.1 other (earlier other r))
 
-  pub parts_name : (value : List PartModel) (i : ℕ) (part : PartModel) (name : List ℕ) (known more_known : List (Option KeyText)) (before after : List ℕ) (height below : Option ℕ) → 0 < depth → slice_get value i ≡ Some part → part ≡ Name name
-      → PartsSoFar quoting e depth (take i value) old known before height → AppendsLate quoting e (depth - 1) name before more_known after below → PartsSoFar quoting e depth (take (i + 1) value) old more_known after (taller height below)
-  parts_name value i part name known more_known before after height below low here is so more = record {
+  pub parts_name : (value : List PartModel) (i : ℕ) (part : PartModel) (name : List ℕ) (known more_known : List (Option KeyText)) (before after : List ℕ) (height below : Option ℕ) → slice_get value i ≡ Some part → part ≡ Name name
+      → AppendsParts quoting e depth (take i value) old known before height → AppendsLate quoting e depth name before more_known after below → AppendsParts quoting e depth (take (i + 1) value) old more_known after (taller height below)
+  parts_name value i part name known more_known before after height below here is so more = record {
     grows = grows_on old before after so.grows more.grows;
     text = λ entries around by scope.
         let n = late_names e (value_after entries (e.scope ∷ around)) in
-        name_turn depth quoting n value i part name old before after low here is (so.text entries around by scope) (more.text entries around by scope);
+        name_turn (late_in depth quoting n) value i part name old before after here is (so.text entries around by scope) (more.text entries around by scope);
     strings = more.strings;
     settles = by height below so.settles more.settles;
   }
@@ -188,7 +173,7 @@ module _ (quoting : Bool) (e : LateEdge) (depth : ℕ) (old : List ℕ) where
       either false c h = inr h
 
       by : (height below : Option ℕ) → IfSome height (λ d. (d ≤ depth) × ((other : List ℕ) → refers (take i value) other ≡ true → SettlesIn e d other))
-          → IfSome below (λ d. (d ≤ depth - 1) × SettlesIn e (suc d) name)
+          → IfSome below (λ d. (d < depth) × SettlesIn e (suc d) name)
           → IfSome (taller height below) (λ d. (d ≤ depth) × ((other : List ℕ) → refers (take (i + 1) value) other ≡ true → SettlesIn e d other))
       by None below s r = tt
       by (Some a) None s r = tt
@@ -204,17 +189,6 @@ module _ (quoting : Bool) (e : LateEdge) (depth : ℕ) (old : List ℕ) where
             ],
           )
 
-  pub parts_cut : (value : List PartModel) (i : ℕ) (part : PartModel) (name : List ℕ) (known : List (Option KeyText)) (before after : List ℕ) (height : Option ℕ) → depth ≤ 0 → slice_get value i ≡ Some part → part ≡ Name name
-      → PartsSoFar quoting e depth (take i value) old known before height → after ≡ before → PartsSoFar quoting e depth (take (i + 1) value) old known after None
-  parts_cut value i part name known before after height low here is so same = record {
-    grows = subst (IsPrefix old) (sym same) so.grows;
-    text = λ entries around by scope.
-        let n = late_names e (value_after entries (e.scope ∷ around)) in
-        none_turn depth quoting n value i part name old before after low here is (so.text entries around by scope) same;
-    strings = subst (AreKeyStrings quoting e known) (sym same) so.strings;
-    settles = tt;
-  }
-
   rule_gives : (name : List ℕ) (number : ℕ) (value : List PartModel) → IsNumber e.rule.now.lines name number → is_some (rule_value (bound_in e.blocks.now e.edge) e.rule.now.lines name) ≡ true
       → given e.rule.now.lines (key_at e.rule.now.lines number) ≡ Some value → rule_value (bound_in e.blocks.now e.edge) e.rule.now.lines name ≡ Some value
   rule_gives name number value is counts at = by (rule_value (bound_in e.blocks.now e.edge) e.rule.now.lines name) refl counts
@@ -226,11 +200,11 @@ module _ (quoting : Bool) (e : LateEdge) (depth : ℕ) (old : List ℕ) where
           let there = given_at lines name others (rule_value_is (bound_in e.blocks.now e.edge) lines name others h).given in
           h ∙ sym there ∙ ap (given lines) (sym is.is) ∙ at
 
-  pub line_appended : (name : List ℕ) (number : ℕ) (value : List PartModel) (i : ℕ) (plain : List ℕ) (known : List (Option KeyText)) (new : List ℕ) (height : Option ℕ) (start end : ℕ) (kept : List (Option KeyText))
-      → AppendsPlain quoting e name old plain (Some number) → given e.rule.now.lines (key_at e.rule.now.lines number) ≡ Some value → length value ≤ i → i ≤ length value
-      → PartsSoFar quoting e depth (take i value) old known new height → start ≡ length plain → end ≡ length new → kept ≡ with_text known number start end height
-      → AppendsLate quoting e depth name old kept new height
-  line_appended name number value i plain known new height start end kept called at high low so starts ends is = record {
+  pub line_appended : (name : List ℕ) (number : ℕ) (value : List PartModel) (plain : List ℕ) (known : List (Option KeyText)) (new : List ℕ) (height : Option ℕ) (start end : ℕ) (kept : List (Option KeyText))
+      → AppendsPlain quoting e name old plain (Some number) → given e.rule.now.lines (key_at e.rule.now.lines number) ≡ Some value
+      → AppendsParts quoting e depth value plain known new height → start ≡ length plain → end ≡ length new → kept ≡ with_text known number start end height
+      → AppendsLate quoting e (suc depth) name old kept new height
+  line_appended name number value plain known new height start end kept called at parts starts ends is = record {
     grows = so.grows;
     text = text;
     strings = subst (λ known. AreKeyStrings quoting e known new) (sym is) (strings height refl);
@@ -240,26 +214,26 @@ module _ (quoting : Bool) (e : LateEdge) (depth : ℕ) (old : List ℕ) where
       gives : rule_value (bound_in e.blocks.now e.edge) e.rule.now.lines name ≡ Some value
       gives = rule_gives name number value called.1 called.2 at
 
-      whole : take i value ≡ value
-      whole = let n : i ≡ length value = omega arith in ap (λ k. take k value) n ∙ take-length value
+      so : AppendsParts quoting e depth value old known new height
+      so = subst (λ bytes. AppendsParts quoting e depth value bytes known new height) called.0 parts
 
       text : ForEdge e (λ n. new ≡ old ++ late_in (suc depth) quoting n name)
       text = λ entries around by scope.
           let n = late_names e (value_after entries (e.scope ∷ around)) in
-          so.text entries around by scope ∙ ap (λ parts. old ++ expanded (late_in depth quoting n) parts) whole ∙ ap (λ bytes. old ++ bytes) (sym (once_rule (late_in depth quoting n) quoting n name value gives))
+          so.text entries around by scope ∙ ap (λ bytes. old ++ bytes) (sym (once_rule (late_in depth quoting n) quoting n name value gives))
 
-      settles : (height : Option ℕ) → IfSome height (λ d. (d ≤ depth) × ((other : List ℕ) → refers (take i value) other ≡ true → SettlesIn e d other)) → IfSome height (λ d. (d ≤ depth) × SettlesIn e (suc d) name)
+      settles : (height : Option ℕ) → IfSome height (λ d. (d ≤ depth) × ((other : List ℕ) → refers value other ≡ true → SettlesIn e d other)) → IfSome height (λ d. (d < suc depth) × SettlesIn e (suc d) name)
       settles None s = tt
       settles (Some d) s = (
-        s.0,
+        (let low = s.0 in omega arith),
         λ other r.
             let same : r.0 ≡ value = cc (sym r.1 ∙ gives) in
-            s.1 other (ap (λ parts. refers parts other) whole ∙ ap (λ parts. refers parts other) (sym same) ∙ r.2),
+            s.1 other (ap (λ parts. refers parts other) (sym same) ∙ r.2),
       )
 
       its_text : (d : ℕ) → height ≡ Some d → IsKeyText quoting e number (record { start = start; end = end; height = d }) new
       its_text d u =
-          let settled = subst (λ o. IfSome o (λ d. (d ≤ depth) × SettlesIn e (suc d) name)) u (settles height so.settles) in
+          let settled = subst (λ o. IfSome o (λ d. (d < suc depth) × SettlesIn e (suc d) name)) u (settles height so.settles) in
           let before : start ≡ length old = starts ∙ ap length called.0 in
           let longer = grows_longer old new so.grows in
           record {

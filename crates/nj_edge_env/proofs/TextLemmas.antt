@@ -1,5 +1,5 @@
 -- Lemmas on late strings.
-use Rattle.std.proofs.Common.{◌≡◌, ◌<◌, ◌≤◌, ◌+◌, ◌-◌, ℕ, suc, Bool, true, false, List, [], ◌∷◌, ◌++◌, length, take, slice_get, Some, refl, sym, ap, ◌∙◌, arith, add-one, append_assoc}
+use Rattle.std.proofs.Common.{◌≡◌, ◌<◌, ◌+◌, ℕ, Bool, true, false, List, [], ◌∷◌, ◌++◌, length, take, slice_get, Some, refl, sym, ap, ◌∙◌, arith, add-one, append_assoc}
 use Rattle.std.proofs.lemmas.Grind.{flat_map-append}
 use Rattle.std.proofs.lemmas.List.{append-nil}
 use Rattle.std.proofs.lemmas.Option.{slice_get_within, get_or_from_slice_get}
@@ -9,7 +9,7 @@ use Rattle.nj_text.specs.Words.{PartModel, Text, Name}
 use Rattle.nj_scope.specs.Scopes.{part_expanded, expanded}
 use Rattle.nj_scope.specs.Rules.{RuleLineModel, given}
 use Rattle.nj_scope.specs.RulesHeld.{key_at, IsNumber}
-use Rattle.nj_edge_env.specs.LateStrings.{LateNames, late_in, is_of_command, unless_empty, value_given}
+use Rattle.nj_edge_env.specs.LateStrings.{is_of_command, unless_empty, value_given}
 use Rattle.nj_edge_env.proofs.ReferenceLemmas.{value_at}
 
 part_turn : (f : List ℕ → List ℕ) (parts : List PartModel) (i : ℕ) (p : PartModel) (start before after : List ℕ) → slice_get parts i ≡ Some p
@@ -24,17 +24,9 @@ pub text_turn : (f : List ℕ → List ℕ) (parts : List PartModel) (i : ℕ) (
     → before ≡ start ++ expanded f (take i parts) → after ≡ before ++ bytes → after ≡ start ++ expanded f (take (i + 1) parts)
 text_turn f parts i part bytes start before after here is so more = part_turn f parts i (Text bytes) start before after (here ∙ ap Some is) so more
 
-pub name_turn : (depth : ℕ) (quoting : Bool) (n : LateNames) (parts : List PartModel) (i : ℕ) (part : PartModel) (name start before after : List ℕ) → 0 < depth → slice_get parts i ≡ Some part → part ≡ Name name
-    → before ≡ start ++ expanded (late_in depth quoting n) (take i parts) → after ≡ before ++ late_in (suc (depth - 1)) quoting n name → after ≡ start ++ expanded (late_in depth quoting n) (take (i + 1) parts)
-name_turn depth quoting n parts i part name start before after low here is so more =
-    let d : suc (depth - 1) ≡ depth = omega arith in
-    part_turn (late_in depth quoting n) parts i (Name name) start before after (here ∙ ap Some is) so (more ∙ ap (λ k. before ++ late_in k quoting n name) d)
-
-pub none_turn : (depth : ℕ) (quoting : Bool) (n : LateNames) (parts : List PartModel) (i : ℕ) (part : PartModel) (name start before after : List ℕ) → depth ≤ 0 → slice_get parts i ≡ Some part → part ≡ Name name
-    → before ≡ start ++ expanded (late_in depth quoting n) (take i parts) → after ≡ before → after ≡ start ++ expanded (late_in depth quoting n) (take (i + 1) parts)
-none_turn depth quoting n parts i part name start before after low here is so more =
-    let d : depth ≡ 0 = omega arith in
-    part_turn (late_in depth quoting n) parts i (Name name) start before after (here ∙ ap Some is) so (more ∙ sym (append-nil before) ∙ sym (ap (λ k. before ++ late_in k quoting n name) d))
+pub name_turn : (f : List ℕ → List ℕ) (parts : List PartModel) (i : ℕ) (part : PartModel) (name start before after : List ℕ) → slice_get parts i ≡ Some part → part ≡ Name name
+    → before ≡ start ++ expanded f (take i parts) → after ≡ before ++ f name → after ≡ start ++ expanded f (take (i + 1) parts)
+name_turn f parts i part name start before after here is so more = part_turn f parts i (Name name) start before after (here ∙ ap Some is) so more
 
 -- ---- keys
 

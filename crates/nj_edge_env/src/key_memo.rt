@@ -3,6 +3,10 @@
 ghost use Rattle.std.specs.Prelude.{◌≡◌, ◌<◌, IfSome};
 ghost use Rattle.nj_edge_env.specs.Inside.StringsHeld.{text_known, taller, with_text};
 
+/// Of how many keys of a rule texts are kept: of all that Ninja knows. If a rule had more, the
+/// others would be expanded at each reference.
+pub(crate) const KEYS: usize = 11;
+
 // Where the text of a key is, and its height: how many lines of the rule are nested below the key's
 // own.
 #[derive(Clone, Copy)]

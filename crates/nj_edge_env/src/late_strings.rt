@@ -1,6 +1,6 @@
 //! Late strings.
 
-ghost use Rattle.std.specs.Prelude.{◌≡◌, ◌<◌, ◌++◌, ◌∷◌, [], true, ℕ, List, length, All, IfOk, IfSome, OnOk, OnErr, is_some};
+ghost use Rattle.std.specs.Prelude.{◌≡◌, ◌<◌, ◌++◌, ◌∷◌, [], true, ℕ, suc, List, IfOk, IfSome, OnOk, OnErr, is_some};
 ghost use Rattle.nj_scope.specs.Declarations.{DeclaredBy};
 ghost use Rattle.nj_scope.specs.ReadingList.{ReadStatement, value_after};
 ghost use Rattle.nj_scope.specs.Readings.{IsPrefix};
@@ -8,19 +8,15 @@ ghost use Rattle.nj_scope.specs.RulesHeld.{IsNumber};
 ghost use Rattle.nj_scope.specs.Scopes.{IsScope, parent_at};
 ghost use Rattle.nj_edge_env.specs.LateStrings.{value_given, file_value, asked_text};
 ghost use Rattle.nj_edge_env.specs.LateEdges.{late_names};
-ghost use Rattle.nj_edge_env.specs.Inside.StringsHeld.{AreKeyStrings, AppendsLate, AppendsPlain};
+ghost use Rattle.nj_edge_env.specs.Inside.StringsHeld.{AreKeyStrings, AppendsLate, AppendsParts, AppendsPlain};
 
 use crate::edge_paths::append_paths;
-use crate::key_memo::{KeyText, keep_text, taller, text_known};
+use crate::key_memo::{KEYS, KeyText, keep_text, taller, text_known};
 use crate::late_edge::LateEdge;
 use crate::path_names::{is_of_command, is_quoted, names_paths};
-use nj_scope::Rule;
+use nj_scope::{LateValue, Rule};
 use nj_text::Part;
 use std::alloc::AllocError;
-
-// How many keys a rule of a manifest has at most. If a rule had more, the others would be expanded
-// at each reference.
-const KEYS: usize = 11;
 
 impl<'a> LateEdge<'a> {
     /// Appends the late string of a name: its value where it is asked for ("Rule variables" in the
@@ -76,6 +72,7 @@ impl<'a> LateEdge<'a> {
 
     // Appends the value of the name, through at most `depth` lines of the rule after its own.
     // Returns its height, or `None` if a reference was cut off.
+    #[cycle(appending)]
     fn append_within(
         &self,
         out: &mut Vec<u8>,
@@ -85,8 +82,8 @@ impl<'a> LateEdge<'a> {
         depth: usize,
     ) -> Result<Option<usize>, AllocError>
         requires { AreKeyStrings quoting self.now known.old out.old.items }
-        ensures appended { IfOk result (AppendsLate quoting self.now depth name.now out.old.items
-            known.new out.new.items) }
+        ensures appended { IfOk result (AppendsLate quoting self.now (suc depth) name.now
+            out.old.items known.new out.new.items) }
         ensures refused { OnErr result (IsPrefix out.old.items out.new.items) }
     {
         let Some(number) = self.append_plain(out, name, quoting)? else {
@@ -98,22 +95,60 @@ impl<'a> LateEdge<'a> {
         }
         let start = out.len();
         let value = self.rule.key_value(number);
+        let height = self.append_parts(out, known, value, quoting, depth)?;
+        keep_text(known, number, start, out.len(), height);
+        Ok(height)
+    }
+
+    // Appends the value of a line of the rule, through at most `depth` lines after it. Returns the
+    // height of the line, or `None` if a reference was cut off.
+    #[cycle(appending)]
+    fn append_parts(
+        &self,
+        out: &mut Vec<u8>,
+        known: &mut [Option<KeyText>],
+        value: &LateValue,
+        quoting: bool,
+        depth: usize,
+    ) -> Result<Option<usize>, AllocError>
+        requires { AreKeyStrings quoting self.now known.old out.old.items }
+        ensures appended { IfOk result (AppendsParts quoting self.now depth value.now
+            out.old.items known.new out.new.items) }
+        ensures refused { OnErr result (IsPrefix out.old.items out.new.items) }
+    {
         let mut height = Some(0);
         'parts: for index in 0..value.len() {
             match value.part(index) {
                 Part::Bytes(bytes) => out.extend_from_slice(bytes)?,
-                Part::Name(other) => {
-                    if depth > 0 {
-                        let below = self.append_within(out, known, other, quoting, depth - 1)?;
-                        height = taller(height, below, depth);
-                    } else {
-                        height = None;
-                    }
+                Part::Name(name) => {
+                    let below = self.append_below(out, known, name, quoting, depth)?;
+                    height = taller(height, below, depth);
                 }
             }
         }
-        keep_text(known, number, start, out.len(), height);
         Ok(height)
+    }
+
+    // Appends the value of a name to which a line of the rule refers, through at most `depth` lines,
+    // its own among them. Returns its height, or `None` if it or a reference in it was cut off.
+    #[cycle(appending)]
+    fn append_below(
+        &self,
+        out: &mut Vec<u8>,
+        known: &mut [Option<KeyText>],
+        name: &[u8],
+        quoting: bool,
+        depth: usize,
+    ) -> Result<Option<usize>, AllocError>
+        requires { AreKeyStrings quoting self.now known.old out.old.items }
+        ensures appended { IfOk result (AppendsLate quoting self.now depth name.now
+            out.old.items known.new out.new.items) }
+        ensures refused { OnErr result (IsPrefix out.old.items out.new.items) }
+    {
+        if depth == 0 {
+            return Ok(None);
+        }
+        self.append_within(out, known, name, quoting, depth - 1)
     }
 
     // Appends the value of the name, unless a line of the rule binds it: then returns the number of

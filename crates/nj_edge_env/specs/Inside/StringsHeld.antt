@@ -1,16 +1,17 @@
 -- How a late text is appended: the text of a key that was appended already is copied.
-use Rattle.std.specs.Prelude.{◌≡◌, ◌≤◌, ℕ, zero, suc, ◌+◌, max, Bool, true, nat_le, if◌then◌else◌, Option, Some, None, is_some, IfSome}
+use Rattle.std.specs.Prelude.{◌≡◌, ◌<◌, ◌≤◌, ℕ, zero, suc, ◌+◌, max, Bool, true, nat_le, if◌then◌else◌, Option, Some, None, is_some, IfSome}
 use Rattle.std.specs.Prelude.{List, ◌∷◌, ◌++◌, length, slice_get, slice_set, slice_range}
 use Rattle.nj_scope.specs.Declarations.{DeclaredBy}
 use Rattle.nj_scope.specs.ReadingList.{ReadStatement, value_after}
+use Rattle.nj_text.specs.Words.{PartModel}
 use Rattle.nj_scope.specs.Readings.{IsPrefix}
 use Rattle.nj_scope.specs.Rules.{RuleLineModel}
 use Rattle.nj_scope.specs.RulesHeld.{key_at, IsNumber}
-use Rattle.nj_scope.specs.Scopes.{IsScope, parent_at}
+use Rattle.nj_scope.specs.Scopes.{IsScope, parent_at, expanded}
 use Rattle.nj_edge_env.specs.Blocks.{bound_in}
 use Rattle.nj_edge_env.specs.declared.late_edge.LateEdge.{LateEdge}
 use Rattle.nj_edge_env.specs.declared.key_memo.KeyText.{KeyText}
-use Rattle.nj_edge_env.specs.LateStrings.{LateNames, rule_value, late_in}
+use Rattle.nj_edge_env.specs.LateStrings.{LateNames, rule_value, late_in, refers}
 use Rattle.nj_edge_env.specs.LateEdges.{late_names}
 use Rattle.nj_edge_env.specs.VariableCycles.{RefersTo}
 
@@ -72,10 +73,19 @@ AppendsPlain quoting e name old new (Some number) =
     (new ≡ old) × IsNumber e.rule.now.lines name number
     × (is_some (rule_value (bound_in e.blocks.now e.edge) e.rule.now.lines name) ≡ true)
 
--- the value of the name is appended, through at most `depth` lines after its own; no more than its height are nested
+-- the value of the name is appended, through at most `depth` lines of the rule, its own among them; no more than its height are
+-- nested below that
 pub record AppendsLate (quoting : Bool) (e : LateEdge) (depth : ℕ) (name old : List ℕ) (known : List (Option KeyText))
     (new : List ℕ) (height : Option ℕ) : Type 0 where
   pub grows : IsPrefix old new
-  pub text : ForEdge e (λ n. new ≡ old ++ late_in (suc depth) quoting n name)
+  pub text : ForEdge e (λ n. new ≡ old ++ late_in depth quoting n name)
   pub strings : AreKeyStrings quoting e known new
-  pub settles : IfSome height (λ d. (d ≤ depth) × SettlesIn e (suc d) name)
+  pub settles : IfSome height (λ d. (d < depth) × SettlesIn e (suc d) name)
+
+-- these parts of a value are appended, through at most `depth` lines of the rule; no more than the height are nested
+pub record AppendsParts (quoting : Bool) (e : LateEdge) (depth : ℕ) (parts : List PartModel) (old : List ℕ)
+    (known : List (Option KeyText)) (new : List ℕ) (height : Option ℕ) : Type 0 where
+  pub grows : IsPrefix old new
+  pub text : ForEdge e (λ n. new ≡ old ++ expanded (late_in depth quoting n) parts)
+  pub strings : AreKeyStrings quoting e known new
+  pub settles : IfSome height (λ d. (d ≤ depth) × ((other : List ℕ) → refers parts other ≡ true → SettlesIn e d other))
