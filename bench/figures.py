@@ -227,10 +227,10 @@ def draw(figures):
     DOCUMENT.write_text(machine.sub(lambda found: f"{found[1]}{figures['machine']}\n{found[2]}", document))
     by_shape = {row[0]: row for row in figures["rows"].get("runs", [])}
     pictured = {name: [by_shape[shape][1], by_shape[shape][5]] for shape, name in PICTURED.items() if shape in by_shape}
-    title = "Processor time and memory of ninja-explain -t rules (Ninja = 1.0)"
-    (PICTURES / "beside-ninja.svg").write_text(bars(title, ["processor time", "memory"], pictured))
+    title = "CPU time and memory of ninja-explain -t rules (Ninja = 1.0)"
+    (PICTURES / "beside-ninja.svg").write_text(bars(title, ["CPU time", "memory"], pictured))
     of_tools = {row[0]: [row[1], row[3]] for row in figures["rows"].get("tools", [])}
-    title = "Processor time of each tool (the same tool of Ninja = 1.0)"
+    title = "CPU time of each tool (the same tool of Ninja = 1.0)"
     (PICTURES / "tools.svg").write_text(bars(title, ["cmake, 100,000 edges", "dense, 100,000 edges"], of_tools))
 
 

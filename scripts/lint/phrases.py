@@ -1,0 +1,53 @@
+"""Refuses phrases that are never right, in the pages that people write (lib/phrases.py)."""
+
+from lib.checks import check, expect
+from lib.phrases import EXCEPT, NEVER, finds, prose
+from lib.programs import CRATES, ROOT
+
+GENERATED = "REFERENCE.md", "HEADLINE.md"
+
+
+def pages():
+    found = [*ROOT.glob("*.md"), *(ROOT / "docs").glob("*.md"), *CRATES.glob("nj_*/README.md")]
+    found.append(ROOT / "man/ninja-explain.1")
+    return sorted(page for page in found if page.name not in GENERATED)
+
+
+def refused(name, text):
+    """The phrases of a page that are not among its exceptions, each with its line."""
+    phrases = [phrase for phrase in NEVER if phrase not in EXCEPT.get(name, ())]
+    for line, found, phrase in finds(phrases, prose(name, text)):
+        yield line, f"{found} (better: {NEVER[phrase] or 'nothing'})"
+
+
+@check
+def pages_have_none():
+    for page in pages():
+        name = str(page.relative_to(ROOT))
+        for line, found in refused(name, page.read_text()):
+            yield f"{name}:{line}: {found}"
+
+
+@check
+def exceptions_are_used():
+    for name, phrases in EXCEPT.items():
+        found = {phrase for _, _, phrase in finds(phrases, prose(name, (ROOT / name).read_text()))}
+        yield from expect(f"{name}, the exceptions that it needs", found, phrases)
+
+
+# Texts, each with how many phrases are found there.
+PLANTED = [
+    ("a.md", "Nothing is on the error\noutput.\n", 1),
+    ("a.md", "`error output` is code, and so is\n\n    the error output\n\n```\nfor good\n```\n", 0),
+    ("a.md", "After it [the links](for_good.md) are kept for good.\n", 1),
+    ("a.md", "<!-- map: crates -->\n| each once |\n<!-- end -->\nEach once.\n", 1),
+    ("a.1", ".TP\nthe output\n.I took\nit, as it is\n", 1),
+    ("a.rt", "/// Gives out names, each once.\nlet for_good = \"for good\";\n// one file\n// more\n", 3),
+    ("a.py", '"""The folder."""\nfolder = "folder"  # in\n# a folder\n', 2),
+]
+
+
+@check
+def planted_phrases_are_found():
+    for name, text, wanted in PLANTED:
+        yield from expect(f"{name}, {text!r}", len(list(refused(name, text))), wanted)
