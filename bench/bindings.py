@@ -1,5 +1,5 @@
 #!/usr/bin/env python3
-"""Writes Ninja files with many bindings into a folder: bindings.py tree|near|far N FOLDER [--short]
+"""Writes Ninja files with many bindings into a directory: bindings.py tree|near|far N FOLDER [--short]
 
 `tree` writes N files of 100 bindings each, which build.ninja includes in groups of 25. `near` and
 `far` write only build.ninja, with N bindings. They refer to bindings shortly before them, or to any
@@ -35,7 +35,7 @@ def opened_by(number):
 
 
 def file_binding(number, index, flags):
-    """The first of ten bindings is a folder, to which the others refer."""
+    """The first of ten bindings is a directory, to which the others refer."""
     folder = index - index % PER_PLAIN
     if index == folder:
         return f"dir_{index} = modules/part_{number}/unit_{index}\n"

@@ -4,8 +4,8 @@
     commands.py PROGRAM [--sizes N,M] [--chain N,M] [--inputs N,M] [--references N,M] [--rounds N]
 
 PROGRAM is compared with `ninja -t commands` on the same files. Both write to a file, and have to
-write the same bytes. Each program is run three times, or N times, in turn. The best times count, by
-the clock and of the processor, and the greatest memory. The files are in a temporary folder.
+write the same bytes. Each program is run three times, or N times, in turn. The best wall-clock and
+CPU times count, and the greatest memory. The files are in a temporary directory.
 
 The manifests are the shapes of manifest.py with the numbers of edges in --sizes, without their
 `default` line, and three shapes of shapes.py: a chain (--chain), on which Ninja recurses for each

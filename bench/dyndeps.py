@@ -5,7 +5,7 @@
 
 The manifest has N edges, and every other one is bound to a dyndep file. A dyndep file has entries
 for 100 edges; each entry discovers an output and, except in the first, an input. `rules` is run
-with and without `--dyndep`, in turn, five times or N times, and the median processor times count.
+with and without `--dyndep`, in turn, five times or N times, and the median CPU times count.
 The difference is the time of joining. The aim is half of the time without `--dyndep`, and that time
 and memory grow no faster than N.
 """
@@ -56,7 +56,7 @@ def entry(number):
 
 
 def write(count):
-    """Writes the manifest and its dyndep files into the working folder."""
+    """Writes the manifest and its dyndep files into the working directory."""
     with open("build.ninja", "w", encoding="ascii") as manifest:
         manifest.write(HEAD)
         manifest.writelines(edge(number) for number in range(count))
@@ -69,7 +69,7 @@ def write(count):
 
 
 def costs(program, count, rounds):
-    """The processor time and the memory of a run without `--dyndep`, and of one with it."""
+    """The CPU time and the memory of a run without `--dyndep`, and of one with it."""
     with tempfile.TemporaryDirectory() as place:
         os.chdir(place)
         write(count)

@@ -45,7 +45,7 @@ PICTURED = {"llvm": "LLVM, 44,570 edges", "cmake_100000": "CMake, 100,000 edges"
 
 
 def figures_of(programs, words, folder, **more):
-    """The median processor time and the greatest memory of each program."""
+    """The median CPU time and the greatest memory of each program."""
     runs = measure(programs, words.rounds, folder=folder, out=os.path.join(folder, "out"), **more)
     return {name: middle(of_one)[1:] for name, of_one in runs.items()}
 

@@ -102,7 +102,7 @@ def write(folder, lines):
 
 
 def seconds(program, folder, chosen, rounds, times):
-    """The processor times of the chosen names and of as many others, for each table, and for near
+    """The CPU times of the chosen names and of as many others, for each table, and for near
     paths."""
     for table, manifest in {**TABLES, PAIRS: of_paths}.items():
         found = []

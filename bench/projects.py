@@ -1,12 +1,12 @@
 #!/usr/bin/env python3
-"""Writes manifests like the ones of large projects into a folder: projects.py SHAPE FOLDER [N]
+"""Writes manifests like the ones of large projects into a directory: projects.py SHAPE FOLDER [N]
 
-    llvm       what CMake writes for LLVM: one file of N edges (44,570) with 30 inputs each on
-               average, most of which many edges share; words of 34 bytes on average; blocks whose
+    llvm       the form of CMake for LLVM: one file of N edges (44,570) with 30 inputs each on
+               average, mostly shared by many edges; words of 34 bytes on average; blocks whose
                values mostly repeat the edge before
-    folders    what GN writes: build.ninja, and for each of N folders (1,500) a file, read by
+    folders    the form of GN: build.ninja, and for each of N directories (1,500) a file, read by
                `subninja`, with its own bindings, rules and some 58 edges
-    chromium   what GN writes for Chromium: build.ninja, a file of the toolchain's rules, and for each
+    chromium   the form of GN for Chromium: build.ninja, a file of the toolchain's rules, and for each
                of N targets (5,000) a file, read by `subninja` from that one, with its own bindings,
                two to four rules of actions and some 62 edges
 

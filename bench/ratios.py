@@ -1,5 +1,5 @@
 #!/usr/bin/env python3
-"""Writes a table of a program's processor time and greatest memory as ratios to ninja's:
+"""Writes a table of a program's CPU time and greatest memory as ratios to ninja's:
 
     ratios.py PROGRAM [--before OLD] [--shapes llvm,cmake_100000,..] [--rounds N]
 
@@ -54,7 +54,7 @@ def words_of(program, tool, folder):
 
 
 def figures_of(words, tool, folder):
-    """The median processor time and the greatest memory of each program."""
+    """The median CPU time and the greatest memory of each program."""
     programs = {"now": words.program, "ninja": "ninja"}
     if words.before:
         programs["before"] = words.before

@@ -22,7 +22,7 @@ def load_shown():
 
 
 def print_runs(figures, before):
-    """Prints the figures of each program, and how its processor time grew since the size before."""
+    """Prints the figures of each program, and how its CPU time grew since the size before."""
     for name, (seconds, processor, memory) in figures.items():
         growth = f" x{processor / before[name][1]:.2f}" if name in before else ""
         print(

@@ -1,4 +1,4 @@
-"""Runs programs, and measures their time by the clock, their processor time, and their memory."""
+"""Runs programs, and measures their wall-clock time, their CPU time, and their memory."""
 
 import contextlib
 import os
@@ -16,7 +16,7 @@ TIME = shutil.which("time")
 
 
 class Run:
-    """A run of a program in a folder, without standard input. The output goes to the file `out`, or
+    """A run of a program in a directory, without standard input. The output goes to the file `out`, or
     else is kept. The program has to end with the status."""
 
     def __init__(self, words, folder=None, status=0, out=None):
@@ -50,11 +50,11 @@ def measure(programs, rounds, folder=None, status=0, out=None):
 
 
 def best(runs):
-    """The least time by the clock, the least processor time, and the greatest memory."""
+    """The least wall-clock time, the least CPU time, and the greatest memory."""
     return min(run.seconds for run in runs), min(run.processor_seconds for run in runs), max(run.memory for run in runs)
 
 
 def middle(runs):
-    """The median time by the clock, the median processor time, and the greatest memory."""
+    """The median wall-clock time, the median CPU time, and the greatest memory."""
     seconds = statistics.median(run.seconds for run in runs)
     return seconds, statistics.median(run.processor_seconds for run in runs), max(run.memory for run in runs)

@@ -8,11 +8,11 @@ the same bytes. For compdb they have to write the same objects, except for phony
 some versions of Ninja write too. `inputs --dependency-order` and `inputs --no-shell-escape` are
 compared with Ninja's `inputs`, and have to list the same paths; they are skipped if the program
 does not have the option. Then all of these are run in turn, five times or N times. The median times
-count, and the greatest memory. The ratios are of processor time and of memory. Without Ninja the
+count, and the greatest memory. The ratios are of CPU time and of memory. Without Ninja the
 program is measured alone.
 
 The manifests are the shapes of manifest.py with the numbers of edges in --sizes, without their
-`default` line and with a response file for each link. They are in a temporary folder. `query many`
+`default` line and with a response file for each link. They are in a temporary directory. `query many`
 asks for 10,000 files, or fewer if the manifest has fewer. `compdb many rules` names 1,000 rules, of
 which only the last exists. At the end are listed: what missed its aim (0.40 of Ninja's time, 0.90
 of its memory), what wrote something else, and what grew by more than the manifest did.
@@ -65,7 +65,7 @@ def head_of(shape):
 
 
 def make(folder, shape, count):
-    """Writes build.ninja into a new folder. Returns this folder."""
+    """Writes build.ninja into a new directory. Returns this directory."""
     place = os.path.join(os.path.realpath(folder), str(count))
     os.mkdir(place)
     with open(os.path.join(place, "build.ninja"), "w") as file:
@@ -186,7 +186,7 @@ def commands_of(tool, words, program, place):
 
 
 def runs_of(words, shape, count, place):
-    """The runs of the tools that are asked for, by tool and program, all in turn; and the tools
+    """The runs of the requested tools, by tool and program, all in turn; and the tools
     that write something else than Ninja's."""
     commands, other = {}, []
     for tool, of_tool in tools_of(shape, count).items():

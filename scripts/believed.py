@@ -85,7 +85,7 @@ def add_to(of, chunk, name):
 @cache
 def module(path):
     """The file of definitions of `Rattle.CRATE.specs.A.B`, or `None` if it is not one of ours. If B is
-    a type with constructors, it is the file of `A`, and if CRATE gives out `A` of a crate below it,
+    a type with constructors, it is the file of `A`, and if CRATE re-exports `A` of a crate below it,
     the file there."""
     crate, _, *names = path.split(".")[1:]
     if not (CRATES / crate).is_dir():
@@ -217,7 +217,7 @@ def named_in(definition):
 
 
 def reached(starts):
-    """All definitions that are reached from these, each once."""
+    """All definitions that are reached from these, without duplicates."""
     found, pending = [], list(starts)
     while pending:
         if (definition := pending.pop()) not in found:

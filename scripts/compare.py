@@ -4,7 +4,7 @@
 A manifest has rules, pools, bindings, build statements, defaults, includes and subninjas, with
 escapes, references, joined lines and paths that are not clean. The outputs are compared if both
 programs accept the manifest. The known differences, which the man page lists, are left out or
-evened out first. Each difference is printed, and its folder is kept. The last line has the counts.
+evened out first. Each difference is printed, and its directory is kept. The last line has the counts.
 """
 
 import argparse

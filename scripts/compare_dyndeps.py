@@ -4,7 +4,7 @@
 Ninja's `query` loads the dyndep file of the edge that makes the file in question, and lists the
 inputs of that edge. They are compared with those that `query --dyndep` lists. If Ninja refuses the
 dyndep file, ninja-explain has to refuse it too. Ninja's `query` does not look for cycles, so edges
-of graphs with a cycle are left out. Each difference is printed, and its folder is kept. The last
+of graphs with a cycle are left out. Each difference is printed, and its directory is kept. The last
 line has the counts.
 """
 
@@ -85,7 +85,7 @@ class Project:
 
 
 def query(program, options, path, folder):
-    """The error output of a run, and the lines before the users of the file."""
+    """Standard error of a run, and the lines before the users of the file."""
     words = [program, "-t", "query", path] + options
     run = subprocess.run(words, cwd=folder, capture_output=True, check=False, timeout=60)
     return run.stderr, run.stdout.split(b"  outputs:")[0]

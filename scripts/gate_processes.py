@@ -26,7 +26,7 @@ PROOF, TESTS, BESIDE, EDIT, BUILD, RUN, LAYOUT = PHASES = (
     "run",
     "layout",
 )
-# The folders that `rt ci` makes: a crate with an edit, what such checks begin with, and a run.
+# The directories that `rt ci` makes: a crate with an edit, what such checks begin with, and a run.
 EDITED, SEEDS = re.compile(r"/rt-edit-\d+-[^/]*$"), re.compile(r"/rt-edits-\d+-[^/]*/(\w+)$")
 STARTED = re.compile(r"/rt-run-\d+-[^/]*/bin/(\w+?)(_tests)?$")
 IN_CRATE = re.compile(r"/crates/(\w+)(/|$)")
@@ -99,7 +99,7 @@ def prover_of(words, folder, root):
 
 
 def label_of(words, folder, root):
-    """The label of a process with these words in this folder, or `None` where they say nothing."""
+    """The label of a process with these words in this directory, or `None` where they say nothing."""
     names = [os.path.basename(word) for word in words]
     if "rattle" in names:
         at = names.index("rattle")
@@ -233,5 +233,5 @@ class Meter:
         return [part for part in self.ended if part.label]
 
     def not_attributed(self):
-        """The processor time of all others, but for the process itself."""
+        """The CPU time of all others, but for the process itself."""
         return self.unseen + sum(part.used for part in self.ended if not part.label)

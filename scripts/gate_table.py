@@ -55,7 +55,7 @@ def minutes(number):
 
 
 class Machine:
-    """The machine, its load, and the processor time that all its processes took so far."""
+    """The machine, its load, and the CPU time that all its processes took so far."""
 
     def __init__(self):
         self.clock = time.monotonic()
@@ -75,7 +75,7 @@ class Machine:
 
 @dataclass
 class Sum:
-    """Processor time, time by the clock, and the most memory of one process."""
+    """CPU time, wall-clock time, and the most memory of one process."""
 
     used: float = 0.0
     clock: float = 0.0
@@ -101,7 +101,7 @@ def crates_below(folder):
 
 
 def longest_chain(below, clocks):
-    """The crates that follow each other for the longest time by the clock, and that time.
+    """The crates that follow each other for the longest wall-clock time, and that time.
 
     A crate takes its proof, and the last one that of its tests too where that takes longer.
     """

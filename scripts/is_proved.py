@@ -1,7 +1,7 @@
 #!/usr/bin/env python3
 """Refuses a program or a library that names no logic in which it was proved: is_proved.py FILE..
 
-The status is 1 if one does not, and its name is then on the error output.
+The status is 1 if one does not, and its name is then on standard error.
 """
 
 import sys

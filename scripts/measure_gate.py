@@ -3,11 +3,11 @@
 
 Runs `rt ci` with these words, as `--anew`, at the top of the repository, and follows the processes
 that it starts. What it prints passes through, and the status is its own. A failure of the measuring
-changes neither; it is told on the error output.
+changes neither; it is reported on standard error.
 
---table writes to FILE, in Markdown, what each step of each crate took in processor time and by the
-clock, the sums by crate, and what the whole took, with the machine and its load. --print prints the
-sums by crate, a line for each, before the last line of `rt ci`.
+--table writes to FILE, in Markdown, the CPU and wall-clock time of each step of each crate, the sums
+by crate, and those of the whole, with the machine and its load. --print prints the sums by crate, a
+line for each, before the last line of `rt ci`.
 """
 
 import argparse
@@ -125,7 +125,7 @@ def report(gate, machine, words):
 
 
 def parsed():
-    """What this script was asked for, and the words for `rt ci`."""
+    """The options of this script, and the arguments of `rt ci`."""
     layout = argparse.RawDescriptionHelpFormatter
     words = argparse.ArgumentParser(description=__doc__, formatter_class=layout, allow_abbrev=False)
     words.add_argument("--table", metavar="FILE")

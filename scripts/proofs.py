@@ -3,7 +3,7 @@
 
 FILE is an archive of `tar` and `zstd` with out/incremental of each crate, and the line of `rt
 version`, which has to be the same where it is unpacked. A crate that has kept something already
-stays as it is. Neither may run beside an `rt` in this clone.
+remains unchanged. Neither may run beside an `rt` in this clone.
 
 A check takes from there without a proof what is up to date, so whoever made FILE is trusted by
 `make`, whose verdicts then say `incremental=trusted`. The gate takes nothing from it.
@@ -34,7 +34,7 @@ def kit():
 
 
 def kept(top):
-    """What the crates below a folder have kept."""
+    """What the crates below a directory have kept."""
     return sorted(top.glob("crates/*/out/incremental"))
 
 
@@ -73,7 +73,7 @@ def main():
     actions = {"save": save, "load": load}
     if len(sys.argv) != 3 or sys.argv[1] not in actions:
         raise SystemExit("usage: proofs.py save FILE, proofs.py load FILE")
-    # beside the crates, so that folders can be moved to them
+    # beside the crates, so that directories can be moved to them
     with tempfile.TemporaryDirectory(prefix="proofs-", dir=TOP) as room:
         actions[sys.argv[1]](Path(sys.argv[2]), Path(room))
 

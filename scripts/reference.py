@@ -48,7 +48,7 @@ class Call:
 
 
 def exported(crate):
-    """The names that a library gives out."""
+    """The names that a library exports."""
     text = root_of(crate).read_text()
     uses = re.findall(r"^pub use ([\w:]+)::(?:\{(.*?)\}|(\w+));", text, re.M | re.S)
     own = {path: f"{several} {one}" for path, several, one in uses if not path.startswith("nj_")}

@@ -70,7 +70,7 @@ def last_lines(text):
 
 
 def tried(crate, *words, given=b""):
-    """Runs `rt try` in a crate's folder."""
+    """Runs `rt try` in a crate's directory."""
     how = {"cwd": CRATES / crate, "env": {"RT_SECONDS": SECONDS, **os.environ}}
     ran = subprocess.run(["rt", "try", *words], input=given, capture_output=True, **how)
     return ran.returncode, ran.stdout, ran.stderr.decode(errors="replace")

@@ -1,8 +1,8 @@
 #!/usr/bin/env python3
-"""Runs the unproved program on a folder: try_folder.py FOLDER [WORDS]
+"""Runs the unproved program on a directory: try_folder.py FOLDER [WORDS]
 
 `rt try` builds the program without any proof, and runs it with WORDS, by default `-t commands`, in a
-new folder with a copy of each `*.ninja` file in FOLDER and below it. It has no other files of
+new directory with a copy of each `*.ninja` file in FOLDER and below it. It has no other files of
 FOLDER, such as dyndep files. WORDS is split as a shell does it, so a word may have quotes; after a
 word `;` comes another question, for which nothing is built anew.
 
@@ -27,7 +27,7 @@ NEXT = ";"
 
 
 def data(folder):
-    """The words for `rt try` that hand over the files."""
+    """The arguments of `rt try` that pass the files."""
     files = sorted(path for path in folder.rglob("*.ninja") if path.is_file())
     return [word for path in files for word in ("--data", f"{path.relative_to(folder)}={path}")]
 

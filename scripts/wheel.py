@@ -1,7 +1,7 @@
 #!/usr/bin/env python3
 """Packs the Python package with the shared library: wheel.py [--library FOLDER] [OUT]
 
-Writes a wheel to the folder OUT, by default dist/. The library is that of FOLDER, by default lib/;
+Writes a wheel to the directory OUT, by default dist/. The library is that of FOLDER, by default lib/;
 one that names no logic in which it was proved is refused.
 """
 

@@ -3,7 +3,7 @@
 
 PROGRAM is ninja-explain, else bin/ninja-explain. It needs cmake, ninja, cc, jq and clang-tidy.
 
-CMake writes a manifest for the project of this folder, in a build folder in a temporary place. Of
+CMake writes a manifest for the project of this directory, in a build directory in a temporary place. Of
 that `PROGRAM -t compdb` writes a compilation database. This has to be an array as jq sees it, the
 same as `ninja -t compdb` writes, and to have the commands that CMake itself writes for the sources.
 Then clang-tidy reads it: it has to find the project's header, for which a command is all it has to
@@ -82,7 +82,7 @@ def finds_header(entries, folder):
 
 
 def check(build, folder):
-    """What is wrong with the database of the build folder."""
+    """What is wrong with the database of the build directory."""
     text = output_of([PROGRAM, "-t", "compdb", "--directory", str(build)], build)
     written = folder / "written.json"
     written.write_text(text)

@@ -1,6 +1,6 @@
 """Packs what is proved: python3 scripts/dist [--crates FOLDER] [--library FOLDER] [--log FILE] [OUT]
 
-Writes to OUT, an empty folder or by default dist/, an archive and two Debian packages of the programs that were built
+Writes to OUT, an empty directory or by default dist/, an archive and two Debian packages of the programs that were built
 below FOLDER, by default crates/, and of the library for C, by default in lib/; a wheel of the Python
 package, which carries that library; PROVENANCE, which says what they were made from; and SHA256SUMS. The same programs and commit give the same bytes.
 
@@ -82,7 +82,7 @@ class Release:
 
 
 def pack(release, log, out):
-    """Packs into an empty folder. Returns the names of the files."""
+    """Packs into an empty directory. Returns the names of the files."""
     name, content = release.archive()
     (out / name).write_bytes(content)
     programs = contents.of_programs(release.crates)
@@ -101,7 +101,7 @@ def pack(release, log, out):
 
 
 def emptied(out):
-    """The folder OUT, which is only emptied if it is the default one."""
+    """The directory OUT, which is only emptied if it is the default one."""
     if out == OUT:
         shutil.rmtree(out, ignore_errors=True)
     out.mkdir(parents=True, exist_ok=True)

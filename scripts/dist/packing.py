@@ -17,7 +17,7 @@ def compressed(content):
 
 
 def folders_of(items):
-    """All folders of the files, each after the one that it is in."""
+    """All directories of the files, each after the one that it is in."""
     return sorted({str(it) for item in items for it in PurePosixPath(item.path).parents} - {"."})
 
 
@@ -28,7 +28,7 @@ def entry(name, time, kind, mode):
 
 
 def tarball(folder, items, time):
-    """The bytes of an archive in which all files are in one folder."""
+    """The bytes of an archive in which all files are in one directory."""
     stream = io.BytesIO()
     with tarfile.open(fileobj=stream, mode="w", format=tarfile.USTAR_FORMAT) as archive:
         for path in ["", *folders_of(items)]:

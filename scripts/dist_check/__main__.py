@@ -2,7 +2,7 @@
 [--jobs N] [NAME..]
 
 Packs the programs that were built below FOLDER, by default crates/, and the library for C, by
-default in lib/, unpacks them into empty folders, and runs there what a user would.
+default in lib/, unpacks them into empty directories, and runs there what a user would.
 
 Prints what is wrong, and last how many checks passed. The exit status is 1 if one failed.
 """

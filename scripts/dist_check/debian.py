@@ -34,7 +34,7 @@ def oldest_release(packed):
 
 
 def installed(release, root):
-    """Puts a small Debian into a folder."""
+    """Puts a small Debian into a directory."""
     if os.geteuid() != 0:
         raise Skipped("debootstrap needs root")
     ran = run("debootstrap", "--variant=minbase", release, root, ARCHIVE)

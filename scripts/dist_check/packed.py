@@ -12,9 +12,9 @@ from dist.debian import LIBRARIES, LIBRARY_PACKAGE, PROGRAM_PACKAGE
 from lib.programs import ROOT
 from lint.version import version
 
-# The folders with what was built, as `scripts/dist` takes them.
+# The directories with what was built, as `scripts/dist` takes them.
 Built = namedtuple("Built", "crates library")
-# A folder that holds what a package has below its PREFIX, its libraries, and what pkg-config is told.
+# A directory that holds what a package has below its PREFIX, its libraries, and what pkg-config is told.
 Prefix = namedtuple("Prefix", "name folder libraries environment")
 
 ARCHIVE = f"ninja-explain-{version()}-linux-x86_64"
@@ -45,7 +45,7 @@ def files_of(built):
 
 
 def unpack_archive(packed, folder):
-    """Unpacks the archive into an empty folder."""
+    """Unpacks the archive into an empty directory."""
     folder.mkdir()
     with tarfile.open(packed / f"{ARCHIVE}.tar.gz") as archive:
         archive.extractall(folder)

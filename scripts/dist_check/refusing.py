@@ -112,7 +112,7 @@ def changed_packages(built, packed, folder):
 
 @check
 def changed_program(built, packed, folder):
-    """A program with one changed byte gives other packages, and the library's stays as it is."""
+    """A program with one changed byte gives other packages, and the library's is unchanged."""
     copy = copy_of(built, folder)
     for file in binaries(copy)[: len(PROGRAMS)]:
         change(file, file.read_bytes().index(b"rattle logic=") - 2)

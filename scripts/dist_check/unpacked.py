@@ -1,4 +1,4 @@
-"""Runs what is packed in empty folders, as a user of the archive and of the Debian packages would.
+"""Runs what is packed in empty directories, as a user of the archive and of the Debian packages would.
 
 What is expected is in examples/hello and examples/project for everyone to read.
 """

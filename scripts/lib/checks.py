@@ -1,7 +1,7 @@
 """A registry of checks, and how they are run.
 
 A check is a function under `@check`. It yields a text for each thing that is wrong, or raises. Its
-parameters are named after what it gets: what the main gives, and `folder`, an empty folder of its
+parameters are named after what it gets: what the main gives, and `folder`, an empty directory of its
 own. A main runs the checks that take no more than it gives. A check is skipped, and counted, if a
 program that it needs is not installed, or if it raises `Skipped`.
 """
@@ -70,7 +70,7 @@ def check(function=None, *, needs=(), alone=False):
 
 
 def load(*names):
-    """Imports modules below scripts/, and of a folder each module in it: their checks count."""
+    """Imports modules below scripts/, and of a directory each module in it: their checks count."""
     for name in names:
         folder = Path(__file__).resolve().parents[1] / name
         files = sorted(file.stem for file in folder.glob("[a-z]*.py"))

@@ -102,7 +102,7 @@ def placed_fault_is_wrong(name, place, files):
 
 
 def fault_is_wrong(error, files):
-    """What is wrong, if anything, with the error output of a run on these files that ended in a
+    """What is wrong, if anything, with the standard error of a run on these files that ended in a
     fault. A main file that does not exist counts as empty."""
     if not error.endswith(b"\n"):
         return "the last line has no line feed"

@@ -5,7 +5,9 @@ Each is a pattern, with what to write in its place. Prose is what people read as
 without its code and its generated parts, of a source its comments.
 """
 
+import io
 import re
+import tokenize
 from pathlib import PurePath
 
 NEVER = {
@@ -19,12 +21,12 @@ NEVER = {
     r"no (?:place|file|line) is to blame": "has no location",
     r"for good": "permanently",
     r"each once": "without duplicates",
-    r"folders?": "directory",
-    r"as (?:it is|they are|it was|they were)": "verbatim, unchanged",
+    r"(?-i:[Ff]olders?)": "directory",
+    r"as (?:it is|they are|it was|they were)(?! \w+(?:ed|en)\b)": "verbatim, unchanged",
     r"(?:hand|hands|handed|handing) (?:in|out|over)": "supply, return",
     r"(?:give|gives|given|gave|giving) out": "re-export, return",
     r"(?:is|are|was|were|be|been) asked (?:for|which|what|whether|how)": "query, request",
-    r"none of an? \w+": "no",
+    r"none of a file": "no",
     r"stays? so": "remains",
     r"dear|dearer|dearest": "expensive, costs more",
     r"took some since": "has written since",
@@ -35,6 +37,7 @@ NEVER = {
 
 # Where a phrase of `NEVER` stays all the same: a fault's text, a name, a table of these phrases.
 EXCEPT = {
+    "bench/projects.py": {r"(?-i:[Ff]olders?)"},
     "man/ninja-explain.1": {r"wrong words"},
 }
 
@@ -69,19 +72,21 @@ def without_code(text):
 
 
 def comments(text, sign):
-    """The comments of a source, on their lines; of Python its docstrings too."""
-    docstrings = "\n".join(
-        line if line.strip().startswith(sign) else "" for line in text.splitlines()
-    )
-    return re.sub(r"`[^`\n]*`", blank, docstrings)
+    """The comments of a source, on their lines."""
+    lines = text.splitlines()
+    return "\n".join(line if line.strip().startswith(sign) else "" for line in lines)
 
 
-def docstrings(text):
-    found = [""] * (text.count("\n") + 1)
-    for block in re.finditer(r'"""(.*?)"""', text, re.S):
-        first = text.count("\n", 0, block.start())
-        for row, line in enumerate(block[1].split("\n")):
-            found[first + row] = line
+def python_prose(text):
+    """The comments and docstrings of a Python source, on their lines."""
+    found, is_first = [""] * (text.count("\n") + 2), True
+    for token in tokenize.generate_tokens(io.StringIO(text).readline):
+        is_docstring = token.type == tokenize.STRING and is_first
+        if token.type == tokenize.COMMENT or is_docstring:
+            for row, line in enumerate(token.string.split("\n"), token.start[0] - 1):
+                found[row] += f"{line} "
+        if token.type not in (tokenize.COMMENT, tokenize.NL):
+            is_first = token.type in (tokenize.NEWLINE, tokenize.INDENT, tokenize.DEDENT)
     return "\n".join(found)
 
 
@@ -90,11 +95,8 @@ def prose(name, text):
     kind = PurePath(name).suffix
     if kind not in SIGNS:
         return without_code(text)
-    found = comments(text, SIGNS[kind])
-    if kind == ".py":
-        pairs = zip(found.split("\n"), re.sub(r"`[^`\n]*`", blank, docstrings(text)).split("\n"))
-        return "\n".join(first or second for first, second in pairs)
-    return found
+    found = python_prose(text) if kind == ".py" else comments(text, SIGNS[kind])
+    return re.sub(r"`[^`\n]*`", blank, found)
 
 
 def pattern(phrase):

@@ -58,7 +58,7 @@ class Program:
     def run(
         self, words, folder, text=b"", seconds=SECONDS, output=None, error=None, **environment
     ):
-        """Runs the program in the folder to its end, with the text as its standard input. If files
+        """Runs the program in the directory to its end, with the text as its standard input. If files
         are given, the outputs go there."""
         if not os.path.isfile(self.path):
             raise NoProgram(f"there is no program {self.path}")
@@ -104,7 +104,7 @@ def wait_for(program, seconds):
 
 
 def compiled(name, folder):
-    """Compiles a C file of this folder into a library in another one. Returns its path."""
+    """Compiles a C file of this directory into a library in another one. Returns its path."""
     library = Path(folder) / f"{name}.so"
     source = Path(__file__).with_name(f"{name}.c")
     compiler = ["cc", "-O2", "-Wall", "-shared", "-fPIC", "-o", library, source]

@@ -29,7 +29,7 @@ def as_bytes(text):
 
 
 def write_files(folder, files):
-    """Writes files, given as contents by name, into a folder."""
+    """Writes files, given as contents by name, into a directory."""
     for name, text in files.items():
         path = Path(folder, name)
         path.parent.mkdir(parents=True, exist_ok=True)
@@ -117,7 +117,7 @@ NOT_UTF8 = as_bytes(RESPONSE).replace(b" a b", b" \xff b")
 
 
 def files_below(folder):
-    """The contents of the Ninja files in a folder and below, by name."""
+    """The contents of the Ninja files in a directory and below, by name."""
     files = sorted(folder.rglob("*.ninja"))
     return {str(file.relative_to(folder)): file.read_bytes() for file in files}
 
@@ -265,6 +265,6 @@ def targets_differ(program, folder):
 
 
 def write_cmake(folder):
-    """Writes what CMake does for examples/cmake into a folder."""
+    """Writes what CMake does for examples/cmake into a directory."""
     words = ["cmake", "-G", "Ninja", "-S", str(EXAMPLES / "cmake"), "-B", str(folder)]
     subprocess.run(words, stdout=subprocess.DEVNULL, check=True)

@@ -8,7 +8,7 @@ FILE = "run.rows"
 LINE_FEED = b"\n"
 # What is printed of a row that wants nothing.
 CAME = re.compile(rf'{FILE}:\d+: wanted "", came "(.*)"\n')
-# The output of a run, its status, and its error output.
+# The output of a run, its status, and its standard error.
 PARTS = re.compile(r"(.*)\[(\d)\](?: (.*)|\n)", re.S)
 # How the program ends if it lacks memory beside the run of the row.
 LACKS_MEMORY = Ending(FAULT, b"", b"Error: Kind(OutOfMemory)\n")
@@ -34,7 +34,7 @@ def row_of(files, words):
 
 
 def unquoted(text):
-    """A text as it is without quotes."""
+    """A text without quotes, verbatim."""
 
     def plain(found):
         return chr(int(found[1], 16)) if found[1] else ESCAPED.get(found[2], found[2])

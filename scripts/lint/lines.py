@@ -1,4 +1,4 @@
-"""Compares the numbers of lines in the pages with the definitions as they are."""
+"""Compares the numbers of lines in the pages with the definitions."""
 
 import re
 import subprocess

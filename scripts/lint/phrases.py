@@ -1,4 +1,6 @@
-"""Refuses phrases that are never right, in the pages that people write (lib/phrases.py)."""
+"""Refuses phrases that are never right, in the pages that people write and in the comments of some
+scripts (lib/phrases.py).
+"""
 
 from lib.checks import check, expect
 from lib.phrases import EXCEPT, NEVER, finds, prose
@@ -7,10 +9,16 @@ from lib.programs import CRATES, ROOT
 GENERATED = "REFERENCE.md", "HEADLINE.md"
 
 
+# Scripts whose comments are read too.
+SCRIPTS = "bench/*.py", "scripts/*.py", "scripts/lint/*.py", "python/**/*.py", "examples/**/*.py"
+# Those with comments that are not yet as they should be.
+LATER = "c_test.py", "fuzz_c.py"
+
+
 def pages():
     found = [*ROOT.glob("*.md"), *(ROOT / "docs").glob("*.md"), *CRATES.glob("nj_*/README.md")]
-    found.append(ROOT / "man/ninja-explain.1")
-    return sorted(page for page in found if page.name not in GENERATED)
+    found += [ROOT / "man/ninja-explain.1", *(file for kind in SCRIPTS for file in ROOT.glob(kind))]
+    return sorted(page for page in found if page.name not in {*GENERATED, *LATER, "phrases.py"})
 
 
 def refused(name, text):
@@ -41,9 +49,9 @@ PLANTED = [
     ("a.md", "`error output` is code, and so is\n\n    the error output\n\n```\nfor good\n```\n", 0),
     ("a.md", "After it [the links](for_good.md) are kept for good.\n", 1),
     ("a.md", "<!-- map: crates -->\n| each once |\n<!-- end -->\nEach once.\n", 1),
-    ("a.1", ".TP\nthe output\n.I took\nit, as it is\n", 1),
+    ("a.1", ".TP\nIt is written as it\nis, as it is needed.\n", 1),
     ("a.rt", "/// Gives out names, each once.\nlet for_good = \"for good\";\n// one file\n// more\n", 3),
-    ("a.py", '"""The folder."""\nfolder = "folder"  # in\n# a folder\n', 2),
+    ("a.py", '"""The folder."""\nfolder = """\nfolder\n"""  # in\n# a folder\n', 2),
 ]
 
 

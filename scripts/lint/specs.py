@@ -3,7 +3,7 @@
 A definition must be believed if it is named in the contract of a public function, in the value of a
 public type, in what a type provides for a trait, or in another definition that must be believed. In
 crates/*/specs such definitions are in the files that Lib.antt lists, and all others are in the
-folder Inside. How fields represent a value (`view`) is plumbing.
+directory Inside. How fields represent a value (`view`) is plumbing.
 """
 
 import re

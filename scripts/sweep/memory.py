@@ -8,7 +8,7 @@ output and the line `ninja-explain: out of memory`, with status 1.
 
 The same runs are rows of crates/nj_run_rows too, which runs them over sinks in memory. There one
 allocation or two in a row are refused: after more, the rows could not say what came. A sink without
-memory fails like any other sink: a failed output is status 4 with nothing on the error output, a
+memory fails like any other sink: a failed output is status 4 with nothing on standard error, a
 lost mark line is status 4, and a lost fault line does not change the status. With ample memory such
 a run ends as the program does.
 """
