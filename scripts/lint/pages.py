@@ -112,6 +112,16 @@ def rows_name_their_crate():
 
 
 @check
+def laws_are_listed():
+    """docs/PROOFS.md has each law: a public function without parameters and with an empty body."""
+    text = PROOFS.read_text()
+    for file in sorted(CRATES.glob("*/src/**/*.rt")):
+        for law in re.findall(r"^pub fn (\w+)\(\)\n(?: .*\n)+\{\}$", file.read_text(), re.M):
+            if f"`{law}`" not in text:
+                yield f"{PROOFS.name}: the law {law} of {file.relative_to(CRATES).parts[0]} is missing"
+
+
+@check
 def wrong_names_are_seen():
     text = PROOFS.read_text()
     for old, new in ("`RunsWords`", "`RunsWord_s`"), ("`Mark::read`", "`Mark::read_s`"):
