@@ -94,7 +94,8 @@ def sum_of(cells):
 def of_crates():
     rows = [crate_row(crate, uses) for crate, uses in crates().items()]
     sums = [sum_of(row[at] for row in rows) for at in range(4, 9)]
-    head = ["Crate", "What it has", "Its code uses", "Its proofs alone", "`src` ", "`specs` ", "`Inside` ", "`proofs` ", "Edits "]
+    head = ["Crate", "Subject", "Its code uses", "Only its proofs use"]
+    head += ["`src` ", "`specs` ", "`Inside` ", "`proofs` ", "Edits "]
     return table(head, [*rows, ["all", "", "", "", *sums]])
 
 
@@ -142,7 +143,7 @@ def of_files():
     rows = []
     for crate in crates():
         rows += [[f"**`{crate}`**", ""], *spec_rows(crate), *module_rows(crate)]
-    return table(["File", "What it has"], rows)
+    return table(["File", "Subject"], rows)
 
 
 PARTS = {"crates": of_crates, "layers": of_layers, "files": of_files}

@@ -56,12 +56,13 @@ def exported(crate):
 
 
 def documentation(lines, row):
-    """The lines of `///` above a line, without attributes."""
+    """The lines of `///` above a line, without attributes and without links to other items."""
     found = []
     while row > 0 and re.match(r"\s*(///|#\[)", lines[row - 1]):
         row -= 1
         if lines[row].strip().startswith("///"):
-            found.append(lines[row].strip().removeprefix("///").removeprefix(" "))
+            line = lines[row].strip().removeprefix("///").removeprefix(" ")
+            found.append(re.sub(r"\[(`[^`]+`)\](?:\((?:crate|self|super|\w+)::[^)]*\))?", r"\1", line))
     return found[::-1]
 
 
@@ -163,7 +164,7 @@ def section(call, makers):
     given = [clause_text(*it) for it in call.clauses if it[0] == "ensures"]
     facts = []
     if owed:
-        facts.append(f"Asks: {', '.join(owed)}.")
+        facts.append(f"Requires: {', '.join(owed)}.")
     facts.append(f"Proved: {', '.join(given)}." if given else "No clause.")
     if call.edits:
         facts.append(f"Must fail: {quoted(call.edits)}.")
@@ -173,7 +174,9 @@ def section(call, makers):
 
 
 def library(crate, calls, types, texts, counts):
-    yield from [f"## `{crate}`", "", f"{first_sentence(root_of(crate), '//!')}.", ""]
+    about = f" [README.md](../crates/{crate}/README.md) names the definition to read first."
+    has_page = (CRATES / crate / "README.md").is_file()
+    yield from [f"## `{crate}`", "", f"{first_sentence(root_of(crate), '//!')}.{about * has_page}", ""]
     for owner in dict.fromkeys(["", *types, *(call.owner for call in calls)]):
         mine = [call for call in calls if call.owner == owner]
         if owner and (mine or types.get(owner)):
@@ -200,10 +203,12 @@ def page():
         "# Reference",
         "",
         "The public calls of the libraries, from the top down, as `scripts/reference.py` reads them from",
-        "the sources: do not edit this page. How to read a contract is in",
-        "[ARCHITECTURE.md](ARCHITECTURE.md). *Proved* has the clauses of a call's contract by name, each",
-        "with the definitions that it cites (in `specs/`); *Asks* has what the caller owes; *Must fail* has",
-        "the edits of its body that the gate tries, and that the proof refuses.",
+        "the sources: do not edit this page. [ARCHITECTURE.md](ARCHITECTURE.md#how-to-read-a-contract)",
+        "shows how to read a contract. *Proved* names the clauses of a call's contract, each with the",
+        "definitions that it cites (in `specs/`); *Requires* names the caller's duties; *Must fail* names",
+        "the wrong bodies that the gate tries, and that the proof refuses.",
+        "",
+        "Crates: " + ", ".join(f"[{crate}](#{crate})" for crate in found) + ".",
         "",
     ]
     for crate, (calls, types) in found.items():

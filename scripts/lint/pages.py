@@ -5,7 +5,6 @@ from functools import cache
 from pathlib import Path
 
 import headline
-import reference
 from lib.checks import check, expect
 from lib.programs import CRATES, ROOT
 
@@ -22,7 +21,7 @@ NAME = re.compile(r"\w*[a-z]\w*(?:::\w+)*")
 
 def pages():
     found = {*ROOT.glob("*.md"), *(ROOT / "docs").glob("*.md"), *CRATES.glob("*/README.md")}
-    return sorted(found - {reference.PAGE, headline.PAGE})
+    return sorted(found)
 
 
 # ---- links
