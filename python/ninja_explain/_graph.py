@@ -291,13 +291,13 @@ class Graph:
         joins_dyndeps: bool = False,
         allow_outside: bool = False,
     ) -> Graph:
-        """The graph of a manifest and of all files that it includes, which are read in a directory.
+        """The graph of a manifest and of all files that it includes, which are read in a folder.
 
         With `joins_dyndeps` its dyndep files are read and joined too. Only regular files of at most
-        1 GiB are read, and only below the directory, unless `allow_outside` is true; symbolic links
+        1 GiB are read, and only below the folder, unless `allow_outside` is true; symbolic links
         are followed.
 
-        Raises the first Fault of the manifest; PermissionError for a path outside of the directory;
+        Raises the first Fault of the manifest; PermissionError for a path outside of the folder;
         another OSError for a file that is there and cannot be read; MemoryError.
         """
         graph = cls()
@@ -321,7 +321,7 @@ class Graph:
         return graph
 
     def close(self) -> None:
-        """Frees its memory. A closed graph cannot be opened again."""
+        """Frees its memory. A graph that is closed stays so."""
         self._session.close()
 
     @property
@@ -414,7 +414,7 @@ class Graph:
     def run(
         self, words: Iterable[str], folder: AnyPath = ".", *, allow_outside: bool = False
     ) -> Run:
-        """Runs the program with these arguments, without its own name, over the files in a directory,
+        """Runs the program with these arguments, without its own name, over the files in a folder,
         which are read as `load` reads them. What was read before is not read again. The loaded graph
         stays. Raises ValueError for an argument with a zero byte."""
         return _run(self._session, words, Folder(encoded(folder), allow_outside))
@@ -440,7 +440,7 @@ class Graph:
 
 
 def run(words: Iterable[str], folder: AnyPath = ".", *, allow_outside: bool = False) -> Run:
-    """Runs the program with these arguments, without its own name, over the files in a directory, which
+    """Runs the program with these arguments, without its own name, over the files in a folder, which
     are read as `Graph.load` reads them. Raises ValueError for an argument with a zero byte."""
     return _run(Session(), words, Folder(encoded(folder), allow_outside))
 

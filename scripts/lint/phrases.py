@@ -10,7 +10,7 @@ GENERATED = "REFERENCE.md", "HEADLINE.md"
 
 
 # Scripts whose comments are read too.
-SCRIPTS = "bench/*.py", "scripts/*.py", "scripts/lint/*.py", "python/**/*.py", "examples/**/*.py"
+SCRIPTS = "bench/*.py", "scripts/*.py", "scripts/lint/*.py", "examples/**/*.py"
 # Those with comments that are not yet as they should be.
 LATER = "c_test.py", "fuzz_c.py"
 
