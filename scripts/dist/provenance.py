@@ -5,7 +5,6 @@ import re
 import subprocess
 
 from dist.contents import LIBRARY_CRATE, PROGRAMS
-from gate_table import crates_below
 from lib import verdicts
 from lib.programs import ROOT
 
@@ -30,13 +29,7 @@ def commit():
 
 def packed_crates():
     """The crates of which the programs and the library are made, in the order of crates.txt."""
-    below, found, open_ones = crates_below(ROOT), set(), [*PROGRAMS.values(), LIBRARY_CRATE]
-    while open_ones:
-        name = open_ones.pop()
-        if name not in found:
-            found.add(name)
-            open_ones += below[name]
-    return [name for name in below if name in found]
+    return verdicts.with_those_below([*PROGRAMS.values(), LIBRARY_CRATE])
 
 
 def text(version, commit, toolchain, logics, sums, log):

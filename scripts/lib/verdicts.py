@@ -3,6 +3,7 @@
 import re
 import subprocess
 
+from gate_table import crates_below
 from lib.programs import CRATES, ROOT
 
 HEAD = re.compile(r"== (\w+)$")
@@ -14,8 +15,8 @@ KEPT = ROOT / "bin/verdicts"
 class Reader:
     """Reads what `rt all check` or `rt ci` prints."""
 
-    def __init__(self):
-        self.crate = None
+    def __init__(self, crate=None):
+        self.crate = crate
 
     def take(self, line):
         """The crate and its verdict, if the line is one of a crate without its tests."""
@@ -57,3 +58,20 @@ def kept(crates):
             if state and state == state_of(crate):
                 found[crate] = verdict
     return found
+
+
+def with_those_below(crates):
+    """Crates and those on which they stand, in the order of crates.txt."""
+    below, found, open_ones = crates_below(ROOT), set(), list(crates)
+    while open_ones:
+        name = open_ones.pop()
+        if name not in found:
+            found.add(name)
+            open_ones += below[name]
+    return [name for name in below if name in found]
+
+
+def lacking(crate):
+    """The crates, from one down, whose verdict on the files that are committed was not kept."""
+    names = with_those_below([crate])
+    return [name for name in names if name not in kept(names) and state_of(name)]
