@@ -5,12 +5,12 @@ ghost use Rattle.nj_edges.specs.Edges.{edge_at, inputs_of, outputs_of, users_of}
 ghost use Rattle.nj_names.specs.Files.{path_at, AreFiles};
 ghost use Rattle.nj_graph.specs.Graph.{edges_of, files_of};
 ghost use Rattle.nj_c.specs.declared.status.Status.TheVariants.{Done};
-ghost use Rattle.nj_c.specs.Asking.{IfLoaded, IfNumber, KeptUnlessDone, OfEdge, OfFile};
+ghost use Rattle.nj_c.specs.Asking.{KeptUnlessDone, OfEdge, OfFile};
 ghost use Rattle.nj_c.specs.Buffers.{filled, kinds_of, GivesFiles, GivesNumbers};
 ghost use Rattle.nj_c.specs.Statuses.{code_of};
 
+use crate::asking::{ask_edge, ask_file};
 use crate::items::kind_number;
-use crate::sealed_box::Seal;
 use crate::session::Session;
 use crate::status::Status;
 use nj_graph::{EdgeGraph, EdgeNo, FileNo};
@@ -33,29 +33,7 @@ pub extern "C" fn nx_outputs(
         files.old files.new count.new result) }
     ensures buffer { KeptUnlessDone files.old files.new result }
 {
-    let Some(seal) = session.take(alloc) else {
-        return Status::NotOpen.code();
-    };
-    let status = outputs(&seal, edge, from, files, count);
-    session.put(seal);
-    status.code()
-}
-
-fn outputs(seal: &Seal, edge: usize, from: usize, files: &mut [usize], count: &mut usize) -> Status
-    ensures gives { IfLoaded seal.now.kept.graph (code_of result) (λ g.
-        IfNumber edge (length (edges_of g)) (code_of result)
-        (GivesFiles (files_of g) (outputs_of (edge_at (edges_of g) edge)) from
-        files.old files.new count.new (code_of result))) }
-    ensures buffer { KeptUnlessDone files.old files.new (code_of result) }
-{
-    let Some(graph) = &seal.get().graph else {
-        return Status::NotLoaded;
-    };
-    if edge >= graph.edge_count() {
-        return Status::BadNumber;
-    }
-    let edge = EdgeNo(edge);
-    give_files(graph.outputs(edge), from, files, count)
+    ask_edge!(session, alloc, edge, graph => give_files(graph.outputs(edge), from, files, count))
 }
 
 /// The inputs of an edge and their kinds, as `nx_input` gives them, from an index on: as many of
@@ -78,39 +56,10 @@ pub extern "C" fn nx_inputs(
     ensures file_buffer { KeptUnlessDone files.old files.new result }
     ensures kind_buffer { result ≢ code_of Done → kinds.new ≡ kinds.old }
 {
-    let Some(seal) = session.take(alloc) else {
-        return Status::NotOpen.code();
-    };
-    let status = inputs(&seal, edge, from, files, kinds, count);
-    session.put(seal);
-    status.code()
-}
-
-fn inputs(
-    seal: &Seal,
-    edge: usize,
-    from: usize,
-    files: &mut [usize],
-    kinds: &mut [i32],
-    count: &mut usize,
-) -> Status
-    ensures gives { IfLoaded seal.now.kept.graph (code_of result) (λ g.
-        IfNumber edge (length (edges_of g)) (code_of result)
-        ((GivesFiles (files_of g) (inputs_of (edge_at (edges_of g) edge)) from
-        files.old files.new count.new (code_of result))
-        × (kinds.new ≡ filled (drop from (kinds_of (edge_at (edges_of g) edge))) kinds.old))) }
-    ensures file_buffer { KeptUnlessDone files.old files.new (code_of result) }
-    ensures kind_buffer { code_of result ≢ code_of Done → kinds.new ≡ kinds.old }
-{
-    let Some(graph) = &seal.get().graph else {
-        return Status::NotLoaded;
-    };
-    if edge >= graph.edge_count() {
-        return Status::BadNumber;
-    }
-    let edge = EdgeNo(edge);
-    write_kinds(graph.edge_graph(), edge, from, kinds);
-    give_files(graph.inputs(edge), from, files, count)
+    ask_edge!(session, alloc, edge, graph => {
+        write_kinds(graph.edge_graph(), edge, from, kinds);
+        give_files(graph.inputs(edge), from, files, count)
+    })
 }
 
 /// The edges that have a file as an input, by number, each once, from an index on: as many as there
@@ -130,29 +79,7 @@ pub extern "C" fn nx_users(
         edges.old edges.new count.new result) }
     ensures buffer { KeptUnlessDone edges.old edges.new result }
 {
-    let Some(seal) = session.take(alloc) else {
-        return Status::NotOpen.code();
-    };
-    let status = users(&seal, file, from, edges, count);
-    session.put(seal);
-    status.code()
-}
-
-fn users(seal: &Seal, file: usize, from: usize, edges: &mut [usize], count: &mut usize) -> Status
-    ensures gives { IfLoaded seal.now.kept.graph (code_of result) (λ g.
-        IfNumber file (length (files_of g)) (code_of result)
-        (GivesNumbers (users_of (edges_of g) (path_at (files_of g) (record { 0 = file }))) from
-        edges.old edges.new count.new (code_of result))) }
-    ensures buffer { KeptUnlessDone edges.old edges.new (code_of result) }
-{
-    let Some(graph) = &seal.get().graph else {
-        return Status::NotLoaded;
-    };
-    if file >= graph.file_count() {
-        return Status::BadNumber;
-    }
-    let file = FileNo(file);
-    give_edges(graph.users(file), from, edges, count)
+    ask_file!(session, alloc, file, graph => give_edges(graph.users(file), from, edges, count))
 }
 
 // Writes the numbers of the files of a list from an index on, as many as there is room for, and

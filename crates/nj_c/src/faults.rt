@@ -1,18 +1,18 @@
 //! The last fault of a session.
 
-ghost use Rattle.std.specs.Prelude.{◌≡◌, MatchOption, option_and_then, option_copied};
+ghost use Rattle.std.specs.Prelude.{◌≡◌, option_and_then, option_copied};
 ghost use Rattle.nj_faults.specs.FaultLines.{bare_line};
 ghost use Rattle.nj_c.specs.declared.status.Status.TheVariants.{Done, Nothing};
-ghost use Rattle.nj_c.specs.Asking.{GivesItem, GivesText, GivesTextOrNot, IfPlace, KeptUnlessDone, OfFault, OfPlace};
+ghost use Rattle.nj_c.specs.Asking.{GivesText, GivesTextOrNot, KeptUnlessDone, OfFault, OfPlace};
 ghost use Rattle.nj_c.specs.FaultKinds.{kind_of};
 ghost use Rattle.nj_c.specs.Statuses.{code_of};
 
+use crate::asking::ask;
 use crate::buffers::copy_text;
 use crate::fault_kinds::fault_number;
-use crate::sealed_box::Seal;
 use crate::session::Session;
 use crate::status::Status;
-use nj_graph::Place;
+use nj_graph::{GraphFault, Place};
 use std::alloc::Global;
 
 /// What is wrong, as one of the numbers of `enum nx_fault`.
@@ -22,23 +22,13 @@ pub extern "C" fn nx_fault_kind(alloc: Global, session: &mut Session, kind: &mut
     ensures kind { OfFault session.old.kept result (λ fault.
         (result ≡ code_of Done) × (kind.new ≡ kind_of fault.cause)) }
 {
-    let Some(seal) = session.take(alloc) else {
-        return Status::NotOpen.code();
-    };
-    let status = fault_kind(&seal, kind);
-    session.put(seal);
-    status.code()
-}
-
-fn fault_kind(seal: &Seal, kind: &mut i32) -> Status
-    ensures { GivesItem seal.now.kept.fault (code_of result) (λ fault.
-        kind.new ≡ kind_of fault.cause) }
-{
-    let Some(fault) = &seal.get().fault else {
-        return Status::Nothing;
-    };
-    *kind = fault_number(&fault.cause);
-    Status::Done
+    ask!(session, alloc, kept => match &kept.fault {
+        Some(fault) => {
+            *kind = fault_number(&fault.cause);
+            Status::Done
+        }
+        None => Status::Nothing,
+    })
 }
 
 /// The line and the column of the fault, counted from 1; columns count bytes. Nothing if no place
@@ -54,24 +44,14 @@ pub extern "C" fn nx_fault_place(
     ensures place { OfPlace session.old.kept result (λ place. (result ≡ code_of Done)
         × (record { line = line.new; column = column.new } ≡ place.spot)) }
 {
-    let Some(seal) = session.take(alloc) else {
-        return Status::NotOpen.code();
-    };
-    let status = fault_place(&seal, line, column);
-    session.put(seal);
-    status.code()
-}
-
-fn fault_place(seal: &Seal, line: &mut usize, column: &mut usize) -> Status
-    ensures { IfPlace seal.now.kept.fault (code_of result) (λ place. (code_of result ≡ code_of Done)
-        × (record { line = line.new; column = column.new } ≡ place.spot)) }
-{
-    let Some(place) = place_of(seal) else {
-        return Status::Nothing;
-    };
-    *line = place.spot.line;
-    *column = place.spot.column;
-    Status::Done
+    ask!(session, alloc, kept => match place_of(&kept.fault) {
+        Some(place) => {
+            *line = place.spot.line;
+            *column = place.spot.column;
+            Status::Done
+        }
+        None => Status::Nothing,
+    })
 }
 
 /// The file of the fault, by the name under which it was opened. Nothing if no place is to blame.
@@ -87,30 +67,17 @@ pub extern "C" fn nx_fault_file(
         GivesText place.file buffer.old buffer.new needed.new result) }
     ensures buffer { KeptUnlessDone buffer.old buffer.new result }
 {
-    let Some(seal) = session.take(alloc) else {
-        return Status::NotOpen.code();
-    };
-    let status = fault_file(&seal, buffer, needed);
-    session.put(seal);
-    status.code()
-}
-
-fn fault_file(seal: &Seal, buffer: &mut [u8], needed: &mut usize) -> Status
-    ensures gives { IfPlace seal.now.kept.fault (code_of result) (λ place.
-        GivesText place.file buffer.old buffer.new needed.new (code_of result)) }
-    ensures buffer { KeptUnlessDone buffer.old buffer.new (code_of result) }
-{
-    match place_of(seal) {
+    ask!(session, alloc, kept => match place_of(&kept.fault) {
         Some(place) => copy_text(place.file.as_bytes(), buffer, needed),
         None => Status::Nothing,
-    }
+    })
 }
 
-// The place of the last fault.
-fn place_of(seal: &Seal) -> Option<&Place>
-    ensures { option_copied result ≡ option_and_then (λ fault. fault.place) seal.now.kept.fault }
+// The place of a fault.
+fn place_of(fault: &Option<GraphFault>) -> Option<&Place>
+    ensures { option_copied result ≡ option_and_then (λ f. f.place) fault.now }
 {
-    let fault = seal.get().fault.as_ref()?;
+    let fault = fault.as_ref()?;
     fault.place.as_ref()
 }
 
@@ -127,23 +94,17 @@ pub extern "C" fn nx_fault_line(
         GivesTextOrNot (bare_line fault) buffer.old buffer.new needed.old needed.new result) }
     ensures buffer { KeptUnlessDone buffer.old buffer.new result }
 {
-    let Some(seal) = session.take(alloc) else {
-        return Status::NotOpen.code();
-    };
-    let status = fault_line(alloc, &seal, buffer, needed);
-    session.put(seal);
-    status.code()
+    ask!(session, alloc, kept => match &kept.fault {
+        Some(fault) => give_line(alloc, fault, buffer, needed),
+        None => Status::Nothing,
+    })
 }
 
-fn fault_line(alloc: Global, seal: &Seal, buffer: &mut [u8], needed: &mut usize) -> Status
-    ensures gives { MatchOption seal.now.kept.fault (code_of result ≡ code_of Nothing) (λ fault.
-        GivesTextOrNot (bare_line fault) buffer.old buffer.new needed.old needed.new
-        (code_of result)) }
+fn give_line(alloc: Global, fault: &GraphFault, buffer: &mut [u8], needed: &mut usize) -> Status
+    ensures gives { GivesTextOrNot (bare_line fault.now) buffer.old buffer.new
+        needed.old needed.new (code_of result) }
     ensures buffer { KeptUnlessDone buffer.old buffer.new (code_of result) }
 {
-    let Some(fault) = &seal.get().fault else {
-        return Status::Nothing;
-    };
     match fault.bare_line(alloc) {
         Ok(line) => copy_text(&line, buffer, needed),
         Err(_) => Status::OutOfMemory,

@@ -4,6 +4,7 @@
 //! leaves the session as it is. Nothing is lent: texts are copied into the caller's buffers.
 #![tactic(auto)]
 
+mod asking;
 mod buffers;
 mod bulk;
 mod counts;

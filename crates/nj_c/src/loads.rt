@@ -4,9 +4,9 @@ ghost use Rattle.std.specs.Prelude.{◌≡◌, map, not, nat_eq};
 ghost use Rattle.nj_c.specs.Asking.{GivesTextAt, IfOpen, KeptUnlessDone};
 ghost use Rattle.nj_c.specs.HandedIn.{handed_state};
 ghost use Rattle.nj_c.specs.Loading.{graph_loaded, unread, Changes, GivesGraph, KeepsNothing, ListsNothing, LoadsKept, SameRun};
-ghost use Rattle.nj_c.specs.Statuses.{code_of};
 ghost use Rattle.nj_c.specs.Inside.Results.{FinishesLoad, KeepsFault, KeepsLoad, KeepsResult};
 
+use crate::asking::{ask, change};
 use crate::buffers::copy_text;
 use crate::sealed_box::Seal;
 use crate::session::Session;
@@ -32,12 +32,7 @@ pub extern "C" fn nx_load(
     ensures { Changes session.old.kept session.new.kept result (λ kept after.
         LoadsKept kept after main.now (not (nat_eq joins_dyndeps 0))) }
 {
-    let Some(seal) = session.take(alloc) else {
-        return Status::NotOpen.code();
-    };
-    let (seal, status) = load_in(alloc, seal, main, joins_dyndeps != 0);
-    session.put(seal);
-    status.code()
+    change!(session, alloc, seal => load_in(alloc, seal, main, joins_dyndeps != 0))
 }
 
 /// The path at an index among those that the last load wanted and that were not handed in.
@@ -54,23 +49,10 @@ pub extern "C" fn nx_wanted(
         (map (λ p. p.items) kept.wanted.items) index buffer.old buffer.new needed.new result) }
     ensures buffer { KeptUnlessDone buffer.old buffer.new result }
 {
-    let Some(seal) = session.take(alloc) else {
-        return Status::NotOpen.code();
-    };
-    let status = wanted(&seal, index, buffer, needed);
-    session.put(seal);
-    status.code()
-}
-
-fn wanted(seal: &Seal, index: usize, buffer: &mut [u8], needed: &mut usize) -> Status
-    ensures gives { GivesTextAt (map (λ p. p.items) seal.now.kept.wanted.items) index
-        buffer.old buffer.new needed.new (code_of result) }
-    ensures buffer { KeptUnlessDone buffer.old buffer.new (code_of result) }
-{
-    match seal.get().wanted.get(index) {
+    ask!(session, alloc, kept => match kept.wanted.get(index) {
         Some(path) => copy_text(path, buffer, needed),
         None => Status::Nothing,
-    }
+    })
 }
 
 // Loads the main file at a path.

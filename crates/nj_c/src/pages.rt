@@ -9,6 +9,7 @@ ghost use Rattle.nj_c.specs.Pages.{mark_of, numbered, AreBelow, AreKnown, IsReac
 ghost use Rattle.nj_c.specs.Statuses.{code_of};
 ghost use Rattle.nj_c.specs.Inside.PagesHeld.{mark_status, numbers_of, EndsAt, MarkRefused, PageAfter, PageAt, PageFrom, PageOf, Returned};
 
+use crate::asking::{ask, change};
 use crate::buffers::copy_text;
 use crate::items::give_edge;
 use crate::sealed_box::Seal;
@@ -26,12 +27,7 @@ pub extern "C" fn nx_affected(alloc: Global, session: &mut Session, files: &[usi
     ensures { Changes session.old.kept session.new.kept result (λ kept after.
         ListsReached kept after files.now) }
 {
-    let Some(seal) = session.take(alloc) else {
-        return Status::NotOpen.code();
-    };
-    let (seal, status) = list_affected(alloc, seal, files);
-    session.put(seal);
-    status.code()
+    change!(session, alloc, seal => list_affected(alloc, seal, files))
 }
 
 /// Lists the edges with commands that targets need, each once, after all edges that make its
@@ -48,12 +44,7 @@ pub extern "C" fn nx_page(
     ensures { Changes session.old.kept session.new.kept result (λ kept after.
         ListsPage kept after targets.now mark.now take) }
 {
-    let Some(seal) = session.take(alloc) else {
-        return Status::NotOpen.code();
-    };
-    let (seal, status) = list_page(alloc, seal, targets, mark, take);
-    session.put(seal);
-    status.code()
+    change!(session, alloc, seal => list_page(alloc, seal, targets, mark, take))
 }
 
 /// The edge at an index among those that were listed last.
@@ -68,12 +59,7 @@ pub extern "C" fn nx_found(
     ensures edge { IfOpen session.old.kept result (λ kept. GivesItem
         (slice_get (map (λ e. e.0) kept.found.items) index) result (λ number. edge.new ≡ number)) }
 {
-    let Some(seal) = session.take(alloc) else {
-        return Status::NotOpen.code();
-    };
-    let status = found(&seal, index, edge);
-    session.put(seal);
-    status.code()
+    ask!(session, alloc, kept => give_edge(&kept.found, index, edge))
 }
 
 /// The mark at which the last page ends. Nothing if no edge is left after it.
@@ -89,27 +75,7 @@ pub extern "C" fn nx_page_mark(
         GivesMark kept.mark.items buffer.old buffer.new needed.new result) }
     ensures buffer { KeptUnlessDone buffer.old buffer.new result }
 {
-    let Some(seal) = session.take(alloc) else {
-        return Status::NotOpen.code();
-    };
-    let status = page_mark(&seal, buffer, needed);
-    session.put(seal);
-    status.code()
-}
-
-fn found(seal: &Seal, index: usize, edge: &mut usize) -> Status
-    ensures { GivesItem (slice_get (map (λ e. e.0) seal.now.kept.found.items) index)
-        (code_of result) (λ number. edge.new ≡ number) }
-{
-    give_edge(&seal.get().found, index, edge)
-}
-
-fn page_mark(seal: &Seal, buffer: &mut [u8], needed: &mut usize) -> Status
-    ensures gives { GivesMark seal.now.kept.mark.items buffer.old buffer.new needed.new
-        (code_of result) }
-    ensures buffer { KeptUnlessDone buffer.old buffer.new (code_of result) }
-{
-    give_mark(&seal.get().mark, buffer, needed)
+    ask!(session, alloc, kept => give_mark(&kept.mark, buffer, needed))
 }
 
 fn give_mark(mark: &[u8], buffer: &mut [u8], needed: &mut usize) -> Status

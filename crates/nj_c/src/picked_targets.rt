@@ -5,6 +5,7 @@ ghost use Rattle.nj_c.specs.Loading.{Changes};
 ghost use Rattle.nj_c.specs.Targets.{PicksFile};
 ghost use Rattle.nj_c.specs.Inside.Results.{KeepsFault};
 
+use crate::asking::change;
 use crate::sealed_box::Seal;
 use crate::session::Session;
 use crate::status::Status;
@@ -24,12 +25,7 @@ pub extern "C" fn nx_pick_target(
     ensures { Changes session.old.kept session.new.kept result (λ kept after.
         PicksFile kept after word.now file.old file.new) }
 {
-    let Some(seal) = session.take(alloc) else {
-        return Status::NotOpen.code();
-    };
-    let (seal, status) = pick_file(alloc, seal, word, file);
-    session.put(seal);
-    status.code()
+    change!(session, alloc, seal => pick_file(alloc, seal, word, file))
 }
 
 fn pick_file(alloc: Global, seal: Seal, word: &[u8], file: &mut usize) -> (Seal, Status)

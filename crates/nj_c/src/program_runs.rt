@@ -5,9 +5,9 @@ ghost use Rattle.nj_c.specs.Asking.{GivesText, IfOpen, KeptUnlessDone};
 ghost use Rattle.nj_c.specs.HandedIn.{wanted_paths, SameFiles};
 ghost use Rattle.nj_c.specs.Loading.{unread, Changes};
 ghost use Rattle.nj_c.specs.Runs.{LeavesRun, RunsKept, SameLoad};
-ghost use Rattle.nj_c.specs.Statuses.{code_of};
 ghost use Rattle.nj_c.specs.Inside.RunsHeld.{empty_memory, FinishesRun, KeepsRun, NoFailures, NoRun, Ran};
 
+use crate::asking::{ask, change};
 use crate::buffers::copy_text;
 use crate::run_words::words_in;
 use crate::sealed_box::Seal;
@@ -28,12 +28,7 @@ pub extern "C" fn nx_run(alloc: Global, session: &mut Session, words: &[u8], exi
     ensures { Changes session.old.kept session.new.kept result (λ kept after.
         RunsKept kept after words.now exit.old exit.new) }
 {
-    let Some(seal) = session.take(alloc) else {
-        return Status::NotOpen.code();
-    };
-    let (seal, status) = run_in(alloc, seal, words, exit);
-    session.put(seal);
-    status.code()
+    change!(session, alloc, seal => run_in(alloc, seal, words, exit))
 }
 
 /// What the last run wrote to its output.
@@ -49,12 +44,7 @@ pub extern "C" fn nx_run_output(
         GivesText kept.output.bytes buffer.old buffer.new needed.new result) }
     ensures buffer { KeptUnlessDone buffer.old buffer.new result }
 {
-    let Some(seal) = session.take(alloc) else {
-        return Status::NotOpen.code();
-    };
-    let status = output(&seal, buffer, needed);
-    session.put(seal);
-    status.code()
+    ask!(session, alloc, kept => copy_text(kept.output.bytes(), buffer, needed))
 }
 
 /// What the last run wrote to its error output.
@@ -70,28 +60,7 @@ pub extern "C" fn nx_run_errors(
         GivesText kept.errors.bytes buffer.old buffer.new needed.new result) }
     ensures buffer { KeptUnlessDone buffer.old buffer.new result }
 {
-    let Some(seal) = session.take(alloc) else {
-        return Status::NotOpen.code();
-    };
-    let status = errors(&seal, buffer, needed);
-    session.put(seal);
-    status.code()
-}
-
-fn output(seal: &Seal, buffer: &mut [u8], needed: &mut usize) -> Status
-    ensures gives { GivesText seal.now.kept.output.bytes buffer.old buffer.new needed.new
-        (code_of result) }
-    ensures buffer { KeptUnlessDone buffer.old buffer.new (code_of result) }
-{
-    copy_text(seal.get().output.bytes(), buffer, needed)
-}
-
-fn errors(seal: &Seal, buffer: &mut [u8], needed: &mut usize) -> Status
-    ensures gives { GivesText seal.now.kept.errors.bytes buffer.old buffer.new needed.new
-        (code_of result) }
-    ensures buffer { KeptUnlessDone buffer.old buffer.new (code_of result) }
-{
-    copy_text(seal.get().errors.bytes(), buffer, needed)
+    ask!(session, alloc, kept => copy_text(kept.errors.bytes(), buffer, needed))
 }
 
 fn run_in(alloc: Global, seal: Seal, words: &[u8], exit: &mut i32) -> (Seal, Status)

@@ -4,12 +4,12 @@ ghost use Rattle.std.specs.Prelude.{◌≡◌, map, slice_get};
 ghost use Rattle.nj_edges.specs.Edges.{roots_of};
 ghost use Rattle.nj_statements.specs.Built.{defaults_in_force};
 ghost use Rattle.nj_graph.specs.Graph.{edges_of, files_of, main_rules};
-ghost use Rattle.nj_c.specs.Asking.{GivesFile, GivesTextAt, IfLoaded, KeptUnlessDone, OfGraph};
+ghost use Rattle.nj_c.specs.Asking.{GivesFile, GivesTextAt, KeptUnlessDone, OfGraph};
 ghost use Rattle.nj_c.specs.Statuses.{code_of};
 
+use crate::asking::ask_graph;
 use crate::buffers::copy_text;
 use crate::items::give_file;
-use crate::sealed_box::Seal;
 use crate::session::Session;
 use crate::status::Status;
 use nj_graph::Graph;
@@ -29,24 +29,7 @@ pub extern "C" fn nx_default(
         GivesFile (files_of g)
         (slice_get (defaults_in_force g.built.defaults (edges_of g)) index) result file.new) }
 {
-    let Some(seal) = session.take(alloc) else {
-        return Status::NotOpen.code();
-    };
-    let status = default(&seal, index, file);
-    session.put(seal);
-    status.code()
-}
-
-fn default(seal: &Seal, index: usize, file: &mut usize) -> Status
-    ensures { IfLoaded seal.now.kept.graph (code_of result) (λ g.
-        GivesFile (files_of g)
-        (slice_get (defaults_in_force g.built.defaults (edges_of g)) index)
-        (code_of result) file.new) }
-{
-    let Some(graph) = &seal.get().graph else {
-        return Status::NotLoaded;
-    };
-    give_file(graph.defaults(), index, file)
+    ask_graph!(session, alloc, graph => give_file(graph.defaults(), index, file))
 }
 
 /// The file at an index among the roots: the outputs that no edge has as an input.
@@ -62,23 +45,7 @@ pub extern "C" fn nx_root(
         GivesFile (files_of g)
         (slice_get (roots_of (edges_of g)) index) result file.new) }
 {
-    let Some(seal) = session.take(alloc) else {
-        return Status::NotOpen.code();
-    };
-    let status = root(&seal, index, file);
-    session.put(seal);
-    status.code()
-}
-
-fn root(seal: &Seal, index: usize, file: &mut usize) -> Status
-    ensures { IfLoaded seal.now.kept.graph (code_of result) (λ g.
-        GivesFile (files_of g)
-        (slice_get (roots_of (edges_of g)) index) (code_of result) file.new) }
-{
-    let Some(graph) = &seal.get().graph else {
-        return Status::NotLoaded;
-    };
-    give_file(graph.roots(), index, file)
+    ask_graph!(session, alloc, graph => give_file(graph.roots(), index, file))
 }
 
 /// The name of the rule at an index among those of the main file's scope, which are in byte order
@@ -97,24 +64,7 @@ pub extern "C" fn nx_rule_name_at(
         buffer.old buffer.new needed.new result) }
     ensures buffer { KeptUnlessDone buffer.old buffer.new result }
 {
-    let Some(seal) = session.take(alloc) else {
-        return Status::NotOpen.code();
-    };
-    let status = rule_name_at(&seal, index, buffer, needed);
-    session.put(seal);
-    status.code()
-}
-
-fn rule_name_at(seal: &Seal, index: usize, buffer: &mut [u8], needed: &mut usize) -> Status
-    ensures gives { IfLoaded seal.now.kept.graph (code_of result) (λ g.
-        GivesTextAt (map (λ r. r.name) (main_rules g)) index
-        buffer.old buffer.new needed.new (code_of result)) }
-    ensures buffer { KeptUnlessDone buffer.old buffer.new (code_of result) }
-{
-    let Some(graph) = &seal.get().graph else {
-        return Status::NotLoaded;
-    };
-    give_rule_name(graph, index, buffer, needed)
+    ask_graph!(session, alloc, graph => give_rule_name(graph, index, buffer, needed))
 }
 
 // Gives the name of the rule at an index.

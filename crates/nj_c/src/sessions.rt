@@ -6,6 +6,7 @@ ghost use Rattle.nj_c.specs.declared.status.Status.TheVariants.{Done};
 ghost use Rattle.nj_c.specs.Loading.{Changes, IsEmpty, Opens, TakesFile, TakesPath};
 ghost use Rattle.nj_c.specs.Statuses.{code_of};
 
+use crate::asking::change;
 use crate::sealed_box::Seal;
 use crate::session::Session;
 use crate::session_state::Kept;
@@ -71,12 +72,7 @@ pub extern "C" fn nx_add_file(
     ensures { Changes session.old.kept session.new.kept result (λ kept after.
         TakesPath kept after path.now (Some bytes.now)) }
 {
-    let Some(seal) = session.take(alloc) else {
-        return Status::NotOpen.code();
-    };
-    let (seal, status) = add_text(alloc, seal, path, bytes);
-    session.put(seal);
-    status.code()
+    change!(session, alloc, seal => add_text(alloc, seal, path, bytes))
 }
 
 /// Records that no file is at a path.
@@ -85,12 +81,7 @@ pub extern "C" fn nx_add_absent(alloc: Global, session: &mut Session, path: &[u8
     ensures { Changes session.old.kept session.new.kept result (λ kept after.
         TakesPath kept after path.now None) }
 {
-    let Some(seal) = session.take(alloc) else {
-        return Status::NotOpen.code();
-    };
-    let (seal, status) = set_file(seal, path, None);
-    session.put(seal);
-    status.code()
+    change!(session, alloc, seal => set_file(seal, path, None))
 }
 
 // Hands in the bytes of a file.

@@ -1,14 +1,13 @@
 //! The values of variables for edges.
 
-ghost use Rattle.std.specs.Prelude.{◌≡◌, ◌<◌, List, length, codes};
-ghost use Rattle.nj_scope.specs.ReadingList.{ReadStatement};
-ghost use Rattle.nj_graph.specs.Graph.{edges_of, late_text_of, GraphModel, IsGraphOf};
+ghost use Rattle.std.specs.Prelude.{◌≡◌, ◌<◌, length, codes};
+ghost use Rattle.nj_graph.specs.Graph.{edges_of};
 ghost use Rattle.nj_c.specs.declared.status.Status.TheVariants.{OutOfMemory};
-ghost use Rattle.nj_c.specs.Asking.{GivesText, GivesValue, IfLoaded, IfNumber, KeptUnlessDone, OfEdge};
+ghost use Rattle.nj_c.specs.Asking.{GivesValue, KeptUnlessDone, OfEdge};
 ghost use Rattle.nj_c.specs.Statuses.{code_of};
 
+use crate::asking::ask_edge;
 use crate::buffers::copy_text;
-use crate::sealed_box::Seal;
 use crate::session::Session;
 use crate::status::Status;
 use nj_graph::{EdgeNo, Graph};
@@ -31,12 +30,7 @@ pub extern "C" fn nx_variable(
         GivesValue g edge name.now buffer.old buffer.new needed.old needed.new result) }
     ensures buffer { KeptUnlessDone buffer.old buffer.new result }
 {
-    let Some(seal) = session.take(alloc) else {
-        return Status::NotOpen.code();
-    };
-    let status = variable(alloc, &seal, edge, name, buffer, needed);
-    session.put(seal);
-    status.code()
+    ask_edge!(session, alloc, edge, graph => value(alloc, graph, edge, name, buffer, needed))
 }
 
 /// The command of an edge, as it is passed to a shell; of a phony one what its block binds to
@@ -55,29 +49,6 @@ pub extern "C" fn nx_command(
     ensures buffer { KeptUnlessDone buffer.old buffer.new result }
 {
     nx_variable(alloc, session, edge, b"command", buffer, needed)
-}
-
-fn variable(
-    alloc: Global,
-    seal: &Seal,
-    edge: usize,
-    name: &[u8],
-    buffer: &mut [u8],
-    needed: &mut usize,
-) -> Status
-    ensures gives { IfLoaded seal.now.kept.graph (code_of result) (λ g.
-        IfNumber edge (length (edges_of g)) (code_of result)
-        (GivesValue g edge name.now buffer.old buffer.new needed.old needed.new
-        (code_of result))) }
-    ensures buffer { KeptUnlessDone buffer.old buffer.new (code_of result) }
-{
-    let Some(graph) = &seal.get().graph else {
-        return Status::NotLoaded;
-    };
-    if edge >= graph.edge_count() {
-        return Status::BadNumber;
-    }
-    value(alloc, graph, EdgeNo(edge), name, buffer, needed)
 }
 
 fn value(

@@ -2,7 +2,7 @@ use Rattle.std.proofs.Common.{rules}
 use Rattle.nj_c.proofs.AskLemmas.{changes}
 use Rattle.nj_c.proofs.program_runs.nx_run.Goals as goal
 
-pub returns : goal.returns
-returns c =
-    changes c.args.session.now.kept c.in-Some.seal.kept c.run_in-seal.result.0.kept c.put.new.self.kept _ c.run_in-seal.result.1 _ c.in-Some.ensures.taken c.put.ensures
-    (search rules) c.run_in-seal.ensures
+pub returns-in-Some : goal.returns-in-Some
+returns-in-Some c =
+    changes c.args.session.now.kept c.in-Some.seal.kept c.run_in-changed.result.0.kept c.put.new.self.kept _ c.run_in-changed.result.1 _ c.in-Some.ensures.taken c.put.ensures
+    (search rules) c.run_in-changed.ensures

@@ -1,0 +1,73 @@
+//! How calls use a session: what it keeps is taken out, asked or changed, and put back.
+//!
+//! The macros are bodies of exports, and give the number of a status. **An answer has no `return`
+//! and no `?`**, which would leave the session without what it keeps.
+
+/// Asks what an open session keeps.
+macro_rules! ask {
+    ($session:expr, $alloc:expr, $kept:ident => $answer:expr) => {
+        match $session.take($alloc) {
+            Some(seal) => {
+                let $kept = seal.get();
+                let status = $answer;
+                $session.put(seal);
+                status.code()
+            }
+            None => $crate::status::Status::NotOpen.code(),
+        }
+    };
+}
+
+/// Asks the graph that is loaded.
+macro_rules! ask_graph {
+    ($session:expr, $alloc:expr, $graph:ident => $answer:expr) => {
+        $crate::asking::ask!($session, $alloc, kept => match &kept.graph {
+            Some($graph) => $answer,
+            None => $crate::status::Status::NotLoaded,
+        })
+    };
+}
+
+/// Asks the graph about an edge of this number, which is an `EdgeNo` in the answer.
+macro_rules! ask_edge {
+    ($session:expr, $alloc:expr, $edge:ident, $graph:ident => $answer:expr) => {
+        $crate::asking::ask_graph!($session, $alloc, $graph => if $edge < $graph.edge_count() {
+            let $edge = nj_graph::EdgeNo($edge);
+            $answer
+        } else {
+            $crate::status::Status::BadNumber
+        })
+    };
+}
+
+/// Asks the graph about a file of this number, which is a `FileNo` in the answer.
+macro_rules! ask_file {
+    ($session:expr, $alloc:expr, $file:ident, $graph:ident => $answer:expr) => {
+        $crate::asking::ask_graph!($session, $alloc, $graph => if $file < $graph.file_count() {
+            let $file = nj_graph::FileNo($file);
+            $answer
+        } else {
+            $crate::status::Status::BadNumber
+        })
+    };
+}
+
+/// Changes what an open session keeps: the answer is that, changed, and a status.
+macro_rules! change {
+    ($session:expr, $alloc:expr, $seal:ident => $answer:expr) => {
+        match $session.take($alloc) {
+            Some($seal) => {
+                let (changed, status) = $answer;
+                $session.put(changed);
+                status.code()
+            }
+            None => $crate::status::Status::NotOpen.code(),
+        }
+    };
+}
+
+pub(crate) use ask;
+pub(crate) use ask_edge;
+pub(crate) use ask_file;
+pub(crate) use ask_graph;
+pub(crate) use change;
