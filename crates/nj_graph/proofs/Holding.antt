@@ -1,13 +1,16 @@
 -- What a reader has after one statement more.
-use Rattle.std.proofs.Common.{◌≡◌, ℕ, ◌==◌, ◌&&◌, if◌then◌else◌, Bool, true, false, not, cond, Some, None, option_map, option_and_then, unwrap_or, Result, Ok, Err, List, [], ◌∷◌, length, slice_get, ◌-◌, find, refl, sym, ap, subst, ◌∙◌, true≢false, arith}
+use Rattle.std.proofs.Common.{◌≡◌, ℕ, ◌==◌, ◌&&◌, if◌then◌else◌, Bool, true, false, not, cond, Some, None, option_map, option_and_then, unwrap_or, Result, Ok, Err, Option, List, [], ◌∷◌, ◌++◌, drop, take, get_or, length, length-append, slice_get, ◌+◌, ◌-◌, ◌<◌, find, refl, sym, ap, subst, ◌∙◌, true≢false, arith}
 use Rattle.nj_graph.specs.Inside.PathsReached.{with_news, paths_read}
 use Rattle.nj_graph.proofs.OriginLemmas.{origins-more}
 use Rattle.std.specs.Bool.{then_some}
 use Rattle.std.specs.Option.{option_or, option_to_list}
+use Rattle.std.proofs.lemmas.List.{drop_more, map_push, take_more}
 use mathlib.Core.Path.{fun_ext}
 use Rattle.nj_text.specs.declared.spot.Spot.{Spot}
 use Rattle.nj_text.specs.Numbers.{leading_number_of}
-use Rattle.nj_text.specs.Words.{WordModel}
+use Rattle.nj_text.specs.Words.{WordModel, word_model}
+use Rattle.nj_manifest.specs.declared.statement.Line.{Line}
+use Rattle.nj_manifest.specs.Contents.{line_model, lines_model}
 use Rattle.nj_manifest.specs.LineSteps.{NameModel}
 use Rattle.nj_manifest.specs.Statements.{LineModel, StatementModel}
 use Rattle.nj_scope.specs.Readings.{EachPathOnce, paths_of}
@@ -15,6 +18,7 @@ use Rattle.nj_scope.specs.Scopes.{Bounds, value_in, expanded, rule_at}
 use Rattle.nj_scope.specs.Declarations.{DeclarationsModel, DeclaredBy, SameScopes}
 use Rattle.nj_scope.specs.Limits.{is_depth}
 use Rattle.nj_scope.specs.Pools.{is_pool}
+use Rattle.nj_scope.proofs.Gathering.{get-last}
 use Rattle.nj_scope.specs.ReadingList.{ReadStatement, scope_of, binds, bounds, rules, is_declared, pools, path_named}
 use Rattle.nj_faults.specs.declared.fault.GraphFault.{GraphFault}
 use Rattle.nj_faults.specs.declared.fault.PlaceRef.{PlaceRef}
@@ -55,6 +59,11 @@ version-accepted false newer fault h = refl
 pub name-is-other : (named newer : Bool) (fault : GraphFault) → named ≡ false → then_some (named && newer) fault ≡ None
 name-is-other true newer fault h = absurd (true≢false h)
 name-is-other false newer fault h = refl
+
+pub version-refused : (named newer : Bool) (fault : GraphFault) → named ≡ true → newer ≡ true → then_some (named && newer) fault ≡ Some fault
+version-refused true true fault is new = refl
+version-refused true false fault is new = absurd (true≢false (sym new))
+version-refused false newer fault is new = absurd (true≢false (sym is))
 
 -- a rule that is new
 pub rule-new : (main : List ℕ) (held : Reader) (entries : List ReadStatement) (file : List ℕ) (number : ℕ) (name : NameModel) → Has main held entries
@@ -101,6 +110,26 @@ depths-same file e entries nothing scope (l ∷ lines) =
 pub depth-same : (e : ReadStatement) (entries : List ReadStatement) → ((value : List ℕ → List ℕ) (x : List ℕ) → binds value e.item x ≡ None) → (scope : List ℕ) (lines : List LineModel) → depth_of scope (e ∷ entries) lines ≡ depth_of scope entries lines
 depth-same e entries nothing scope lines =
     ap (λ (bound : Bounds). unwrap_or (option_and_then (λ (l : LineModel). leading_number_of (expanded (value_in bound scope) l.value.parts)) (slice_get lines (length lines - 1))) 0) (fun_ext (λ n. fun_ext (λ x. bounds-same e entries nothing n x)))
+
+-- a line that has a depth is no fault
+pub depths-next : (file scope : List ℕ) (entries : List ReadStatement) (lines : List Line) (i : ℕ) (line : Line) → i < length lines → line ≡ get_or lines i line
+    → is_depth (expanded_in scope entries (word_model line.value)) ≡ true
+    → depth_fault file scope entries (lines_model (drop i lines)) ≡ depth_fault file scope entries (lines_model (drop (i + 1) lines))
+depths-next file scope entries lines i line lt at is =
+    ap (λ ls. depth_fault file scope entries (lines_model ls)) (drop_more lines i line lt ∙ ap (λ (l : Line). l ∷ drop (i + 1) lines) (sym at))
+    ∙ ap (λ b. option_map (λ (m : LineModel). fault_at file m.spot BadDepth) (cond (not b) (Some (line_model line)) (find (λ m. not (is_depth (expanded_in scope entries m.value))) (lines_model (drop (i + 1) lines))))) is
+
+-- the depth after one line more is the number of that line
+pub depth-next : (scope : List ℕ) (entries : List ReadStatement) (lines : List Line) (i : ℕ) (line : Line) → i < length lines → line ≡ get_or lines i line
+    → depth_of scope entries (lines_model (take (i + 1) lines)) ≡ unwrap_or (leading_number_of (expanded_in scope entries (word_model line.value))) 0
+depth-next scope entries lines i line lt at =
+    ap (depth_of scope entries) (ap lines_model (take_more lines i line lt ∙ ap (λ (l : Line). take i lines ++ l ∷ []) (sym at)) ∙ map_push line_model (take i lines) line)
+    ∙ last-counts (lines_model (take i lines)) (line_model line)
+  where
+    last-counts : (front : List LineModel) (l : LineModel) → depth_of scope entries (front ++ l ∷ []) ≡ unwrap_or (leading_number_of (expanded_in scope entries l.value)) 0
+    last-counts front l =
+        let n : length (front ++ l ∷ []) - 1 ≡ length front = simp length-append (omega arith) in
+        ap (λ (o : Option LineModel). unwrap_or (option_and_then (λ m. leading_number_of (expanded_in scope entries m.value)) o) 0) (ap (slice_get (front ++ l ∷ [])) n ∙ get-last front l)
 
 -- ---- scopes that stay
 

@@ -13,7 +13,7 @@ use nj_faults::{Cause, GraphFault, Name, is_newer};
 use nj_manifest::{Line, Pool, Rule, Spot, Word};
 use nj_scope::is_depth;
 use nj_text::leading_number;
-use std::alloc::{AllocError, Global};
+use std::alloc::Global;
 
 impl Reader {
     /// Reads a binding.
@@ -33,14 +33,14 @@ impl Reader {
         ensures files { self.new.files ≡ self.old.files }
         ensures grows { OnOk result (ScopesGrow self.old self.new) }
     {
+        self.declarations.bind(alloc, file.scope, name, value)?;
         if name == b"ninja_required_version".as_slice() {
-            let version = self.declarations.expand(alloc, file.scope, value)?;
-            if is_newer(&version) {
-                let cause = Cause::VersionTooNew(Name::from(version));
+            let version = self.declarations.value(file.scope, name);
+            if is_newer(version) {
+                let cause = Cause::VersionTooNew(Name::new(alloc, version)?);
                 return Err(file.fault(alloc, spot, cause));
             }
         }
-        self.declarations.bind(alloc, file.scope, name, value)?;
         Ok(())
     }
 
@@ -89,47 +89,32 @@ impl Reader {
             let cause = Cause::DuplicatePool(Name::new(alloc, pool.name)?);
             return Err(file.fault(alloc, pool.name_spot, cause));
         }
-        self.check_depths(alloc, file, &pool.lines)?;
         let depth = self.depth(alloc, file, &pool.lines)?;
         self.origins.add_pool(file.place(spot), depth)?;
         Ok(())
     }
 
-    // Checks each depth of a pool's block.
-    fn check_depths(
-        &self,
-        alloc: Global,
-        file: OpenFile<'_>,
-        lines: &[Line<'_>],
-    ) -> Result<(), GraphFault>
-        requires { file.scope < length self.now.declarations.scopes }
-        ensures { InScope self.now file.entry (λ scope entries.
-            Checks (depth_fault file.entry.name.now scope entries (lines_model lines.now)) result) }
-    {
-        'lines: for line in lines {
-            let depth = self.declarations.expand(alloc, file.scope, &line.value)?;
-            if !is_depth(&depth) {
-                return Err(file.fault(alloc, line.spot, Cause::BadDepth));
-            }
-        }
-        Ok(())
-    }
-
-    // The depth of a pool: the value of the last line of its block.
+    // The depth of a pool: the number of the last line of its block. Each line has to have one.
     fn depth(
         &self,
         alloc: Global,
         file: OpenFile<'_>,
         lines: &[Line<'_>],
-    ) -> Result<u64, AllocError>
+    ) -> Result<u64, GraphFault>
         requires { file.scope < length self.now.declarations.scopes }
-        ensures { InScope self.now file.entry (λ scope entries.
+        ensures fault { InScope self.now file.entry (λ scope entries.
+            Checks (depth_fault file.entry.name.now scope entries (lines_model lines.now)) result) }
+        ensures depth { InScope self.now file.entry (λ scope entries.
             IfOk result (λ depth. depth ≡ depth_of scope entries (lines_model lines.now))) }
     {
-        let Some(line) = lines.last() else {
-            return Ok(0);
-        };
-        let depth = self.declarations.expand(alloc, file.scope, &line.value)?;
-        Ok(leading_number(&depth).unwrap_or(0))
+        let mut depth = 0;
+        'lines: for line in lines {
+            let text = self.declarations.expand(alloc, file.scope, &line.value)?;
+            if !is_depth(&text) {
+                return Err(file.fault(alloc, line.spot, Cause::BadDepth));
+            }
+            depth = leading_number(&text).unwrap_or(0);
+        }
+        Ok(depth)
     }
 }
