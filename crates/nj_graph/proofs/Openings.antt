@@ -1,5 +1,5 @@
 -- A path that a statement names, and how its file is opened.
-use Rattle.std.proofs.Common.{inl, inr, ◌≡◌, ◌⊎◌, ℕ, zero, suc, ◌<◌, ◌≤◌, true, false, Option, Some, None, is_some, Result, Ok, Err, List, [], ◌∷◌, refl, sym, ap, subst, ◌∙◌, true≢false}
+use Rattle.std.proofs.Common.{inl, inr, ◌≡◌, ◌⊎◌, ℕ, zero, suc, ◌<◌, ◌≤◌, true, false, Option, Some, None, is_some, Result, Ok, Err, List, ◌∷◌, refl, sym, ap, subst, ◌∙◌, true≢false}
 use Rattle.nj_graph.specs.Inside.PathsReached.{with_news, with_new, paths_read, come_to, reached_by}
 use Rattle.std.specs.Global.{Global}
 use Rattle.std.specs.Rc.{rc_slice_items}

@@ -4,7 +4,7 @@ use Rattle.nj_graph.proofs.Continuing.{unless_fault}
 use Rattle.nj_manifest.specs.Faults.{Fault}
 use Rattle.nj_manifest.specs.Statements.{StatementModel, BindingModel, RuleModel, PoolModel, BuildModel, DefaultModel, IncludeModel, SubninjaModel, PlacedModel}
 use Rattle.nj_scope.specs.Readings as table
-use Rattle.nj_scope.specs.Readings.{reading_of, is_read, IsPrefix}
+use Rattle.nj_scope.specs.Readings.{reading_of, IsPrefix}
 use Rattle.nj_scope.specs.ReadingList.{ReadStatement, files_opened}
 use Rattle.nj_faults.specs.declared.fault.Place.{Place}
 use Rattle.nj_faults.specs.declared.fault.GraphFault.{GraphFault}

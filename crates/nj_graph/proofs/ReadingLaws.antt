@@ -8,7 +8,7 @@ use Rattle.std.proofs.lemmas.Bool.{ltb-true}
 use Rattle.nj_manifest.specs.Faults.{Fault}
 use Rattle.nj_manifest.specs.Statements.{StatementModel, BindingModel, RuleModel, PoolModel, BuildModel, DefaultModel, IncludeModel, SubninjaModel, PlacedModel}
 use Rattle.nj_scope.specs.Readings as table
-use Rattle.nj_scope.specs.Readings.{reading_of, is_read}
+use Rattle.nj_scope.specs.Readings.{reading_of}
 use Rattle.nj_scope.specs.ReadingList.{ReadStatement, rules, is_declared, files_opened}
 use Rattle.nj_scope.proofs.NewRules.{RuleIsNew, EachRuleIsNew}
 use Rattle.nj_faults.specs.declared.fault.Place.{Place}

@@ -1,5 +1,5 @@
 -- The graph of a run, and the rules that it lists.
-use Rattle.std.specs.Prelude.{◌≡◌, ◌↔◌, ℕ, ◌<◌, Bool, if◌then◌else◌, Option, Some, None, option_map, unwrap_or, is_some, List, [], ◌∷◌, map, length, slice_get, slice_index_or}
+use Rattle.std.specs.Prelude.{◌≡◌, ◌↔◌, ℕ, ◌<◌, Bool, if◌then◌else◌, Option, Some, option_map, unwrap_or, is_some, List, [], ◌∷◌, map, length, slice_get, slice_index_or}
 use Rattle.std.specs.Prelude.{codes, bytes_eq}
 use Rattle.std.specs.List.{AllByRecursion, Contains, IsDistinct}
 use Rattle.std.specs.List.Sorted.{IsStrictlySortedBy}

@@ -1,6 +1,6 @@
 //! Joins deps logs to the graph of a run.
 
-ghost use Rattle.std.specs.Prelude.{◌≡◌, ℕ, List, ◌<◌, [], Option, None, codes, fold, length, map, position, bytes_eq, option_and_then, IfOk, OnOk};
+ghost use Rattle.std.specs.Prelude.{◌≡◌, List, ◌<◌, Option, None, fold, length, map, position, bytes_eq, option_and_then, IfOk, OnOk};
 ghost use Rattle.std.specs.List.{AllByRecursion};
 ghost use Rattle.nj_text.specs.Paths.{clean_path_of};
 ghost use Rattle.nj_names.specs.NameTables.{name_at};

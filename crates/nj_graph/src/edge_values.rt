@@ -43,7 +43,7 @@ impl Graph {
             edge: edge.0,
             rule: self.rule(edge),
             declarations: &self.declarations,
-            scope: self.built.detail(edge).scope,
+            scope: self.built.scope(edge),
         };
         late.append_late_text(out, name)
     }
@@ -54,7 +54,7 @@ impl Graph {
         ensures { slice_get self.now.declarations.rules
             (detail_at self.now.built.details edge.0).rule ≡ Some result.now }
     {
-        &self.declarations.rules()[self.built.detail(edge).rule]
+        &self.declarations.rules()[self.built.rule(edge)]
     }
 
     /// The command of an edge, as it is passed to a shell. The command of a phony edge is its

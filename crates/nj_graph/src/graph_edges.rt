@@ -40,7 +40,7 @@ impl Graph {
         ensures stated { (entries : List ReadStatement) → IsGraphOf self.now entries
             → result.now ≡ rule_name_at entries edge.0 }
     {
-        rule_name(self.declarations.rules(), self.built.detail(edge).rule)
+        rule_name(self.declarations.rules(), self.built.rule(edge))
     }
 
     /// The place of the build statement of an edge: its file, by the name under which it was
@@ -50,7 +50,7 @@ impl Graph {
         ensures file { result.file.now ≡ (detail_at self.now.built.details edge.0).file }
         ensures spot { result.spot ≡ (detail_at self.now.built.details edge.0).spot }
     {
-        self.built.detail(edge).place
+        self.built.place(edge)
     }
 
     /// The defaults in force: the files of the `default` lines in their order, or the roots where

@@ -44,6 +44,6 @@ impl Graph {
         ensures stated { (entries : List ReadStatement) → IsGraphOf self.now entries
             → result ≡ rule_number_at entries edge.0 }
     {
-        self.built.detail(edge).rule
+        self.built.rule(edge)
     }
 }

@@ -30,7 +30,7 @@ impl Graph {
         ensures stated { (entries : List ReadStatement) → IsGraphOf self.now entries
             → result ≡ scope_number_at entries edge.0 }
     {
-        self.built.detail(edge).scope
+        self.built.scope(edge)
     }
 
     /// The value of a name, as `builddir`, in the scope of this number after all statements: what

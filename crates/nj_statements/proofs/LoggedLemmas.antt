@@ -1,5 +1,5 @@
 -- What is named for build statements: which edges it changes, and that nothing else changes.
-use Rattle.std.proofs.Common.{◌≡◌, ℕ, suc, ◌+◌, Bool, List, [], ◌∷◌, ◌++◌, length, map, Option, Some, None, slice_get, slice_index_or, refl, sym, ap, ◌∙◌, subst, arith, append-nil}
+use Rattle.std.proofs.Common.{◌≡◌, ℕ, suc, ◌+◌, List, [], ◌∷◌, ◌++◌, length, map, Option, slice_index_or, refl, sym, ap, ◌∙◌, subst, arith, append-nil}
 use Rattle.std.specs.Prelude.{codes}
 use Rattle.std.specs.List.{AllByRecursion, AllZip}
 use Rattle.std.proofs.lemmas.List.{length-map, map-append}
@@ -11,11 +11,10 @@ use Rattle.nj_edges.specs.Edges.{EdgePaths}
 use Rattle.nj_edges.specs.Joining.{with_added}
 use Rattle.nj_edges.specs.MoreInputs.{with_inputs_added}
 use Rattle.nj_edge_env.specs.LateStrings.{LateNames, asked_text}
-use Rattle.nj_statements.specs.EdgeList.{EdgeModel, Pending, edge_of_build, edges_read, paths_of_edges, block_at, block_names_at, defaults_read}
-use Rattle.nj_statements.specs.EdgeList.{file_given, name_given, dyndep_of, pending_at, pending_read, assigned_of, assigned_read, AssignedModel}
+use Rattle.nj_statements.specs.EdgeList.{EdgeModel, edge_of_build, edges_read, paths_of_edges}
+use Rattle.nj_statements.specs.EdgeList.{file_given, name_given, dyndep_of, pending_at, pending_read, assigned_of, assigned_read}
 use Rattle.nj_statements.specs.Built.{BuiltModel, IsBuiltOf, detail_of}
-use Rattle.nj_statements.specs.Laws.{with_found}
-use Rattle.nj_statements.specs.Logged.{AddsToEachEdge, NamedInputsAreAdded, and_inputs, inputs_named, with_inputs_named}
+use Rattle.nj_statements.specs.Logged.{NamedInputsAreAdded, and_inputs, inputs_named, with_inputs_named}
 use Rattle.nj_statements.proofs.DiscoverEdges.{SameEdge, all-same, block-same, count-same, edge-also, edge-by_same, map-same}
 use Rattle.nj_statements.proofs.DiscoverLemmas.{as_read, defaults_read-same, names_of_edge-same, unseen}
 

@@ -20,15 +20,6 @@ use nj_names::Names;
 use std::alloc::Global;
 use std::marker::Model;
 
-/// An edge without its files and its block: the place of its build statement, the numbers of its
-/// scope and of its rule.
-#[derive(Clone, Copy)]
-pub struct EdgeDetail<'a> {
-    pub place: PlaceRef<'a>,
-    pub scope: usize,
-    pub rule: usize,
-}
-
 /// The edges of a run, without a dependency cycle, and its defaults.
 #[derive(Drop)]
 pub struct Built {
@@ -211,20 +202,29 @@ impl Built {
         &self.blocks
     }
 
-    /// What the build statement of an edge gives beside its files and its block.
-    pub fn detail(&self, edge: EdgeNo) -> EdgeDetail<'_>
+    /// The place of the build statement of an edge.
+    pub fn place(&self, edge: EdgeNo) -> PlaceRef<'_>
         requires { edge.0 < length self.now.graph.edges }
-        ensures file { result.place.file.now ≡ (detail_at self.now.details edge.0).file }
-        ensures spot { result.place.spot ≡ (detail_at self.now.details edge.0).spot }
-        ensures scope { result.scope ≡ (detail_at self.now.details edge.0).scope }
-        ensures rule { result.rule ≡ (detail_at self.now.details edge.0).rule }
+        ensures file { result.file.now ≡ (detail_at self.now.details edge.0).file }
+        ensures spot { result.spot ≡ (detail_at self.now.details edge.0).spot }
     {
-        let detail = self.details[edge.0];
-        EdgeDetail {
-            place: place_of(&self.names, detail),
-            scope: detail.scope as usize,
-            rule: detail.rule as usize,
-        }
+        place_of(&self.names, self.details[edge.0])
+    }
+
+    /// The number of the scope that has the build statement of an edge.
+    pub fn scope(&self, edge: EdgeNo) -> usize
+        requires { edge.0 < length self.now.graph.edges }
+        ensures { result ≡ (detail_at self.now.details edge.0).scope }
+    {
+        self.details[edge.0].scope as usize
+    }
+
+    /// The number of the rule of an edge.
+    pub fn rule(&self, edge: EdgeNo) -> usize
+        requires { edge.0 < length self.now.graph.edges }
+        ensures { result ≡ (detail_at self.now.details edge.0).rule }
+    {
+        self.details[edge.0].rule as usize
     }
 
     /// The pool of an edge, by its name: the value of `pool` at its build statement ("Pools" in the

@@ -1,6 +1,6 @@
 //! What dyndep files add to the edges of a run.
 
-ghost use Rattle.std.specs.Prelude.{◌≡◌, ℕ, ◌<◌, ◌==◌, List, [], Some, None, option_map, unwrap_or, map, length, slice_get, replicate, slice_index_or, IfOk, IfSome, OnOk, OnErr};
+ghost use Rattle.std.specs.Prelude.{◌≡◌, ◌<◌, ◌==◌, List, [], Some, None, option_map, unwrap_or, length, slice_get, replicate, slice_index_or, IfOk, IfSome, OnOk, OnErr};
 ghost use Rattle.nj_scope.specs.Scopes.{first_given};
 ghost use Rattle.std.specs.Option.{option_or};
 ghost use Rattle.std.specs.List.{AllByRecursion};

@@ -1,6 +1,6 @@
 //! What is wrong with the edge that is being read by the variables of its rule.
 
-ghost use Rattle.std.specs.Prelude.{◌≡◌, ◌<◌, List, Some, false, codes, length, slice_get, IfOk, IfSome, OnOk};
+ghost use Rattle.std.specs.Prelude.{◌≡◌, ◌<◌, List, Some, codes, length, slice_get, IfOk, IfSome, OnOk};
 ghost use Rattle.nj_edge_env.specs.LateStrings.{LateNames, asked_text};
 ghost use Rattle.nj_edge_env.specs.ReferencesHeld.{TellsCycles};
 ghost use Rattle.nj_scope.specs.ReadingList.{ReadStatement, pools};

@@ -16,7 +16,7 @@ mod stated_files;
 mod string_numbers;
 
 pub use building::Building;
-pub use built::{Built, EdgeDetail, EdgeRecords};
+pub use built::{Built, EdgeRecords};
 pub use dyndep_entries::{DyndepFile, Joining};
 pub use laws::{
     discovered_files_are_added, dyndep_files_come_once, edges_by_reading_order,

@@ -2,7 +2,6 @@
 
 ghost use Rattle.std.specs.Prelude.{◌≡◌, ◌<◌, ◌≤◌, ◌+◌, ◌^◌, List, Some, None, true, is_some, option_copied, length, slice_get, slice_index_or, OnOk};
 ghost use Rattle.nj_scope.specs.Rules.{RuleModel};
-ghost use Rattle.nj_edge_env.specs.ReferencesHeld.{TellsCycles};
 ghost use Rattle.nj_statements.specs.Answers.{HasReferences};
 ghost use Rattle.nj_statements.specs.Inside.EdgeSteps.{SameReferences};
 

@@ -10,9 +10,9 @@ returns-clause-there c =
     let g = c.self.inside in
     let below : c.args.edge.0 < length g.built.details = subst (λ n. c.args.edge.0 < n) (sym c.self.invariant.count) (subst (λ x. c.args.edge.0 < length (edges_of x)) (sym c.self.view_is) c.requires) in
     let known = known-at (IsKnown g.declarations) g.built.details c.args.edge.0 _ below c.self.invariant.known in
-    subst (λ (x : GraphModel). c.detail.result.rule < length x.declarations.rules) c.self.view_is
-    (subst (λ n. n < length g.declarations.rules) (sym c.detail.ensures.rule) known.1)
+    subst (λ (x : GraphModel). c.rule.result < length x.declarations.rules) c.self.view_is
+    (subst (λ n. n < length g.declarations.rules) (sym c.rule.ensures) known.1)
 
 pub returns-clause-stated : goal.returns-clause-stated
 returns-clause-stated c = λ entries is.
-    c.detail.ensures.rule ∙ ap (λ (x : GraphModel). (detail_at x.built.details c.args.edge.0).rule) c.self.view_is ∙ ap (λ ds. (detail_at ds c.args.edge.0).rule) is.built.details
+    c.rule.ensures ∙ ap (λ (x : GraphModel). (detail_at x.built.details c.args.edge.0).rule) c.self.view_is ∙ ap (λ ds. (detail_at ds c.args.edge.0).rule) is.built.details

@@ -10,9 +10,9 @@ returns-clause-there c =
     let g = c.self.inside in
     let below : c.args.edge.0 < length g.built.details = subst (λ n. c.args.edge.0 < n) (sym c.self.invariant.count) (subst (λ x. c.args.edge.0 < length (edges_of x)) (sym c.self.view_is) c.requires) in
     let known = known-at (IsKnown g.declarations) g.built.details c.args.edge.0 _ below c.self.invariant.known in
-    subst (λ (x : GraphModel). c.detail.result.scope < length x.declarations.scopes) c.self.view_is
-    (subst (λ n. n < length g.declarations.scopes) (sym c.detail.ensures.scope) known.0)
+    subst (λ (x : GraphModel). c.scope.result < length x.declarations.scopes) c.self.view_is
+    (subst (λ n. n < length g.declarations.scopes) (sym c.scope.ensures) known.0)
 
 pub returns-clause-stated : goal.returns-clause-stated
 returns-clause-stated c = λ entries is.
-    c.detail.ensures.scope ∙ ap (λ (x : GraphModel). (detail_at x.built.details c.args.edge.0).scope) c.self.view_is ∙ ap (λ ds. (detail_at ds c.args.edge.0).scope) is.built.details
+    c.scope.ensures ∙ ap (λ (x : GraphModel). (detail_at x.built.details c.args.edge.0).scope) c.self.view_is ∙ ap (λ ds. (detail_at ds c.args.edge.0).scope) is.built.details
