@@ -1,16 +1,16 @@
 //! The graph of all edges of a run.
 
-ghost use Rattle.std.specs.Prelude.{◌≡◌, ℕ, List, ◌+◌, ◌<◌, ◌≤◌, ◌^◌, None, Some, is_some, length, slice_index_or, slice_get, option_map, position, bytes_eq, map, IfOk, All, IfSome, if◌then◌else◌, nat_lt};
-ghost use Rattle.std.specs.List.{AllByRecursion, IsDistinct, list_any};
-ghost use Rattle.nj_cycles.specs.Cycles.{IsFirstOnCycle, IsAcyclic};
+ghost use Rattle.std.specs.Prelude.{◌≡◌, ℕ, List, ◌+◌, ◌<◌, ◌≤◌, ◌^◌, None, Some, is_some, length, slice_get, option_map, position, bytes_eq, map, IfOk, All, IfSome, if◌then◌else◌, nat_lt};
+ghost use Rattle.std.specs.List.{IsDistinct, list_any};
+ghost use Rattle.nj_cycles.specs.Cycles.{IsAcyclic};
 ghost use Rattle.nj_edges.specs.Edges.{edge_at, outputs_of, inputs_of, kind_at, is_named, maker_of, roots_of, users_of, validation_users_of};
-ghost use Rattle.nj_edges.specs.Inside.EdgesHeld.{AreNumbers, IsWithin, makers_in_rows, paths_at, within};
+ghost use Rattle.nj_edges.specs.Inside.EdgesHeld.{AreNumbers, paths_at, within};
 ghost use Rattle.nj_edges.specs.EdgeTables.{no_files};
 ghost use Rattle.nj_names.specs.Files.{path_at, AreFiles};
 ghost use Rattle.nj_edges.specs.Graph.{FinishesAs};
 ghost use Rattle.nj_edges.specs.Needs.{makers_of_inputs};
 
-use crate::edges::{EdgeNo, EdgeRow, Edges, Kind, KindEnds, Span};
+use crate::edges::{EdgeNo, EdgeRow, Edges, Kind, KindEnds};
 use crate::input_makers::InputMakers;
 use crate::list_parts::{first, part};
 use crate::makers::Makers;
