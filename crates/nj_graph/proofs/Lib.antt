@@ -6,6 +6,7 @@ pub mod Faultless
 pub mod FirstPositions
 pub mod FirstTimes
 pub mod Found
+pub mod FoundLemmas
 pub mod GraphRows
 pub mod Holding
 pub mod JoinRows
@@ -21,8 +22,10 @@ pub mod LogGraphs
 pub mod LogLaws
 pub mod LogLemmas
 pub mod LogRows
+pub mod MadeLemmas
 pub mod MainFiles
 pub mod NameLemmas
+pub mod NeedsLemmas
 pub mod Naming
 pub mod Openings
 pub mod OpenScopes
@@ -35,10 +38,13 @@ pub mod ResponseRows
 pub mod ParsedLemmas
 pub mod PickedTargets
 pub mod Positions
+pub mod RoundLemmas
 pub mod SortLemmas
 pub mod Stated
 pub mod TargetLaws
 pub mod TargetRows
+pub mod UndeclaredLemmas
+pub mod UndeclaredRows
 pub mod Tables
 pub mod Compared
 pub mod Turns

@@ -11,6 +11,7 @@ pub mod Reading
 pub mod ResponseFiles
 pub mod Runs
 pub mod Targets
+pub mod Undeclared
 -- how the code does that
 pub mod Inside
 -- what contracts cite of lower crates

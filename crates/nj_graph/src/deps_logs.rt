@@ -56,7 +56,11 @@ impl Graph {
     }
 
     // For each edge, the number under which the log has its first output.
-    fn logged_numbers(&self, alloc: Global, log: &DepsLog) -> Result<Vec<Option<usize>>, AllocError>
+    pub(crate) fn logged_numbers(
+        &self,
+        alloc: Global,
+        log: &DepsLog,
+    ) -> Result<Vec<Option<usize>>, AllocError>
         ensures count { IfOk result (λ numbers.
             length numbers.items ≡ length (edges_of self.now)) }
         ensures numbers { (entries : List ReadStatement) → IsGraphOf self.now entries
@@ -199,7 +203,7 @@ fn add_inputs(
 }
 
 // The clean path of a path, in the buffer where it is another one. A log has no empty path.
-fn clean<'b>(buffer: &'b mut Vec<u8>, path: &'b [u8]) -> Result<&'b [u8], AllocError>
+pub(crate) fn clean<'b>(buffer: &'b mut Vec<u8>, path: &'b [u8]) -> Result<&'b [u8], AllocError>
     ensures { IfOk result (λ clean. clean.now ≡ clean_path_of path.now) }
 {
     if is_clean(path) {

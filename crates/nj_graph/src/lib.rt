@@ -10,18 +10,23 @@ mod edge_assignments;
 mod edge_values;
 mod error;
 mod file_statements;
+mod found_inputs;
 mod graph;
 mod graph_edges;
 mod laws;
 mod loading;
+mod made_files;
+mod needs_search;
 mod opened_files;
 mod origins;
 mod pools;
 mod reader;
 mod response_files;
+mod round_set;
 mod rules;
 mod scopes;
 mod targets;
+mod undeclared;
 
 pub use dyndep_files::join_dyndeps;
 pub use error::Error;
@@ -41,3 +46,4 @@ pub use nj_scope::{
 pub use nj_text::{Part, TextFault, clean_path, quote_into};
 pub use origins::Opening;
 pub use targets::pick_target;
+pub use undeclared::{UndeclaredInput, undeclared_inputs};

@@ -1,0 +1,48 @@
+//! The files that edges make at the paths of a deps log.
+
+ghost use Rattle.std.specs.Prelude.{◌≡◌, length, All, IfOk, OnOk, bytes_eq};
+ghost use Rattle.std.specs.List.{IsDistinct};
+ghost use Rattle.nj_graph.specs.Inside.UndeclaredFound.{AreMade, IsKnownIfAny, MadeIs};
+
+use crate::deps_logs::clean;
+use nj_deps::DepsLog;
+use nj_edges::{EdgeGraph, EdgeNo, FileNo};
+use std::alloc::{AllocError, Global};
+
+/// A file, and the edge that makes it.
+#[derive(Clone, Copy)]
+pub(crate) struct MadeFile {
+    pub(crate) file: FileNo,
+    pub(crate) maker: EdgeNo,
+}
+
+/// For each path of a log, the file at its clean path; `None` if no edge makes that.
+pub(crate) fn made_files(
+    alloc: Global,
+    graph: &EdgeGraph,
+    log: &DepsLog,
+) -> Result<Vec<Option<MadeFile>>, AllocError>
+    ensures count { IfOk result (λ made. length made.items ≡ length log.now.paths) }
+    ensures made { IfOk result (λ made. AreMade graph.now log.now.paths made.items) }
+    ensures known { IfOk result (λ made. All (IsKnownIfAny graph.now) made.items) }
+    ensures each_path_once { OnOk result (IsDistinct bytes_eq log.now.paths) }
+{
+    let count = log.path_count();
+    let mut made = Vec::with_capacity(alloc, count)?;
+    let mut buffer = Vec::new(alloc);
+    'paths: for number in 0..count {
+        let path = clean(&mut buffer, log.path(number))?;
+        made.push(made_file(graph, path))?;
+    }
+    Ok(made)
+}
+
+// The file at a path, which must be clean; `None` if no edge makes it.
+fn made_file(graph: &EdgeGraph, path: &[u8]) -> Option<MadeFile>
+    ensures made { MadeIs graph.now path.now result }
+    ensures known { IsKnownIfAny graph.now result }
+{
+    let file = graph.file_named(path)?;
+    let maker = graph.maker(file)?;
+    Some(MadeFile { file, maker })
+}
