@@ -68,14 +68,17 @@ class Module:
 
 
 def add_to(of, chunk, name):
-    """Adds a part of a file to what the file defines: a new definition, or an equation of the last
-    one, which is called `name`. Returns the name of the definition."""
+    """Adds a part of a file to what the file defines: a new definition, several that cite each other, or
+    an equation of the last one, which is called `name`. Returns the name of the definition."""
     words = chunk.split()
     head = [word for word in words if word not in KEYWORDS]
     if words[0] not in KEYWORDS and words[1] != ":":
         of.defined[name].text += "\n" + chunk
         return name
-    definition = of.defined[head[0]] = Definition(of, head[0], chunk)
+    if head[0] == "mutual":
+        head = re.findall(r"^\s+pub (\S+) :", chunk, re.M)
+    definition = Definition(of, head[0], chunk)
+    of.defined.update(dict.fromkeys(head if "mutual" in words[:2] else head[:1], definition))
     if "data" in words[:2]:
         constructors = re.findall(r"^\s+(\S+) :", chunk, re.M)
         of.defined.update(dict.fromkeys(constructors, definition))

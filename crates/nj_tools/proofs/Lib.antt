@@ -11,6 +11,9 @@ pub mod ListingLemmas
 pub mod ChosenLemmas
 pub mod CompdbLemmas
 pub mod CompdbRows
+pub mod EdgeObjectLemmas
+pub mod HeldLemmas
+pub mod ObjectLemmas
 pub mod OwnLemmas
 pub mod QueryLemmas
 pub mod QueryRows

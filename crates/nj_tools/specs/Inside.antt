@@ -4,6 +4,7 @@ pub mod Collections
 pub mod Commands
 pub mod CompdbHeld
 pub mod MemorySinksHeld
+pub mod ObjectTexts
 pub mod QueriesHeld
 pub mod QuotesHeld
 pub mod Seen

@@ -8,6 +8,8 @@ pub mod Queries
 pub mod RuleLists
 pub mod Compdb
 pub mod CompdbJson
+pub mod JsonObjects
+pub mod EdgeObjects
 pub mod Laws
 pub mod MemorySinks
 pub mod Errors

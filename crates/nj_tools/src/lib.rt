@@ -4,12 +4,14 @@
 mod chosen_rules;
 mod command_lines;
 mod compdb;
+mod edge_objects;
 mod error;
 mod file_list;
 mod input_lists;
 mod json_strings;
 mod laws;
 mod memory_sink;
+mod object_text;
 mod output_block;
 mod queries;
 mod rule_lines;
@@ -24,6 +26,7 @@ mod writer;
 
 pub use command_lines::{write_commands, write_single_commands};
 pub use compdb::write_compdb;
+pub use edge_objects::write_edge_objects;
 pub use error::Error;
 pub use input_lists::write_inputs;
 pub use laws::{compdb_law, depth_law, input_lines_law, list_law};

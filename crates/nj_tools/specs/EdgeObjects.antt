@@ -1,0 +1,78 @@
+-- The edges of a graph as objects of JSON, a line each.
+use Rattle.std.specs.Prelude.{ℕ, not, Option, List, [], ◌∷◌, ◌++◌, codes, find, flat_map, length, take_while}
+use Rattle.std.specs.Fmt.{decimal}
+use Rattle.std.specs.List.{range_with_len}
+use Rattle.json.specs.Json.{Json, boolean, number, string, array, object}
+use Rattle.nj_text.specs.declared.spot.Spot.{Spot}
+use Rattle.nj_scope.specs.ReadingList.{ReadStatement}
+use Rattle.nj_edges.specs.Edges.{EdgePaths, edge_at}
+use Rattle.nj_statements.specs.EdgeList.{edges_read, paths_of_edges}
+use Rattle.nj_graph.specs.Graph.{detail_stated, late_text_of, rule_name_at}
+use Rattle.nj_tools.specs.JsonObjects.{json_line, members_of, strings, strings_are_utf8}
+
+abbrev pub place_object : (file : List ℕ) → Spot → Json
+place_object file spot =
+    object (members_of (
+    (codes "file", string file) ∷ (codes "line", number (decimal spot.line)) ∷ (codes "column", number (decimal spot.column)) ∷ []
+    ))
+
+-- the number of an edge, the place of its build statement, and its rule
+abbrev pub head_members : List ReadStatement → (edge : ℕ) → List (List ℕ × Json)
+head_members entries edge =
+    let detail = detail_stated entries edge in
+    (codes "edge", number (decimal edge))
+    ∷ (codes "place", place_object detail.file detail.spot)
+    ∷ (codes "rule", string (rule_name_at entries edge))
+    ∷ (codes "phony", boolean (edge_at (paths_of_edges (edges_read entries)) edge).is_phony)
+    ∷ []
+
+-- its files by kind
+abbrev pub file_members : EdgePaths → List (List ℕ × Json)
+file_members e =
+    (codes "outputs", array (strings e.explicit_outputs))
+    ∷ (codes "implicit_outputs", array (strings e.implicit_outputs))
+    ∷ (codes "inputs", array (strings e.explicit_inputs))
+    ∷ (codes "implicit_inputs", array (strings e.implicit_inputs))
+    ∷ (codes "order_only_inputs", array (strings e.order_only_inputs))
+    ∷ (codes "validations", array (strings e.validations))
+    ∷ []
+
+-- the value of a variable for it, after all statements
+abbrev pub value_member : List ReadStatement → (edge : ℕ) → (name : List ℕ) → List ℕ × Json
+value_member entries edge name = (name, string (late_text_of entries edge name))
+
+abbrev pub value_members : List ReadStatement → (edge : ℕ) → List (List ℕ × Json)
+value_members entries edge =
+    value_member entries edge (codes "command")
+    ∷ value_member entries edge (codes "description")
+    ∷ value_member entries edge (codes "depfile")
+    ∷ value_member entries edge (codes "deps")
+    ∷ value_member entries edge (codes "rspfile")
+    ∷ value_member entries edge (codes "rspfile_content")
+    ∷ value_member entries edge (codes "pool")
+    ∷ value_member entries edge (codes "dyndep")
+    ∷ value_member entries edge (codes "generator")
+    ∷ value_member entries edge (codes "restat")
+    ∷ []
+
+-- the object of an edge: these keys, always and in this order
+abbrev pub edge_object : List ReadStatement → (edge : ℕ) → Json
+edge_object entries edge =
+    object (members_of (
+    head_members entries edge ++ file_members (edge_at (paths_of_edges (edges_read entries)) edge) ++ value_members entries edge
+    ))
+
+-- ---- the lines
+
+abbrev pub edge_numbers : List ReadStatement → List ℕ
+edge_numbers entries = range_with_len 0 (length (edges_read entries))
+
+-- the edges before the first one whose object JSON cannot contain, a line each
+abbrev pub edge_lines : List ReadStatement → List ℕ
+edge_lines entries =
+    flat_map (λ edge. json_line (edge_object entries edge))
+    (take_while (λ edge. strings_are_utf8 (edge_object entries edge)) (edge_numbers entries))
+
+-- that edge
+abbrev pub unwritable_edge : List ReadStatement → Option ℕ
+unwritable_edge entries = find (λ edge. not (strings_are_utf8 (edge_object entries edge))) (edge_numbers entries)
