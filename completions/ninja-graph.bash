@@ -71,7 +71,7 @@ _ninja_graph() {
     elif [[ ! $subcommand && $current == -* ]]; then
         offer=(-W '-h --help -V --version')
     elif [[ ! $subcommand ]]; then
-        offer=(-W affected)
+        offer=(-W 'affected json')
     elif [[ ! $ended && $current == -* ]]; then
         offer=(-W "-C -f --dyndep -h --help -- $(_ninja_graph_options "$subcommand")")
     fi

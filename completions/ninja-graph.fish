@@ -2,7 +2,8 @@
 
 # Prints the subcommands, each with what it writes.
 function __ninja_graph_subcommands
-    printf '%s\t%s\n' affected 'The outputs that a change of files affects'
+    printf '%s\t%s\n' affected 'The outputs that a change of files affects' \
+        json 'Each edge as an object of JSON'
 end
 
 # Whether one of these is the subcommand; without any, whether there is none yet.

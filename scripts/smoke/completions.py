@@ -60,6 +60,7 @@ GRAPH_LINES = [
     (["affected", "--source-dir", "te"], "text"),
     (["affected", "-C", "te"], "text"),
     (["affected", "-f", ""], FILES),
+    (["json", ""], ""),
 ]
 
 

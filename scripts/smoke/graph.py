@@ -14,6 +14,7 @@ DONE, FAULT, USAGE, LOOK, OUTPUT_FAILED = range(5)
 # answers on examples/project.
 SUBCOMMANDS = {
     "affected": (["--source-dir", "--rule", "--prefix", "--no-phony"], []),
+    "json": ([], []),
 }
 EVERY_SUBCOMMAND = ["-C", "-f", "--dyndep", "-h, --help"]
 # A changed path for those who read some.

@@ -4,6 +4,7 @@
 mod affected;
 mod changes;
 mod failure;
+mod json;
 mod listing;
 mod manifest;
 mod reading;
@@ -86,6 +87,7 @@ fn answer(rt: HostRuntime, matches: &ArgMatches<'_>) -> Result<Status, Failure> 
     let graph = loaded.graph();
     let answered = match name {
         "affected" => affected::answer(rt, graph, options),
+        "json" => json::answer(rt, graph),
         _ => Ok(Status::Usage),
     };
     // The process ends here, and its memory with it.

@@ -1,6 +1,6 @@
 //! The words of a command line.
 
-use crate::affected;
+use crate::{affected, json};
 use clap::{Arg, ArgAction, Command};
 use std::alloc::{AllocError, Global};
 
@@ -16,7 +16,8 @@ pub fn command<'a>(alloc: Global) -> Result<Command<'a>, AllocError> {
         .version(VERSION)
         .subcommand_required(true)
         .disable_help_subcommand(true)
-        .subcommand(of_graph(alloc, affected::command(alloc)?)?)
+        .subcommand(of_graph(alloc, affected::command(alloc)?)?)?
+        .subcommand(of_graph(alloc, json::command(alloc))?)
 }
 
 /// A subcommand with the options that name its graph.
