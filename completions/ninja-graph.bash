@@ -1,9 +1,10 @@
-# Completion of ninja-graph in bash. Rules come from ninja-explain.
+# Completion of ninja-graph in bash. Rules and targets come from ninja-explain.
 
 # The options of a subcommand, without those that every subcommand takes.
 _ninja_graph_options() {
     case $1 in
         affected) echo '--source-dir --rule --prefix --no-phony' ;;
+        why) echo '--validations' ;;
     esac
 }
 
@@ -11,6 +12,17 @@ _ninja_graph_options() {
 # `_.-`.
 _ninja_graph_rules() {
     (cd "$folder" 2>/dev/null && ninja-explain -f "$file" -t rules 2>/dev/null)
+}
+
+# Offers the outputs of all edges that begin with the word at the cursor. A manifest may come from a
+# stranger, so its paths never go through `compgen -W`, which would run what a path has in `$(..)`; and
+# a path with `$` or a backtick is not offered, since readline does not always quote these.
+_ninja_graph_offer_targets() {
+    local path start=${current//[\\\"\']/}
+    while IFS= read -r path; do
+        [[ $path == "$start"* && $path != *[\$\`]* ]] && COMPREPLY+=("$path")
+    done < <(cd "$folder" 2>/dev/null && ninja-explain -f "$file" -t targets all 2>/dev/null |
+        sed 's/: [^:]*$//')
 }
 
 # What the word of an option is without quotes, with the home folder for `~`.
@@ -71,9 +83,13 @@ _ninja_graph() {
     elif [[ ! $subcommand && $current == -* ]]; then
         offer=(-W '-h --help -V --version')
     elif [[ ! $subcommand ]]; then
-        offer=(-W 'affected json')
+        offer=(-W 'affected json why')
     elif [[ ! $ended && $current == -* ]]; then
         offer=(-W "-C -f --dyndep -h --help -- $(_ninja_graph_options "$subcommand")")
+    elif [[ $subcommand == why ]]; then
+        _ninja_graph_offer_targets
+        # FILE^ is a target too, and a source is a file
+        offer=(-f)
     fi
 
     [[ ${offer[0]} == -[fd] ]] && compopt -o filenames 2>/dev/null

@@ -1,9 +1,10 @@
-# Completion of ninja-graph in fish. Rules come from ninja-explain.
+# Completion of ninja-graph in fish. Rules and targets come from ninja-explain.
 
 # Prints the subcommands, each with what it writes.
 function __ninja_graph_subcommands
     printf '%s\t%s\n' affected 'The outputs that a change of files affects' \
-        json 'Each edge as an object of JSON'
+        json 'Each edge as an object of JSON' \
+        why 'A chain of inputs by which a file needs another'
 end
 
 # Whether one of these is the subcommand; without any, whether there is none yet.
@@ -47,6 +48,15 @@ function __ninja_graph_rules
     env -C $folder ninja-explain -f $file -t rules 2>/dev/null
 end
 
+# Prints the outputs of all edges.
+function __ninja_graph_targets
+    set -l file (__ninja_graph_value -f)
+    set -l folder (__ninja_graph_value -C)
+    test -n "$file"; or set file build.ninja
+    test -n "$folder"; or set folder .
+    env -C $folder ninja-explain -f $file -t targets all 2>/dev/null | string replace -r ': [^:]*$' ''
+end
+
 complete -c ninja-graph -f
 
 complete -c ninja-graph -n __ninja_graph_is -a '(__ninja_graph_subcommands)'
@@ -63,3 +73,7 @@ complete -c ninja-graph -n '__ninja_graph_is affected' -l rule -x -d 'Only edges
     -a '(__ninja_graph_rules)'
 complete -c ninja-graph -n '__ninja_graph_is affected' -l prefix -x -d 'Only paths that begin so'
 complete -c ninja-graph -n '__ninja_graph_is affected' -l no-phony -d 'No outputs of phony edges'
+
+complete -c ninja-graph -n '__ninja_graph_is why' -a '(__ninja_graph_targets)'
+complete -c ninja-graph -n '__ninja_graph_is why' -F
+complete -c ninja-graph -n '__ninja_graph_is why' -l validations -d 'Take validations as inputs too'

@@ -61,6 +61,11 @@ GRAPH_LINES = [
     (["affected", "-C", "te"], "text"),
     (["affected", "-f", ""], FILES),
     (["json", ""], ""),
+    (["why", "te"], "test"),
+    (["why", "test", "out/l"], "out/lines.o out/libtext.a"),
+    (["why", "-C", "../hello", ""], "hello.o greet.o hello"),
+    # files where no target fits
+    (["why", "test", "bu"], "build.ninja"),
 ]
 
 

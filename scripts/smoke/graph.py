@@ -15,6 +15,7 @@ DONE, FAULT, USAGE, LOOK, OUTPUT_FAILED = range(5)
 SUBCOMMANDS = {
     "affected": (["--source-dir", "--rule", "--prefix", "--no-phony"], []),
     "json": ([], []),
+    "why": (["--validations"], ["test", "text/words.c"]),
 }
 EVERY_SUBCOMMAND = ["-C", "-f", "--dyndep", "-h, --help"]
 # A changed path for those who read some.

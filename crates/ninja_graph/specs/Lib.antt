@@ -1,5 +1,6 @@
 -- what must be believed
 pub mod Affected
+pub mod Chains
 pub mod Manifest
 pub mod Reports
 pub mod Statuses

@@ -2,6 +2,7 @@
 #![tactic(auto)]
 
 mod affected;
+mod chains;
 mod changes;
 mod failure;
 mod json;
@@ -10,6 +11,7 @@ mod manifest;
 mod reading;
 mod report;
 mod status;
+mod why;
 mod words;
 
 use crate::failure::Failure;
@@ -88,6 +90,7 @@ fn answer(rt: HostRuntime, matches: &ArgMatches<'_>) -> Result<Status, Failure> 
     let answered = match name {
         "affected" => affected::answer(rt, graph, options),
         "json" => json::answer(rt, graph),
+        "why" => why::answer(rt, graph, options),
         _ => Ok(Status::Usage),
     };
     // The process ends here, and its memory with it.

@@ -1,6 +1,6 @@
 //! The words of a command line.
 
-use crate::{affected, json};
+use crate::{affected, json, why};
 use clap::{Arg, ArgAction, Command};
 use std::alloc::{AllocError, Global};
 
@@ -17,7 +17,8 @@ pub fn command<'a>(alloc: Global) -> Result<Command<'a>, AllocError> {
         .subcommand_required(true)
         .disable_help_subcommand(true)
         .subcommand(of_graph(alloc, affected::command(alloc)?)?)?
-        .subcommand(of_graph(alloc, json::command(alloc))?)
+        .subcommand(of_graph(alloc, json::command(alloc))?)?
+        .subcommand(of_graph(alloc, why::command(alloc)?)?)
 }
 
 /// A subcommand with the options that name its graph.

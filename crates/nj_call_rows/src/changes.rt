@@ -40,7 +40,7 @@ fn put_all_affected(
 }
 
 /// The files at the clean paths of these words. A path that no edge names is passed over.
-fn files_at(alloc: Global, graph: &Graph, paths: &str) -> Result<Vec<FileNo>, Error>
+pub(crate) fn files_at(alloc: Global, graph: &Graph, paths: &str) -> Result<Vec<FileNo>, Error>
     ensures { IfOk result (λ files.
         All (λ file. file.0 < length (files_of graph.now)) files.items) }
 {
@@ -55,7 +55,7 @@ fn files_at(alloc: Global, graph: &Graph, paths: &str) -> Result<Vec<FileNo>, Er
 }
 
 /// Appends the outputs of an edge, each after a space.
-fn put_outputs(text: &mut Vec<u8>, graph: &Graph, edge: EdgeNo) -> Result<(), AllocError>
+pub(crate) fn put_outputs(text: &mut Vec<u8>, graph: &Graph, edge: EdgeNo) -> Result<(), AllocError>
     requires { edge.0 < length (edges_of graph.now) }
 {
     'outputs: for output in graph.outputs(edge) {

@@ -1,5 +1,6 @@
 //! What the files of a row are loaded as: their graph, or their first fault.
 
+use crate::chains::{put_between, put_needed};
 use crate::changes::put_affected;
 use crate::graphs::put_of_graph;
 use crate::printer::put_shown;
@@ -10,8 +11,9 @@ use std::alloc::{AllocError, Global};
 
 /// Appends what is asked of the files, of which `main` is the main one: `load`, the line of their
 /// first fault, or `accepted`; `cause`, the cause of that fault; `kept`, the files that are kept;
-/// `affected` and `affected-joined`, what a change of the files at the paths `words` affects; any
-/// other kind, a part of their graph.
+/// `affected` and `affected-joined`, what a change of the files at the paths `words` affects;
+/// `needed`, what these files need; `between`, and with validations `between-with-validations`, by
+/// which chain the first of them needs the second; any other kind, a part of their graph.
 pub(crate) fn put_of_files(
     alloc: Global,
     text: &mut Vec<u8>,
@@ -86,6 +88,9 @@ fn put_part_of(
         "load" | "cause" => text.extend_from_slice(b"accepted\n"),
         "kept" => put_kept(text, loaded),
         "affected" | "affected-joined" => put_affected(alloc, text, loaded.graph(), words),
+        "needed" => put_needed(alloc, text, loaded.graph(), words),
+        "between" => put_between(alloc, text, loaded.graph(), words, false),
+        "between-with-validations" => put_between(alloc, text, loaded.graph(), words, true),
         _ => put_of_graph(alloc, text, loaded.graph(), kind, words),
     }
 }

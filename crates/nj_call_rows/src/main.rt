@@ -3,6 +3,7 @@
 #![tactic(auto)]
 
 mod calls;
+mod chains;
 mod changes;
 mod declared;
 mod deps_logs;

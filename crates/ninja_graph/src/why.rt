@@ -1,0 +1,58 @@
+//! The subcommand `why`: the chain by which a file needs another.
+
+ghost use Rattle.std.specs.Prelude.{◌<◌, IfOk, length};
+ghost use Rattle.nj_graph.specs.Graph.{files_of};
+
+use crate::chains::write_chain;
+use crate::failure::Failure;
+use crate::status::Status;
+use crate::words::flag;
+use clap::{Arg, ArgMatches, Command};
+use nj_graph::{FileNo, Graph, GraphFault, pick_target};
+use nj_tools::WriteSink;
+use std::alloc::{AllocError, Global};
+
+const NAME: &str = "why";
+
+const ABOUT: &str = "Write a shortest chain of inputs by which A needs B";
+
+const MORE: &str = "\
+A line for each edge of the chain: its place, its rule, what it makes, and which kind of input comes
+next. Of several shortest chains it is the first when inputs are tried from left to right. Status 3
+means that there is none; nothing is written then.";
+
+/// The subcommand with its options.
+pub fn command<'a>(alloc: Global) -> Result<Command<'a>, AllocError> {
+    Command::new(alloc, NAME)
+        .about(ABOUT)
+        .after_help(MORE)
+        .arg(flag(
+            alloc,
+            "validations",
+            "Take validations as inputs too, after those of their edge",
+        ))?
+        .arg(word(alloc, "A", "The file that needs the other"))?
+        .arg(word(alloc, "B", "The file that is needed"))
+}
+
+/// A word that has to be there.
+fn word<'a>(alloc: Global, name: &'a str, help: &'a str) -> Arg<'a> {
+    Arg::new(alloc, name).required(true).help(help)
+}
+
+/// Writes a chain by which the first of the two files needs the second.
+pub fn answer(rt: HostRuntime, graph: &Graph, options: &ArgMatches<'_>) -> Result<Status, Failure> {
+    let from = file_at(rt.alloc(), graph, options.get_str("A").unwrap_or(""))?;
+    let to = file_at(rt.alloc(), graph, options.get_str("B").unwrap_or(""))?;
+    let with_validations = options.get_flag("validations");
+    let mut out = WriteSink::new(rt.stdout());
+    let status = write_chain(rt.alloc(), graph, from, to, with_validations, &mut out)?;
+    Ok(status)
+}
+
+/// The file that a word means.
+fn file_at(alloc: Global, graph: &Graph, word: &str) -> Result<FileNo, GraphFault>
+    ensures { IfOk result (λ file. file.0 < length (files_of graph.now)) }
+{
+    pick_target(alloc, graph, word.as_bytes())
+}
