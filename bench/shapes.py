@@ -4,6 +4,8 @@
     inputs      one edge with N inputs
     chain       N edges, each of which needs the next one: a walk from the first goes N deep
     shared      N edges that all use one file
+    wide        N edges with 30 inputs each, as programs of many objects have: the first needs 30
+                others, each of these 30 more, and so on
     defaults    an edge with N outputs, and one `default` statement that names them all
     references  N edges of a rule whose command has 1,000 references and 10 KB
     bound       N edges with their own description. The rule's refers to the command, and the
@@ -22,6 +24,7 @@ import sys
 REFERENCES = 1000
 CYCLE = 2
 TRANSIT = 998
+INPUTS_EACH = 30
 
 
 def rule(*lines):
@@ -55,6 +58,18 @@ def chain(count):
     for number in range(count - 1):
         yield edge(number, built(number + 1))
     yield edge(count - 1, "src/first.c")
+
+
+def part(number):
+    return f"src/shared/libshared-257.a.p/part_{number:07}.c.o"
+
+
+def wide(count):
+    yield RULE
+    for number in range(count):
+        needed = [INPUTS_EACH * number + index + 1 for index in range(INPUTS_EACH)]
+        files = [part(other) if other < count else source(other) for other in needed]
+        yield f"build {part(number)}: cc {' '.join(files)}\n"
 
 
 def shared(count):
@@ -145,6 +160,7 @@ SHAPES = {
     "inputs": inputs,
     "chain": chain,
     "shared": shared,
+    "wide": wide,
     "defaults": defaults,
     "references": references,
     "bound": bound,

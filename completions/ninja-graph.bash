@@ -4,6 +4,7 @@
 _ninja_graph_options() {
     case $1 in
         affected) echo '--source-dir --rule --prefix --no-phony' ;;
+        draw) echo '--affected --fold --limit --inputs' ;;
         why) echo '--validations' ;;
     esac
 }
@@ -44,7 +45,7 @@ _ninja_graph_words() {
         [[ $ended ]] && continue
         case $option in
             --) ended=yes ;;
-            -C | -f | --source-dir | --rule | --prefix)
+            -C | -f | --source-dir | --rule | --prefix | --limit | --inputs)
                 [[ ${COMP_WORDS[index + 1]} == '=' ]] && ((index++))
                 if ((++index >= COMP_CWORD)); then
                     wanted=$option
@@ -83,10 +84,10 @@ _ninja_graph() {
     elif [[ ! $subcommand && $current == -* ]]; then
         offer=(-W '-h --help -V --version')
     elif [[ ! $subcommand ]]; then
-        offer=(-W 'affected json why')
+        offer=(-W 'affected draw json why')
     elif [[ ! $ended && $current == -* ]]; then
         offer=(-W "-C -f --dyndep -h --help -- $(_ninja_graph_options "$subcommand")")
-    elif [[ $subcommand == why ]]; then
+    elif [[ $subcommand == draw || $subcommand == why ]]; then
         _ninja_graph_offer_targets
         # FILE^ is a target too, and a source is a file
         offer=(-f)

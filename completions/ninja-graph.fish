@@ -3,6 +3,7 @@
 # Prints the subcommands, each with what it writes.
 function __ninja_graph_subcommands
     printf '%s\t%s\n' affected 'The outputs that a change of files affects' \
+        draw 'A drawing of what targets need' \
         json 'Each edge as an object of JSON' \
         why 'A chain of inputs by which a file needs another'
 end
@@ -74,6 +75,10 @@ complete -c ninja-graph -n '__ninja_graph_is affected' -l rule -x -d 'Only edges
 complete -c ninja-graph -n '__ninja_graph_is affected' -l prefix -x -d 'Only paths that begin so'
 complete -c ninja-graph -n '__ninja_graph_is affected' -l no-phony -d 'No outputs of phony edges'
 
-complete -c ninja-graph -n '__ninja_graph_is why' -a '(__ninja_graph_targets)'
-complete -c ninja-graph -n '__ninja_graph_is why' -F
+complete -c ninja-graph -n '__ninja_graph_is draw why' -a '(__ninja_graph_targets)'
+complete -c ninja-graph -n '__ninja_graph_is draw why' -F
+complete -c ninja-graph -n '__ninja_graph_is draw' -l affected -d 'Draw what a change of the files affects'
+complete -c ninja-graph -n '__ninja_graph_is draw' -l fold -d 'Draw each phony edge as a point'
+complete -c ninja-graph -n '__ninja_graph_is draw' -l limit -x -d 'How many nodes at most'
+complete -c ninja-graph -n '__ninja_graph_is draw' -l inputs -x -d 'How many inputs of an edge at most'
 complete -c ninja-graph -n '__ninja_graph_is why' -l validations -d 'Take validations as inputs too'

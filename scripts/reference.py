@@ -27,7 +27,7 @@ HEAD = re.compile(r'^( *)pub (?:extern "C" |unsafe |const )*fn (\w+)', re.M)
 IMPL = re.compile(r"^impl\b(?:<[^{]*?>)? (?:[\w:<>, ']+ for )?(\w+)[^{]*\{", re.M)
 TYPE = re.compile(r"^pub (struct|enum|trait) (\w+)", re.M)
 CLAUSE = re.compile(r"^ *(requires|ensures)(?: (\w+))? \{", re.M)
-IMPORT = re.compile(r"ghost use Rattle\.((?:nj_|affected|audit|cache|draw)\w*)\.[\w.]+\.\{([^}]*)\}")
+IMPORT = re.compile(r"ghost use Rattle\.((?:nj_|affected|audit|cache)\w*)\.[\w.]+\.\{([^}]*)\}")
 
 
 @dataclass

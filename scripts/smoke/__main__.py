@@ -1,6 +1,6 @@
 """Runs the built programs: python3 scripts/smoke [--program PROGRAM] [--jobs N] [NAME..]
 
-PROGRAM is ninja-explain, by default as the gate leaves it; ninja-graph, the three programs on the
+PROGRAM is ninja-explain, by default as the gate leaves it; ninja-graph, the two programs on the
 library and the runner of rows are where the gate leaves them too. The sweeps of memory, calls, bytes and sizes are
 run as well.
 
@@ -23,7 +23,6 @@ if __name__ == "__main__":
     given = {
         "program": Program(words.program),
         "graph": Program(built("ninja_graph")),
-        "draw": Program(built("draw_graph")),
         "keys": Program(built("cache_keys")),
         "audit": Program(built("audit_build")),
         "runner": Program(built("nj_call_rows")),

@@ -14,6 +14,7 @@ DONE, FAULT, USAGE, LOOK, OUTPUT_FAILED = range(5)
 # answers on examples/project.
 SUBCOMMANDS = {
     "affected": (["--source-dir", "--rule", "--prefix", "--no-phony"], []),
+    "draw": (["--affected", "--fold", "--limit", "--inputs"], ["test"]),
     "json": ([], []),
     "why": (["--validations"], ["test", "text/words.c"]),
 }

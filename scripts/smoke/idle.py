@@ -3,7 +3,7 @@
 from lib.checks import CHECKS, check, results
 from lib.programs import Program
 
-PROGRAMS = ["program", "graph", "draw", "keys", "audit", "runner"]
+PROGRAMS = ["program", "graph", "keys", "audit", "runner"]
 
 
 @check(alone=True)

@@ -2,6 +2,7 @@
 pub mod Affected
 pub mod Chains
 pub mod Manifest
+pub mod Quotes
 pub mod Reports
 pub mod Statuses
 -- how the code does that

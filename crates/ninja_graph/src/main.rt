@@ -4,6 +4,8 @@
 mod affected;
 mod chains;
 mod changes;
+mod draw;
+mod drawing;
 mod failure;
 mod json;
 mod listing;
@@ -89,6 +91,7 @@ fn answer(rt: HostRuntime, matches: &ArgMatches<'_>) -> Result<Status, Failure> 
     let graph = loaded.graph();
     let answered = match name {
         "affected" => affected::answer(rt, graph, options),
+        "draw" => draw::answer(rt, graph, options),
         "json" => json::answer(rt, graph),
         "why" => why::answer(rt, graph, options),
         _ => Ok(Status::Usage),

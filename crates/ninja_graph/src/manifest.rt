@@ -175,7 +175,7 @@ fn has_flag(flags: &[bool], edges: &[EdgeNo]) -> bool
 }
 
 /// Whether the flag at an index is set; past the last one it is not.
-fn is_set(flags: &[bool], index: usize) -> bool
+pub fn is_set(flags: &[bool], index: usize) -> bool
     ensures { result ≡ slice_index_or flags.now index false }
 {
     match flags.get(index) {

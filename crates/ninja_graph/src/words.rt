@@ -1,6 +1,6 @@
 //! The words of a command line.
 
-use crate::{affected, json, why};
+use crate::{affected, draw, json, why};
 use clap::{Arg, ArgAction, Command};
 use std::alloc::{AllocError, Global};
 
@@ -17,6 +17,7 @@ pub fn command<'a>(alloc: Global) -> Result<Command<'a>, AllocError> {
         .subcommand_required(true)
         .disable_help_subcommand(true)
         .subcommand(of_graph(alloc, affected::command(alloc)?)?)?
+        .subcommand(of_graph(alloc, draw::command(alloc)?)?)?
         .subcommand(of_graph(alloc, json::command(alloc))?)?
         .subcommand(of_graph(alloc, why::command(alloc)?)?)
 }
@@ -44,6 +45,11 @@ pub fn option<'a>(alloc: Global, name: &'a str, value: &'a str, help: &'a str) -
 /// `--NAME VALUE`, which may be given more than once.
 pub fn repeated<'a>(alloc: Global, name: &'a str, value: &'a str, help: &'a str) -> Arg<'a> {
     option(alloc, name, value, help).action(ArgAction::Append)
+}
+
+/// `--NAME VALUE` with a number
+pub fn number<'a>(alloc: Global, name: &'a str, value: &'a str, help: &'a str) -> Arg<'a> {
+    option(alloc, name, value, help).value_parser(clap::value_parser!(usize))
 }
 
 /// `--NAME`

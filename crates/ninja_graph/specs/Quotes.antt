@@ -1,4 +1,4 @@
--- Strings in the quotes of Graphviz, where a backslash begins an escape and an ampersand the name of a character.
+-- Texts in the quotes of Graphviz, where a backslash begins an escape and an ampersand the name of a character.
 use Rattle.std.specs.Prelude.{ℕ, ◌==◌, ◌||◌, if◌then◌else◌, List, [], ◌∷◌, ◌++◌, codes}
 use Rattle.std.specs.List.{flat_map}
 use Rattle.std.specs.Str.Lossy.{utf8_lossy}
@@ -6,6 +6,9 @@ use Rattle.std.specs.Str.Lossy.{utf8_lossy}
 abbrev pub escaped : ℕ → List ℕ
 escaped byte = if byte == 38 then codes "&amp;" else (if byte == 34 || byte == 92 then 92 ∷ byte ∷ [] else byte ∷ [])
 
--- a string in quotes; U+FFFD replaces what is not UTF-8
+-- a text between quotes; U+FFFD replaces what is not UTF-8
+abbrev pub escapes : List ℕ → List ℕ
+escapes text = flat_map escaped (utf8_lossy text)
+
 abbrev pub quoted : List ℕ → List ℕ
-quoted bytes = 34 ∷ flat_map escaped (utf8_lossy bytes) ++ 34 ∷ []
+quoted text = 34 ∷ escapes text ++ 34 ∷ []

@@ -1,5 +1,0 @@
--- what must be believed
-pub mod Needed
-pub mod Quotes
--- how the code does that
-pub mod Inside

@@ -1,0 +1,97 @@
+//! The subcommand `draw`: a drawing of what files need, or of what a change of them affects.
+
+ghost use Rattle.std.specs.Prelude.{◌<◌, All, length};
+ghost use Rattle.nj_graph.specs.Graph.{files_of};
+
+use crate::drawing::{Extent, draw_affected, draw_needed};
+use crate::failure::Failure;
+use crate::status::Status;
+use crate::words::{flag, number};
+use clap::{Arg, ArgAction, ArgMatches, Command};
+use nj_graph::{FileNo, Graph};
+use nj_tools::{Error, WriteSink, write_whole};
+use std::alloc::{AllocError, Global};
+
+const NAME: &str = "draw";
+
+const ABOUT: &str = "Write a drawing of what targets need, for dot of Graphviz";
+
+const MORE: &str = "\
+Without targets it draws the default ones. An ellipse is an edge with its rule, a box is a file, and
+order-only inputs have dashed arrows. A label says how many edges there are, if not all are drawn.
+  ninja-graph draw --limit 40 app | dot -Tsvg > app.svg";
+
+/// The inputs that an edge has in a drawing at most, unless the words say otherwise.
+const MOST_INPUTS: usize = 12;
+
+/// The subcommand with its options.
+pub fn command<'a>(alloc: Global) -> Result<Command<'a>, AllocError> {
+    let targets = Arg::new(alloc, "targets").value_name("TARGET");
+    Command::new(alloc, NAME)
+        .about(ABOUT)
+        .after_help(MORE)
+        .arg(flag(
+            alloc,
+            "affected",
+            "Draw what a change of the files affects, and not what they need",
+        ))?
+        .arg(flag(
+            alloc,
+            "fold",
+            "Draw each phony edge with its outputs as a point",
+        ))?
+        .arg(number(
+            alloc,
+            "limit",
+            "N",
+            "Draw N nodes at most, edges and files together",
+        ))?
+        .arg(number(
+            alloc,
+            "inputs",
+            "K",
+            "Draw K inputs of an edge, and write how many more it has [default: 12]",
+        ))?
+        .arg(
+            targets
+                .action(ArgAction::Append)
+                .help("The files, as ninja takes targets"),
+        )
+}
+
+/// Writes the drawing that the words ask for.
+pub fn answer(rt: HostRuntime, graph: &Graph, options: &ArgMatches<'_>) -> Result<Status, Failure> {
+    let words = options.get_strs("targets").unwrap_or(&[]);
+    let files = graph.pick_targets(rt.alloc(), words)?;
+    let drawing = drawing_of(rt.alloc(), graph, &files, options)?;
+    let mut out = WriteSink::new(rt.stdout());
+    match write_whole(&mut out, &drawing) {
+        Ok(()) => Ok(Status::Done),
+        Err(_fault) => Err(Failure::Graph(Error::Write)),
+    }
+}
+
+/// The drawing of what these files need or affect.
+fn drawing_of(
+    alloc: Global,
+    graph: &Graph,
+    files: &[FileNo],
+    options: &ArgMatches<'_>,
+) -> Result<Vec<u8>, Failure>
+    requires { All (λ file. file.0 < length (files_of graph.now)) files.now }
+{
+    let extent = Extent {
+        nodes: options.get_one::<usize>("limit").unwrap_or(usize::MAX),
+        inputs: options.get_one::<usize>("inputs").unwrap_or(MOST_INPUTS),
+        folds: options.get_flag("fold"),
+    };
+    let drawing = if options.get_flag("affected") {
+        draw_affected(alloc, graph, files, extent)
+    } else {
+        draw_needed(alloc, graph, files, extent)
+    };
+    match drawing {
+        Ok(drawing) => Ok(drawing),
+        Err(_error) => Err(Failure::Graph(Error::OutOfMemory)),
+    }
+}
