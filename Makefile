@@ -6,9 +6,6 @@ GRAPH := crates/ninja_graph/out/ninja_graph
 # read deps logs.
 RUN_ROWS := crates/nj_run_rows/out/nj_run_rows
 CALL_ROWS := crates/nj_call_rows/out/nj_call_rows
-# Two programs as clients write them.
-KEYS := crates/cache_keys/out/cache_keys
-AUDIT := crates/audit_build/out/audit_build
 # The library for C as it is proved, and the archive of the toolchain with the object that calls
 # `malloc` and `free` for it.
 PROVED_C := crates/nj_c/out/libnj_c.a
@@ -112,7 +109,7 @@ lint:
 
 # Runs the built programs on real files, and the short sweeps. With CHECKS='NAME..' it runs the checks
 # of these names alone, as lint and sweep do.
-smoke: $(BUILT) $(GRAPH) $(KEYS) $(AUDIT) $(CALL_ROWS)
+smoke: $(BUILT) $(GRAPH) $(CALL_ROWS)
 	@python3 scripts/smoke --jobs $(JOBS) $(CHECKS)
 
 # Runs the library for C and the examples on it beside the program, and on what it must refuse.
@@ -140,10 +137,6 @@ $(BUILT) $(GRAPH): $(wildcard crates/*/src/*.rt)
 # `make gate` builds them.
 $(RUN_ROWS) $(CALL_ROWS): $(wildcard crates/*/src/*.rt)
 	cd $(dir $@).. && rt run > /dev/null
-
-# `make gate` leaves them.
-$(KEYS) $(AUDIT): $(wildcard crates/*/src/*.rt)
-	cd $(dir $@).. && rt run -- -f /dev/null < /dev/null > /dev/null
 
 # Installs the programs that `make` built, their man pages, and completions for three shells; and the
 # library for C where `make c` built it. Refuses what names no logic in which it was proved.

@@ -1,4 +1,8 @@
 # Completion of ninja-graph in bash. Rules and targets come from ninja-explain.
+#
+# A manifest may come from a stranger. So its paths never go through `compgen -W`, which would run
+# what a path has in `$(..)`; and a path with `$` or a backtick is not offered, since readline does
+# not always quote these.
 
 # The options of a subcommand, without those that every subcommand takes.
 _ninja_graph_options() {
@@ -6,6 +10,8 @@ _ninja_graph_options() {
         affected) echo '--source-dir --rule --prefix --no-phony' ;;
         draw) echo '--affected --fold --limit --inputs' ;;
         why) echo '--validations' ;;
+        audit) echo '--only --except --json --list' ;;
+        keys) echo '--base --take --resume' ;;
     esac
 }
 
@@ -15,15 +21,14 @@ _ninja_graph_rules() {
     (cd "$folder" 2>/dev/null && ninja-explain -f "$file" -t rules 2>/dev/null)
 }
 
-# Offers the outputs of all edges that begin with the word at the cursor. A manifest may come from a
-# stranger, so its paths never go through `compgen -W`, which would run what a path has in `$(..)`; and
-# a path with `$` or a backtick is not offered, since readline does not always quote these.
-_ninja_graph_offer_targets() {
-    local path start=${current//[\\\"\']/}
-    while IFS= read -r path; do
-        [[ $path == "$start"* && $path != *[\$\`]* ]] && COMPREPLY+=("$path")
-    done < <(cd "$folder" 2>/dev/null && ninja-explain -f "$file" -t targets all 2>/dev/null |
-        sed 's/: [^:]*$//')
+# The outputs of all edges of the main file in the folder.
+_ninja_graph_targets() {
+    (cd "$folder" 2>/dev/null && ninja-explain -f "$file" -t targets all 2>/dev/null) | sed 's/: [^:]*$//'
+}
+
+# The kinds of findings.
+_ninja_graph_kinds() {
+    ninja-graph audit --list 2>/dev/null | sed 's/,.*//'
 }
 
 # What the word of an option is without quotes, with the home folder for `~`.
@@ -45,7 +50,8 @@ _ninja_graph_words() {
         [[ $ended ]] && continue
         case $option in
             --) ended=yes ;;
-            -C | -f | --source-dir | --rule | --prefix | --limit | --inputs)
+            -C | -f | --deps-log-file | --source-dir | --rule | --prefix | --only | --except | --base | \
+                --take | --resume | --limit | --inputs)
                 [[ ${COMP_WORDS[index + 1]} == '=' ]] && ((index++))
                 if ((++index >= COMP_CWORD)); then
                     wanted=$option
@@ -66,10 +72,20 @@ _ninja_graph_offer_value() {
     # bash cuts `--rule=x` into three words
     [[ $current == '=' ]] && current=''
     case $wanted in
-        -C | --source-dir) offer=(-d) ;;
-        -f) offer=(-f) ;;
+        -C | --source-dir | --base) offer=(-d) ;;
+        -f | --deps-log-file) offer=(-f) ;;
         --rule) offer=(-W "$(_ninja_graph_rules)") ;;
+        --only | --except) offer=(-W "$(_ninja_graph_kinds)") ;;
     esac
+}
+
+# Offers those targets that begin with the word at the cursor, or files: FILE^ is a target too.
+_ninja_graph_offer_targets() {
+    local path start=${current//[\\\"\']/}
+    while IFS= read -r path; do
+        [[ $path == "$start"* && $path != *[\$\`]* ]] && COMPREPLY+=("$path")
+    done < <(_ninja_graph_targets)
+    offer=(-f)
 }
 
 # What is offered is in COMPREPLY, or else it is what `compgen` makes of the words in `offer`.
@@ -84,13 +100,12 @@ _ninja_graph() {
     elif [[ ! $subcommand && $current == -* ]]; then
         offer=(-W '-h --help -V --version')
     elif [[ ! $subcommand ]]; then
-        offer=(-W 'affected draw json why')
+        offer=(-W 'affected audit draw json keys why')
     elif [[ ! $ended && $current == -* ]]; then
-        offer=(-W "-C -f --dyndep -h --help -- $(_ninja_graph_options "$subcommand")")
-    elif [[ $subcommand == draw || $subcommand == why ]]; then
+        offer=(-W "-C -f --dyndep --deps-log --deps-log-file -h --help --
+            $(_ninja_graph_options "$subcommand")")
+    elif [[ $subcommand == draw || $subcommand == keys || $subcommand == why ]]; then
         _ninja_graph_offer_targets
-        # FILE^ is a target too, and a source is a file
-        offer=(-f)
     fi
 
     [[ ${offer[0]} == -[fd] ]] && compopt -o filenames 2>/dev/null

@@ -2,9 +2,12 @@
 
 # Prints the subcommands, each with what it writes.
 function __ninja_graph_subcommands
-    printf '%s\t%s\n' affected 'The outputs that a change of files affects' \
+    printf '%s\t%s\n' \
+        affected 'The outputs that a change of files affects' \
+        audit 'What is probably a mistake, or of no use' \
         draw 'A drawing of what targets need' \
         json 'Each edge as an object of JSON' \
+        keys 'A key for each command that targets need' \
         why 'A chain of inputs by which a file needs another'
 end
 
@@ -40,22 +43,23 @@ function __ninja_graph_value
     end
 end
 
-# Prints the rules in the scope of the main file in the folder. The folder of the shell stays.
-function __ninja_graph_rules
+# Prints what a tool writes about the main file in the folder. The folder of the shell stays.
+function __ninja_graph_ask
     set -l file (__ninja_graph_value -f)
     set -l folder (__ninja_graph_value -C)
     test -n "$file"; or set file build.ninja
     test -n "$folder"; or set folder .
-    env -C $folder ninja-explain -f $file -t rules 2>/dev/null
+    env -C $folder ninja-explain -f $file -t $argv 2>/dev/null
 end
 
 # Prints the outputs of all edges.
 function __ninja_graph_targets
-    set -l file (__ninja_graph_value -f)
-    set -l folder (__ninja_graph_value -C)
-    test -n "$file"; or set file build.ninja
-    test -n "$folder"; or set folder .
-    env -C $folder ninja-explain -f $file -t targets all 2>/dev/null | string replace -r ': [^:]*$' ''
+    __ninja_graph_ask targets all | string replace -r ': [^:]*$' ''
+end
+
+# Prints the kinds of findings.
+function __ninja_graph_kinds
+    ninja-graph audit --list 2>/dev/null | string replace -r ',.*' ''
 end
 
 complete -c ninja-graph -f
@@ -67,11 +71,13 @@ complete -c ninja-graph -n __ninja_graph_has_subcommand -s C -x -d 'Change to th
     -a '(__fish_complete_directories)'
 complete -c ninja-graph -n __ninja_graph_has_subcommand -s f -r -F -d 'The main file (default: build.ninja)'
 complete -c ninja-graph -n __ninja_graph_has_subcommand -l dyndep -d 'Join what dyndep files add'
+complete -c ninja-graph -n __ninja_graph_has_subcommand -l deps-log -d 'Join what the deps log has of headers'
+complete -c ninja-graph -n __ninja_graph_has_subcommand -l deps-log-file -r -F -d 'Join this deps log'
 
 complete -c ninja-graph -n '__ninja_graph_is affected' -l source-dir -x \
     -d 'The folder of the changed paths' -a '(__fish_complete_directories)'
 complete -c ninja-graph -n '__ninja_graph_is affected' -l rule -x -d 'Only edges with this rule' \
-    -a '(__ninja_graph_rules)'
+    -a '(__ninja_graph_ask rules)'
 complete -c ninja-graph -n '__ninja_graph_is affected' -l prefix -x -d 'Only paths that begin so'
 complete -c ninja-graph -n '__ninja_graph_is affected' -l no-phony -d 'No outputs of phony edges'
 
@@ -82,3 +88,16 @@ complete -c ninja-graph -n '__ninja_graph_is draw' -l fold -d 'Draw each phony e
 complete -c ninja-graph -n '__ninja_graph_is draw' -l limit -x -d 'How many nodes at most'
 complete -c ninja-graph -n '__ninja_graph_is draw' -l inputs -x -d 'How many inputs of an edge at most'
 complete -c ninja-graph -n '__ninja_graph_is why' -l validations -d 'Take validations as inputs too'
+
+complete -c ninja-graph -n '__ninja_graph_is audit' -l only -x -d 'Find this kind alone' \
+    -a '(__ninja_graph_kinds)'
+complete -c ninja-graph -n '__ninja_graph_is audit' -l except -x -d 'Do not find this kind' \
+    -a '(__ninja_graph_kinds)'
+complete -c ninja-graph -n '__ninja_graph_is audit' -l json -d 'An object of JSON for each finding'
+complete -c ninja-graph -n '__ninja_graph_is audit' -l list -d 'List the kinds'
+
+complete -c ninja-graph -n '__ninja_graph_is keys' -l base -x -d 'Let a number stand for this folder' \
+    -a '(__fish_complete_directories)'
+complete -c ninja-graph -n '__ninja_graph_is keys' -l take -x -d 'Stop after so many commands'
+complete -c ninja-graph -n '__ninja_graph_is keys' -l resume -x -d 'Write what is left after this mark'
+complete -c ninja-graph -n '__ninja_graph_is keys' -F -a '(__ninja_graph_targets)'

@@ -17,7 +17,7 @@ PAGE = ROOT / f"man/{NAME}.1"
 ZSH, FISH = ROOT / f"completions/_{NAME}", ROOT / f"completions/{NAME}.fish"
 HELP = {"-h", "--help"}
 VERSION = {"-V", "--version"}
-OPTION = re.compile(r'\b(?:option|repeated|flag|number)\(\s*alloc,\s*"([\w-]+)"|\.short\(\'(\w)\'\)')
+OPTION = re.compile(r'\b(?:option|repeated|flag|count|number)\(\s*alloc,\s*"([\w-]+)"|\.short\(\'(\w)\'\)')
 
 
 def options_in(module):

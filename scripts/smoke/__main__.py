@@ -1,7 +1,7 @@
 """Runs the built programs: python3 scripts/smoke [--program PROGRAM] [--jobs N] [NAME..]
 
-PROGRAM is ninja-explain, by default as the gate leaves it; ninja-graph, the two programs on the
-library and the runner of rows are where the gate leaves them too. The sweeps of memory, calls, bytes and sizes are
+PROGRAM is ninja-explain, by default as the gate leaves it; ninja-graph and the runner of rows are
+where the gate leaves them too. The sweeps of memory, calls, bytes and sizes are
 run as well.
 
 Prints what is wrong, and last how many checks passed. The exit status is 1 if one failed.
@@ -23,8 +23,6 @@ if __name__ == "__main__":
     given = {
         "program": Program(words.program),
         "graph": Program(built("ninja_graph")),
-        "keys": Program(built("cache_keys")),
-        "audit": Program(built("audit_build")),
         "runner": Program(built("nj_call_rows")),
         "jobs": words.jobs,
     }

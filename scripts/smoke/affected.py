@@ -5,13 +5,15 @@ stands once, from that of examples/project, and from what CMake writes for examp
 installed.
 """
 
+import random
 import re
 import subprocess
 
 from lib.checks import check, expect
 from lib.programs import EXAMPLES, ROOT, Program
 from lib.projects import write_cmake, write_files
-from smoke.graph import DONE, LOOK
+from lib.random_builds import HEADERS, SOURCES, deps_log, random_build, some
+from smoke.graph import DONE, FAULT, LOOK
 
 PROJECT, CMAKE = EXAMPLES / "project", EXAMPLES / "cmake"
 FILES = {
@@ -178,6 +180,128 @@ def cmake_lists(graph, folder):
     yield from expect("a source", found, (DONE, lines(["count"]), ""))
     output = run(graph, folder, here[:2], ["CMakeLists.txt"]).output
     yield from expect("the manifest", "build.ninja" in output.splitlines(), True)
+
+
+# ---- deps logs
+
+LOGGED = """\
+builddir = old
+rule cc
+  command = cc $in
+  deps = gcc
+build a.o: cc a.c
+build b.o: cc b.c
+  deps =
+build a: phony a.o
+builddir = out
+"""
+LOG = deps_log({"a.o": ["a.c", "./a.h", "/usr/a.h"], "b.o": ["b.h"], "gone.o": ["gone.h"]})
+
+
+@check
+def headers_of_a_log(graph, folder):
+    """What the log has of an edge with `deps` counts, by its clean path; in `builddir` as it is last."""
+    write_files(folder, {"build.ninja": LOGGED.encode(), "out/.ninja_deps": LOG, "copy": LOG})
+    paths = ["a.h", "/usr/a.h", "b.h", "gone.h"]
+    known, others = lines(["a.o", "a"]), lines(paths[2:])
+    for words in ["--deps-log"], ["--deps-log-file", "copy"], ["--deps-log", "--deps-log-file=copy"]:
+        yield from expect(words, run(graph, folder, words, paths), (LOOK, known, others))
+        yield from expect(f"{words}, one", run(graph, folder, words, paths[:1]), (DONE, known, ""))
+    yield from expect("no log", run(graph, folder, [], paths), (LOOK, "", lines(paths)))
+    words = ["--deps-log", "--source-dir", "/usr"]
+    yield from expect("folder", run(graph, folder, words, ["a.h"]), (DONE, known, ""))
+    (folder / "out/.ninja_deps").unlink()
+    ran = run(graph, folder, ["--deps-log"], paths)
+    yield from expect("a log that is not there", ran, (LOOK, "", lines(paths)))
+
+
+@check
+def logs_without_builddir(graph, folder):
+    for value in "", "builddir = out\nbuilddir =\n":
+        text = LOGGED.replace("builddir = old\n", "").replace("builddir = out\n", value)
+        write_files(folder, {"build.ninja": text.encode(), ".ninja_deps": LOG})
+        ran = run(graph, folder, ["--deps-log"], ["a.h"])
+        yield from expect(f"builddir {value!r}", ran, (DONE, lines(["a.o", "a"]), ""))
+
+
+@check
+def logs_after_dyndep_files(graph, folder):
+    """What a dyndep file adds is there before the log, which may name it too."""
+    dyndep = b"ninja_dyndep_version = 1\nbuild a.o: dyndep | a.h d.h\n"
+    text = LOGGED.replace("cc a.c", "cc a.c || dd\n  dyndep = dd")
+    write_files(folder, {"build.ninja": text.encode(), "dd": dyndep, "out/.ninja_deps": LOG})
+    words = ["--dyndep", "--deps-log"]
+    ran = run(graph, folder, words, ["a.h", "d.h", "/usr/a.h"])
+    yield from expect("both", ran, (DONE, lines(["a.o", "a"]), ""))
+
+
+@check
+def faults_of_logs(graph, folder):
+    write_files(folder, {"build.ninja": LOGGED.encode(), "none": b"", "other": b"# ninjadeps\n\3\0\0\0"})
+    (folder / "out/.ninja_deps").mkdir(parents=True)
+    texts = {
+        "lost": "there is no such file", "none": "not a deps log", "other": "deps log of version 3",
+        "out": "the file could not be read",
+    }
+    for name, text in texts.items():
+        ran = run(graph, folder, ["--deps-log-file", name], ["a.c"])
+        yield from expect(name, ran, (FAULT, "", f"ninja-graph: {name}: {text}\n"))
+    ran = run(graph, folder, ["--deps-log"], ["a.c"])
+    text = "ninja-graph: out/.ninja_deps: the file could not be read\n"
+    yield from expect("a folder", ran, (FAULT, "", text))
+    cycle = deps_log({"a.o": ["a"]})
+    write_files(folder, {"cycle": cycle, "cut": LOG[:-4]})
+    status, output, error = run(graph, folder, ["--deps-log-file", "cycle"], ["a.c"])
+    found = status, output, error.startswith("build.ninja:5:1: dependency cycle")
+    yield from expect("a cycle", found, (FAULT, "", True))
+    ran = run(graph, folder, ["--deps-log-file", "cut"], ["a.h", "gone.h"])
+    yield from expect("cut off", ran, (LOOK, lines(["a.o", "a"]), lines(["gone.h"])))
+    write_files(folder, {"build.ninja": LOGGED.encode().replace(b"= out", b"= \xff")})
+    text = "ninja-graph: the path of the deps log is not UTF-8\n"
+    yield from expect("not UTF-8", run(graph, folder, ["--deps-log"], ["a.c"]), (FAULT, "", text))
+
+
+def with_log(build, log):
+    """The inputs of edges, with what the log has for the first output of an edge with `deps`."""
+    for edge in build.edges:
+        if build.value(edge, "deps"):
+            edge.inputs += [("|", path) for path in log.get(edge.outputs[0], [])]
+
+
+def wanted_of(build, paths):
+    """What is written of a change of these paths."""
+    named = {it for edge in build.edges for it in [*edge.outputs, *edge.paths(), *edge.validations]}
+    reached, affected = set(paths) & named, []
+    # outputs come before what is made of them, but for inputs that only a log names
+    for _ in build.edges:
+        affected = [edge for edge in build.edges if reached & set(edge.paths())]
+        reached |= {path for edge in affected for path in edge.outputs}
+    outputs = lines(path for edge in affected for path in edge.outputs)
+    unknown = [path for path in paths if path not in named]
+    return LOOK if unknown else DONE, outputs, lines(unknown)
+
+
+@check
+def random_logs(graph, folder):
+    """Random builds, with a log and without one."""
+    only_by_log = 0
+    for seed in range(150):
+        chance = random.Random(seed)
+        build = random_build(chance, lambda chance, outputs: " ".join(some(chance, outputs, 2)))
+        firsts = [edge.outputs[0] for edge in build.edges]
+        log = {it: some(chance, [*HEADERS, *SOURCES], 3) for it in [*some(chance, firsts, 9), "gone"]}
+        for index, edge in enumerate(build.edges[1:], 1):
+            if edge.outputs[0] in log and chance.random() < 0.5:
+                log[edge.outputs[0]] = [*log[edge.outputs[0]], chance.choice(firsts[:index])]
+        write_files(folder, {"build.ninja": build.text().encode(), ".ninja_deps": deps_log(log)})
+        paths = some(chance, [*HEADERS, *SOURCES, *firsts, "gone"], 3)
+        plain = wanted_of(build, paths)
+        yield from expect(f"build {seed}", run(graph, folder, [], paths), plain)
+        with_log(build, log)
+        logged = wanted_of(build, paths)
+        yield from expect(f"build {seed}, log", run(graph, folder, ["--deps-log"], paths), logged)
+        only_by_log += plain != logged
+    yield from expect("builds that a log changes", only_by_log > 40, True)
 
 
 # ---- the recipes of the man page for tests

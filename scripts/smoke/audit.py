@@ -1,28 +1,31 @@
-"""Runs audit-build on real projects.
+"""Runs ninja-graph's `audit` on real projects.
 
-The projects are examples/project, two with findings of some kinds, one with many of each kind and,
+The projects are examples/project, some with findings of some kinds, one with many of each kind and,
 where CMake is installed, what it writes for examples/cmake. What is wanted follows from what
 `ninja-explain -t targets`, `query`, `commands` and `rules` write of them, and from the lines of
-their manifests.
+their manifests; of undeclared inputs, which commands name, from how Python's `shlex` cuts words.
 """
 
 import json
+import posixpath
+import random
 import re
+import shlex
 from collections import Counter
 
 from lib.checks import check, expect
 from lib.programs import EXAMPLES
 from lib.projects import write_cmake, write_files
+from lib.random_builds import random_build, some
+from smoke.graph import DONE, FAULT, LOOK, USAGE
 
 PROJECT = EXAMPLES / "project"
-# The statuses of audit-build.
-DONE, FAULT, USAGE, FOUND = range(4)
 EDGES = 20_000
 # The kinds in their order, and whether they are on by default.
 KINDS = {
     "unused-output": False, "missing-source": True, "unused-rule": False, "unused-pool": False,
     "unused-variable": False, "repeated-command": True, "depfile-without-deps": True,
-    "repeated-input": False,
+    "repeated-input": False, "undeclared-input": True,
 }
 # What is asked for: the words of `--only`, and those of `--except`.
 ASKED = [
@@ -40,13 +43,13 @@ KNOWN = set("""command depfile deps description dyndep generator in in_newline m
     pool restat rspfile rspfile_content""".split())
 
 
-def run(program, folder, words):
-    return program.run(words, folder).as_text()
+def run(graph, folder, words):
+    return graph.run(["audit", *words], folder).as_text()
 
 
 def explain(program, folder, *words):
     """The lines that ninja-explain writes."""
-    ran = run(program, folder, ["-f", "build.ninja", "-t", *words])
+    ran = program.run(["-f", "build.ninja", "-t", *words], folder).as_text()
     if (ran.status, ran.error) != (DONE, ""):
         raise RuntimeError(f"ninja-explain {words[0]} ends with {ran}")
     return ran.output.splitlines()
@@ -150,24 +153,24 @@ def options(only, without):
     return [f"--only={kind}" for kind in only] + [f"--except={kind}" for kind in without]
 
 
-def asked_differs(audit, folder, whole, only, without):
+def asked_differs(graph, folder, whole, only, without):
     """What is written for some kinds, plain and in JSON: their lines among those of all kinds."""
     words, name = options(only, without), f"only {only}, except {without}"
     taken = set(only or (kind for kind, is_default in KINDS.items() if is_default)) - set(without)
     lines = [line for line in whole if as_object(line)["kind"] in taken]
-    status = FOUND if lines else DONE
+    status = LOOK if lines else DONE
     text = "".join(f"{line}\n" for line in lines)
-    yield from expect(name, run(audit, folder, words), (status, text, ""))
-    ran = run(audit, folder, ["--json", *words])
+    yield from expect(name, run(graph, folder, words), (status, text, ""))
+    ran = run(graph, folder, ["--json", *words])
     yield from expect(f"{name}, JSON", (ran.status, ran.error), (status, ""))
     found = [json.loads(line) for line in ran.output.splitlines()]
     yield from expect(f"{name}, lines of JSON", found, [as_object(line) for line in lines])
 
 
-def audit_differs(audit, folder, wanted):
+def audit_differs(graph, folder, wanted):
     """The lines of all kinds, each at a statement, and those of some kinds."""
-    status, output, error = run(audit, folder, options(KINDS, []))
-    yield from expect("plain", (status, error), (FOUND if wanted else DONE, ""))
+    status, output, error = run(graph, folder, options(KINDS, []))
+    yield from expect("plain", (status, error), (LOOK if wanted else DONE, ""))
     lines = [LINE.fullmatch(line).groups() for line in output.splitlines()]
     yield from expect("lines", Counter((kind, name) for _, _, _, kind, name in lines), wanted)
     for file, line, column, kind, found in lines:
@@ -176,7 +179,7 @@ def audit_differs(audit, folder, wanted):
         if not text.startswith(starts.get(kind, "build ")):
             yield f"there is no statement for '{kind}' at line {line}"
     for only, without in ASKED:
-        yield from asked_differs(audit, folder, output.splitlines(), only, without)
+        yield from asked_differs(graph, folder, output.splitlines(), only, without)
 
 
 # The findings in examples/project, by hand: the test is no input, and there are no sources.
@@ -185,9 +188,9 @@ IN_PROJECT = [("unused output", "test"), *(("missing source", path) for path in 
 
 
 @check
-def project(audit, program):
+def project(graph, program):
     wanted = Counter(IN_PROJECT)
-    yield from audit_differs(audit, PROJECT, wanted)
+    yield from audit_differs(graph, PROJECT, wanted)
     yield from expect("by query", wanted_of(program, PROJECT, {"out/count"}), wanted)
 
 
@@ -213,27 +216,27 @@ NO_DEFAULTS = b"rule r\n  command = r\nbuild a\"\\\xc3\xa9: r b\nbuild c: r b\n"
 
 
 @check
-def uses(audit, program, folder):
+def uses(graph, program, folder):
     """What counts as a use: an order-only input, a validation and a default."""
     write_files(folder, {"build.ninja": USES})
     wanted = Counter({("unused output", "f"): 1, ("unused output", "g"): 1})
-    yield from audit_differs(audit, folder, wanted)
+    yield from audit_differs(graph, folder, wanted)
     yield from expect("by query", wanted_of(program, folder, {"a", "e"}), wanted)
     write_files(folder, {"build.ninja": NO_DEFAULTS})
     wanted = Counter({("missing source", "b"): 1, ("repeated command", "c"): 1})
-    yield from audit_differs(audit, folder, wanted)
+    yield from audit_differs(graph, folder, wanted)
 
 
 @check
-def sources_of_phony_edges(audit, folder):
+def sources_of_phony_edges(graph, folder):
     """A source counts if an edge with a command needs it, by whatever chain of phony edges."""
     write_files(folder, {"build.ninja": PHONY})
-    found = FOUND, "build.ninja:5:1: missing source 'kept'\n", ""
-    yield from expect("phony edges", run(audit, folder, []), found)
+    found = LOOK, "build.ninja:5:1: missing source 'kept'\n", ""
+    yield from expect("phony edges", run(graph, folder, []), found)
 
 
 @check
-def many_of_each_kind(audit, folder):
+def many_of_each_kind(graph, folder):
     """They take no longer than their number asks."""
     lines = ["rule r\n  command = r " + " ".join(f"$v{i}" for i in range(EDGES)) + "\n"]
     lines += ["rule q\n  command = q\n"]
@@ -248,65 +251,167 @@ def many_of_each_kind(audit, folder):
         "depfile without deps": EDGES, "repeated input": 2 * EDGES - 2,
     }
     write_files(folder, {"build.ninja": "".join(lines).encode()})
-    status, output, error = run(audit, folder, options(KINDS, []))
-    yield from expect("many", (status, error), (FOUND, ""))
+    status, output, error = run(graph, folder, options(KINDS, []))
+    yield from expect("many", (status, error), (LOOK, ""))
     lines = output.splitlines()
     kinds = [LINE.fullmatch(line)[4] for line in lines]
     yield from expect("many", list(Counter(kinds).items()), list(wanted.items()))
-    yield from asked_differs(audit, folder, lines, [], [])
+    yield from asked_differs(graph, folder, lines, [], [])
 
 
 @check
-def listed(audit, folder):
-    """`--list` and `--help` read no file: the folder is empty."""
-    for words in ["--list"], ["--json", "--list", "-f", "none.ninja", "--only", "nothing"]:
-        status, output, error = run(audit, folder, words)
+def listed(graph, folder):
+    """`--list` reads no file: the folder is empty."""
+    words_of_all = ["-C", "none", "-f", "none.ninja", "--json", "--list", "--only", "nothing"]
+    for words in ["--list"], words_of_all:
+        status, output, error = run(graph, folder, words)
         yield from expect(words, (status, error), (DONE, ""))
         found = re.findall(r"^(.+), (on|off) by default: \w.*$", output, re.M)
         wanted = [(kind, "on" if is_default else "off") for kind, is_default in KINDS.items()]
         yield from expect(words, found, wanted)
         yield from expect(f"{words}, lines", output.count("\n"), len(KINDS))
-    for word in "-h", "--help":
-        status, output, error = run(audit, folder, [word])
-        yield from expect(word, (status, error), (DONE, ""))
-        found = re.findall(r"^ +(-\w|--[\w-]+)", output.replace("-h, ", ""), re.M)
-        wanted = ["-f", "--only", "--except", "--json", "--list", "--help"]
-        yield from expect(f"options of {word}", found, wanted)
 
 
 def unknown(word):
-    text = f"audit-build: unknown kind '{word}'; audit-build --list lists the kinds\n"
+    text = f"ninja-graph: unknown kind '{word}'; ninja-graph audit --list lists the kinds\n"
     return USAGE, "", text
 
 
 @check
-def refusals(audit):
-    for words in ["--nothing"], ["--only"], ["--except"], ["some"], ["-f", "a", "-f", "b"]:
-        status, output, error = run(audit, PROJECT, words)
+def refusals(graph):
+    for words in ["--only"], ["--except"], ["some"], ["--json=x"]:
+        status, output, error = run(graph, PROJECT, words)
         yield from expect(words, (status, output), (USAGE, ""))
         yield from expect(f"{words}, text", error.startswith("error: "), True)
     for option in "--only", "--except":
         for word in "unused output", "Unused-output", "":
             words = ["--only", "unused-rule", option, word, "-f", "none.ninja"]
-            yield from expect(words, run(audit, PROJECT, words), unknown(word))
+            yield from expect(words, run(graph, PROJECT, words), unknown(word))
     words = ["--except", "b", "--only", "unused-rule", "--only", "a"]
-    yield from expect("two unknown kinds", run(audit, PROJECT, words), unknown("a"))
-    missing = "audit-build: none.ninja:1:1: cannot find 'none.ninja'\n"
-    yield from expect("no file", run(audit, PROJECT, ["-f", "none.ninja"]), (FAULT, "", missing))
-
-
-@check
-def outputs(audit):
-    """Outputs that are full or closed."""
-    for words in [], ["--json"], ["--list"], ["--help"]:
-        with open("/dev/full", "wb") as full:
-            ran = audit.run(words, PROJECT, output=full)
-        yield from expect(f"full, {words}", (ran.status, ran.error.count(b"\n")), (FAULT, 1))
-        ran = audit.run_by_shell(words, PROJECT, after=">&-")
-        yield from expect(f"closed, {words}", (ran.status, ran.error.count(b"\n")), (FAULT, 1))
+    yield from expect("two unknown kinds", run(graph, PROJECT, words), unknown("a"))
 
 
 @check(needs=["cmake", "ninja", "cc"])
-def cmake(audit, program, folder):
+def cmake(graph, program, folder):
     write_cmake(folder)
-    yield from audit_differs(audit, folder, wanted_of(program, folder, {"all"}))
+    yield from audit_differs(graph, folder, wanted_of(program, folder, {"all"}))
+
+
+# ---- undeclared inputs
+
+
+def words_of(command):
+    lexer = shlex.shlex(command, posix=True, punctuation_chars=True)
+    lexer.whitespace_split, lexer.commenters = True, ""
+    return list(lexer)
+
+
+def paths_named(command, folder):
+    """The paths that the words of a command name."""
+    for word in words_of(command):
+        names = [word, word.partition("=")[2], word[2:] if word.startswith("-") else ""]
+        for name in filter(None, names):
+            yield posixpath.normpath(name).removeprefix(f"{folder}/")
+
+
+def reached(build, edge):
+    """The edges that an edge needs by any chain, by their outputs."""
+    makers, found, left = build.makers(), {}, [edge]
+    while left:
+        for path in left.pop().paths():
+            maker = makers.get(path)
+            if maker and maker.outputs[0] not in found:
+                found[maker.outputs[0]] = maker
+                left.append(maker)
+    return found
+
+
+def undeclared(build, edge, folder):
+    makers = build.makers()
+    content = build.value(edge, "rspfile_content") if build.value(edge, "rspfile") else ""
+    for path in dict.fromkeys(paths_named(f"{build.value(edge, 'command')}\n{content}", folder)):
+        maker = makers.get(path, edge)
+        is_twin = (maker.rule, maker.paths()) == (edge.rule, edge.paths())
+        needs = maker.outputs[0] in reached(build, edge), edge.outputs[0] in reached(build, maker)
+        if maker is not edge and not maker.is_phony() and not is_twin and not any(needs):
+            yield path
+
+
+# The ways in which a command names a file, or another one.
+SHAPES = [
+    "{}", "./{}", "x/../{}", "'{}'", '"{}"', "-I{}", "--out={}", "-o=./{}", "<{}>o", "(cat {};)", "'{} '",
+    "{}x", "a\\\\{}", "{folder}/{}", "{folder}x/{}", "a/{}", "`{}`", "-I {}", "=={}", "'a b'={}",
+]
+
+
+def name_files(folder):
+    def text(chance, outputs):
+        return " ".join(chance.choice(SHAPES).format(it, folder=folder) for it in some(chance, outputs, 4))
+
+    return text
+
+
+# ---- generated builds
+
+
+def roots(build):
+    inputs = {path for edge in build.edges for path in edge.paths()}
+    return [path for edge in build.edges for path in edge.outputs if path not in inputs]
+
+
+def of_edges(build, folder):
+    """The findings about edges: their kinds, their lines and names."""
+    used = {path for edge in build.edges for path in [*edge.paths(), *edge.validations]}
+    used |= set(build.defaults or roots(build))
+    commands = set()
+    for edge in build.edges:
+        yield from (("unused output", edge.line, path) for path in edge.outputs if path not in used)
+        rule = build.rules.get(edge.rule, {})
+        names = {name for value in rule.values() for name in NAME.findall(value)} | KNOWN
+        yield from (("unused variable", edge.line, name) for name in edge.bound if name not in names)
+        for index, path in enumerate(edge.paths()):
+            if path in edge.paths()[:index]:
+                yield "repeated input", edge.line, path
+        if edge.is_phony():
+            continue
+        if (command := build.value(edge, "command")) in commands:
+            yield "repeated command", edge.line, edge.outputs[0]
+        commands.add(command)
+        if build.value(edge, "depfile") and not build.value(edge, "deps"):
+            yield "depfile without deps", edge.line, edge.outputs[0]
+        yield from (("undeclared input", edge.line, path) for path in undeclared(build, edge, folder))
+
+
+def of_others(build):
+    """The findings about rules, pools and sources. No source is on the disk."""
+    rules, pools = ({edge.rule for edge in build.edges}, {edge.bound.get("pool") for edge in build.edges})
+    yield from (("unused rule", build.places["rule", it], it) for it in build.rules if it not in rules)
+    yield from (("unused pool", build.places["pool", it], it) for it in build.pools if it not in pools)
+    serving = {id(edge) for edge in build.edges if not edge.is_phony()}
+    serving |= {id(it) for edge in build.edges if not edge.is_phony() for it in reached(build, edge).values()}
+    made, missing = build.makers(), set()
+    for edge in build.edges:
+        for path in edge.paths():
+            if id(edge) in serving and path not in made and path not in missing:
+                missing.add(path)
+                yield "missing source", edge.line, path
+
+
+BUILDS = 120
+
+
+@check
+def generated(graph, folder):
+    """All findings of random builds, each at its line."""
+    kinds = Counter()
+    for seed in range(BUILDS):
+        build = random_build(random.Random(seed), name_files(folder))
+        (folder / "build.ninja").write_text(build.text())
+        ran = run(graph, folder, options(KINDS, []))
+        lines = [LINE.fullmatch(line).groups() for line in ran.output.splitlines()]
+        found = Counter((kind, int(line), name) for _, line, _, kind, name in lines)
+        wanted = Counter([*of_edges(build, folder), *of_others(build)])
+        yield from expect(f"build {seed}", (ran.status, found), (LOOK if wanted else DONE, wanted))
+        kinds += Counter(kind for kind, _, _ in wanted.elements())
+    if fewer := [kind for kind in KINDS if kinds[kind.replace("-", " ")] < BUILDS // 10]:
+        yield f"there are too few findings of {fewer}"

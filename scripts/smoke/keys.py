@@ -1,19 +1,24 @@
-"""Compares what cache-keys writes with keys computed here.
+"""Compares what ninja-graph's `keys` writes with keys computed here.
 
 The edges of examples/project are read from what `ninja-explain -t query` and `-t commands` write;
-those of the crate's data, which has a response file, a phony edge and a generated source, are
-listed below as its manifest has them.
+those of another project, which has a response file, phony edges and a generated source, are listed
+below as its manifest has them; and random builds are known as they are made.
 """
 
 import hashlib
+import random
+import re
+import shutil
+import subprocess
 
 from lib.checks import check, expect
-from lib.programs import CRATES, EXAMPLES
+from lib.programs import EXAMPLES
+from lib.projects import write_files
+from lib.random_builds import random_build, some
 from smoke import outputs
+from smoke.graph import DONE, FAULT, LOOK, USAGE
 
-PROJECT, DATA = EXAMPLES / "project", CRATES / "cache_keys/data"
-# The statuses of cache-keys.
-DONE, FAULT, USAGE, STOPPED = range(4)
+PROJECT = EXAMPLES / "project"
 
 
 class Edge:
@@ -34,7 +39,45 @@ def by_kind(words):
             bars = word
 
 
-# The edges of the crate's data, in the order of `ninja -t commands`, and the phony ones.
+FILES = {
+    "build.ninja": b"""\
+# A program with a generated header and a library of its own.
+include rules.ninja
+
+build gen/version.h: stamp version.txt | stamp.sh
+build headers: phony gen/version.h include/words.h
+build checked: phony headers notes.txt
+
+build main.o: cc main.c || headers
+build words.o: cc words.c | include/words.h || checked
+build lines.o: cc lines.c
+build libwords.a: ar words.o lines.o
+build count: link main.o libwords.a
+
+build lint: phony checked
+build words_test: link words.o test.o
+build test.o: cc test.c || lint
+default count words_test
+""",
+    "rules.ninja": b"""\
+cflags = -O2
+
+rule cc
+  command = cc $cflags -c $in -o $out
+
+rule ar
+  command = ar rcs $out @$out.rsp
+  rspfile = $out.rsp
+  rspfile_content = $in_newline
+
+rule link
+  command = cc $in -o $out
+
+rule stamp
+  command = sh stamp.sh $in > $out
+""",
+}
+# Its edges, in the order of `ninja -t commands`, and the phony ones.
 LISTED = [
     Edge("gen/version.h", "version.txt | stamp.sh", "sh stamp.sh version.txt > gen/version.h"),
     Edge("main.o", "main.c || headers", "cc -O2 -c main.c -o main.o"),
@@ -88,17 +131,21 @@ class Keys:
         return "".join(f"{self.key(output).hex()} {output}\n" for output in outputs)
 
 
-def run(program, folder, words):
+def run(graph, folder, words):
+    return graph.run(["keys", *words], folder).as_text()
+
+
+def explain(program, words, folder=PROJECT):
     return program.run(words, folder).as_text()
 
 
 def read_edge(program, output):
     """The edge of the project that makes a file, by what ninja-explain writes of it."""
-    query = run(program, PROJECT, ["-t", "query", output]).output.splitlines()
+    query = explain(program, ["-t", "query", output]).output.splitlines()
     start = next(at for at, line in enumerate(query) if line.startswith("  input: "))
     end = query.index("  outputs:")
     inputs = query[start + 1 : end]
-    command = run(program, PROJECT, ["-t", "commands", "-s", output]).output.rstrip("\n")
+    command = explain(program, ["-t", "commands", "-s", output]).output.rstrip("\n")
     return Edge(output, " ".join(inputs), command)
 
 
@@ -108,14 +155,14 @@ def read_edges(program):
     return [read_edge(program, line.rsplit(": ", 1)[0]) for line in listed]
 
 
-def pages_differ(folder, program, keys, words, whole):
+def pages_differ(folder, program, graph, words, whole):
     """Pages of each size, each from the mark of the one before, which is ninja-explain's."""
     for size in range(1, whole.count("\n") + 2):
         joined, mark = "", "start"
         while mark:
             pages = ["--take", str(size), "--resume", mark, *words]
-            status, text, error = run(keys, folder, pages)
-            other = run(program, folder, ["-t", "commands", *pages])
+            status, text, error = run(graph, folder, pages)
+            other = explain(program, ["-t", "commands", *pages], folder)
             ends = (status, error), (other.status, other.error)
             yield from expect(f"{words}, page of {size} at {mark}", *ends)
             joined, mark = joined + text, error.removeprefix("mark ").rstrip("\n")
@@ -123,37 +170,147 @@ def pages_differ(folder, program, keys, words, whole):
 
 
 @check
-def keys_of_project(program, keys):
+def keys_of_project(program, graph):
     edges = read_edges(program)
     for words in [], ["test"], ["out/words.o", "test"]:
-        commands = run(program, PROJECT, ["-t", "commands", *words]).output.splitlines()
+        commands = explain(program, ["-t", "commands", *words]).output.splitlines()
         outputs = {edge.command: edge.outputs[0] for edge in edges}
         whole = Keys(edges).lines(outputs[command] for command in commands)
-        yield from expect(words, run(keys, PROJECT, words), (DONE, whole, ""))
-        yield from pages_differ(PROJECT, program, keys, words, whole)
+        yield from expect(words, run(graph, PROJECT, words), (DONE, whole, ""))
+        yield from pages_differ(PROJECT, program, graph, words, whole)
 
 
 @check
-def keys_of_data(program, keys):
+def keys_of_files(program, graph, folder):
+    write_files(folder, FILES)
     whole = Keys(LISTED + PHONY).lines(edge.outputs[0] for edge in LISTED)
-    yield from expect("data", run(keys, DATA, []), (DONE, whole, ""))
-    yield from expect("stdout of the crate", (CRATES / "cache_keys/stdout").read_text(), whole)
-    yield from pages_differ(DATA, program, keys, [], whole)
+    yield from expect("all", run(graph, folder, []), (DONE, whole, ""))
+    yield from pages_differ(folder, program, graph, [], whole)
 
 
 @check
-def refusals(keys):
-    status, output, error = run(keys, PROJECT, ["--nothing"])
-    usage = status, output, error.startswith("usage: cache-keys [")
-    yield from expect("words", usage, (USAGE, "", True))
-    missing = "cache-keys: none.ninja:1:1: cannot find 'none.ninja'\n"
-    yield from expect("no file", run(keys, PROJECT, ["-f", "none.ninja"]), (FAULT, "", missing))
-    unknown = "cache-keys: unknown target 'nothing'\n"
-    yield from expect("no target", run(keys, PROJECT, ["nothing"]), (FAULT, "", unknown))
-    bad = (USAGE, "", "cache-keys: bad mark\n")
-    yield from expect("no mark", run(keys, PROJECT, ["--resume", "0."]), bad)
-    beyond = (FAULT, "", "cache-keys: mark out of range\n")
-    yield from expect("no such mark", run(keys, PROJECT, ["--resume", "9"]), beyond)
+def refusals(graph):
+    for words in ["--take", "x"], ["--take=-1"], ["--resume"], ["--base"]:
+        status, output, error = run(graph, PROJECT, words)
+        yield from expect(words, (status, output, error[:7]), (USAGE, "", "error: "))
+    relative = "ninja-graph: 'out' of --base is not absolute\n"
+    words = ["-f", "none.ninja", "--base", "/", "--base=out"]
+    yield from expect("relative", run(graph, PROJECT, words), (USAGE, "", relative))
+    bad = "ninja-graph: bad mark\n"
+    words = ["-f", "none.ninja", "--resume", "0."]
+    yield from expect("no mark", run(graph, PROJECT, words), (USAGE, "", bad))
+    unknown = "ninja-graph: unknown target 'nothing'\n"
+    yield from expect("no target", run(graph, PROJECT, ["nothing"]), (FAULT, "", unknown))
+    beyond = "ninja-graph: mark out of range\n"
+    yield from expect("no such mark", run(graph, PROJECT, ["--resume", "9"]), (FAULT, "", beyond))
     with open("/dev/full", "wb") as full:
-        ran = keys.run([], PROJECT, output=full)
-    yield from expect("full output", (ran.status, ran.error.count(b"\n")), (FAULT, 1))
+        ran = graph.run(["keys", "--take", "1"], PROJECT, error=full)
+    yield from expect("full error output", (ran.status, ran.error), (4, b""))
+
+
+# ---- random builds
+
+
+class Known(Edge):
+    """An edge of a random build."""
+
+    def __init__(self, build, edge):
+        values = {name: build.value(edge, name) for name in ("command", "rspfile", "rspfile_content")}
+        values = {name: "" if edge.is_phony() else value for name, value in values.items()}
+        self.outputs, self.inputs, self.command = edge.outputs, edge.inputs, values["command"]
+        self.file = values["rspfile"]
+        self.content = values["rspfile_content"] if self.file else ""
+
+
+def name_files(chance, outputs):
+    return " ".join(some(chance, outputs, 3))
+
+
+def listed_by(program, folder, build):
+    """The first outputs of edges in the order of `ninja -t commands`, by what ninja-explain writes."""
+    marked = re.sub(r"(?m)^(  command = )", r"\1$out: ", build.text())
+    (folder / "marked.ninja").write_text(marked)
+    ran = explain(program, ["-f", "marked.ninja", "-t", "commands"], folder)
+    return [line.partition(": ")[0] for line in ran.output.splitlines()]
+
+
+@check
+def keys_of_random_builds(program, graph, folder):
+    for seed in range(100):
+        build = random_build(random.Random(seed), name_files)
+        (folder / "build.ninja").write_text(build.text())
+        keys = Keys([Known(build, edge) for edge in build.edges])
+        whole = keys.lines(listed_by(program, folder, build))
+        yield from expect(f"build {seed}", run(graph, folder, []), (DONE, whole, ""))
+
+
+# ---- builds in other folders
+
+# Where the folder counts, and where another one that ends or begins like it does not.
+BASED = """\
+rule cc
+  command = cc {0}/x '-I{0}' --a={0},{0}:{0} \\"{0}\\";{0})
+  rspfile = /tmp/r
+  rspfile_content = @{0} /mnt/home/a /home/ax x/home/a /opt/build/b1 y/opt/build/b
+build {0}/o: cc {0}/s | /mnt/home/a/s
+"""
+
+
+@check
+def bases(graph, folder):
+    """A folder counts in the same places wherever it is, and nowhere else."""
+
+    def key(name, *bases):
+        words = ["-f", name, *(f"--base={base}" for base in bases)]
+        return run(graph, folder, words).output.split()[0]
+
+    folders = {"one": "/home/a", "two": "/opt/build/b"}
+    for name, base in folders.items():
+        (folder / name).write_text(BASED.format(base))
+    one = key("one", "/home/a")
+    yield from expect("another folder", key("two", "/opt/build/b"), one)
+    yield from expect("not clean", key("one", "//home/./a/b/.."), one)
+    yield from expect("a shorter one beside", key("one", "/home/a", "/home"), one)
+    others = [key("one"), key("one", "/home"), key("one", "/home", "/home/a"), key("one", "/opt")]
+    yield from expect("other keys", len({one, *others}), 4)
+
+
+def keys_at(graph, folder, configure):
+    """The keys of a project that is configured below a folder, by output."""
+    source, build = folder / "source", folder / "build"
+    shutil.copytree(EXAMPLES / "cmake", source)
+    (source / "meson.build").write_text(MESON)
+    words = [word.format(source=source, build=build) for word in configure]
+    subprocess.run(words, stdout=subprocess.DEVNULL, check=True)
+    bases = [f"--base={build}", f"--base={source}", f"--base={folder}"]
+    ran = run(graph, build, [*bases, "all"])
+    if (ran.status, ran.error) != (DONE, ""):
+        raise RuntimeError(f"keys ends with {ran}")
+    lines = (line.split(" ", 1) for line in ran.output.splitlines())
+    return {output: key for key, output in lines}
+
+
+MESON = """\
+project('text', 'c')
+text = static_library('text', 'src/words.c', include_directories: include_directories('include'))
+executable('count', 'src/main.c', include_directories: include_directories('include'), link_with: text)
+"""
+
+
+def keys_in_two_folders(graph, folder, configure):
+    one = keys_at(graph, folder / "one", configure)
+    two = keys_at(graph, folder / "another" / "two", configure)
+    yield from expect("outputs", sorted(one), sorted(two))
+    yield from expect("keys", one, two)
+    yield from expect("how many", len(one) > 3, True)
+
+
+@check(needs=["cmake", "ninja", "cc"])
+def bases_of_cmake(graph, folder):
+    configure = ["cmake", "-G", "Ninja", "-S", "{source}", "-B", "{build}"]
+    yield from keys_in_two_folders(graph, folder, configure)
+
+
+@check(needs=["meson", "ninja", "cc"])
+def bases_of_meson(graph, folder):
+    yield from keys_in_two_folders(graph, folder, ["meson", "setup", "{build}", "{source}"])

@@ -49,3 +49,19 @@ module _ (IsIt : (outputs warnings : List ℕ) → Type 0) (out new_out err new_
       → told ≡ warnings → Takes err new_err told → Reports IsIt out new_out err new_err (Ok Look)
   ends-warned outputs warnings sent told it sent_is took something told_is told_all =
       warned it (is-something warnings something) (subst (Takes out new_out) sent_is took) (subst (Takes err new_err) told_is told_all)
+
+-- the texts that were written are it
+pub reports-both : (IsIt : (outputs warnings : List ℕ) → Type 0) (answer told outputs warnings : List ℕ) → answer ≡ outputs → told ≡ warnings → IsIt outputs warnings
+    → (out new_out err new_err : SinkState) (result : Result Status Error)
+    → Reports (λ o w. (o ≡ answer) × (w ≡ told)) out new_out err new_err result → Reports IsIt out new_out err new_err result
+reports-both IsIt answer told outputs warnings is also it out new_out err new_err result reports = ends reports
+  where
+    such : (o w : List ℕ) → (o ≡ answer) × (w ≡ told) → IsIt o w
+    such o w both = subst (λ t. IsIt t w) (sym (both.0 ∙ is)) (subst (IsIt outputs) (sym (both.1 ∙ also)) it)
+
+    ends : {result : Result Status Error} → Reports (λ o w. (o ≡ answer) × (w ≡ told)) out new_out err new_err result → Reports IsIt out new_out err new_err result
+    ends (quiet it took same) = quiet (such _ _ it) took same
+    ends (warned it some took told) = warned (such _ _ it) some took told
+    ends (cut_off it fails same) = cut_off (such _ _ it) fails same
+    ends (unwarned it took fails) = unwarned (such _ _ it) took fails
+    ends (refused same same_too) = refused same same_too

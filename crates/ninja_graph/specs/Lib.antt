@@ -1,7 +1,9 @@
 -- what must be believed
 pub mod Affected
 pub mod Chains
+pub mod LogPaths
 pub mod Manifest
+pub mod Pages
 pub mod Quotes
 pub mod Reports
 pub mod Statuses

@@ -6,7 +6,7 @@ ghost use Rattle.nj_graph.specs.Graph.{files_of};
 use crate::drawing::{Extent, draw_affected, draw_needed};
 use crate::failure::Failure;
 use crate::status::Status;
-use crate::words::{flag, number};
+use crate::words::{count, flag};
 use clap::{Arg, ArgAction, ArgMatches, Command};
 use nj_graph::{FileNo, Graph};
 use nj_tools::{Error, WriteSink, write_whole};
@@ -40,13 +40,13 @@ pub fn command<'a>(alloc: Global) -> Result<Command<'a>, AllocError> {
             "fold",
             "Draw each phony edge with its outputs as a point",
         ))?
-        .arg(number(
+        .arg(count(
             alloc,
             "limit",
             "N",
             "Draw N nodes at most, edges and files together",
         ))?
-        .arg(number(
+        .arg(count(
             alloc,
             "inputs",
             "K",

@@ -1,8 +1,9 @@
 //! Why a run does not reach its end.
 
 use crate::status::Status;
-use nj_graph::GraphFault;
-use nj_tools::Error;
+use nj_deps::DepsLogFault;
+use nj_graph::{GraphFault, SourceFault};
+use nj_tools::{Error, SinkFault};
 use std::alloc::{AllocError, Global};
 use std::{fmt, io};
 
@@ -17,14 +18,44 @@ pub enum Failure {
     Folder(io::Error),
     /// Standard input cannot be read.
     Input(io::Error),
+    /// The deps log at this path cannot be read.
+    Log(String, LogFault),
+    /// The path of Ninja's deps log is not UTF-8.
+    LogPath,
+    /// The value of `--base` is not absolute.
+    Base(String),
+    /// No finding is of this kind.
+    Kind(String),
+}
+
+/// Why a deps log cannot be read.
+#[derive(Drop)]
+pub enum LogFault {
+    /// There is no file.
+    Missing,
+    /// The file cannot be read.
+    Source(SourceFault),
+    /// It is not a deps log that is read.
+    Log(DepsLogFault),
 }
 
 impl Failure {
+    /// That the deps log at a path cannot be read.
+    pub fn of_log(alloc: Global, path: &str, fault: LogFault) -> Result<Failure, AllocError> {
+        if fault.is_out_of_memory() {
+            return Err(AllocError);
+        }
+        Ok(Failure::Log(String::from_str(alloc, path)?, fault))
+    }
+
     /// How the run ends.
     pub fn status(&self) -> Status {
         match self {
             Failure::Graph(Error::Write) => Status::OutputFailed,
-            Failure::Words => Status::Usage,
+            Failure::Graph(Error::BadMark)
+            | Failure::Words
+            | Failure::Base(_)
+            | Failure::Kind(_) => Status::Usage,
             _ => Status::Fault,
         }
     }
@@ -48,6 +79,32 @@ impl fmt::Display for Failure {
             Failure::Words => f.write_str("cannot read the arguments"),
             Failure::Folder(error) => write!(f, "cannot enter the folder of -C: {error}"),
             Failure::Input(error) => write!(f, "cannot read standard input: {error}"),
+            Failure::Log(path, fault) => write!(f, "{path}: {fault}"),
+            Failure::LogPath => f.write_str("the path of the deps log is not UTF-8"),
+            Failure::Base(path) => write!(f, "'{path}' of --base is not absolute"),
+            Failure::Kind(word) => {
+                write!(f, "unknown kind '{word}'; ninja-graph audit --list lists the kinds")
+            }
+        }
+    }
+}
+
+impl LogFault {
+    /// Whether an allocation failed.
+    fn is_out_of_memory(&self) -> bool {
+        matches!(
+            self,
+            LogFault::Source(SourceFault::OutOfMemory) | LogFault::Log(DepsLogFault::OutOfMemory)
+        )
+    }
+}
+
+impl fmt::Display for LogFault {
+    fn fmt<W: fmt::Write>(&self, f: &mut fmt::Formatter<W>) -> fmt::Result {
+        match self {
+            LogFault::Missing => f.write_str("there is no such file"),
+            LogFault::Source(fault) => write!(f, "{fault}"),
+            LogFault::Log(fault) => write!(f, "{fault}"),
         }
     }
 }
@@ -60,6 +117,12 @@ impl From<Error> for Failure {
 
 impl From<GraphFault> for Failure {
     fn from(fault: GraphFault) -> Failure {
+        Failure::Graph(fault.into())
+    }
+}
+
+impl From<SinkFault> for Failure {
+    fn from(fault: SinkFault) -> Failure {
         Failure::Graph(fault.into())
     }
 }

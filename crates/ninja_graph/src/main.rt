@@ -2,12 +2,16 @@
 #![tactic(auto)]
 
 mod affected;
+mod audit;
 mod chains;
 mod changes;
+mod deps_log;
 mod draw;
 mod drawing;
 mod failure;
+mod findings;
 mod json;
+mod keys;
 mod listing;
 mod manifest;
 mod reading;
@@ -15,6 +19,7 @@ mod report;
 mod status;
 mod why;
 mod words;
+mod writing;
 
 use crate::failure::Failure;
 use crate::reading::read_graph;
@@ -82,21 +87,33 @@ fn print_error(rt: HostRuntime, error: &clap::Error) -> Status {
     }
 }
 
-/// Answers what a subcommand asks of its graph.
+/// Answers what a subcommand asks.
 fn answer(rt: HostRuntime, matches: &ArgMatches<'_>) -> Result<Status, Failure> {
     let Some((name, options)) = matches.subcommand() else {
         return Ok(Status::Usage);
     };
-    let loaded = read_graph(rt, options)?;
-    let graph = loaded.graph();
+    match name {
+        "audit" => audit::answer(rt, options),
+        "keys" => keys::answer(rt, options),
+        _ => answer_about_graph(rt, name, options),
+    }
+}
+
+/// Answers what a subcommand asks of its graph.
+fn answer_about_graph(
+    rt: HostRuntime,
+    name: &str,
+    options: &ArgMatches<'_>,
+) -> Result<Status, Failure> {
+    let graph = read_graph(rt, options)?;
     let answered = match name {
-        "affected" => affected::answer(rt, graph, options),
-        "draw" => draw::answer(rt, graph, options),
-        "json" => json::answer(rt, graph),
-        "why" => why::answer(rt, graph, options),
+        "affected" => affected::answer(rt, &graph, options),
+        "draw" => draw::answer(rt, &graph, options),
+        "json" => json::answer(rt, &graph),
+        "why" => why::answer(rt, &graph, options),
         _ => Ok(Status::Usage),
     };
     // The process ends here, and its memory with it.
-    mem::forget(loaded);
+    mem::forget(graph);
     answered
 }

@@ -1,22 +1,56 @@
 //! The graph that the options of a subcommand name.
 
+ghost use Rattle.std.specs.Prelude.{◌≡◌, List, Ok, MatchOption};
+ghost use Rattle.nj_graph.specs.DepsLogs.{JoinsLog};
+ghost use Rattle.nj_graph.specs.Graph.{IsGraphOf};
+ghost use Rattle.nj_graph.specs.ReadingList.{ReadStatement};
+
+use crate::deps_log::read_log;
 use crate::failure::Failure;
 use clap::ArgMatches;
+use nj_deps::DepsLog;
 use nj_disk::DiskFiles;
-use nj_graph::{Loaded, join_dyndeps, load};
+use nj_graph::{FileSource, Graph, GraphFault, join_dyndeps, load};
+use std::alloc::Global;
 use std::env;
 
 /// Changes to the folder of `-C`, and reads the main file there and all that it includes; with
-/// `--dyndep` also dyndep files.
-pub fn read_graph(rt: HostRuntime, options: &ArgMatches<'_>) -> Result<Loaded, Failure> {
+/// `--dyndep` also dyndep files, and last the deps log that is asked for.
+pub fn read_graph(rt: HostRuntime, options: &ArgMatches<'_>) -> Result<Graph, Failure> {
     if let Some(folder) = options.get_str("folder") {
         env::set_current_dir(&rt, folder).map_err(Failure::Folder)?;
     }
     let mut files = DiskFiles::new(rt, rt.alloc(), None)?;
+    let graph = read_manifest(rt.alloc(), &mut files, options)?;
+    let log = read_log(rt.alloc(), &mut files, &graph, options)?;
+    Ok(with_log(rt.alloc(), graph, log)?)
+}
+
+/// The graph of the main file and all that it includes; with `--dyndep` joined with dyndep files.
+fn read_manifest<S: FileSource>(
+    alloc: Global,
+    files: &mut S,
+    options: &ArgMatches<'_>,
+) -> Result<Graph, Failure> {
     let main = options.get_str("file").unwrap_or("build.ninja");
-    let loaded = load(rt.alloc(), &mut files, main)?;
+    let loaded = load(alloc, files, main)?;
     if options.get_flag("dyndep") {
-        return Ok(join_dyndeps(rt.alloc(), loaded, &mut files)?);
+        return Ok(join_dyndeps(alloc, loaded, files)?.into_graph());
     }
-    Ok(loaded)
+    Ok(loaded.into_graph())
+}
+
+/// The graph with what a deps log has for its edges, if there is one.
+///
+/// # Errors
+///
+/// Those of [`Graph::join_deps`].
+fn with_log(alloc: Global, graph: Graph, log: Option<DepsLog>) -> Result<Graph, GraphFault>
+    ensures { MatchOption log (result ≡ Ok graph) (λ log. (stated : List ReadStatement)
+        → IsGraphOf graph stated → JoinsLog log stated result) }
+{
+    match log {
+        Some(log) => graph.join_deps(alloc, &log),
+        None => Ok(graph),
+    }
 }

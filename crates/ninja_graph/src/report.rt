@@ -11,8 +11,9 @@ use crate::changes::{find_file, known_files};
 use crate::listing::{Listed, list_outputs, push_line};
 use crate::manifest::Manifest;
 use crate::status::Status;
+use crate::writing::write_both;
 use nj_graph::{EdgeNo, Graph};
-use nj_tools::{Error, Sink, write_whole};
+use nj_tools::{Error, Sink};
 use std::alloc::{AllocError, Global};
 
 /// What is written about a change of files.
@@ -47,12 +48,7 @@ pub fn write_report<O: Sink, E: Sink>(
         (O.state out.old) (O.state out.new) (E.state err.old) (E.state err.new) result }
 {
     let report = report_of(alloc, graph, source_dir, paths, listed)?;
-    write_whole(out, &report.outputs)?;
-    if report.warnings.as_slice().is_empty() {
-        return Ok(Status::Done);
-    }
-    write_whole(err, &report.warnings)?;
-    Ok(Status::Look)
+    write_both(&report.outputs, &report.warnings, out, err)
 }
 
 /// The report of a change of the files at these paths.

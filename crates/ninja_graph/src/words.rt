@@ -1,7 +1,7 @@
 //! The words of a command line.
 
-use crate::{affected, draw, json, why};
-use clap::{Arg, ArgAction, Command};
+use crate::{affected, audit, draw, json, keys, why};
+use clap::{Arg, ArgAction, Command, value_parser};
 use std::alloc::{AllocError, Global};
 
 /// The version of the program.
@@ -17,8 +17,10 @@ pub fn command<'a>(alloc: Global) -> Result<Command<'a>, AllocError> {
         .subcommand_required(true)
         .disable_help_subcommand(true)
         .subcommand(of_graph(alloc, affected::command(alloc)?)?)?
+        .subcommand(of_graph(alloc, audit::command(alloc)?)?)?
         .subcommand(of_graph(alloc, draw::command(alloc)?)?)?
         .subcommand(of_graph(alloc, json::command(alloc))?)?
+        .subcommand(of_graph(alloc, keys::command(alloc)?)?)?
         .subcommand(of_graph(alloc, why::command(alloc)?)?)
 }
 
@@ -33,6 +35,17 @@ fn of_graph<'a>(alloc: Global, command: Command<'a>) -> Result<Command<'a>, Allo
             alloc,
             "dyndep",
             "Join what dyndep files that are there add to edges",
+        ))?
+        .arg(flag(
+            alloc,
+            "deps-log",
+            "Join what compilers told of headers, from .ninja_deps in builddir",
+        ))?
+        .arg(option(
+            alloc,
+            "deps-log-file",
+            "FILE",
+            "Join what FILE tells of headers, a deps log",
         ))
 }
 
@@ -42,14 +55,25 @@ pub fn option<'a>(alloc: Global, name: &'a str, value: &'a str, help: &'a str) -
     named.value_name(value).help(help)
 }
 
+/// `--NAME VALUE`, where the value is a number.
+pub fn number<'a>(alloc: Global, name: &'a str, value: &'a str, help: &'a str) -> Arg<'a> {
+    option(alloc, name, value, help).value_parser(value_parser!(u64))
+}
+
+/// Targets, after the options.
+pub fn targets<'a>(alloc: Global, help: &'a str) -> Arg<'a> {
+    let named = Arg::new(alloc, "targets").value_name("TARGET");
+    named.action(ArgAction::Append).help(help)
+}
+
 /// `--NAME VALUE`, which may be given more than once.
 pub fn repeated<'a>(alloc: Global, name: &'a str, value: &'a str, help: &'a str) -> Arg<'a> {
     option(alloc, name, value, help).action(ArgAction::Append)
 }
 
-/// `--NAME VALUE` with a number
-pub fn number<'a>(alloc: Global, name: &'a str, value: &'a str, help: &'a str) -> Arg<'a> {
-    option(alloc, name, value, help).value_parser(clap::value_parser!(usize))
+/// `--NAME VALUE`, where the value is how many items there may be.
+pub fn count<'a>(alloc: Global, name: &'a str, value: &'a str, help: &'a str) -> Arg<'a> {
+    option(alloc, name, value, help).value_parser(value_parser!(usize))
 }
 
 /// `--NAME`

@@ -10,11 +10,13 @@ use Rattle.nj_graph.specs.Graph.{GraphModel, files_of}
 use Rattle.nj_graph.specs.Origins.{PoolDetail, rule_place_at}
 use Rattle.nj_statements.specs.EdgeList.{block_names_at, edges_read}
 use Rattle.nj_audit.specs.declared.kinds.Kind.{Kind}
-use Rattle.nj_audit.specs.declared.kinds.Kind.TheVariants.{UnusedOutput, MissingSource, UnusedRule, UnusedPool, UnusedVariable, RepeatedCommand, DepfileWithoutDeps, RepeatedInput}
+use Rattle.nj_audit.specs.declared.kinds.Kind.TheVariants.{UnusedOutput, MissingSource, UnusedRule, UnusedPool, UnusedVariable, RepeatedCommand, DepfileWithoutDeps, RepeatedInput, UndeclaredInput}
 use Rattle.nj_audit.specs.declared.kinds.Kinds.{Kinds}
 use Rattle.nj_audit.specs.Findings.{FindingModel, edge_finding}
 use Rattle.nj_audit.specs.Kinds.{AskFor, all_kinds, contains, is_asked_for}
-use Rattle.nj_audit.specs.Inside.ByKind.{findings_of}
+use Rattle.nj_audit.specs.Inside.ByKind.{asked_of, findings_of}
+use Rattle.nj_audit.specs.UndeclaredInputs.{AreUndeclared}
+use Rattle.nj_audit.specs.UndeclaredInputs.AreUndeclared.{no_edges, one_more}
 use Rattle.nj_audit.proofs.ListLemmas.{map-append}
 use Rattle.nj_audit.specs.Audit.{all_findings, findings_asked_for, edge_numbers, numbers, first_output_at, paths_at, path_of, unused_outputs, unused_outputs_at, is_unused_output, missing_source, missing_sources, user_of_missing, is_used_rule, rule_of_number, unused_rule, unused_rules, pools_of_edges, unused_pool, unused_pools, is_unused_variable, unused_variables, unused_variables_at, repeats_command, repeated_commands, has_depfile_without_deps, depfiles_without_deps, repeated_inputs, repeated_inputs_at, repeated_paths}
 
@@ -145,20 +147,26 @@ module _ (g : GraphModel) (entries : List ReadStatement) where
       of-map DepfileWithoutDeps (λ edge. edge_finding g edge DepfileWithoutDeps (first_output_at g edge)) (λ edge. refl)
       (filter (has_depfile_without_deps entries) (edge_numbers g))
 
+pub of-none : AreOf UndeclaredInput []
+of-none asked = nothing (asked UndeclaredInput)
+
+pub of-undeclared : (g : GraphModel) (entries : List ReadStatement) (folder : List ℕ) {edges : List ℕ} {found : List FindingModel}
+    → AreUndeclared g entries folder edges found → AreOf UndeclaredInput found
+of-undeclared g entries folder no_edges asked = of-none asked
+of-undeclared g entries folder (one_more {found = found} {edge = edge} {paths = paths} before of_edge) asked =
+    of-append UndeclaredInput found (map (edge_finding g edge UndeclaredInput) paths) (of-undeclared g entries folder before)
+    (of-map UndeclaredInput (edge_finding g edge UndeclaredInput) (λ path. refl) paths) asked
+
 -- ---- all of them
 
-grouped : (a b c d e f g h : List FindingModel) → a ++ b ++ c ++ d ++ e ++ f ++ g ++ h ≡ a ++ (b ++ (c ++ (d ++ (e ++ (f ++ (g ++ (h ++ [])))))))
-grouped a b c d e f g h = simp (append_assoc, append-nil)
+grouped : (a b c d e f g h i : List FindingModel) → a ++ b ++ c ++ d ++ e ++ f ++ g ++ h ++ i ≡ a ++ (b ++ (c ++ (d ++ (e ++ (f ++ (g ++ (h ++ (i ++ []))))))))
+grouped a b c d e f g h i = simp (append_assoc, append-nil)
 
--- what is asked for of the findings of a kind
-abbrev pub asked_of : Kinds → (Kind → List FindingModel) → Kind → List FindingModel
-asked_of kinds of kind = cond (contains kinds kind) (of kind) []
-
-eight : (asked : Kind → Bool) (of : Kind → List FindingModel) → ((kind : Kind) → AreOf kind (of kind))
+nine : (asked : Kind → Bool) (of : Kind → List FindingModel) → ((kind : Kind) → AreOf kind (of kind))
     → flat_map (λ kind. cond (asked kind) (of kind) []) all_kinds
     ≡ filter (λ (f : FindingModel). asked f.kind) (of UnusedOutput ++ of MissingSource ++ of UnusedRule ++ of UnusedPool ++ of UnusedVariable ++ of RepeatedCommand
-    ++ of DepfileWithoutDeps ++ of RepeatedInput)
-eight asked of are =
+    ++ of DepfileWithoutDeps ++ of RepeatedInput ++ of UndeclaredInput)
+nine asked of are =
     let p : FindingModel → Bool = λ f. asked f.kind in
     let k : Kind → List FindingModel = λ kind. cond (asked kind) (of kind) [] in
     let a = of UnusedOutput in
@@ -169,6 +177,7 @@ eight asked of are =
     let f = of RepeatedCommand in
     let g = of DepfileWithoutDeps in
     let h = of RepeatedInput in
+    let i = of UndeclaredInput in
     let two = part p a b (k UnusedOutput) (k MissingSource) (are UnusedOutput asked) (are MissingSource asked) in
     let three = part p (a ++ b) c (k UnusedOutput ++ k MissingSource) (k UnusedRule) two (are UnusedRule asked) in
     let four = part p (a ++ b ++ c) d (k UnusedOutput ++ k MissingSource ++ k UnusedRule) (k UnusedPool) three (are UnusedPool asked) in
@@ -180,26 +189,34 @@ eight asked of are =
     let seven =
     part p (a ++ b ++ c ++ d ++ e ++ f) g (k UnusedOutput ++ k MissingSource ++ k UnusedRule ++ k UnusedPool ++ k UnusedVariable ++ k RepeatedCommand)
     (k DepfileWithoutDeps) six (are DepfileWithoutDeps asked) in
-    let all =
+    let eight =
     part p (a ++ b ++ c ++ d ++ e ++ f ++ g) h
     (k UnusedOutput ++ k MissingSource ++ k UnusedRule ++ k UnusedPool ++ k UnusedVariable ++ k RepeatedCommand ++ k DepfileWithoutDeps)
     (k RepeatedInput) seven (are RepeatedInput asked) in
-    sym (all ∙ grouped (k UnusedOutput) (k MissingSource) (k UnusedRule) (k UnusedPool) (k UnusedVariable) (k RepeatedCommand) (k DepfileWithoutDeps) (k RepeatedInput))
+    let all =
+    part p (a ++ b ++ c ++ d ++ e ++ f ++ g ++ h) i
+    (k UnusedOutput ++ k MissingSource ++ k UnusedRule ++ k UnusedPool ++ k UnusedVariable ++ k RepeatedCommand ++ k DepfileWithoutDeps ++ k RepeatedInput)
+    (k UndeclaredInput) eight (are UndeclaredInput asked) in
+    sym (all ∙ grouped (k UnusedOutput) (k MissingSource) (k UnusedRule) (k UnusedPool) (k UnusedVariable) (k RepeatedCommand) (k DepfileWithoutDeps) (k RepeatedInput)
+    (k UndeclaredInput))
 
-of-kind : (g : GraphModel) (entries : List ReadStatement) (missing serving : List Bool) (kind : Kind) → AreOf kind (findings_of g entries missing serving kind)
-of-kind g entries missing serving UnusedOutput = of-outputs g
-of-kind g entries missing serving MissingSource = of-sources g missing serving
-of-kind g entries missing serving UnusedRule = of-rules g
-of-kind g entries missing serving UnusedPool = of-pools g entries
-of-kind g entries missing serving UnusedVariable = of-variables g entries
-of-kind g entries missing serving RepeatedCommand = of-commands g entries
-of-kind g entries missing serving DepfileWithoutDeps = of-depfiles g entries
-of-kind g entries missing serving RepeatedInput = of-inputs g
+module _ (g : GraphModel) (entries : List ReadStatement) (missing serving : List Bool) (undeclared : List FindingModel) (are : AreOf UndeclaredInput undeclared) where
+  of-kind : (kind : Kind) → AreOf kind (findings_of g entries missing serving undeclared kind)
+  of-kind UnusedOutput = of-outputs g
+  of-kind MissingSource = of-sources g missing serving
+  of-kind UnusedRule = of-rules g
+  of-kind UnusedPool = of-pools g entries
+  of-kind UnusedVariable = of-variables g entries
+  of-kind RepeatedCommand = of-commands g entries
+  of-kind DepfileWithoutDeps = of-depfiles g entries
+  of-kind RepeatedInput = of-inputs g
+  of-kind UndeclaredInput = are
 
--- kind by kind, those that are asked for are a filter of all
-pub asked-law : (kinds : Kinds) (g : GraphModel) (entries : List ReadStatement) (missing serving : List Bool)
-    → flat_map (asked_of kinds (findings_of g entries missing serving)) all_kinds ≡ findings_asked_for kinds (all_findings g entries missing serving)
-asked-law kinds g entries missing serving = eight (contains kinds) (findings_of g entries missing serving) (of-kind g entries missing serving)
+  -- kind by kind, those that are asked for are a filter of all
+  pub asked-law : (kinds : Kinds)
+      → flat_map (asked_of kinds (findings_of g entries missing serving undeclared)) all_kinds
+      ≡ findings_asked_for kinds (all_findings g entries missing serving undeclared)
+  asked-law kinds = nine (contains kinds) (findings_of g entries missing serving undeclared) of-kind
 
 -- one kind more
 pub one-asked : (b : Bool) (text found : List FindingModel) → b ≡ true → text ++ found ≡ text ++ (cond b found [] ++ [])
@@ -237,12 +254,14 @@ pub ask-for : (kinds : Kinds) (only except : List (List ℕ)) → kinds.unused_o
     → kinds.missing_source ≡ is_asked_for only except MissingSource → kinds.unused_rule ≡ is_asked_for only except UnusedRule
     → kinds.unused_pool ≡ is_asked_for only except UnusedPool → kinds.unused_variable ≡ is_asked_for only except UnusedVariable
     → kinds.repeated_command ≡ is_asked_for only except RepeatedCommand → kinds.depfile_without_deps ≡ is_asked_for only except DepfileWithoutDeps
-    → kinds.repeated_input ≡ is_asked_for only except RepeatedInput → AskFor kinds only except
-ask-for kinds only except a b c d e f g h UnusedOutput = a
-ask-for kinds only except a b c d e f g h MissingSource = b
-ask-for kinds only except a b c d e f g h UnusedRule = c
-ask-for kinds only except a b c d e f g h UnusedPool = d
-ask-for kinds only except a b c d e f g h UnusedVariable = e
-ask-for kinds only except a b c d e f g h RepeatedCommand = f
-ask-for kinds only except a b c d e f g h DepfileWithoutDeps = g
-ask-for kinds only except a b c d e f g h RepeatedInput = h
+    → kinds.repeated_input ≡ is_asked_for only except RepeatedInput → kinds.undeclared_input ≡ is_asked_for only except UndeclaredInput
+    → AskFor kinds only except
+ask-for kinds only except a b c d e f g h i UnusedOutput = a
+ask-for kinds only except a b c d e f g h i MissingSource = b
+ask-for kinds only except a b c d e f g h i UnusedRule = c
+ask-for kinds only except a b c d e f g h i UnusedPool = d
+ask-for kinds only except a b c d e f g h i UnusedVariable = e
+ask-for kinds only except a b c d e f g h i RepeatedCommand = f
+ask-for kinds only except a b c d e f g h i DepfileWithoutDeps = g
+ask-for kinds only except a b c d e f g h i RepeatedInput = h
+ask-for kinds only except a b c d e f g h i UndeclaredInput = i

@@ -3,7 +3,7 @@ use Rattle.std.proofs.Common.{◌≡◌, ℕ, true, false, Some, None, List, [],
 use Rattle.std.specs.List.{filter}
 use Rattle.nj_faults.specs.declared.fault.Place.{Place}
 use Rattle.nj_audit.specs.declared.kinds.Kind.{Kind}
-use Rattle.nj_audit.specs.declared.kinds.Kind.TheVariants.{UnusedOutput, MissingSource, UnusedRule, UnusedPool, RepeatedCommand, DepfileWithoutDeps, RepeatedInput}
+use Rattle.nj_audit.specs.declared.kinds.Kind.TheVariants.{UnusedOutput, MissingSource, UnusedRule, UnusedPool, RepeatedCommand, DepfileWithoutDeps, RepeatedInput, UndeclaredInput}
 use Rattle.nj_audit.specs.declared.kinds.Kinds.{Kinds}
 use Rattle.nj_audit.specs.Audit.{findings_asked_for}
 use Rattle.nj_audit.specs.Findings.{FindingModel}
@@ -13,7 +13,7 @@ use Rattle.nj_audit.specs.Kinds.{all_kinds, first_unknown, is_asked_for}
 abbrev asked : (only except : List (List ℕ)) → List Kind
 asked only except = filter (is_asked_for only except) all_kinds
 
-no_options : asked [] [] ≡ MissingSource ∷ RepeatedCommand ∷ DepfileWithoutDeps ∷ []
+no_options : asked [] [] ≡ MissingSource ∷ RepeatedCommand ∷ DepfileWithoutDeps ∷ UndeclaredInput ∷ []
 no_options = refl
 
 only_one : asked (codes "unused-rule" ∷ []) [] ≡ UnusedRule ∷ []
@@ -27,7 +27,7 @@ only_three = refl
 only_except_itself : asked (codes "unused-rule" ∷ []) (codes "unused-rule" ∷ []) ≡ []
 only_except_itself = refl
 
-except_one : asked [] (codes "repeated-command" ∷ []) ≡ MissingSource ∷ DepfileWithoutDeps ∷ []
+except_one : asked [] (codes "repeated-command" ∷ []) ≡ MissingSource ∷ DepfileWithoutDeps ∷ UndeclaredInput ∷ []
 except_one = refl
 
 -- what is not taken need not be excepted
@@ -60,6 +60,7 @@ only_rules = record {
   repeated_command = false;
   depfile_without_deps = false;
   repeated_input = false;
+  undeclared_input = false;
 }
 
 abbrev finding : Place → Kind → FindingModel

@@ -219,11 +219,11 @@ repeated_inputs g = flat_map (repeated_inputs_at g) (edge_numbers g)
 -- ---- all of it
 
 abbrev pub all_findings : GraphModel → List ReadStatement → (missing serving : List Bool)
-    → List FindingModel
-all_findings g entries missing serving =
+    → (undeclared : List FindingModel) → List FindingModel
+all_findings g entries missing serving undeclared =
     unused_outputs g ++ missing_sources g missing serving ++ unused_rules g ++ unused_pools g entries
     ++ unused_variables g entries ++ repeated_commands g entries ++ depfiles_without_deps g entries
-    ++ repeated_inputs g
+    ++ repeated_inputs g ++ undeclared
 
 -- those of the kinds that are asked for
 abbrev pub findings_asked_for : Kinds → List FindingModel → List FindingModel

@@ -7,7 +7,7 @@ use Rattle.nj_audit.specs.declared.kinds.Kind.{Kind}
 use Rattle.nj_audit.specs.declared.kinds.Kind.TheVariants.{UnusedOutput, MissingSource}
 use Rattle.nj_audit.specs.declared.kinds.Kind.TheVariants.{UnusedRule, UnusedPool}
 use Rattle.nj_audit.specs.declared.kinds.Kind.TheVariants.{UnusedVariable, RepeatedCommand}
-use Rattle.nj_audit.specs.declared.kinds.Kind.TheVariants.{DepfileWithoutDeps, RepeatedInput}
+use Rattle.nj_audit.specs.declared.kinds.Kind.TheVariants.{DepfileWithoutDeps, RepeatedInput, UndeclaredInput}
 use Rattle.nj_audit.specs.declared.kinds.Kinds.{Kinds}
 
 abbrev pub name_of : Kind → List ℕ
@@ -19,11 +19,13 @@ name_of UnusedVariable = codes "unused-variable"
 name_of RepeatedCommand = codes "repeated-command"
 name_of DepfileWithoutDeps = codes "depfile-without-deps"
 name_of RepeatedInput = codes "repeated-input"
+name_of UndeclaredInput = codes "undeclared-input"
 
 abbrev pub is_on_by_default : Kind → Bool
 is_on_by_default MissingSource = true
 is_on_by_default RepeatedCommand = true
 is_on_by_default DepfileWithoutDeps = true
+is_on_by_default UndeclaredInput = true
 is_on_by_default kind = false
 
 -- `--only` takes the kinds that it names; without it, those are taken that are on by default
@@ -38,7 +40,7 @@ is_asked_for only except kind = is_taken only kind && not (is_among except (name
 abbrev pub all_kinds : List Kind
 all_kinds =
     UnusedOutput ∷ MissingSource ∷ UnusedRule ∷ UnusedPool ∷ UnusedVariable ∷ RepeatedCommand
-    ∷ DepfileWithoutDeps ∷ RepeatedInput ∷ []
+    ∷ DepfileWithoutDeps ∷ RepeatedInput ∷ UndeclaredInput ∷ []
 
 -- a word names no kind
 abbrev pub is_unknown : (word : List ℕ) → Bool
@@ -63,6 +65,7 @@ contains kinds UnusedVariable = kinds.unused_variable
 contains kinds RepeatedCommand = kinds.repeated_command
 contains kinds DepfileWithoutDeps = kinds.depfile_without_deps
 contains kinds RepeatedInput = kinds.repeated_input
+contains kinds UndeclaredInput = kinds.undeclared_input
 
 -- the kinds are those that the words ask for
 abbrev pub AskFor : Kinds → (only except : List (List ℕ)) → Type 0

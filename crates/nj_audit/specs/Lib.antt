@@ -1,7 +1,12 @@
 -- what must be believed
 pub mod Audit
+pub mod Audits
 pub mod Findings
 pub mod Kinds
+pub mod Laws
+pub mod NamedPaths
 pub mod Serving
+pub mod ShellWords
+pub mod UndeclaredInputs
 -- how the code does that
 pub mod Inside

@@ -1,11 +1,13 @@
 //! The findings of the kinds that are asked for.
 
-ghost use Rattle.std.specs.Prelude.{◌≡◌, ◌++◌, Bool, List, IfOk, OnOk};
+ghost use Rattle.std.specs.Prelude.{◌≡◌, ◌++◌, List, IfOk, OnOk};
+ghost use Rattle.std.specs.List.{flat_map};
 ghost use Rattle.nj_scope.specs.ReadingList.{ReadStatement};
-ghost use Rattle.nj_graph.specs.Graph.{edges_of, IsGraphOf};
-ghost use Rattle.nj_audit.specs.Audit.{all_findings, findings_asked_for};
-ghost use Rattle.nj_audit.specs.Inside.ByKind.{findings_of};
-ghost use Rattle.nj_audit.specs.Serving.{AreServing};
+ghost use Rattle.nj_graph.specs.Graph.{IsGraphOf};
+ghost use Rattle.nj_audit.specs.Audits.{IsAudit};
+ghost use Rattle.nj_audit.specs.Inside.ByKind.{asked_of, findings_of};
+ghost use Rattle.nj_audit.specs.Kinds.{all_kinds};
+ghost use Rattle.nj_audit.specs.UndeclaredInputs.{AreUndeclaredIf};
 
 use crate::commands::find_repeated_commands;
 use crate::depfiles::find_depfiles_without_deps;
@@ -17,32 +19,66 @@ use crate::pools::find_unused_pools;
 use crate::rules::find_unused_rules;
 use crate::serving::serving_edges;
 use crate::sources::find_missing_sources;
+use crate::undeclared::undeclared_inputs;
 use crate::variables::find_unused_variables;
 use nj_graph::Graph;
 use std::alloc::{AllocError, Global};
 
 /// The findings of these kinds, kind by kind. `missing` has of each file whether it is missing on
-/// the disk; without `missing-source` it may be empty.
+/// the disk; without `missing-source` it may be empty. Commands name files as seen from the folder,
+/// which is absolute; it may be empty, and then absolute names stay.
 pub fn audit<'a>(
     alloc: Global,
     graph: &'a Graph,
     missing: &[bool],
+    folder: &[u8],
     kinds: Kinds,
 ) -> Result<Findings<'a>, AllocError>
     ensures { (entries : List ReadStatement) → IsGraphOf graph.now entries
-        → IfOk result (λ found. (serving : List Bool) × AreServing (edges_of graph.now) serving
-        × (found ≡ findings_asked_for kinds
-        (all_findings graph.now entries missing.now serving))) }
+        → IfOk result (IsAudit graph.now entries missing.now folder.now kinds) }
 {
     let edges = serving_edges(alloc, graph)?;
-    let serving = edges.flags();
+    let undeclared = undeclared_if(alloc, graph, folder, kinds.contains(Kind::UndeclaredInput))?;
+    find_all(alloc, graph, missing, edges.flags(), &undeclared, kinds)
+}
+
+/// The findings of these kinds, where flags say which edges serve commands.
+fn find_all<'a>(
+    alloc: Global,
+    graph: &'a Graph,
+    missing: &[bool],
+    serving: &[bool],
+    undeclared: &Findings<'a>,
+    kinds: Kinds,
+) -> Result<Findings<'a>, AllocError>
+    ensures { (entries : List ReadStatement) → IsGraphOf graph.now entries
+        → IfOk result (λ found. found ≡ flat_map (asked_of kinds
+        (findings_of graph.now entries missing.now serving.now undeclared.entry.now)) all_kinds) }
+{
     let mut found = Findings::new(alloc);
     'all: for kind in Kind::ALL {
         if kinds.contains(kind) {
-            find(alloc, graph, missing, serving, kind, &mut found)?;
+            find(alloc, graph, missing, serving, undeclared, kind, &mut found)?;
         }
     }
     Ok(found)
+}
+
+/// The undeclared inputs if they are asked for.
+fn undeclared_if<'a>(
+    alloc: Global,
+    graph: &'a Graph,
+    folder: &[u8],
+    is_asked: bool,
+) -> Result<Findings<'a>, AllocError>
+    ensures { (entries : List ReadStatement) → IsGraphOf graph.now entries
+        → IfOk result (AreUndeclaredIf is_asked graph.now entries folder.now) }
+{
+    if is_asked {
+        undeclared_inputs(alloc, graph, folder)
+    } else {
+        Ok(Findings::new(alloc))
+    }
 }
 
 /// Appends the findings of a kind.
@@ -51,11 +87,13 @@ fn find<'a>(
     graph: &'a Graph,
     missing: &[bool],
     serving: &[bool],
+    undeclared: &Findings<'a>,
     kind: Kind,
     found: &mut Findings<'a>,
 ) -> Result<(), AllocError>
     ensures { (entries : List ReadStatement) → IsGraphOf graph.entry.now entries → OnOk result
-        (found.new ≡ found.old ++ findings_of graph.entry.now entries missing.now serving.now kind) }
+        (found.new ≡ found.old ++ findings_of graph.entry.now entries missing.now serving.now
+        undeclared.entry.now kind) }
 {
     match kind {
         Kind::UnusedOutput => find_unused_outputs(alloc, graph, found),
@@ -66,5 +104,6 @@ fn find<'a>(
         Kind::RepeatedCommand => find_repeated_commands(alloc, graph, found),
         Kind::DepfileWithoutDeps => find_depfiles_without_deps(alloc, graph, found),
         Kind::RepeatedInput => find_repeated_inputs(alloc, graph, found),
+        Kind::UndeclaredInput => found.extend(undeclared),
     }
 }

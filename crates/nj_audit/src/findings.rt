@@ -81,4 +81,12 @@ impl<'a> Findings<'a> {
     {
         self.push(graph.edge_place(edge), kind, name)
     }
+
+    /// Appends all findings of others.
+    pub fn extend(&mut self, others: &Findings<'a>) -> Result<(), AllocError>
+        ensures { OnOk result (self.new ≡ self.old ++ others.now) }
+    {
+        self.list.extend_from_slice(&others.list)?;
+        Ok(())
+    }
 }

@@ -16,11 +16,12 @@ pub enum Kind {
     RepeatedCommand,
     DepfileWithoutDeps,
     RepeatedInput,
+    UndeclaredInput,
 }
 
 impl Kind {
     /// All kinds, in the order in which their findings are written.
-    pub const ALL: [Kind; 8] = [
+    pub const ALL: [Kind; 9] = [
         Kind::UnusedOutput,
         Kind::MissingSource,
         Kind::UnusedRule,
@@ -29,6 +30,7 @@ impl Kind {
         Kind::RepeatedCommand,
         Kind::DepfileWithoutDeps,
         Kind::RepeatedInput,
+        Kind::UndeclaredInput,
     ];
 
     /// Its name on the command line and in JSON.
@@ -44,6 +46,7 @@ impl Kind {
             Kind::RepeatedCommand => "repeated-command",
             Kind::DepfileWithoutDeps => "depfile-without-deps",
             Kind::RepeatedInput => "repeated-input",
+            Kind::UndeclaredInput => "undeclared-input",
         }
     }
 
@@ -58,6 +61,7 @@ impl Kind {
             Kind::RepeatedCommand => "repeated command",
             Kind::DepfileWithoutDeps => "depfile without deps",
             Kind::RepeatedInput => "repeated input",
+            Kind::UndeclaredInput => "undeclared input",
         }
     }
 
@@ -72,6 +76,7 @@ impl Kind {
             Kind::RepeatedCommand => "an edge with the command of an earlier edge",
             Kind::DepfileWithoutDeps => "an edge with a depfile and no deps",
             Kind::RepeatedInput => "an input that is given to its edge again",
+            Kind::UndeclaredInput => "a file that a command names and that an edge makes it does not need",
         }
     }
 
@@ -81,7 +86,10 @@ impl Kind {
     {
         matches!(
             self,
-            Kind::MissingSource | Kind::RepeatedCommand | Kind::DepfileWithoutDeps
+            Kind::MissingSource
+                | Kind::RepeatedCommand
+                | Kind::DepfileWithoutDeps
+                | Kind::UndeclaredInput
         )
     }
 }
@@ -97,6 +105,7 @@ pub struct Kinds {
     pub repeated_command: bool,
     pub depfile_without_deps: bool,
     pub repeated_input: bool,
+    pub undeclared_input: bool,
 }
 
 impl Kinds {
@@ -130,6 +139,7 @@ impl Kinds {
             repeated_command: is_asked_for(only, except, Kind::RepeatedCommand),
             depfile_without_deps: is_asked_for(only, except, Kind::DepfileWithoutDeps),
             repeated_input: is_asked_for(only, except, Kind::RepeatedInput),
+            undeclared_input: is_asked_for(only, except, Kind::UndeclaredInput),
         }
     }
 
@@ -146,6 +156,7 @@ impl Kinds {
             Kind::RepeatedCommand => self.repeated_command,
             Kind::DepfileWithoutDeps => self.depfile_without_deps,
             Kind::RepeatedInput => self.repeated_input,
+            Kind::UndeclaredInput => self.undeclared_input,
         }
     }
 }

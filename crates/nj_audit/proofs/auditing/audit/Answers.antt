@@ -1,44 +1,30 @@
-use Rattle.std.proofs.Common.{[], get_or, sym, ap, ◌∙◌}
-use Rattle.std.specs.List.{flat_map}
-use Rattle.std.proofs.lemmas.Grind.{flat_map-append}
-use Rattle.std.proofs.lemmas.List.{take_all}
+use Rattle.std.proofs.Common.{sym, ap, subst, ◌∙◌}
+use Rattle.std.proofs.lemmas.Result.{IfOk-weaker}
 use Rattle.nj_edges.proofs.ChangeLemmas.{flags-are}
 use Rattle.nj_graph.specs.Graph.{edges_of}
 use Rattle.nj_audit.specs.Serving.{ServesCommand}
-use Rattle.nj_audit.specs.Kinds.{all_kinds, contains}
-use Rattle.nj_audit.specs.declared.kinds.Kind.TheVariants.{UnusedOutput}
-use Rattle.nj_audit.specs.Inside.ByKind.{findings_of}
-use Rattle.nj_audit.proofs.ListLemmas.{more-items}
-use Rattle.nj_audit.proofs.KindLemmas.{asked-law, asked_of, none-asked, one-asked}
+use Rattle.nj_audit.specs.Kinds.{contains}
+use Rattle.nj_audit.specs.UndeclaredInputs.{AreUndeclaredIf}
+use Rattle.nj_audit.specs.declared.kinds.Kind.TheVariants.{UndeclaredInput}
+use Rattle.nj_audit.proofs.KindLemmas.{asked-law}
+use Rattle.nj_audit.proofs.LateLemmas.{of-undeclared-if}
 use Rattle.nj_audit.proofs.auditing.audit.Goals as goal
-use Rattle.nj_audit.proofs.auditing.audit.Goals.{then-contains+in_ok-find, else-contains}
-
-pub all-preserved : goal.all-preserved
-all-preserved c entries graph =
-    let of = findings_of c.args.graph.now entries c.args.missing.now c.flags-serving.result.now in
-    let each = asked_of c.args.kinds of in
-    let i = c.all.kind-index in
-    let kind = get_or all_kinds i UnusedOutput in
-    let old = c.all.found in
-    elim c.if-contains.branch [
-      | then-contains+in_ok-find w ↦
-          w.found-is
-          ∙ more-items (flat_map each) (flat_map-append each) [] old w.find.new.found all_kinds i UnusedOutput c.all-test.true (c.all.invariant entries graph)
-          (w.in_ok-find.ensures entries graph ∙ one-asked (contains c.args.kinds kind) old (of kind) (sym c.contains.ensures ∙ w.if-contains.true))
-      | else-contains w ↦
-          w.found-is
-          ∙ more-items (flat_map each) (flat_map-append each) [] old old all_kinds i UnusedOutput c.all-test.true (c.all.invariant entries graph)
-          (none-asked (contains c.args.kinds kind) old (of kind) (sym c.contains.ensures ∙ w.if-contains.false))
-    ]
 
 pub returns : goal.returns
 returns c entries graph =
-    let edges = edges_of c.args.graph.now in
-    let serving = c.flags-serving.result.now in
-    let of = findings_of c.args.graph.now entries c.args.missing.now serving in (
-      serving,
-      flags-are serving c.in_ok-edges.edges.numbers (ServesCommand edges) c.flags-serving.ensures.flags c.in_ok-edges.ensures,
-      c.all.invariant entries graph
-          ∙ ap (flat_map (asked_of c.args.kinds of)) (take_all c.all.kind-index all_kinds c.all-test.false)
-          ∙ asked-law c.args.kinds c.args.graph.now entries c.args.missing.now serving,
-    )
+    let g = c.args.graph.now in
+    let missing = c.args.missing.now in
+    let folder = c.args.folder.now in
+    let kinds = c.args.kinds in
+    let serving = c.flags.result.now in
+    let undeclared = c.in_ok-undeclared.undeclared in
+    let are = subst (λ b. AreUndeclaredIf b g entries folder undeclared) c.contains.ensures (c.in_ok-undeclared.ensures entries graph) in
+    IfOk-weaker c.find_all.result _ _
+    (λ found is. record {
+      serving = serving;
+      are_serving = flags-are serving c.in_ok-edges.edges.numbers (ServesCommand (edges_of g)) c.flags.ensures.flags c.in_ok-edges.ensures;
+      undeclared = undeclared;
+      are_undeclared = are;
+      finds = is ∙ asked-law g entries missing serving undeclared (of-undeclared-if (contains kinds UndeclaredInput) g entries folder undeclared are) kinds;
+    })
+    (c.find_all.ensures entries graph)

@@ -1,0 +1,8 @@
+-- What is written of a page besides its lines.
+use Rattle.std.specs.Prelude.{ℕ, Option, Some, None, List, [], ◌∷◌, ◌++◌, codes}
+use Rattle.nj_needs.specs.MarkTexts.{mark_text}
+
+-- the line that names the mark of what is left; empty where nothing is
+abbrev pub mark_line : Option (List ℕ) → List ℕ
+mark_line None = []
+mark_line (Some mark) = codes "mark " ++ mark_text mark ++ 10 ∷ []

@@ -1,0 +1,120 @@
+//! The subcommand `audit`: findings about the manifest.
+
+use crate::failure::Failure;
+use crate::findings::{finding_lines, kind_lines};
+use crate::reading::read_graph;
+use crate::status::Status;
+use crate::words::{flag, repeated};
+use clap::{ArgMatches, Command};
+use nj_audit::{Kind, Kinds, audit};
+use nj_graph::{FileNo, Graph};
+use nj_tools::{WriteSink, write_whole};
+use std::alloc::{AllocError, Global};
+use std::io::ErrorKind;
+use std::{env, fs, mem};
+
+const NAME: &str = "audit";
+
+const ABOUT: &str = "Write what is probably a mistake in the manifest, or of no use";
+
+const MORE: &str = "\
+A line is a finding: the place of its statement, its kind and a name. Status 3 means that there is
+one.";
+
+/// The subcommand with its options.
+pub fn command<'a>(alloc: Global) -> Result<Command<'a>, AllocError> {
+    Command::new(alloc, NAME)
+        .about(ABOUT)
+        .after_help(MORE)
+        .arg(repeated(
+            alloc,
+            "only",
+            "KIND",
+            "Find this kind, in place of those on by default",
+        ))?
+        .arg(repeated(alloc, "except", "KIND", "Do not find this kind"))?
+        .arg(flag(
+            alloc,
+            "json",
+            "Write an object of JSON for each finding",
+        ))?
+        .arg(flag(alloc, "list", "List the kinds, and read nothing"))
+}
+
+/// Writes the findings that the options ask for, or the kinds.
+pub fn answer(rt: HostRuntime, options: &ArgMatches<'_>) -> Result<Status, Failure> {
+    if options.get_flag("list") {
+        let lines = kind_lines(rt.alloc())?;
+        write_whole(&mut WriteSink::new(rt.stdout()), &lines)?;
+        return Ok(Status::Done);
+    }
+    let kinds = kinds_of(rt.alloc(), options)?;
+    let graph = read_graph(rt, options)?;
+    let written = write_findings(rt, &graph, kinds, options.get_flag("json"));
+    // The process ends here, and its memory with it.
+    mem::forget(graph);
+    written
+}
+
+/// The kinds that `--only` and `--except` ask for.
+fn kinds_of(alloc: Global, options: &ArgMatches<'_>) -> Result<Kinds, Failure> {
+    let only = options.get_strs("only").unwrap_or(&[]);
+    let except = options.get_strs("except").unwrap_or(&[]);
+    match Kinds::from_words(only, except) {
+        Ok(kinds) => Ok(kinds),
+        Err(word) => Err(Failure::Kind(String::from_str(alloc, word)?)),
+    }
+}
+
+/// Writes the findings of these kinds; if there is any, that is something to look at.
+fn write_findings(
+    rt: HostRuntime,
+    graph: &Graph,
+    kinds: Kinds,
+    is_json: bool,
+) -> Result<Status, Failure> {
+    let missing = missing_files(rt, graph, kinds)?;
+    let folder = working_folder(rt)?;
+    let found = audit(rt.alloc(), graph, &missing, &folder, kinds)?;
+    let lines = finding_lines(rt.alloc(), &found, is_json)?;
+    write_whole(&mut WriteSink::new(rt.stdout()), &lines)?;
+    if found.as_slice().is_empty() {
+        return Ok(Status::Done);
+    }
+    Ok(Status::Look)
+}
+
+/// Of each file whether it is a source that is not on the disk. It is empty, and nothing is looked
+/// up, unless missing sources are asked for.
+fn missing_files(rt: HostRuntime, graph: &Graph, kinds: Kinds) -> Result<Vec<bool>, AllocError> {
+    if !kinds.contains(Kind::MissingSource) {
+        return Ok(Vec::new(rt.alloc()));
+    }
+    let mut missing = Vec::with_capacity(rt.alloc(), graph.file_count())?;
+    'files: for number in 0..graph.file_count() {
+        let file = FileNo(number);
+        missing.push(graph.maker(file).is_none() && is_missing(rt, graph.path(file)))?;
+    }
+    Ok(missing)
+}
+
+/// The path of the working folder, below which absolute paths are those of the build; empty if it is
+/// not known.
+fn working_folder(rt: HostRuntime) -> Result<Vec<u8>, AllocError> {
+    match env::current_dir(&rt) {
+        Ok(folder) => Vec::from_slice(rt.alloc(), folder.as_str().as_bytes()),
+        Err(error) if error.kind() == ErrorKind::OutOfMemory => Err(AllocError),
+        Err(_) => Ok(Vec::new(rt.alloc())),
+    }
+}
+
+/// Whether nothing is at this path. A path that is not UTF-8 cannot be looked up.
+fn is_missing(rt: HostRuntime, path: &[u8]) -> bool {
+    let Ok(path) = str::from_utf8(path) else {
+        return false;
+    };
+    match fs::metadata(&rt, path) {
+        Ok(_) => false,
+        Err(error) => matches!(error.kind(), ErrorKind::NotFound | ErrorKind::NotADirectory),
+    }
+}

@@ -1,0 +1,127 @@
+//! The subcommand `keys`: a key for each command that targets need.
+
+ghost use Rattle.std.specs.Prelude.{◌≡◌, IfOk, option_copied};
+ghost use Rattle.ninja_graph.specs.Pages.{mark_line};
+ghost use Rattle.ninja_graph.specs.Reports.{Reports};
+
+use crate::failure::Failure;
+use crate::reading::read_graph;
+use crate::status::Status;
+use crate::words::{number, option, repeated, targets};
+use crate::writing::write_both;
+use clap::{ArgMatches, Command};
+use nj_graph::Graph;
+use nj_keys::{Bases, Page, page_from};
+use nj_needs::Mark;
+use nj_tools::{Error, Sink, WriteSink};
+use std::alloc::{AllocError, Global};
+use std::mem;
+
+const NAME: &str = "keys";
+
+const ABOUT: &str = "Write a key for each command that targets need, under which a cache may keep files";
+
+const MORE: &str = "\
+A line is a key and the first output of its edge, in the order of `ninja -t commands`. A key changes
+with the command, the response file, the paths of inputs and outputs, and the keys of the edges that
+make the inputs. What files contain is not in it.
+
+With --take the status is 3 if more are left; the error output then names the mark of the rest.
+
+Builds of one project in two folders have the same keys where these are given alike:
+  ninja-graph keys -C build --base \"$PWD/build\" --base \"$PWD\"";
+
+/// The subcommand with its options.
+pub fn command<'a>(alloc: Global) -> Result<Command<'a>, AllocError> {
+    Command::new(alloc, NAME)
+        .about(ABOUT)
+        .after_help(MORE)
+        .arg(repeated(
+            alloc,
+            "base",
+            "DIR",
+            "Let a number stand for DIR, an absolute path, wherever it is named",
+        ))?
+        .arg(number(alloc, "take", "N", "Stop after N commands"))?
+        .arg(option(
+            alloc,
+            "resume",
+            "MARK",
+            "Write what is left after the run that named MARK",
+        ))?
+        .arg(targets(alloc, "Targets; the default ones if there are none"))
+}
+
+/// Writes the keys that the options ask for.
+pub fn answer(rt: HostRuntime, options: &ArgMatches<'_>) -> Result<Status, Failure> {
+    let bases = bases_of(rt.alloc(), options.get_strs("base").unwrap_or(&[]))?;
+    let mark = mark_of(rt.alloc(), options.get_str("resume"))?;
+    let graph = read_graph(rt, options)?;
+    let page = page_of(rt.alloc(), &graph, &bases, &mark, options);
+    // The process ends here, and its memory with it.
+    mem::forget(graph);
+    let mut out = WriteSink::new(rt.stdout());
+    let mut err = WriteSink::new(rt.stderr());
+    Ok(write_page(rt.alloc(), &page?, &mut out, &mut err)?)
+}
+
+/// The page of a graph that the options ask for, after a mark.
+fn page_of(
+    alloc: Global,
+    graph: &Graph,
+    bases: &Bases,
+    mark: &Mark,
+    options: &ArgMatches<'_>,
+) -> Result<Page, Error> {
+    let targets = graph.pick_targets(alloc, options.get_strs("targets").unwrap_or(&[]))?;
+    let take = options.get_one::<u64>("take");
+    page_from(alloc, graph, bases, &targets, mark, take)
+}
+
+/// The folders that these paths name, each of which has to be absolute.
+fn bases_of(alloc: Global, paths: &[&str]) -> Result<Bases, Failure> {
+    let mut bases = Bases::new(alloc);
+    'paths: for path in paths {
+        if !bases.add(alloc, path.as_bytes())? {
+            return Err(Failure::Base(String::from_str(alloc, path)?));
+        }
+    }
+    Ok(bases)
+}
+
+/// The mark in a text; without one that of the start.
+fn mark_of(alloc: Global, text: Option<&str>) -> Result<Mark, Error> {
+    Ok(Mark::read(alloc, text.unwrap_or("start"))?)
+}
+
+/// Writes the lines of a page to the output, and its mark, if more are left, to the error output.
+///
+/// # Errors
+///
+/// `Write` if a sink failed, and `OutOfMemory` if an allocation failed; then nothing was written.
+fn write_page<O: Sink, E: Sink>(
+    alloc: Global,
+    page: &Page,
+    out: &mut O,
+    err: &mut E,
+) -> Result<Status, Error>
+    ensures { Reports (λ outputs warnings. (outputs ≡ page.now.lines.items)
+        × (warnings ≡ mark_line page.now.mark))
+        (O.state out.old) (O.state out.new) (E.state err.old) (E.state err.new) result }
+{
+    let told = mark_line(alloc, page.mark.as_ref())?;
+    write_both(&page.lines, &told, out, err)
+}
+
+/// The line that names a mark; empty if there is none.
+fn mark_line(alloc: Global, mark: Option<&Mark>) -> Result<Vec<u8>, AllocError>
+    ensures { IfOk result (λ line. line.items ≡ mark_line (option_copied mark.entry)) }
+{
+    let mut line = Vec::new(alloc);
+    if let Some(mark) = mark {
+        line.extend_from_slice(b"mark ")?;
+        line.extend_from_slice(mark.to_text(alloc)?.as_bytes())?;
+        line.push(b'\n')?;
+    }
+    Ok(line)
+}

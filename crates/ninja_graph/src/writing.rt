@@ -1,0 +1,30 @@
+//! What goes to the output, and what to the error output.
+
+ghost use Rattle.std.specs.Prelude.{◌≡◌};
+ghost use Rattle.ninja_graph.specs.Reports.{Reports};
+
+use crate::status::Status;
+use nj_tools::{Error, Sink, write_whole};
+
+/// Writes an answer to the output, and what there is to look at, if it is not empty, to the error
+/// output.
+///
+/// # Errors
+///
+/// `Write` if a sink failed.
+pub fn write_both<O: Sink, E: Sink>(
+    answer: &[u8],
+    to_look_at: &[u8],
+    out: &mut O,
+    err: &mut E,
+) -> Result<Status, Error>
+    ensures { Reports (λ outputs warnings. (outputs ≡ answer.now) × (warnings ≡ to_look_at.now))
+        (O.state out.old) (O.state out.new) (E.state err.old) (E.state err.new) result }
+{
+    write_whole(out, answer)?;
+    if to_look_at.is_empty() {
+        return Ok(Status::Done);
+    }
+    write_whole(err, to_look_at)?;
+    Ok(Status::Look)
+}

@@ -1,0 +1,49 @@
+-- Words and paths of small commands, worked out on the definitions.
+use Rattle.std.proofs.Common.{◌≡◌, Some, [], ◌∷◌, ◌++◌, codes, refl}
+use Rattle.nj_text.specs.Paths.{clean_path_of, without_leftmost_pair}
+use Rattle.nj_audit.specs.NamedPaths.{path_named, paths_in, paths_named}
+use Rattle.nj_audit.specs.ShellWords.{read_text, words_after, words_of}
+
+blanks : words_of (codes "  cc -c  a.c  -o a.o ") ≡ codes "cc" ∷ codes "-c" ∷ codes "a.c" ∷ codes "-o" ∷ codes "a.o" ∷ []
+unfolding words_of read_text words_after
+blanks = refl
+
+operators : words_of (codes "(./gen<in>out)&&mv out a;:|tee") ≡ codes "./gen" ∷ codes "in" ∷ codes "out" ∷ codes "mv" ∷ codes "out" ∷ codes "a" ∷ codes ":" ∷ codes "tee" ∷ []
+unfolding words_of read_text words_after
+operators = refl
+
+-- quotes are taken off, and what is between them is of one word
+quotes : words_of (codes "'a b'c \"d;e\"'f' '' \"\"") ≡ codes "a bc" ∷ codes "d;ef" ∷ []
+unfolding words_of read_text words_after
+quotes = refl
+
+backslashes : words_of (codes "a\\ b 'c\\' \"d\\$\\e\\\\\"") ≡ codes "a b" ∷ codes "c\\" ∷ codes "d$\\e\\" ∷ []
+unfolding words_of read_text words_after
+backslashes = refl
+
+-- a line that goes on after a backslash
+long_line : words_of (codes "a\\" ++ 10 ∷ codes "b" ++ 10 ∷ codes "c") ≡ codes "ab" ∷ codes "c" ∷ []
+unfolding words_of read_text words_after
+long_line = refl
+
+-- ---- paths
+
+of_option : paths_in [] (codes "--out=./a//b") ≡ codes "--out=./a/b" ∷ codes "a/b" ∷ codes "out=./a/b" ∷ []
+unfolding clean_path_of without_leftmost_pair
+of_option = refl
+
+of_letter : paths_in [] (codes "-Lb") ≡ codes "-Lb" ∷ codes "b" ∷ []
+unfolding clean_path_of without_leftmost_pair
+of_letter = refl
+
+in_folder : path_named (codes "/home/a") (codes "/home/a/x/../b") ≡ Some (codes "b")
+unfolding clean_path_of without_leftmost_pair
+in_folder = refl
+
+beside_folder : path_named (codes "/home/a") (codes "/home/ab") ≡ Some (codes "/home/ab")
+unfolding clean_path_of without_leftmost_pair
+beside_folder = refl
+
+no_folder : path_named [] (codes "/b") ≡ Some (codes "/b")
+unfolding clean_path_of without_leftmost_pair
+no_folder = refl

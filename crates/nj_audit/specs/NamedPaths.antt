@@ -1,0 +1,45 @@
+-- The paths that a command may name.
+use Rattle.std.specs.Prelude.{◌≡◌, ℕ, ◌+◌, ◌==◌, nat_eq, Bool, false, ◌||◌, not, if◌then◌else◌, Option, Some, None, option_map, unwrap_or, List, [], ◌∷◌, ◌++◌, codes, drop, length, position, bytes_eq}
+use Rattle.std.specs.List.{cons_option, filter_map, flat_map, starts_with}
+use Rattle.nj_text.specs.Paths.{clean_path_of}
+use Rattle.nj_audit.specs.ShellWords.{words_of}
+
+-- what follows the first `=` of a word
+abbrev pub after_sign : (word : List ℕ) → Option (List ℕ)
+after_sign word = option_map (λ index. drop (index + 1) word) (position (λ b. b == 61) word)
+
+-- what follows the second byte of a word that begins with `-`
+abbrev pub after_letter : (word : List ℕ) → Option (List ℕ)
+after_letter word = if starts_with nat_eq word (codes "-") then Some (drop 2 word) else None
+
+-- what a word may name: itself, and what follows in it as these say
+abbrev pub names_in : (word : List ℕ) → List (List ℕ)
+names_in word = word ∷ cons_option (after_sign word) (cons_option (after_letter word) [])
+
+-- what follows the slash with which a text begins
+abbrev pub after_slash : (text : List ℕ) → Option (List ℕ)
+after_slash [] = None
+after_slash (b ∷ text) = if b == 47 then Some text else None
+
+-- a path without the folder that it begins with, if that is given
+abbrev pub without_folder : (folder path : List ℕ) → List ℕ
+without_folder folder path =
+    if length folder == 0 || not (starts_with nat_eq path folder) then path
+    else unwrap_or (after_slash (drop (length folder) path)) path
+
+-- the path that a name is, as seen from the folder; an empty name is none
+abbrev pub path_named : (folder name : List ℕ) → Option (List ℕ)
+path_named folder [] = None
+path_named folder (b ∷ name) = Some (without_folder folder (clean_path_of (b ∷ name)))
+
+-- the paths that a word may name
+abbrev pub paths_in : (folder word : List ℕ) → List (List ℕ)
+paths_in folder word = filter_map (path_named folder) (names_in word)
+
+-- the paths that the words of a command may name
+abbrev pub paths_named : (folder command : List ℕ) → List (List ℕ)
+paths_named folder command = flat_map (paths_in folder) (words_of command)
+
+-- the number of the file at a path, if there is one
+abbrev pub number_at : (files : List (List ℕ)) → (path : List ℕ) → Option ℕ
+number_at files path = position (bytes_eq path) files

@@ -1,0 +1,8 @@
+//! What the words of a command mean.
+
+ghost use Rattle.nj_audit.specs.Laws.{QuotedPathsAreWords};
+
+/// Paths that are quoted as in `$in`, with blanks between them, are cut back into these paths.
+pub fn words_law()
+    ensures { QuotedPathsAreWords }
+{}
