@@ -86,9 +86,11 @@ enum nx_status {
     NX_NOT_UTF8 = 8,
     /* The session is not open. */
     NX_NOT_OPEN = 9,
-    /* An allocation failed, and nothing else happened, but for what nx_load and nx_run say below. The
-       session can be used and closed as before. */
-    NX_OUT_OF_MEMORY = 10
+    /* An allocation failed, and nothing else happened, but for what nx_load, nx_join_deps and nx_run
+       say below. The session can be used and closed as before. */
+    NX_OUT_OF_MEMORY = 10,
+    /* The bytes are not a deps log, or one of another version than 4. */
+    NX_BAD_LOG = 11
 };
 
 /* What is wrong, for nx_fault_kind. The numbers are fixed for good; later versions may add some. */
@@ -163,12 +165,21 @@ enum nx_fault {
     NX_FAULT_OUT_OF_MEMORY = 34
 };
 
-/* The kinds of inputs, for nx_input and nx_inputs. */
+/* The kinds of inputs, for nx_input, nx_inputs and the steps of nx_path_between. */
 enum nx_kind {
     NX_EXPLICIT = 0,
     NX_IMPLICIT = 1,
-    NX_ORDER_ONLY = 2
+    NX_ORDER_ONLY = 2,
+    /* No input but a validation, in a step. */
+    NX_VALIDATION = 3
 };
+
+/* A step of a chain: from an edge to a file that is an input of it, of this kind. */
+typedef struct nx_step {
+    size_t edge;
+    size_t file;
+    int32_t kind;
+} nx_step;
 
 /* A session: all that one graph needs. It owns its memory, which nx_close frees. */
 typedef struct nx_session {
@@ -233,7 +244,18 @@ int32_t nx_load(nx_session *session, const void *main, size_t main_length,
  */
 int32_t nx_wanted(nx_session *session, size_t index, void *buffer, size_t size, size_t *needed);
 
-/* ---- the last fault: of a load, or of nx_pick_target ---- */
+/*
+ * Joins a deps log to the graph: the bytes of `.ninja_deps`, which Ninja writes to the build folder.
+ * What it names for the first output of an edge whose value of `deps` is not empty becomes an implicit
+ * input of the edge, after those that it has, unless it is an input of it already. Paths that no edge
+ * named become files, after the others. A log that is cut off counts as far as it goes. What was listed
+ * stays listed, and the same log again changes nothing.
+ * NX_DONE; NX_BAD_LOG, which leaves the graph as it is; NX_FAULT for a dependency cycle, which a log
+ * that is older than the manifest can make; NX_OUT_OF_MEMORY. After the last two there is no graph.
+ */
+int32_t nx_join_deps(nx_session *session, const void *log, size_t log_length);
+
+/* ---- the last fault: of a load, of nx_join_deps, or of nx_pick_target ---- */
 
 /* What is wrong, one of `enum nx_fault`. NX_DONE, or NX_NOTHING if there is no fault. */
 int32_t nx_fault_kind(nx_session *session, int32_t *kind);
@@ -389,6 +411,14 @@ int32_t nx_root(nx_session *session, size_t index, size_t *file);
 int32_t nx_affected(nx_session *session, const size_t *files, size_t file_count);
 
 /*
+ * Lists the edges that these files need through any chain of inputs, phony edges among them, each
+ * once and nearest first: the edges that make the files, then those that make their inputs, and so on.
+ * nx_found gives them.
+ * NX_DONE, NX_BAD_NUMBER, NX_OUT_OF_MEMORY.
+ */
+int32_t nx_needed(nx_session *session, const size_t *files, size_t file_count);
+
+/*
  * Lists the edges with commands that the targets need through any chain of inputs, each once, after
  * all edges that make its inputs: a page of at most `take` of those that are left after a mark. The
  * mark of the first page is the empty text. nx_found gives the edges, and nx_page_mark the mark for
@@ -403,6 +433,20 @@ int32_t nx_found(nx_session *session, size_t index, size_t *edge);
 
 /* The mark at which the last page ends. NX_DONE, NX_NOTHING if no edge is left after it, NX_SHORT. */
 int32_t nx_page_mark(nx_session *session, void *buffer, size_t size, size_t *needed);
+
+/* ---- chains ---- */
+
+/*
+ * A shortest chain of inputs by which one file needs another: its first step is from the edge that makes
+ * `from`, its last one to `to`, and each is from the edge that makes the file of the step before it. Of
+ * several shortest ones it is the first when inputs are tried in their order. Validations count as
+ * inputs too, after those of their edge, if `with_validations` is not 0. Gives as many steps as there
+ * is room for, the rest of which stays as it is, and through `count` how many the chain has.
+ * NX_DONE, NX_NOTHING if there is no chain, and from a file to itself, NX_BAD_NUMBER,
+ * NX_OUT_OF_MEMORY.
+ */
+int32_t nx_path_between(nx_session *session, size_t from, size_t to, uint32_t with_validations,
+                        nx_step *steps, size_t room, size_t *count);
 
 /* ---- whole runs ---- */
 

@@ -1,5 +1,5 @@
 /*
- * Supplies the library with the files of a manifest from a folder, and loads or runs. Header-only, for
+ * Supplies the library with the files of a manifest from a folder, and loads, joins or runs. Header-only, for
  * POSIX systems; include it first, or define _POSIX_C_SOURCE as 200809L before other headers.
  *
  *     #include <ninja_explain_files.h>
@@ -42,7 +42,7 @@
 #include <sys/types.h>
 #include <unistd.h>
 
-/* What nx_files_load and nx_files_run return beside the statuses of the library. */
+/* What the calls below return beside the statuses of the library. */
 enum nx_files_status {
     /* A file cannot be read; errno says why. */
     NX_FILES_UNREADABLE = -1,
@@ -159,21 +159,36 @@ static inline int32_t nx_files_read(int descriptor, size_t guess, char **bytes, 
     }
 }
 
-/* Supplies the file of an open descriptor. */
-static inline int32_t nx_files_supply_open(nx_session *session, const char *path, int descriptor)
+/* Reads the file of an open descriptor into memory that the caller frees, if it is one to be read. */
+static inline int32_t nx_files_read_open(int descriptor, char **bytes, size_t *length)
 {
     struct stat found;
-    char *bytes;
-    size_t length;
-    int32_t status;
     if (fstat(descriptor, &found) != 0)
         return NX_FILES_UNREADABLE;
     if (!S_ISREG(found.st_mode) || found.st_size > (off_t)NX_FILES_LARGEST)
         return NX_FILES_UNFIT;
-    status = nx_files_read(descriptor, (size_t)found.st_size, &bytes, &length);
-    if (status == NX_DONE)
-        status = nx_add_file(session, path, strlen(path), bytes, length);
-    free(bytes);
+    return nx_files_read(descriptor, (size_t)found.st_size, bytes, length);
+}
+
+/* Reads the file at a path into memory that the caller frees. NX_NOTHING if there is none. */
+static inline int32_t nx_files_content(const struct nx_files *files, const char *path, char **bytes,
+                                       size_t *length)
+{
+    int32_t status;
+    int descriptor, problem;
+    *bytes = NULL;
+    *length = 0;
+    if (!files->allow_outside && nx_files_leads_out(path))
+        return NX_FILES_OUTSIDE;
+    descriptor = nx_files_open(files, path);
+    if (descriptor == -1 && errno == ENOENT)
+        return NX_NOTHING;
+    if (descriptor == -1)
+        return NX_FILES_UNREADABLE;
+    status = nx_files_read_open(descriptor, bytes, length);
+    problem = errno;
+    close(descriptor);
+    errno = problem;
     return status;
 }
 
@@ -181,17 +196,14 @@ static inline int32_t nx_files_supply_open(nx_session *session, const char *path
 static inline int32_t nx_files_supply(nx_session *session, const struct nx_files *files,
                                       const char *path)
 {
-    int32_t status;
-    int descriptor, problem;
-    if (!files->allow_outside && nx_files_leads_out(path))
-        return NX_FILES_OUTSIDE;
-    descriptor = nx_files_open(files, path);
-    if (descriptor == -1)
-        return errno == ENOENT ? nx_add_absent(session, path, strlen(path)) : NX_FILES_UNREADABLE;
-    status = nx_files_supply_open(session, path, descriptor);
-    problem = errno;
-    close(descriptor);
-    errno = problem;
+    char *bytes;
+    size_t length;
+    int32_t status = nx_files_content(files, path, &bytes, &length);
+    if (status == NX_NOTHING)
+        return nx_add_absent(session, path, strlen(path));
+    if (status == NX_DONE)
+        status = nx_add_file(session, path, strlen(path), bytes, length);
+    free(bytes);
     return status;
 }
 
@@ -255,6 +267,27 @@ static inline int32_t nx_files_load(nx_session *session, const char *main, uint3
     do
         status = nx_load(session, main, strlen(main), joins_dyndeps);
     while (nx_files_again(session, files, &turn, &status));
+    return status;
+}
+
+/*
+ * As nx_join_deps, with the deps log at a path of the folder, as ".ninja_deps". Returns its status or one
+ * of `enum nx_files_status`; NX_NOTHING if there is no such file.
+ */
+static inline int32_t nx_files_join_deps(nx_session *session, const char *path, struct nx_files *files)
+{
+    char *bytes;
+    size_t length;
+    int32_t status = nx_files_content(files, path, &bytes, &length);
+    if (status == NX_DONE)
+        status = nx_join_deps(session, bytes, length);
+    free(bytes);
+    if (status < 0) {
+        nx_files_clear(files);
+        files->failed = (char *)malloc(strlen(path) + 1);
+        if (files->failed)
+            strcpy(files->failed, path);
+    }
     return status;
 }
 

@@ -542,6 +542,168 @@ static void try_lists(void)
     }
 }
 
+/* ---- what files need ---- */
+
+#define FAR SIZE_MAX
+
+/* For each edge how many steps it is from the maker of a file, by a search of our own; FAR if the file
+   does not need it. Returns how many edges it needs, or FAR if there is too much to look at. */
+static size_t distance[MOST_MANY], queue[MOST_MANY];
+
+static size_t measure(size_t file, int with_validations)
+{
+    size_t found = 0, edge, input;
+    int32_t kind;
+    if (edge_count > MOST_MANY)
+        return FAR;
+    for (edge = 0; edge < edge_count; edge++)
+        distance[edge] = FAR;
+    if (nx_maker(&session, file, &edge) != NX_DONE)
+        return 0;
+    distance[edge] = 0;
+    queue[found++] = edge;
+    for (size_t place = 0; place < found; place++) {
+        size_t from = queue[place];
+        for (size_t index = 0; nx_input(&session, from, index, &input, &kind) == NX_DONE; index++) {
+            if (nx_maker(&session, input, &edge) == NX_DONE && distance[edge] == FAR) {
+                distance[edge] = distance[from] + 1;
+                queue[found++] = edge;
+            }
+        }
+        for (size_t index = 0; with_validations && nx_validation(&session, from, index, &input) == NX_DONE;
+             index++) {
+            if (nx_maker(&session, input, &edge) == NX_DONE && distance[edge] == FAR) {
+                distance[edge] = distance[from] + 1;
+                queue[found++] = edge;
+            }
+        }
+    }
+    return found;
+}
+
+/* Whether an edge has a file as an input of this kind. */
+static int is_input(size_t edge, size_t file, int32_t kind)
+{
+    size_t input;
+    int32_t of = NX_VALIDATION;
+    for (size_t index = 0; kind != NX_VALIDATION; index++) {
+        if (nx_input(&session, edge, index, &input, &of) != NX_DONE)
+            return 0;
+        if (input == file && of == kind)
+            return 1;
+    }
+    for (size_t index = 0; nx_validation(&session, edge, index, &input) == NX_DONE; index++) {
+        if (input == file)
+            return 1;
+    }
+    return 0;
+}
+
+/* How many steps a shortest chain has from the file that was measured to another; FAR if there is none. */
+static size_t steps_to(size_t found, size_t file, int with_validations)
+{
+    for (size_t place = 0; place < found; place++) {
+        size_t edge = queue[place];
+        int32_t last = with_validations ? NX_VALIDATION : NX_ORDER_ONLY;
+        for (int32_t kind = NX_EXPLICIT; kind <= last; kind++) {
+            if (is_input(edge, file, kind))
+                return distance[edge] + 1;
+        }
+    }
+    return FAR;
+}
+
+/* Asks for what a file needs: all edges of the search, each once, none before a nearer one. */
+static void try_nearest(size_t file)
+{
+    unsigned known = if_known(file, file_count, OF(DONE)) | OF(OUT_OF_MEMORY);
+    size_t edge, last = 0, count = 0;
+    if (IF_LOADED(known, nx_needed(&session, &file, 1)) != NX_DONE)
+        return;
+    size_t found = measure(file, 0);
+    if (found == FAR)
+        return;
+    for (; nx_found(&session, count, &edge) == NX_DONE; count++) {
+        int is_there = edge < edge_count && distance[edge] != FAR && distance[edge] >= last;
+        expect(is_there, "nx_needed", "edge", (long long)edge);
+        if (!is_there)
+            return;
+        last = distance[edge];
+        distance[edge] = FAR;
+    }
+    expect(count == found, "nx_needed", "edges", (long long)count);
+}
+
+static nx_step steps[MOST_MANY + GUARD];
+static const nx_step no_step = { NO_ITEM, NO_ITEM, NO_KIND };
+
+/* Asks for a chain with room for some steps. All but these stay as they are. */
+static int32_t ask_path(size_t from, size_t to, uint32_t with_validations, size_t room, size_t *count,
+                        unsigned statuses)
+{
+    for (size_t at = 0; at < room + GUARD; at++)
+        steps[at] = no_step;
+    int32_t status = IF_LOADED(statuses, nx_path_between(&session, from, to, with_validations,
+                                                         room > 0 ? steps : NULL, room, count));
+    size_t written = status == NX_DONE ? fitting(*count, 0, room) : 0;
+    for (size_t at = 0; at < room + GUARD; at++) {
+        int is_kept = steps[at].edge == NO_ITEM && steps[at].kind == NO_KIND;
+        expect(is_kept == (at >= written), "nx_path_between", "step at", (long long)at);
+    }
+    return status;
+}
+
+/* Each step has to be one, and to begin where the one before it ends. */
+static void expect_chain(size_t from, size_t to, size_t count)
+{
+    size_t file = from, edge;
+    for (size_t at = 0; at < count; at++) {
+        int follows = nx_maker(&session, file, &edge) == NX_DONE && edge == steps[at].edge;
+        int is_there = is_input(steps[at].edge, steps[at].file, steps[at].kind);
+        expect(follows && is_there, "nx_path_between", "no step at", (long long)at);
+        file = steps[at].file;
+    }
+    expect(file == to, "nx_path_between", "ends at", (long long)file);
+}
+
+static void try_path(size_t from, size_t to, uint32_t with_validations)
+{
+    size_t count = 0, same = 0;
+    unsigned known = from < file_count && to < file_count;
+    unsigned statuses = known ? OF(DONE) | OF(NOTHING) | OF(OUT_OF_MEMORY) : OF(BAD_NUMBER);
+    int32_t status = ask_path(from, to, with_validations, 0, &count, statuses);
+    if (!known || (status != NX_DONE && status != NX_NOTHING))
+        return;
+    size_t found = measure(from, (int)with_validations);
+    if (found == FAR)
+        return;
+    size_t wanted = from == to ? FAR : steps_to(found, to, (int)with_validations);
+    expect(status == (wanted == FAR ? NX_NOTHING : NX_DONE), "nx_path_between", "status", status);
+    if (status != NX_DONE)
+        return;
+    expect(count == wanted, "nx_path_between", "steps", (long long)count);
+    if (ask_path(from, to, with_validations, count, &same, OF(DONE) | OF(OUT_OF_MEMORY)) != NX_DONE)
+        return;
+    expect(same == count, "nx_path_between", "steps then", (long long)same);
+    expect_chain(from, to, count);
+    ask_path(from, to, with_validations, 1, &same, OF(DONE) | OF(OUT_OF_MEMORY));
+}
+
+/* (few, where an allocation is refused: each one is, in turn) */
+static void try_needs(void)
+{
+    size_t numbers = numbers_of(file_count), most = refused_at == 0 ? numbers : 2;
+    IF_LOADED(OF(DONE) | OF(OUT_OF_MEMORY), nx_needed(&session, NULL, 0));
+    for (size_t at = 0; at < most; at++) {
+        size_t from = number_at(at, file_count);
+        try_nearest(from);
+        for (size_t other = at % 3; other < numbers; other += 3) {
+            size_t to = number_at(other, file_count);
+            try_path(from, to, other % 2);
+        }
+    }
+}
+
 static void try_words(void)
 {
     const char *words[] = { "",     "^",    "a^^", "..",  ".",  "/",         "./a",
@@ -584,6 +746,7 @@ static void ask_all(void)
         try_file(number_at(at, file_count));
     try_fault(0);
     try_lists();
+    try_needs();
     try_words();
     IF_OPEN(OF(NOTHING), nx_found(&session, SIZE_MAX, &edge));
     TEXT(if_open, nx_wanted, SIZE_MAX, OF(NOTHING));
@@ -655,6 +818,105 @@ static int32_t load(const char *main, uint32_t joins)
     return status;
 }
 
+/* ---- deps logs ---- */
+
+/* A deps log that is made, record by record. */
+static uint8_t made_log[1 << 16];
+static size_t made_length;
+
+static void put_word(uint32_t word)
+{
+    for (int at = 0; at < 4; at++)
+        made_log[made_length++] = (uint8_t)(word >> 8 * at);
+}
+
+static void begin_log(uint32_t version)
+{
+    static const char opening[] = "# ninjadeps\n";
+    memcpy(made_log, opening, sizeof opening - 1);
+    made_length = sizeof opening - 1;
+    put_word(version);
+}
+
+static void put_path(struct text path, uint32_t number)
+{
+    size_t padded = (path.length + 3) / 4 * 4;
+    put_word((uint32_t)padded + 4);
+    memset(made_log + made_length, 0, padded);
+    memcpy(made_log + made_length, path.bytes, path.length);
+    made_length += padded;
+    put_word(~number);
+}
+
+/* The path of this number depends on that of another one, since a time. */
+static void put_dependency(uint32_t output, uint32_t input)
+{
+    put_word(4 * 4 | (uint32_t)1 << 31);
+    put_word(output);
+    put_word(1);
+    put_word(0);
+    put_word(input);
+}
+
+/* An edge with a value of `deps`, if there is one; its first output is then in `given`. */
+static int find_with_deps(size_t *edge)
+{
+    variable = (struct text){ (const uint8_t *)"deps", 4 };
+    for (*edge = 0; *edge < edge_count; ++*edge) {
+        size_t length = 0, file;
+        int32_t status = give_variable(&session, *edge, NULL, 0, &length);
+        if (status == NX_SHORT && nx_output(&session, *edge, 0, &file) == NX_DONE &&
+            nx_path(&session, file, NULL, 0, &length) == NX_SHORT && length < sizeof made_log / 2)
+            return TEXT(if_loaded, nx_path, file, OF(DONE)) == NX_DONE;
+    }
+    return 0;
+}
+
+static int32_t join(unsigned statuses)
+{
+    int32_t status = IF_LOADED(statuses, nx_join_deps(&session, made_log, made_length));
+    if (state == LOADED && (status == NX_FAULT || status == NX_OUT_OF_MEMORY))
+        state = OPEN;
+    if (status == NX_FAULT)
+        try_fault(1);
+    return status;
+}
+
+/* Joins logs that mean nothing, and one that names a header for an edge with `deps`. */
+static void try_logs(void)
+{
+    static const struct text header = { (const uint8_t *)"./new//header.h", 15 };
+    static const char clean[] = "new/header.h";
+    size_t edge = 0, file = 0, before = 0, after = 0;
+    unsigned joined = OF(DONE) | OF(OUT_OF_MEMORY);
+    IF_LOADED(OF(BAD_LOG) | OF(OUT_OF_MEMORY), nx_join_deps(&session, NULL, 0));
+    if (state == LOADED && nx_edge_count(&session, &edge) == NX_NOT_LOADED)
+        state = OPEN;
+    begin_log(3);
+    join(OF(BAD_LOG) | OF(OUT_OF_MEMORY));
+    begin_log(4);
+    join(joined);
+    if (state != LOADED || !find_with_deps(&edge))
+        return;
+    nx_inputs(&session, edge, 0, NULL, 0, NULL, 0, &before);
+    put_path((struct text){ given, given_length }, 0);
+    put_path(header, 1);
+    put_dependency(0, 1);
+    put_word(1 << 20);
+    for (int again = 0; again < 2; again++) {
+        if (join(joined) != NX_DONE)
+            return;
+        nx_inputs(&session, edge, 0, NULL, 0, NULL, 0, &after);
+        expect(after == before + 1, "nx_join_deps", "inputs", (long long)after);
+        IF_LOADED(OF(DONE), nx_file_named(&session, clean, sizeof clean - 1, &file));
+        expect(is_input(edge, file, NX_IMPLICIT), "nx_join_deps", "no input", (long long)file);
+    }
+    /* (in place of the record that is cut off) */
+    made_length -= 4;
+    put_dependency(0, 0);
+    join(OF(FAULT) | OF(OUT_OF_MEMORY));
+}
+
 /* ---- whole runs ---- */
 
 #define WORDS(text) { (const uint8_t *)(text), sizeof(text) - 1 }
@@ -721,6 +983,7 @@ static void live(void)
     IF_OPEN(0, nx_add_file(&session, NULL, 0, NULL, 0));
     IF_OPEN(0, nx_add_absent(&session, NULL, 0));
     load_once("build.ninja", 0);
+    try_logs();
     try_runs();
     ask_all();
     ALWAYS(OF(DONE), nx_close(&session));
@@ -740,6 +1003,8 @@ static void live(void)
         int is_same = again == status || status == NX_OUT_OF_MEMORY || again == NX_OUT_OF_MEMORY;
         expect(is_same, "nx_load", "another status", again);
         try_runs();
+        ask_all();
+        try_logs();
         ask_all();
     }
     IF_OPEN(OF(NOT_UTF8), nx_load(&session, not_utf8, 1, 0));
@@ -767,6 +1032,7 @@ static void live_briefly(void)
     load("build.ninja", 1);
     ask_all();
     run((struct text)WORDS("--dyndep\0-t\0commands"), RAN);
+    try_logs();
     load("build.ninja", 1);
     ALWAYS(OF(DONE), nx_close(&session));
     state = CLOSED;

@@ -4,7 +4,7 @@
 The example examples/c and the Python package python/ have to give what the program gives: on examples/project, on what CMake writes for examples/cmake, and on a manifest of 2,000 included
 files; whole, in pages, and where there is a fault. So have runs of the program's words by the
 library, tool by tool. Names that collide under a known key may take at most four times as long as
-others. c_calls.c makes every call on N manifests with changes (lib/strangers.py makes them), and while
+others. A deps log that Ninja wrote has to give the inputs that are known of it. c_calls.c makes every call on N manifests with changes (lib/strangers.py makes them), and while
 allocations are refused, with 256 KB of stack. Where valgrind is installed, it may find nothing in
 the C example, nor in some of these cases.
 
@@ -29,7 +29,7 @@ from lib.projects import MAIN, PROJECTS, as_bytes, write_cmake, write_files
 from lib.strangers import Maker
 from lib.sweeps import Sweep
 from lint import header
-from smoke import flood
+from smoke import deps, flood
 
 LIBRARY = ROOT / "lib/libninja_explain.so.1"
 ARCHIVE = ROOT / "lib/libninja_explain.a"
@@ -38,7 +38,7 @@ os.environ.update(NINJA_EXPLAIN_LIBRARY=str(LIBRARY), PYTHONPATH=str(PYTHON))
 sys.path.insert(0, str(PYTHON))
 sys.dont_write_bytecode = True
 import ninja_explain  # noqa: E402
-from ninja_explain import Graph  # noqa: E402
+from ninja_explain import Graph, Kind  # noqa: E402
 from ninja_explain._calls import WANTED, Session, text_arguments  # noqa: E402
 
 COMPILER = ["cc", "-std=c11", "-Wall", "-Wextra", "-Werror", "-O1", "-g", f"-I{ROOT / 'include'}"]
@@ -106,6 +106,7 @@ class Tests:
         self.static = self.compiled("static", source, ARCHIVE)
         self.shared = self.compiled("shared", source, LIBRARY, f"-Wl,-rpath,{LIBRARY.parent}")
         self.driver = self.compiled("driver", driver, ARCHIVE, *WRAPPED)
+        self.why = self.compiled("why", ROOT / "examples/c/why.c", ARCHIVE)
         self.loads = self.compiled("loads", ROOT / "scripts/c_loads.c", ARCHIVE)
 
     def compiled(self, name, *words):
@@ -160,7 +161,7 @@ def try_commands(tests, name, folder, words):
         tests.expect("comparisons", f"{name}, {words}", example.run(words, folder), plain(wanted))
     with Graph.load(folder=folder) as graph:
         targets = [graph.target(word) for word in words] if words else graph.defaults()
-        lines = "".join(f"{edge.command}\n" for edge in graph.needed(targets))
+        lines = "".join(f"{edge.command}\n" for edge in graph.commands(targets))
     tests.expect("comparisons", f"{name}, {words}, Python", encoded(lines), wanted.output)
     return wanted.output
 
@@ -235,8 +236,8 @@ def try_facts(tests, name, folder):
         for size in 1, 3, 1000:
             defaults = graph.defaults()
             edges = [edge for page in pages_of(graph, defaults, size) for edge in page.edges]
-            needed = graph.needed(defaults)
-            tests.expect("comparisons", f"{name}, pages of {size}, Python", edges, needed)
+            whole = graph.commands(defaults)
+            tests.expect("comparisons", f"{name}, pages of {size}, Python", edges, whole)
 
 
 # ---- whole runs
@@ -275,9 +276,9 @@ def recipes(tests):
         yield path
 
 
-def try_recipes(tests, name, folder, paths):
+def try_recipes(tests, name, folder, paths, chains):
     """Compares what the recipes write with what programs do."""
-    database, affected, pages, sources, users = recipes(tests)
+    database, affected, pages, sources, chain, users = recipes(tests)
     python = Program(sys.executable)
     wanted = tests.program.run(["-t", "compdb", "--directory", os.path.realpath(folder)], folder)
     found = python.run([str(database)], folder)
@@ -295,6 +296,8 @@ def try_recipes(tests, name, folder, paths):
     wanted = [path for path in inputs.splitlines() if path not in made]
     found = python.run([str(sources)], folder).output.splitlines()
     tests.expect("recipes", f"{name}, sources", found, wanted)
+    for start, end in chains:
+        try_chain(tests, name, folder, chain, start, end)
     lines = python.run([str(users)], folder).output.splitlines()
     for line in lines:
         count, path = line.split(None, 1)
@@ -302,11 +305,88 @@ def try_recipes(tests, name, folder, paths):
         tests.expect("recipes", f"{name}, users of {path}", user_count(listed), int(count))
 
 
+def try_chain(tests, name, folder, recipe, start, end):
+    """Checks the chain that the recipe prints: each file is an input of the edge that makes the one
+    before it, and no search in the lists of inputs comes to the last one sooner."""
+    ran = Program(sys.executable).run([str(recipe), start, end], folder)
+    with Graph.load(folder=folder) as graph:
+        steps = step_count(graph, start, end)
+        lines = os.fsdecode(ran.output).splitlines()
+        found = ran.status, len(lines)
+        tests.expect("recipes", f"{name}, {start} to {end}", found, (DONE, steps + 1) if steps else (1, 0))
+        path = lines[0] if lines else None
+        for line in lines[1:]:
+            step = re.fullmatch(r"  (.*) \((.*), (\w+)\)", line)
+            edge = graph.file(path).maker
+            inputs = [(it.path, edge.rule, it.kind.name.lower()) for it in edge.inputs]
+            tests.expect("recipes", f"{name}, step {line}", step.groups() in inputs, True)
+            path = step[1]
+
+
+def step_count(graph, start, end):
+    """How many steps a shortest chain has between two words; 0 if there is none."""
+    try:
+        files, last = {graph.target(start)}, graph.target(end)
+    except ninja_explain.Fault:
+        return 0
+    seen = set(files)
+    for steps in range(1, len(graph.files)):
+        makers = {file.maker for file in files} - {None}
+        files = {it.file for edge in makers for it in edge.inputs} - seen
+        if last in files:
+            return steps
+        seen |= files
+    return 0
+
+
 def user_count(listed):
     """How many edges `query` lists as users of a file. It names all outputs of each, of which the
     second one of an edge of these projects ends in `.d`."""
     outputs = listed.partition(b"\n  outputs:\n")[2].partition(b"\n  validation for:\n")[0]
     return sum(not line.endswith(b".d") for line in outputs.splitlines())
+
+
+# ---- deps logs
+
+
+# What examples/c/why.c writes there, by hand.
+WHY = {
+    ("b c.o", "sub/b.h"): (DONE, b"b c.o\n  sub/b.h (implicit)\nof 1 needed edges\n"),
+    ("a.o", "gen/count.h"): (DONE, b"a.o\n  gen/count.h (order-only)\nof 2 needed edges\n"),
+    ("alone.o", "a.h"): (FAULT, b""),
+}
+
+
+def try_deps_log(tests):
+    """Compares the inputs that edges have with a deps log that Ninja wrote with what is known of them,
+    by hand."""
+    folder = tests.folder / "deps"
+    write_files(folder, {MAIN: deps.MANIFEST.encode()})
+    write_files(folder, {path: as_bytes(text) for path, text in deps.SOURCES.items()})
+    log = deps.log_after([], folder)
+    with Graph.load(folder=folder) as plain, Graph.load(folder=folder, deps_log=deps.LOG) as joined:
+        for output, wanted in deps.BEFORE.items():
+            before, after = ([each.path for each in it.file(output).maker.inputs] for it in (plain, joined))
+            tests.expect("deps logs", f"{output}, all", set(after), {*before, *wanted})
+            tests.expect("deps logs", f"{output}, each once", len(after), len(set(after)))
+            named = [each.path for each in joined.file(output).maker.inputs if each.kind == Kind.IMPLICIT]
+            tests.expect("deps logs", f"{output}, implicit", set(named), wanted - set(before))
+        chain = joined.path_between(joined.target("b c.o"), joined.target("sub/b.h"))
+        tests.expect("deps logs", "a chain", [(it.file.path, it.kind) for it in chain], [("sub/b.h", Kind.IMPLICIT)])
+        tests.expect("deps logs", "no file", plain.file("sub/b.h"), None)
+        affected = [edge.outputs[0].path for edge in joined.affected([joined.target("a.h")])]
+        tests.expect("deps logs", "affected", affected, ["a.o", "b c.o"])
+    for words, (status, text) in WHY.items():
+        found = tests.why.run([*words], folder)
+        tests.expect("deps logs", f"why {words}", found, Ending(status, text, b""))
+    files = {MAIN: deps.MANIFEST}
+    for size in range(len(log)):
+        try:
+            Graph.from_files(files, deps_log=log[:size]).close()
+            is_log = True
+        except ninja_explain.BadDepsLog:
+            is_log = False
+        tests.expect("deps logs", f"cut off at {size}", is_log, size >= 16)
 
 
 # ---- the package
@@ -373,17 +453,20 @@ def try_project(tests, name, folder, words, sizes):
 def try_projects(tests):
     project = EXAMPLES / "project"
     try_project(tests, "project", project, ["test", "main.c^", "./out//count"], [1, 2, 3, 4, 5, 9])
-    try_recipes(tests, "project", project, ["text/lines.c", "README.md", "main.c"])
+    chains = ("test", "text/lines.c"), ("main.c", "test"), ("test", "test"), ("test", "nothing")
+    try_recipes(tests, "project", project, ["text/lines.c", "README.md", "main.c"], chains)
     many = tests.folder / "many"
     write_files(many, many_files())
     lines = try_project(tests, "2,000 files", many, ["out/7.20", "out/3.9.check"], [97, 1900, 3899])
     tests.expect("comparisons", "2,000 files, commands", lines.count(b"\n") > 1900, True)
-    try_recipes(tests, "2,000 files", many, ["src/1.1", "common", "src/none", "out/1.1"])
+    chains = ("out/7.20", "src/7.3"), ("out/7.20.check", "common"), ("common", "out/7.20")
+    try_recipes(tests, "2,000 files", many, ["src/1.1", "common", "src/none", "out/1.1"], chains)
     if shutil.which("cmake") and shutil.which("ninja"):
         build = Path(os.path.realpath(tests.folder)) / "build"
         write_cmake(build)
         try_project(tests, "CMake", build, ["count", "text"], [1, 2, 3])
-        try_recipes(tests, "CMake", build, [str(EXAMPLES / "cmake/src/words.c"), "words.h"])
+        words = str(EXAMPLES / "cmake/src/words.c")
+        try_recipes(tests, "CMake", build, [words, "words.h"], [("all", words)])
 
 
 # ---- how many loads
@@ -636,6 +719,10 @@ def main():
         try_wanted(tests)
         try_faults(tests)
         try_flood(tests)
+        if shutil.which("ninja"):
+            try_deps_log(tests)
+        else:
+            print("c_test: ninja is not installed, so no deps log was joined")
         try_package(tests)
         if shutil.which("valgrind"):
             try_valgrind(tests)

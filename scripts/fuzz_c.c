@@ -624,6 +624,24 @@ static void add_absent(struct text argument)
     IF_OPEN(ADDED, nx_add_absent(&session, argument.bytes, argument.length));
 }
 
+/* Joins the content of a file as a deps log, which may be cut off at a number; or the logs that
+   c_calls.c makes. */
+static void join_file(struct text argument)
+{
+    if (argument.length == 0 || project_files == 0) {
+        try_logs();
+    } else {
+        struct text log = files[taken_number(&argument) % project_files].content;
+        size_t most = taken_number(&argument);
+        made_length = log.length < sizeof made_log ? log.length : sizeof made_log;
+        made_length = most > 0 && most < made_length ? most : made_length;
+        if (made_length > 0)
+            memcpy(made_log, log.bytes, made_length);
+        join(OF(DONE) | OF(BAD_LOG) | OF(FAULT) | OF(OUT_OF_MEMORY));
+    }
+    count_all();
+}
+
 static void pick(struct text argument)
 {
     size_t file = 0;
@@ -843,6 +861,7 @@ static const struct {
     { 'w', ask_wanted },
     { 'a', add_file },
     { 'x', add_absent },
+    { 'j', join_file },
     { 'p', pick },
     { 'n', name_file },
     { 'e', ask_edge },

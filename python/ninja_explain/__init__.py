@@ -3,7 +3,7 @@
     from ninja_explain import Graph
 
     with Graph.load("build.ninja") as graph:
-        for edge in graph.needed(graph.defaults()):
+        for edge in graph.commands(graph.defaults()):
             print(edge.command)
 
 The work is done by the library for C, libninja_explain.so.1: a wheel carries it; else it is found
@@ -12,10 +12,11 @@ and commands are strings, in which bytes that are not UTF-8 are lone surrogates
 (`errors="surrogateescape"`).
 """
 
-from ninja_explain._errors import BadMark, Fault, FaultKind
-from ninja_explain._graph import Edge, File, Graph, Input, Kind, Page, Place, Run, run
+from ninja_explain._errors import BadDepsLog, BadMark, Fault, FaultKind
+from ninja_explain._graph import Edge, File, Graph, Input, Kind, Page, Place, Run, Step, run
 
 __all__ = [
+    "BadDepsLog",
     "BadMark",
     "Edge",
     "Fault",
@@ -27,5 +28,6 @@ __all__ = [
     "Page",
     "Place",
     "Run",
+    "Step",
     "run",
 ]

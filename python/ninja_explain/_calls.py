@@ -28,6 +28,10 @@ class _Kept(ctypes.Structure):
     _fields_ = [("kept", ctypes.c_void_p)]
 
 
+class _Step(ctypes.Structure):
+    _fields_ = [("edge", c_size_t), ("file", c_size_t), ("kind", c_int32)]
+
+
 _NUMBER, _KIND = POINTER(c_size_t), POINTER(c_int32)
 _TEXT, _NUMBERS = [c_char_p, c_size_t], [POINTER(c_size_t), c_size_t]
 _BUFFER = [c_char_p, c_size_t, _NUMBER]
@@ -40,6 +44,7 @@ _CALLS: dict[str, Sequence[Any]] = {
     "nx_add_file": [*_TEXT, *_TEXT],
     "nx_add_absent": _TEXT,
     "nx_load": [*_TEXT, c_uint32],
+    "nx_join_deps": _TEXT,
     "nx_fault_kind": [_KIND],
     "nx_fault_place": [_NUMBER, _NUMBER],
     "nx_fault_file": _BUFFER,
@@ -68,6 +73,8 @@ _CALLS: dict[str, Sequence[Any]] = {
     "nx_is_phony": [c_size_t, _KIND],
     "nx_edge_place": [c_size_t, _NUMBER, _NUMBER],
     "nx_affected": _NUMBERS,
+    "nx_needed": _NUMBERS,
+    "nx_path_between": [c_size_t, c_size_t, c_uint32, POINTER(_Step), c_size_t, _NUMBER],
     "nx_page": [*_NUMBERS, *_TEXT, c_size_t],
     "nx_page_mark": _BUFFER,
     "nx_run": [*_TEXT, _KIND],
@@ -221,6 +228,19 @@ class Session:
                 kinds += self._kinds[:left]
                 if len(files) == count.value:
                     return files, kinds
+
+    def steps(self, start: int, end: int, with_validations: bool) -> list[tuple[int, int, int]] | None:
+        """The steps of a shortest chain from one file to another, each an edge, a file and a kind;
+        None if there is no chain."""
+        count, room = c_size_t(), 64
+        while True:
+            given = (_Step * room)()
+            found = given, room, ctypes.byref(count)
+            if not self.is_there("nx_path_between", start, end, with_validations, *found):
+                return None
+            if count.value <= room:
+                return [(step.edge, step.file, step.kind) for step in given[: count.value]]
+            room = count.value
 
     def texts(self, name: str) -> list[str]:
         """All texts that a call gives by an index."""

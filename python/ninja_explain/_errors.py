@@ -79,6 +79,10 @@ class BadMark(ValueError):
     """A text that is not a mark, or a mark that does not fit the graph and the targets."""
 
 
+class BadDepsLog(ValueError):
+    """Bytes that are not a deps log of version 4, which Ninja has written since 1.9."""
+
+
 # What a status of the library means, beside a fault.
 STATUS_ERRORS: dict[int, tuple[type[Exception], str]] = {
     5: (ValueError, "no graph is loaded"),
@@ -87,4 +91,5 @@ STATUS_ERRORS: dict[int, tuple[type[Exception], str]] = {
     8: (ValueError, "a path or a word is not UTF-8"),
     9: (ValueError, "the graph is closed"),
     10: (MemoryError, "out of memory"),
+    11: (BadDepsLog, "not a deps log of version 4"),
 }

@@ -47,13 +47,17 @@ class Folder:
     allow_outside: bool
 
     def content(self, path: bytes) -> bytes | None:
-        if not self.allow_outside and (path.startswith(b"/") or b".." in path.split(b"/")):
-            text = "the manifest names a file outside of the folder, which needs allow_outside=True"
-            raise PermissionError(errno.EACCES, text, decoded(path))
         try:
-            return _regular_content(os.path.join(self.path, path))
+            return self.required(path)
         except FileNotFoundError:
             return None
+
+    def required(self, path: bytes) -> bytes:
+        """The bytes of a file; raises FileNotFoundError if there is none."""
+        if not self.allow_outside and (path.startswith(b"/") or b".." in path.split(b"/")):
+            text = "a file outside of the folder needs allow_outside=True"
+            raise PermissionError(errno.EACCES, text, decoded(path))
+        return _regular_content(os.path.join(self.path, path))
 
 
 def _regular_content(path: bytes) -> bytes:

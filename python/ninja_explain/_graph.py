@@ -32,6 +32,8 @@ class Kind(IntEnum):
 
 
 _KINDS = tuple(Kind)
+# The number that the library gives for a validation in place of a kind.
+_VALIDATION = 3
 
 
 class Place(NamedTuple):
@@ -236,6 +238,15 @@ class Edge(_Numbered):
         return repr(self.outputs[0].path)
 
 
+class Step(NamedTuple):
+    """A step of a chain: an edge, a file that is an input of it, and the kind of that input, which is
+    None for a validation."""
+
+    edge: Edge
+    file: File
+    kind: Kind | None
+
+
 class Page(NamedTuple):
     """Some of the edges that targets need, and the mark at which the next ones begin, which is None
     if no edge is left."""
@@ -289,20 +300,27 @@ class Graph:
         folder: AnyPath = ".",
         *,
         joins_dyndeps: bool = False,
+        deps_log: AnyPath | None = None,
         allow_outside: bool = False,
     ) -> Graph:
         """The graph of a manifest and of all files that it includes, which are read in a folder.
 
-        With `joins_dyndeps` its dyndep files are read and joined too. Only regular files of at most
-        1 GiB are read, and only below the folder, unless `allow_outside` is true; symbolic links
-        are followed.
+        With `joins_dyndeps` its dyndep files are read and joined too. `deps_log` is the path of a deps
+        log, which Ninja keeps as `.ninja_deps` in the build folder: what it names for the first output
+        of an edge with a value of `deps` becomes an implicit input of the edge. Only regular files of
+        at most 1 GiB are read, and only below the folder, unless `allow_outside` is true; symbolic
+        links are followed.
 
-        Raises the first Fault of the manifest; PermissionError for a path outside of the folder;
-        another OSError for a file that is there and cannot be read; MemoryError.
+        Raises the first Fault of the manifest, or of joining the log: a dependency cycle, if the log
+        is older than the manifest; BadDepsLog; PermissionError for a path outside of the folder;
+        FileNotFoundError if there is no deps log; another OSError for a file that is there and cannot
+        be read; MemoryError.
         """
         graph = cls()
         place = Folder(encoded(folder), allow_outside)
         call_with_files(graph._session, place, "nx_load", *text_arguments(path), joins_dyndeps)
+        if deps_log is not None:
+            graph._join_deps(place.required(encoded(deps_log)))
         return graph
 
     @classmethod
@@ -312,13 +330,20 @@ class Graph:
         path: str = "build.ninja",
         *,
         joins_dyndeps: bool = False,
+        deps_log: bytes | None = None,
     ) -> Graph:
-        """The graph of a manifest among these files, given by their paths; no other file is there."""
+        """The graph of a manifest among these files, given by their paths; no other file is there.
+        `deps_log` has the bytes of a deps log."""
         graph = cls()
         for name, content in files.items():
             hand_in(graph._session, name, encoded(content))
         call_with_files(graph._session, NOWHERE, "nx_load", *text_arguments(path), joins_dyndeps)
+        if deps_log is not None:
+            graph._join_deps(deps_log)
         return graph
+
+    def _join_deps(self, log: bytes) -> None:
+        self._session.call("nx_join_deps", log, len(log))
 
     def close(self) -> None:
         """Frees its memory. A graph that is closed stays so."""
@@ -389,8 +414,35 @@ class Graph:
             self._session.call("nx_affected", *number_arguments(self._numbers(files)))
             return self._edges_at("nx_found")
 
-    def needed(self, targets: Iterable[File]) -> list[Edge]:
-        """The edges with commands that the targets need, each after all that it needs."""
+    def needed(self, files: Iterable[File]) -> list[Edge]:
+        """The edges that these files need through any chain of inputs, phony edges among them, nearest
+        first: the edges that make the files, then those that make their inputs, and so on."""
+        with self._session:
+            self._session.call("nx_needed", *number_arguments(self._numbers(files)))
+            return self._edges_at("nx_found")
+
+    def path_between(
+        self, start: File, end: File, *, with_validations: bool = False
+    ) -> list[Step] | None:
+        """The steps of a shortest chain of inputs by which `start` needs `end`; None if it does not,
+        or if they are the same file.
+
+        The first step is from the edge that makes `start`, the last one to `end`, and each is from
+        the edge that makes the file of the step before it. Of several shortest chains it is the first
+        when inputs are tried in their order. Validations count as inputs too, after those of their
+        edge, if `with_validations` is true.
+        """
+        first, last = self._number_of(start), self._number_of(end)
+        found = self._session.steps(first, last, with_validations)
+        return None if found is None else [self._step(*step) for step in found]
+
+    def _step(self, edge: int, file: int, kind: int) -> Step:
+        of = None if kind == _VALIDATION else _KINDS[kind]
+        return Step(Edge._of(self, edge), File._of(self, file), of)
+
+    def commands(self, targets: Iterable[File]) -> list[Edge]:
+        """The edges with commands that the targets need, each after all that it needs: those whose
+        commands `ninja -t commands` lists."""
         return self.page(targets).edges
 
     def page(

@@ -3,12 +3,13 @@
 import copy
 import os
 import pickle
+import struct
 import tempfile
 import threading
 import unittest
 from pathlib import Path
 
-from ninja_explain import BadMark, Edge, Fault, FaultKind, File, Graph, Kind, Place, run
+from ninja_explain import BadDepsLog, BadMark, Edge, Fault, FaultKind, File, Graph, Kind, Place, run
 
 MANIFEST = """\
 rule cc
@@ -71,7 +72,28 @@ class Reading(unittest.TestCase):
         self.assertEqual(paths(graph.defaults()), ["app"])
         self.assertEqual(paths(graph.roots()), ["a.d", "app", "check"])
         self.assertEqual(graph.affected([graph.target("b.c")]), [graph.edges[1], graph.edges[2]])
-        self.assertEqual([edge.number for edge in graph.needed(graph.defaults())], [0, 1, 2])
+        self.assertEqual([edge.number for edge in graph.commands(graph.defaults())], [0, 1, 2])
+        self.assertEqual([edge.number for edge in graph.needed(graph.defaults())], [2, 0, 1, 4])
+        self.assertEqual(graph.needed([graph.target("a.c")]), [])
+
+    def test_path_between(self) -> None:
+        graph = self.graph
+        app, gen, check = (graph.target(word) for word in ("app", "gen", "check"))
+        chain = graph.path_between(app, gen)
+        found = [(step.edge.number, step.file.path, step.kind) for step in chain or []]
+        self.assertEqual(found, [(2, "a.o", Kind.EXPLICIT), (0, "gen", Kind.ORDER_ONLY)])
+        self.assertIsNone(graph.path_between(gen, app))
+        self.assertIsNone(graph.path_between(app, app))
+        self.assertIsNone(graph.path_between(app, check))
+        chain = graph.path_between(app, check, with_validations=True)
+        found = [(step.edge.number, step.file.path, step.kind) for step in chain or []]
+        self.assertEqual(found, [(2, "a.o", Kind.EXPLICIT), (0, "check", None)])
+
+    def test_long_path(self) -> None:
+        """A chain that is longer than one call gives."""
+        with graph_of("".join(f"build {at}: phony {at + 1}\n" for at in range(500))) as graph:
+            chain = graph.path_between(graph.target("0"), graph.target("500"))
+            self.assertEqual([step.file.path for step in chain or []], [f"{at}" for at in range(1, 501)])
 
     def test_rules(self) -> None:
         self.assertEqual(self.graph.rules(), ["cc", "link", "phony"])
@@ -115,6 +137,46 @@ class Reading(unittest.TestCase):
         with Graph.from_files({"build.ninja": b"build a\xff: phony b\n"}) as graph:
             self.assertEqual(graph.edges[0].outputs[0].path, "a\udcff")
             self.assertEqual(graph.target("a\udcff").path, "a\udcff")
+
+
+def deps_log(version: int, *paths: str) -> bytes:
+    """A deps log in which the first of these paths depends on the others."""
+    records = [b"# ninjadeps\n", struct.pack("<I", version)]
+    for number, path in enumerate(paths):
+        padded = path.encode() + b"\0" * (-len(path) % 4)
+        records += [struct.pack("<I", len(padded) + 4), padded, struct.pack("<I", ~number & 0xFFFFFFFF)]
+    numbers = [0, 1, 0, *range(1, len(paths))]
+    records.append(struct.pack(f"<{len(numbers) + 1}I", 4 * len(numbers) | 1 << 31, *numbers))
+    return b"".join(records)
+
+
+DEPS = """\
+rule cc
+  command = cc -c $in -o $out
+  deps = gcc
+build a.o: cc a.c
+build a.h: cc a.in
+"""
+
+
+class DepsLogs(unittest.TestCase):
+    def test_joined(self) -> None:
+        log = deps_log(4, "a.o", "./x/../a.h", "a.c", "b.h")
+        with Graph.from_files({"build.ninja": DEPS}, deps_log=log) as graph:
+            inputs = [(each.path, each.kind) for each in graph.edges[0].inputs]
+            wanted = [("a.c", Kind.EXPLICIT), ("a.h", Kind.IMPLICIT), ("b.h", Kind.IMPLICIT)]
+            self.assertEqual(inputs, wanted)
+            self.assertEqual(graph.affected([graph.target("a.in")]), [graph.edges[0], graph.edges[1]])
+
+    def test_cycle(self) -> None:
+        with self.assertRaises(Fault) as caught:
+            Graph.from_files({"build.ninja": DEPS}, deps_log=deps_log(4, "a.o", "a.o"))
+        self.assertEqual(caught.exception.kind, FaultKind.CYCLE)
+
+    def test_no_log(self) -> None:
+        for log in b"", b"# ninjadeps\n", deps_log(3, "a.o", "a.h"):
+            with self.assertRaises(BadDepsLog):
+                Graph.from_files({"build.ninja": DEPS}, deps_log=log)
 
 
 class Faults(unittest.TestCase):
@@ -214,6 +276,16 @@ class Disk(unittest.TestCase):
         with Graph.load(folder=self.folder) as graph:
             self.assertEqual(graph.edges[0].command, "cp b a")
         self.assertEqual(run(["-t", "rules"], self.folder), (0, "cp\nphony\n", ""))
+
+    def test_deps_log(self) -> None:
+        (self.folder / "build.ninja").write_text(DEPS)
+        (self.folder / ".ninja_deps").write_bytes(deps_log(4, "a.o", "a.h"))
+        with Graph.load(folder=self.folder, deps_log=".ninja_deps") as graph:
+            self.assertEqual(graph.edges[0].inputs[1].path, "a.h")
+        with self.assertRaises(FileNotFoundError):
+            Graph.load(folder=self.folder, deps_log="none")
+        with self.assertRaises(PermissionError):
+            Graph.load(folder=self.folder, deps_log="../none")
 
     def test_outside(self) -> None:
         (self.folder / "build.ninja").write_text("include ../rules.ninja\n")

@@ -30,6 +30,7 @@ ARGUMENTS = {
     "&[usize]": ["const size_t *", "size_t"],
     "&mut [usize]": ["size_t *", "size_t"],
     "&mut [i32]": ["int32_t *", "size_t"],
+    "&mut [PathStep]": ["nx_step *", "size_t"],
     "&mut usize": ["size_t *"],
     "&mut i32": ["int32_t *"],
     "&mut u64": ["uint64_t *"],
@@ -115,7 +116,9 @@ def differences(name):
     header = without_comments(HEADER.read_text())
     body = re.search(rf"enum {name} {{(.*?)}};", header, re.S)[1]
     found = dict(re.findall(r"(\w+) = (\d+)", body))
-    arms = re.findall(rf"{kind}::(\w+)(?:\([^)]*\))? => (\d+)", (SOURCES / file).read_text())
+    text = (SOURCES / file).read_text()
+    arms = re.findall(rf"{kind}::(\w+)(?:\([^)]*\))? => (\d+)", text)
+    arms += [(word.title(), number) for word, number in re.findall(r"const (\w+): i32 = (\d+)", text)]
     wanted = {constant(variant, prefix): number for variant, number in arms}
     for word in sorted(found.keys() | wanted.keys()):
         if found.get(word) != wanted.get(word):
@@ -126,6 +129,19 @@ def differences(name):
 def numbers_are_the_same():
     for name in ENUMERATIONS:
         yield from differences(name)
+
+
+# ---- structs
+
+STEP = {"usize": "size_t", "i32": "int32_t"}
+
+
+@check
+def steps_are_the_same():
+    text = re.search(r"pub struct PathStep \{(.*?)\n\}", (SOURCES / "paths.rt").read_text(), re.S)[1]
+    wanted = [(STEP[kind], word) for word, kind in re.findall(r"pub (\w+): (\w+),", text)]
+    header = re.search(r"typedef struct nx_step \{(.*?)\}", without_comments(HEADER.read_text()), re.S)[1]
+    yield from expect("nx_step", re.findall(r"(\w+) (\w+);", header), wanted)
 
 
 # ---- compiling

@@ -7,6 +7,7 @@ mod ItemLemmas
 mod JoinLemmas
 mod LoadLemmas
 mod LoadRows
+mod LogLemmas
 mod MachineValues
 mod PageLemmas
 mod RunLemmas

@@ -12,7 +12,7 @@ use Rattle.nj_graph.specs.Loads.{LoadedModel, Loads}
 use Rattle.nj_graph.specs.Joining.{Joins}
 use Rattle.nj_c.specs.declared.session_state.Kept.{Kept}
 use Rattle.nj_c.specs.declared.status.Status.{Status}
-use Rattle.nj_c.specs.declared.status.Status.TheVariants.{Done, Nothing, Short, Fault, Wanted, NotLoaded, BadNumber, BadMark, NotUtf8, NotOpen, OutOfMemory}
+use Rattle.nj_c.specs.declared.status.Status.TheVariants.{Done, Nothing, Short, Fault, Wanted, NotLoaded, BadNumber, BadMark, NotUtf8, NotOpen, OutOfMemory, BadLog}
 use Rattle.nj_c.specs.HandedIn.{Handed, handed_in, handed_state, wanted_paths, ReadsAsHanded, SameFiles}
 use Rattle.nj_c.specs.Loading.{unread, graph_loaded, lacking_dyndeps, paths_or, paths_to_load, GivesGraph, KeepsNothing, ListsNothing, LoadsFiles, LoadsKept, SameRun}
 use Rattle.nj_c.specs.Inside.Results.{AreStatements, FinishesLoad, KeepsLoad, KeepsResult}
@@ -118,6 +118,7 @@ module _ (before middle : Kept) (files : Handed) (main : List ℕ) (joins : Bool
     keeps (Err fault) BadMark whole kept = absurd kept
     keeps (Err fault) NotUtf8 whole kept = absurd kept
     keeps (Err fault) NotOpen whole kept = absurd kept
+    keeps (Err fault) BadLog whole kept = absurd kept
 
   out_of_memory : (after : Kept) → after ≡ read → LoadsKept before after main joins OutOfMemory
   out_of_memory after is = lacks after files same is

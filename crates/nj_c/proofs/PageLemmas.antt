@@ -1,5 +1,5 @@
 -- Numbers of files, and pages.
-use Rattle.std.proofs.Common.{◌≡◌, ◌<◌, ◌+◌, ◌-◌, inl, inr, ℕ, zero, suc, true, Option, Some, None, Result, Ok, Err, List, [], ◌∷◌, ◌++◌, All, MatchOption, length, take, drop, get_or, refl, sym, ap, subst, ◌∙◌, arith}
+use Rattle.std.proofs.Common.{◌≡◌, ◌<◌, ◌+◌, ◌-◌, inl, inr, ℕ, zero, suc, true, Option, Some, None, Result, Ok, Err, List, [], ◌∷◌, ◌++◌, All, MatchOption, length, map, take, drop, get_or, refl, sym, ap, subst, ◌∙◌, arith}
 use Rattle.std.specs.List.{last_or}
 use Rattle.std.proofs.lemmas.List.{append_assoc, map_more, get_or-map, length-map, length_push, map_push, take_more}
 use Rattle.std.proofs.lemmas.List.Elements.{All-push}
@@ -12,12 +12,13 @@ use Rattle.nj_needs.specs.Graphs.{count_of, makers_of, row_of}
 use Rattle.nj_needs.specs.Marks.{is_valid, IsFirstPlace}
 use Rattle.nj_needs.specs.Pages.{IsMarkAfter}
 use Rattle.nj_needs.specs.Walks.{WalkState, BeginsAt, IsFirstPlaceOf}
-use Rattle.nj_graph.specs.Graph.{GraphModel}
+use Rattle.nj_names.specs.Files.{path_at}
+use Rattle.nj_graph.specs.Graph.{GraphModel, edges_of, files_of}
 use Rattle.nj_c.specs.declared.session_state.Kept.{Kept}
 use Rattle.nj_c.specs.declared.pages.Page.{Page}
 use Rattle.nj_c.specs.declared.status.Status.{Status}
-use Rattle.nj_c.specs.declared.status.Status.TheVariants.{Done, Nothing, Short, Fault, Wanted, NotLoaded, BadNumber, NotUtf8, NotOpen, BadMark, OutOfMemory}
-use Rattle.nj_c.specs.Pages.{mark_of, numbered, AreBelow, AreKnown, IsBadMark, IsPage, ListsPage}
+use Rattle.nj_c.specs.declared.status.Status.TheVariants.{Done, Nothing, Short, Fault, Wanted, NotLoaded, BadNumber, NotUtf8, NotOpen, BadMark, OutOfMemory, BadLog}
+use Rattle.nj_c.specs.Pages.{mark_of, numbered, paths_of_files, AreBelow, AreKnown, IsBadMark, IsNeededList, IsPage, ListsPage}
 use Rattle.nj_c.specs.Inside.PagesHeld.{mark_status, numbers_of, EndsAt, MarkRefused, PageAfter, PageAt, PageFrom, PageOf, Returned}
 
 abbrev pub as_file : ℕ → FileNo
@@ -37,6 +38,15 @@ pub all-numbered : (count : ℕ) (numbers : List ℕ) → AreBelow count numbers
 all-numbered count numbers held k d within =
     let below = subst (λ n. k < n) (length-map numbers as_file) within in
     subst (λ n. n < count) (ap (λ f. f.0) (sym (get_or-map as_file numbers k 0 d below))) (held k 0 below)
+
+-- ---- what files need
+
+pub needed_list : (g : GraphModel) (graph : EdgeGraph) (numbers : List ℕ) (files : List FileNo) (found : List ℕ)
+    → graph ≡ g.built.graph → files ≡ numbered numbers → IsNeededList graph.edges (map (path_at graph.files) files) found
+    → IsNeededList (edges_of g) (paths_of_files g numbers) found
+needed_list g graph numbers files found is are held =
+    subst (λ fs. IsNeededList (edges_of g) (map (path_at (files_of g)) fs) found) are
+    (subst (λ (e : EdgeGraph). IsNeededList e.edges (map (path_at e.files) files) found) is held)
 
 -- ---- the edges of a page
 
@@ -130,6 +140,7 @@ at-mark g targets text mark limit (Err NotLoaded) is from = absurd from
 at-mark g targets text mark limit (Err BadNumber) is from = absurd from
 at-mark g targets text mark limit (Err NotUtf8) is from = absurd from
 at-mark g targets text mark limit (Err NotOpen) is from = absurd from
+at-mark g targets text mark limit (Err BadLog) is from = absurd from
 
 pub at-none : (g : EdgeGraph) (targets : List FileNo) (text : List ℕ) (limit : ℕ) (status : Status) → MarkRefused text status
     → PageAt g targets text limit (Err status)
@@ -144,6 +155,7 @@ at-none g targets text limit NotLoaded none = absurd none
 at-none g targets text limit BadNumber none = absurd none
 at-none g targets text limit NotUtf8 none = absurd none
 at-none g targets text limit NotOpen none = absurd none
+at-none g targets text limit BadLog none = absurd none
 
 pub of-numbers : (g : GraphModel) (numbers : List ℕ) (targets : List FileNo) (text : List ℕ) (limit : ℕ) (result : Result Page Status) → AreKnown g numbers
     → targets ≡ numbered numbers → PageAt g.built.graph targets text limit result → PageOf g numbers text limit result
@@ -159,6 +171,7 @@ of-numbers g numbers targets text limit (Err NotLoaded) known are at = absurd at
 of-numbers g numbers targets text limit (Err BadNumber) known are at = absurd at
 of-numbers g numbers targets text limit (Err NotUtf8) known are at = absurd at
 of-numbers g numbers targets text limit (Err NotOpen) known are at = absurd at
+of-numbers g numbers targets text limit (Err BadLog) known are at = absurd at
 
 -- ---- what a session keeps of them
 
@@ -180,3 +193,4 @@ lists-no-page before g targets text limit Wanted graph of = absurd of
 lists-no-page before g targets text limit NotLoaded graph of = absurd of
 lists-no-page before g targets text limit NotUtf8 graph of = absurd of
 lists-no-page before g targets text limit NotOpen graph of = absurd of
+lists-no-page before g targets text limit BadLog graph of = absurd of

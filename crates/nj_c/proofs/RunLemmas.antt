@@ -17,7 +17,7 @@ use Rattle.nj_cli.specs.Inside.RunSteps.{RunEnds}
 use Rattle.nj_cli.specs.Status.{exit_code}
 use Rattle.nj_c.specs.declared.session_state.Kept.{Kept}
 use Rattle.nj_c.specs.declared.status.Status.{Status}
-use Rattle.nj_c.specs.declared.status.Status.TheVariants.{Done, Nothing, Short, Fault, Wanted, NotLoaded, BadNumber, BadMark, NotUtf8, NotOpen, OutOfMemory}
+use Rattle.nj_c.specs.declared.status.Status.TheVariants.{Done, Nothing, Short, Fault, Wanted, NotLoaded, BadNumber, BadMark, NotUtf8, NotOpen, OutOfMemory, BadLog}
 use Rattle.nj_c.specs.HandedIn.{Handed, handed_in, handed_state, SameFiles}
 use Rattle.nj_c.specs.Loading.{unread}
 use Rattle.nj_c.specs.Runs.{untouched, given_words, KeepsNoOutput, OutputsNeverFail, LeavesRun, LeavesRunOfText, RunsKept, SameLoad}
@@ -86,6 +86,7 @@ module _ (words : List (List ℕ)) (begun : Handed) (mid after : Kept) (ended : 
   ends-other exit BadMark ran files other finishes = absurd finishes
   ends-other exit NotUtf8 ran files other finishes = absurd finishes
   ends-other exit NotOpen ran files other finishes = absurd finishes
+  ends-other exit BadLog ran files other finishes = absurd finishes
 
 -- ---- the whole run
 
@@ -110,6 +111,7 @@ of-text before after text exit new NotLoaded ends = absurd ends
 of-text before after text exit new BadNumber ends = absurd ends
 of-text before after text exit new BadMark ends = absurd ends
 of-text before after text exit new NotOpen ends = absurd ends
+of-text before after text exit new BadLog ends = absurd ends
 
 pub runs-kept : (before middle after : Kept) (text : List ℕ) (words : List (List ℕ)) (exit new : ℤ) (status : Status) → middle.files ≡ unread before.files
     → SameLoad before middle → words ≡ given_words text → SameFiles middle.files after.files → SameLoad middle after
@@ -136,6 +138,7 @@ not-run before middle text exit NotLoaded begun one none wanted why = absurd why
 not-run before middle text exit BadNumber begun one none wanted why = absurd why
 not-run before middle text exit BadMark begun one none wanted why = absurd why
 not-run before middle text exit NotOpen begun one none wanted why = absurd why
+not-run before middle text exit BadLog begun one none wanted why = absurd why
 
 -- ---- its status
 

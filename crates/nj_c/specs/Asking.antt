@@ -1,5 +1,5 @@
 -- What calls do to a session, and what they return.
-use Rattle.std.specs.Prelude.{◌≡◌, ◌≢◌, ◌⊎◌, ◌<◌, ◌≤◌, ℕ, ℤ, pos, Bool, List, [], ◌∷◌, ◌++◌, Option, Some, option_and_then, length, drop, slice_get, MatchOption, if◌then◌else◌}
+use Rattle.std.specs.Prelude.{◌≡◌, ◌≢◌, ◌⊎◌, ◌<◌, ◌≤◌, ℕ, ℤ, pos, Bool, List, [], ◌∷◌, ◌++◌, Option, Some, None, option_and_then, length, drop, slice_get, MatchOption, if◌then◌else◌}
 use Rattle.nj_edges.specs.declared.edges.Kind.{Kind}
 use Rattle.nj_edges.specs.declared.edges.Kind.TheVariants.{Explicit, Implicit, OrderOnly}
 use Rattle.nj_scope.specs.ReadingList.{ReadStatement}
@@ -58,6 +58,11 @@ abbrev pub kind_code : Kind → ℤ
 kind_code Explicit = pos 0
 kind_code Implicit = pos 1
 kind_code OrderOnly = pos 2
+
+-- the number of the kind of a step; a validation has none, and a number of its own
+abbrev pub step_kind_code : Option Kind → ℤ
+step_kind_code (Some kind) = kind_code kind
+step_kind_code None = pos 3
 
 abbrev pub bool_code : Bool → ℤ
 bool_code is = if is then pos 1 else pos 0

@@ -1,5 +1,6 @@
 pub mod HandedHeld
 pub mod Keeps
+pub mod LogsJoined
 pub mod PagesHeld
 pub mod Results
 pub mod RunsHeld

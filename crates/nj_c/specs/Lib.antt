@@ -8,5 +8,7 @@ pub mod FaultKinds
 pub mod Pages
 pub mod Runs
 pub mod Targets
+pub mod JoinedLogs
+pub mod Paths
 -- how a session keeps what it owns
 pub mod Inside

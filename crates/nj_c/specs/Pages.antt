@@ -1,9 +1,12 @@
--- Lists of edges: what a change reaches, and pages of the commands that targets need.
-use Rattle.std.specs.Prelude.{◌≡◌, ◌<◌, ◌⊎◌, ◌↔◌, ℕ, true, false, List, [], ◌∷◌, map, length, All, Contains, Option, Some, None}
+-- Lists of edges: what a change reaches, what files need, and pages of the commands that targets need.
+use Rattle.std.specs.Prelude.{◌≡◌, ◌<◌, ◌⊎◌, ◌↔◌, ℕ, true, false, List, [], ◌∷◌, map, length, nat_eq, All, Contains, Option, Some, None}
 use Rattle.std.specs.Str.{is_utf8}
+use Rattle.std.specs.List.{IsDistinct}
 use Rattle.std.specs.List.Sorted.{IsStrictlyIncreasing}
 use Rattle.nj_names.specs.declared.files.FileNo.{FileNo}
 use Rattle.nj_edges.specs.Changes.{IsAffected}
+use Rattle.nj_edges.specs.Edges.{EdgePaths}
+use Rattle.nj_edges.specs.Distances.{AreNearestFirst, IsNeeded}
 use Rattle.nj_edges.specs.EdgeGraphs.{EdgeGraph}
 use Rattle.nj_names.specs.Files.{path_at}
 use Rattle.nj_needs.specs.MarkTexts.{given_mark, mark_text}
@@ -30,6 +33,10 @@ AreKnown g numbers = AreBelow (length (files_of g)) numbers
 abbrev pub numbered : List ℕ → List FileNo
 numbered numbers = map (λ n. record { 0 = n }) numbers
 
+-- the paths of files
+abbrev pub paths_of_files : GraphModel → List ℕ → List (List ℕ)
+paths_of_files g numbers = map (path_at (files_of g)) (numbered numbers)
+
 -- a session of which only the edges that were listed last changed, and the mark after them
 pub record Lists (before after : Kept) : Type 0 where
   pub files : after.files ≡ before.files
@@ -42,7 +49,7 @@ pub record Lists (before after : Kept) : Type 0 where
 
 abbrev pub IsReached : GraphModel → (files edges : List ℕ) → Type 0
 IsReached g files edges = IsStrictlyIncreasing edges
-    × ((edge : ℕ) → Contains edges edge ↔ IsAffected (edges_of g) (map (path_at (files_of g)) (numbered files)) edge)
+    × ((edge : ℕ) → Contains edges edge ↔ IsAffected (edges_of g) (paths_of_files g files) edge)
 
 abbrev pub ListsReached : (before after : Kept) → (files : List ℕ) → Status → Type 0
 ListsReached before after files Done =
@@ -53,6 +60,24 @@ ListsReached before after files BadNumber =
 ListsReached before after files NotLoaded = (before.graph ≡ None) × (after ≡ before)
 ListsReached before after files OutOfMemory = after ≡ before
 ListsReached before after files other = ⊥
+
+-- ---- what files need
+
+-- these are the edges that files need through any chain of inputs, each once, and nearest first
+pub record IsNeededList (edges : List EdgePaths) (files : List (List ℕ)) (numbers : List ℕ) : Type 0 where
+  pub are : (edge : ℕ) → Contains numbers edge ↔ IsNeeded edges files edge
+  pub each_once : IsDistinct nat_eq numbers
+  pub nearest_first : AreNearestFirst edges files numbers
+
+abbrev pub ListsNeeded : (before after : Kept) → (files : List ℕ) → Status → Type 0
+ListsNeeded before after files Done =
+    (g : GraphModel) × (before.graph ≡ Some g) × Lists before after × AreKnown g files
+    × IsNeededList (edges_of g) (paths_of_files g files) (edge_numbers after) × (after.mark.items ≡ [])
+ListsNeeded before after files BadNumber =
+    (g : GraphModel) × (before.graph ≡ Some g) × (after ≡ before) × (AreKnown g files → ⊥)
+ListsNeeded before after files NotLoaded = (before.graph ≡ None) × (after ≡ before)
+ListsNeeded before after files OutOfMemory = after ≡ before
+ListsNeeded before after files other = ⊥
 
 -- ---- pages
 

@@ -1,7 +1,7 @@
 -- The numbers of statuses.
 use Rattle.std.specs.Prelude.{ℤ, pos}
 use Rattle.nj_c.specs.declared.status.Status.{Status}
-use Rattle.nj_c.specs.declared.status.Status.TheVariants.{Done, Nothing, Short, Fault, Wanted, NotLoaded, BadNumber, BadMark, NotUtf8, NotOpen, OutOfMemory}
+use Rattle.nj_c.specs.declared.status.Status.TheVariants.{Done, Nothing, Short, Fault, Wanted, NotLoaded, BadNumber, BadMark, NotUtf8, NotOpen, OutOfMemory, BadLog}
 
 abbrev pub code_of : Status → ℤ
 code_of Done = pos 0
@@ -15,3 +15,4 @@ code_of BadMark = pos 7
 code_of NotUtf8 = pos 8
 code_of NotOpen = pos 9
 code_of OutOfMemory = pos 10
+code_of BadLog = pos 11

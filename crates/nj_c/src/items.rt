@@ -2,7 +2,7 @@
 
 ghost use Rattle.std.specs.Prelude.{◌≡◌, List, ℕ, slice_get, map};
 ghost use Rattle.nj_names.specs.Files.{AreFiles};
-ghost use Rattle.nj_c.specs.Asking.{GivesFile, GivesItem, kind_code};
+ghost use Rattle.nj_c.specs.Asking.{GivesFile, GivesItem, kind_code, step_kind_code};
 ghost use Rattle.nj_c.specs.Statuses.{code_of};
 
 use crate::status::Status;
@@ -50,5 +50,18 @@ pub(crate) fn kind_number(kind: Kind) -> i32
         Kind::Explicit => 0,
         Kind::Implicit => 1,
         Kind::OrderOnly => 2,
+    }
+}
+
+/// The number of a validation, beside those of kinds.
+const VALIDATION: i32 = 3;
+
+/// The number of the kind of a step, which is `None` for a validation.
+pub(crate) fn step_kind_number(kind: Option<Kind>) -> i32
+    ensures { result ≡ step_kind_code kind }
+{
+    match kind {
+        Some(kind) => kind_number(kind),
+        None => VALIDATION,
     }
 }

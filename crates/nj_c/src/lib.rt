@@ -8,6 +8,7 @@ mod asking;
 mod buffers;
 mod bulk;
 mod counts;
+mod deps_logs;
 mod edges;
 mod fault_kinds;
 mod faults;
@@ -16,6 +17,7 @@ mod items;
 mod laws;
 mod loads;
 mod pages;
+mod paths;
 mod picked_targets;
 mod program_runs;
 mod rule_and_target_lists;
@@ -32,6 +34,7 @@ mod wanted_files;
 
 pub use bulk::{nx_inputs, nx_outputs, nx_users};
 pub use counts::{nx_edge_count, nx_file_count, nx_rule_count};
+pub use deps_logs::nx_join_deps;
 pub use edges::{
     nx_edge_file, nx_edge_place, nx_explicit_inputs, nx_explicit_outputs, nx_input, nx_is_phony,
     nx_output, nx_rule_name, nx_validation,
@@ -40,7 +43,8 @@ pub use faults::{nx_fault_file, nx_fault_kind, nx_fault_line, nx_fault_place};
 pub use files::{nx_file_named, nx_maker, nx_path, nx_user, nx_validation_user};
 pub use laws::{all_words_can_be_given, outputs_never_fail};
 pub use loads::{nx_load, nx_wanted};
-pub use pages::{nx_affected, nx_found, nx_page, nx_page_mark};
+pub use pages::{nx_affected, nx_found, nx_needed, nx_page, nx_page_mark};
+pub use paths::{PathStep, nx_path_between};
 pub use picked_targets::nx_pick_target;
 pub use program_runs::{nx_run, nx_run_errors, nx_run_output};
 pub use rule_and_target_lists::{nx_default, nx_root, nx_rule_name_at};

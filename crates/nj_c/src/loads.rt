@@ -151,8 +151,8 @@ fn graph_of(loaded: Result<Loaded, GraphFault>) -> Result<Graph, GraphFault>
     Ok(loaded?.into_graph())
 }
 
-// Keeps the graph or the fault of a load, unless an allocation failed.
-fn keep_result(kept: &mut Kept, loaded: Result<Graph, GraphFault>) -> Status
+/// Keeps the graph or the fault of a load or a join, unless an allocation failed.
+pub(crate) fn keep_result(kept: &mut Kept, loaded: Result<Graph, GraphFault>) -> Status
     ensures { KeepsResult kept.old kept.new loaded result }
 {
     match loaded {

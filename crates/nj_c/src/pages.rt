@@ -1,11 +1,12 @@
-//! Lists of edges: what a change reaches, and pages of the commands that targets need.
+//! Lists of edges: what a change reaches, what files need, and pages of the commands that targets
+//! need.
 
 ghost use Rattle.std.specs.Prelude.{◌≡◌, ◌<◌, Some, map, length, slice_get, All, IfErr, IfOk, IfSome, MatchOption};
 ghost use Rattle.nj_needs.specs.declared.mark_fault.MarkFault.TheVariants.{OutOfMemory};
-ghost use Rattle.nj_graph.specs.Graph.{files_of};
+ghost use Rattle.nj_graph.specs.Graph.{edges_of, files_of};
 ghost use Rattle.nj_c.specs.Asking.{GivesItem, GivesMark, IfOpen, KeptUnlessDone};
 ghost use Rattle.nj_c.specs.Loading.{Changes};
-ghost use Rattle.nj_c.specs.Pages.{mark_of, numbered, AreBelow, AreKnown, IsReached, ListsPage, ListsReached};
+ghost use Rattle.nj_c.specs.Pages.{mark_of, numbered, paths_of_files, AreBelow, AreKnown, IsNeededList, IsReached, ListsNeeded, ListsPage, ListsReached};
 ghost use Rattle.nj_c.specs.Statuses.{code_of};
 ghost use Rattle.nj_c.specs.Inside.PagesHeld.{mark_status, numbers_of, EndsAt, MarkRefused, PageAfter, PageAt, PageFrom, PageOf, Returned};
 
@@ -28,6 +29,17 @@ pub extern "C" fn nx_affected(alloc: Global, session: &mut Session, files: &[usi
         ListsReached kept after files.now) }
 {
     change!(session, alloc, seal => list_affected(alloc, seal, files))
+}
+
+/// Lists the edges that these files need through any chain of inputs, phony edges among them, each
+/// once and nearest first: the edges that make the files, then those that make their inputs, and so
+/// on. `nx_found` gives them.
+#[unsafe(no_mangle)]
+pub extern "C" fn nx_needed(alloc: Global, session: &mut Session, files: &[usize]) -> i32
+    ensures { Changes session.old.kept session.new.kept result (λ kept after.
+        ListsNeeded kept after files.now) }
+{
+    change!(session, alloc, seal => list_needed(alloc, seal, files))
 }
 
 /// Lists the edges with commands that targets need, each once, after all edges that make its
@@ -101,6 +113,19 @@ fn list_affected(alloc: Global, seal: Seal, files: &[usize]) -> (Seal, Status)
     }
 }
 
+fn list_needed(alloc: Global, seal: Seal, files: &[usize]) -> (Seal, Status)
+    ensures { ListsNeeded seal.kept result.0.kept files.now result.1 }
+{
+    let Some(graph) = &seal.get().graph else {
+        return (seal, Status::NotLoaded);
+    };
+    match needed(alloc, graph, files) {
+        Ok(Some(edges)) => (keep_edges(seal, edges, Vec::new(alloc)), Status::Done),
+        Ok(None) => (seal, Status::BadNumber),
+        Err(_) => (seal, Status::OutOfMemory),
+    }
+}
+
 // Keeps a list of edges, and the mark after them.
 fn keep_edges(seal: Seal, edges: Vec<EdgeNo>, mark: Vec<u8>) -> Seal
     ensures { result.kept ≡ record seal.kept { found = edges; mark = mark } }
@@ -123,6 +148,23 @@ fn affected(
 {
     match known_files(alloc, numbers, graph.file_count())? {
         Some(files) => Ok(Some(graph.affected_by(alloc, &files)?)),
+        None => Ok(None),
+    }
+}
+
+// The edges that files of these numbers need; `None` if a number is none of a file.
+fn needed(
+    alloc: Global,
+    graph: &Graph,
+    numbers: &[usize],
+) -> Result<Option<Vec<EdgeNo>>, AllocError>
+    ensures { IfOk result (λ found. MatchOption found (AreKnown graph.now numbers.now → ⊥) (λ edges.
+        AreKnown graph.now numbers.now
+        × IsNeededList (edges_of graph.now) (paths_of_files graph.now numbers.now)
+        (numbers_of edges.items))) }
+{
+    match known_files(alloc, numbers, graph.file_count())? {
+        Some(files) => Ok(Some(graph.edge_graph().needed_by(alloc, &files)?)),
         None => Ok(None),
     }
 }

@@ -28,6 +28,8 @@ pub enum Status {
     NotOpen,
     /// An allocation failed.
     OutOfMemory,
+    /// The bytes are no deps log of version 4.
+    BadLog,
 }
 
 impl Status {
@@ -47,6 +49,7 @@ impl Status {
             Status::NotUtf8 => 8,
             Status::NotOpen => 9,
             Status::OutOfMemory => 10,
+            Status::BadLog => 11,
         }
     }
 }

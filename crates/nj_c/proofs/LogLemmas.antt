@@ -1,0 +1,38 @@
+-- What joining a deps log leaves.
+use Rattle.std.proofs.Common.{◌≡◌, ◌≢◌, ℕ, List, Some, None, is_some, Result, Ok, Err, sym, ap, subst, ◌∙◌, true≢false, Option}
+use Rattle.nj_deps.specs.Logs.{LogModel, IsLogOf}
+use Rattle.nj_scope.specs.ReadingList.{ReadStatement}
+use Rattle.nj_faults.specs.declared.fault.GraphFault.{GraphFault}
+use Rattle.nj_graph.specs.Graph.{GraphModel, IsGraphOf}
+use Rattle.nj_graph.specs.DepsLogs.{JoinsLog}
+use Rattle.nj_c.specs.declared.session_state.Kept.{Kept}
+use Rattle.nj_c.specs.declared.status.Status.{Status}
+use Rattle.nj_c.specs.declared.status.Status.TheVariants.{Done, Nothing, Short, Fault, Wanted, NotLoaded, BadNumber, BadMark, NotUtf8, NotOpen, OutOfMemory, BadLog}
+use Rattle.nj_c.specs.JoinedLogs.{JoinsDeps}
+use Rattle.nj_c.specs.Inside.LogsJoined.{JoinsKnown}
+use Rattle.nj_c.specs.Inside.Results.{KeepsResult}
+
+some-is-not-none : {A : Type 0} {x : Option A} {a : A} → x ≡ Some a → x ≢ None
+some-is-not-none was none = true≢false (sym (ap is_some was) ∙ ap is_some none)
+
+module _ (before after : Kept) (bytes : List ℕ) (log : LogModel) (is : IsLogOf bytes log) (g : GraphModel) (was : before.graph ≡ Some g) where
+  keeps : (result : Result GraphModel GraphFault) (status : Status) → ((stated : List ReadStatement) → IsGraphOf g stated → JoinsLog log stated result)
+      → KeepsResult (record before { graph = None }) after result status → JoinsDeps before after bytes status
+  keeps (Ok joined) status joins (kept, done) = subst (JoinsDeps before after bytes) (sym done) (g, was, (joined, kept, (log, is, joins)))
+  keeps (Err fault) Fault joins (other, kept) = (g, was, (fault, kept, other, (log, is, joins)))
+  keeps (Err fault) OutOfMemory joins kept = (some-is-not-none was, kept)
+  keeps (Err fault) Done joins kept = absurd kept
+  keeps (Err fault) Nothing joins kept = absurd kept
+  keeps (Err fault) Short joins kept = absurd kept
+  keeps (Err fault) Wanted joins kept = absurd kept
+  keeps (Err fault) NotLoaded joins kept = absurd kept
+  keeps (Err fault) BadNumber joins kept = absurd kept
+  keeps (Err fault) BadMark joins kept = absurd kept
+  keeps (Err fault) NotUtf8 joins kept = absurd kept
+  keeps (Err fault) NotOpen joins kept = absurd kept
+  keeps (Err fault) BadLog joins kept = absurd kept
+
+-- the log of these bytes was joined
+pub joined : (before after : Kept) (bytes : List ℕ) (log : LogModel) (status : Status) → IsLogOf bytes log → JoinsKnown before after log status
+    → JoinsDeps before after bytes status
+joined before after bytes log status is (g, result, was, joins, kept) = keeps before after bytes log is g was result status joins kept

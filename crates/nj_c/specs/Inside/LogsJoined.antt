@@ -1,0 +1,17 @@
+-- How a deps log is joined.
+use Rattle.std.specs.Prelude.{◌≡◌, ℕ, List, Some, None, Result}
+use Rattle.nj_deps.specs.Logs.{LogModel}
+use Rattle.nj_scope.specs.ReadingList.{ReadStatement}
+use Rattle.nj_faults.specs.declared.fault.GraphFault.{GraphFault}
+use Rattle.nj_graph.specs.Graph.{GraphModel, IsGraphOf}
+use Rattle.nj_graph.specs.DepsLogs.{JoinsLog}
+use Rattle.nj_c.specs.declared.session_state.Kept.{Kept}
+use Rattle.nj_c.specs.declared.status.Status.{Status}
+use Rattle.nj_c.specs.Inside.Results.{KeepsResult}
+
+-- a log was joined to the graph that was kept, and what came of it is kept
+abbrev pub JoinsKnown : (before after : Kept) → LogModel → Status → Type 0
+JoinsKnown before after log status =
+    (g : GraphModel) × (result : Result GraphModel GraphFault) × (before.graph ≡ Some g)
+    × ((stated : List ReadStatement) → IsGraphOf g stated → JoinsLog log stated result)
+    × KeepsResult (record before { graph = None }) after result status

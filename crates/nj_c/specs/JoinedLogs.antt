@@ -1,0 +1,35 @@
+-- A deps log that is joined to the graph of a session.
+use Rattle.std.specs.Prelude.{◌≡◌, ◌≢◌, ◌⊎◌, ℕ, List, Some, None, Result, Ok, Err}
+use Rattle.nj_deps.specs.declared.log_fault.DepsLogFault.TheVariants.{NoDepsLog, OtherVersion}
+use Rattle.nj_deps.specs.Logs.{LogModel, IsLogOf, IsLogFault}
+use Rattle.nj_scope.specs.ReadingList.{ReadStatement}
+use Rattle.nj_faults.specs.declared.fault.GraphFault.{GraphFault}
+use Rattle.nj_faults.specs.Faults.{no_memory}
+use Rattle.nj_graph.specs.Graph.{GraphModel, IsGraphOf}
+use Rattle.nj_graph.specs.DepsLogs.{JoinsLog}
+use Rattle.nj_c.specs.declared.session_state.Kept.{Kept}
+use Rattle.nj_c.specs.declared.status.Status.{Status}
+use Rattle.nj_c.specs.declared.status.Status.TheVariants.{Done, Fault, NotLoaded, BadLog, OutOfMemory}
+
+-- the bytes are no deps log, or one of another version than 4
+abbrev pub IsNoLog : (bytes : List ℕ) → Type 0
+IsNoLog bytes = IsLogFault bytes NoDepsLog ⊎ ((version : ℕ) × IsLogFault bytes (OtherVersion version))
+
+-- what these bytes say was joined to a graph: this is the graph of all, or the fault
+abbrev pub JoinsBytes : GraphModel → (bytes : List ℕ) → Result GraphModel GraphFault → Type 0
+JoinsBytes g bytes result =
+    (log : LogModel) × IsLogOf bytes log × ((stated : List ReadStatement) → IsGraphOf g stated → JoinsLog log stated result)
+
+-- What joining leaves, by its status. After a fault, and where an allocation failed, no graph is left.
+abbrev pub JoinsDeps : (before after : Kept) → (bytes : List ℕ) → Status → Type 0
+JoinsDeps before after bytes Done =
+    (g : GraphModel) × (before.graph ≡ Some g)
+    × ((joined : GraphModel) × (after ≡ record before { graph = Some joined }) × JoinsBytes g bytes (Ok joined))
+JoinsDeps before after bytes Fault =
+    (g : GraphModel) × (before.graph ≡ Some g)
+    × ((fault : GraphFault) × (after ≡ record before { graph = None; fault = Some fault }) × (fault ≢ no_memory)
+    × JoinsBytes g bytes (Err fault))
+JoinsDeps before after bytes NotLoaded = (before.graph ≡ None) × (after ≡ before)
+JoinsDeps before after bytes BadLog = (before.graph ≢ None) × (after ≡ before) × IsNoLog bytes
+JoinsDeps before after bytes OutOfMemory = (before.graph ≢ None) × (after ≡ record before { graph = None })
+JoinsDeps before after bytes other = ⊥

@@ -1,0 +1,31 @@
+-- Chains of inputs by which files need others.
+use Rattle.std.specs.Prelude.{◌≡◌, ◌≢◌, ◌⊎◌, ℕ, ℤ, Bool, Option, Some, None, List, map, length}
+use Rattle.nj_edges.specs.declared.chains.Step.{Step}
+use Rattle.nj_edges.specs.EdgeGraphs.{EdgeGraph}
+use Rattle.nj_edges.specs.Chains.{PathIs}
+use Rattle.nj_c.specs.declared.paths.PathStep.{PathStep}
+use Rattle.nj_c.specs.declared.status.Status.TheVariants.{Done, Nothing, OutOfMemory}
+use Rattle.nj_c.specs.Asking.{step_kind_code}
+use Rattle.nj_c.specs.Buffers.{filled}
+use Rattle.nj_c.specs.Statuses.{code_of}
+
+-- a step, by numbers
+abbrev pub numbered_step : Step → PathStep
+numbered_step s = record { edge = s.edge.0; file = s.file.0; kind = step_kind_code s.kind }
+
+-- as many steps of a chain as there is room for were written to a buffer, and how many it has was given out; or there is none
+abbrev pub GivesSteps : Option (List Step) → (before after : List PathStep) → (count : ℕ) → ℤ → Type 0
+GivesSteps None before after count result = result ≡ code_of Nothing
+GivesSteps (Some steps) before after count result =
+    (result ≡ code_of Done) × (count ≡ length steps) × (after ≡ filled (map numbered_step steps) before)
+
+-- so were those of a shortest chain from a file to another, if there is one; or an allocation failed
+abbrev pub GivesPath : EdgeGraph → (with_validations : Bool) → (from to : ℕ) → (before after : List PathStep) → (count : ℕ) → ℤ → Type 0
+GivesPath g with_validations from to before after count result =
+    ((path : Option (List Step)) × PathIs g with_validations (record { 0 = from }) (record { 0 = to }) path
+    × GivesSteps path before after count result)
+    ⊎ (result ≡ code_of OutOfMemory)
+
+-- a buffer is written only by a call that did what was asked
+abbrev pub StepsKeptUnlessDone : (before after : List PathStep) → ℤ → Type 0
+StepsKeptUnlessDone before after result = result ≢ code_of Done → after ≡ before
