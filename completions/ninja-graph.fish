@@ -52,9 +52,16 @@ function __ninja_graph_ask
     env -C $folder ninja-explain -f $file -t $argv 2>/dev/null
 end
 
-# Prints the outputs of all edges.
+# Prints the outputs of all edges, or files if none fits.
 function __ninja_graph_targets
-    __ninja_graph_ask targets all | string replace -r ': [^:]*$' ''
+    set -l targets (__ninja_graph_ask targets all | string replace -r ': [^:]*$' '')
+    # FILE^ is a target too, and a source is a file
+    set -l current (commandline -ct)
+    if string match -q -- "$current*" $targets
+        printf '%s\n' $targets
+    else
+        __fish_complete_path $current
+    end
 end
 
 # Prints the kinds of findings.
@@ -81,8 +88,7 @@ complete -c ninja-graph -n '__ninja_graph_is affected' -l rule -x -d 'Only edges
 complete -c ninja-graph -n '__ninja_graph_is affected' -l prefix -x -d 'Only paths that begin so'
 complete -c ninja-graph -n '__ninja_graph_is affected' -l no-phony -d 'No outputs of phony edges'
 
-complete -c ninja-graph -n '__ninja_graph_is draw why' -a '(__ninja_graph_targets)'
-complete -c ninja-graph -n '__ninja_graph_is draw why' -F
+complete -c ninja-graph -n '__ninja_graph_is draw keys why' -a '(__ninja_graph_targets)'
 complete -c ninja-graph -n '__ninja_graph_is draw' -l affected -d 'Draw what a change of the files affects'
 complete -c ninja-graph -n '__ninja_graph_is draw' -l fold -d 'Draw each phony edge as a point'
 complete -c ninja-graph -n '__ninja_graph_is draw' -l limit -x -d 'How many nodes at most'
@@ -100,4 +106,3 @@ complete -c ninja-graph -n '__ninja_graph_is keys' -l base -x -d 'Let a number s
     -a '(__fish_complete_directories)'
 complete -c ninja-graph -n '__ninja_graph_is keys' -l take -x -d 'Stop after so many commands'
 complete -c ninja-graph -n '__ninja_graph_is keys' -l resume -x -d 'Write what is left after this mark'
-complete -c ninja-graph -n '__ninja_graph_is keys' -F -a '(__ninja_graph_targets)'

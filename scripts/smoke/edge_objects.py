@@ -47,7 +47,7 @@ WANTED = [
         "implicit_inputs": ["v"],
         "order_only_inputs": ["dd", "w"],
         "validations": ["x"],
-        "command": "every 's t' u > a 'b c' @a b c.rsp",
+        "command": "every 's t' u > a 'b c' @a 'b c'.rsp",
         "description": "EVERY \"a 'b c'\"\t",
         "depfile": "a b c.d",
         "deps": "gcc",
@@ -138,14 +138,14 @@ def explained_differs(graph, program, folder, *words):
 @check
 def of_projects(graph, program, folder):
     yield from explained_differs(graph, program, PROJECT)
-    for name in "two scopes", "response file", "validation", "generated", "description":
+    for name in "two scopes", "response file", "validation", "generated":
         part = folder / name
         part.mkdir()
         PROJECTS[name].write_to(part)
         yield from explained_differs(graph, program, part)
     PROJECTS["dyndep file"].write_to(folder)
     found = objects(graph, folder, "--dyndep")[0]
-    yield from expect("joined", (found["implicit_outputs"], found["implicit_inputs"]), (["o2"], ["extra"]))
+    yield from expect("joined", (found["implicit_outputs"], found["implicit_inputs"]), (["o2"], ["dd", "extra"]))
 
 
 @check(needs=["cmake", "ninja", "cc"])

@@ -15,7 +15,7 @@ DONE, FAULT, USAGE, LOOK, OUTPUT_FAILED = range(5)
 SUBCOMMANDS = {
     "affected": (["--source-dir", "--rule", "--prefix", "--no-phony"], []),
     "audit": (["--only", "--except", "--json", "--list"], []),
-    "draw": (["--affected", "--fold", "--limit", "--inputs"], ["test"]),
+    "draw": (["--affected", "--fold", "--limit", "--inputs"], []),
     "json": ([], []),
     "keys": (["--base", "--take", "--resume"], []),
     "why": (["--validations"], ["test", "text/words.c"]),
