@@ -83,7 +83,8 @@ def random_rules(chance):
     rules = {}
     for number in range(chance.randint(1, 4)):
         name = f"r{number}"
-        rules[name] = {"command": f"c{chance.randint(0, 2)} $in $out $v{chance.randint(0, 2)} $x"}
+        words = chance.choice(["$in $out $v0 $x", "$in $out $v1 $x", "$in $out $v2 $x", "$x"])
+        rules[name] = {"command": f"c{chance.randint(0, 2)} {words}"}
         if chance.random() < 0.5:
             rules[name]["depfile"] = "$out.d"
         if chance.random() < 0.5:

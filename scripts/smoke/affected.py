@@ -294,7 +294,7 @@ def random_logs(graph, folder):
             if edge.outputs[0] in log and chance.random() < 0.5:
                 log[edge.outputs[0]] = [*log[edge.outputs[0]], chance.choice(firsts[:index])]
         write_files(folder, {"build.ninja": build.text().encode(), ".ninja_deps": deps_log(log)})
-        paths = some(chance, [*HEADERS, *SOURCES, *firsts, "gone"], 3)
+        paths = some(chance, [*HEADERS, *SOURCES, *firsts, "gone"], 8)
         plain = wanted_of(build, paths)
         yield from expect(f"build {seed}", run(graph, folder, [], paths), plain)
         with_log(build, log)
@@ -307,7 +307,7 @@ def random_logs(graph, folder):
 # ---- the recipes of the man page for tests
 
 PAGE = ROOT / "man/ninja-graph.1"
-SOURCES = {
+TESTED_SOURCES = {
     "text.c": b"int text(void) { return 0; }\n",
     "one.c": b"int text(void);\nint main(void) { return text(); }\n",
     "two.c": b"int main(void) { return 0; }\n",
@@ -340,7 +340,7 @@ def recipe(start):
 
 def tests_differ(graph, folder, configure, source_dir, start):
     """The tests that the recipe finds, after a change of a source that one of them needs."""
-    write_files(folder, SOURCES)
+    write_files(folder, TESTED_SOURCES)
     for words in configure, ["ninja", "-C", "build"]:
         subprocess.run(words, cwd=folder, stdout=subprocess.DEVNULL, check=True)
     words = ["-C", "build", "--source-dir", source_dir, "--no-phony"]

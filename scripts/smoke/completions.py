@@ -50,7 +50,7 @@ HOSTILE = "rule r\n  command = c\nbuild a$ b: r\nbuild $$(touch$ run): r\nbuild 
 # The same for ninja-graph, whose options smoke.graph compares with its help.
 GRAPH_LINES = [
     ([""], " ".join(SUBCOMMANDS)),
-    (["a"], "affected"),
+    (["a"], "affected audit"),
     (["--v"], "--version"),
     (["affected", ""], ""),
     (["affected", "--rule", ""], RULES),
@@ -76,7 +76,7 @@ def graph_lines():
     """These lines, and the options of each subcommand."""
     yield from GRAPH_LINES
     for name, (options, _) in SUBCOMMANDS.items():
-        yield [name, "--"], " ".join([*options, "--dyndep", "--help"])
+        yield [name, "--"], " ".join([*options, "--dyndep", "--deps-log", "--deps-log-file", "--help"])
 
 
 def links(folder, programs):

@@ -251,7 +251,7 @@ BASED = """\
 rule cc
   command = cc {0}/x '-I{0}' --a={0},{0}:{0} \\"{0}\\";{0})
   rspfile = /tmp/r
-  rspfile_content = @{0} /mnt/home/a /home/ax x/home/a /opt/build/b1 y/opt/build/b
+  rspfile_content = @{0} /mnt/home/a /home/ax z/x/home/a /opt/build/b1 z/y/opt/build/b
 build {0}/o: cc {0}/s | /mnt/home/a/s
 """
 
@@ -270,9 +270,12 @@ def bases(graph, folder):
     one = key("one", "/home/a")
     yield from expect("another folder", key("two", "/opt/build/b"), one)
     yield from expect("not clean", key("one", "//home/./a/b/.."), one)
-    yield from expect("a shorter one beside", key("one", "/home/a", "/home"), one)
-    others = [key("one"), key("one", "/home"), key("one", "/home", "/home/a"), key("one", "/opt")]
-    yield from expect("other keys", len({one, *others}), 4)
+    yield from expect("no whole part", key("one", "/home/a", "/hom"), one)
+    yield from expect("nowhere", key("one", "/srv"), key("one"))
+    # /home/ax is below /home, and /opt/build/b1 below /opt
+    others = [["/home"], ["/opt"], ["/home", "/home/a"], ["/home/a", "/home"]]
+    found = {one, key("one"), *(key("one", *bases) for bases in others)}
+    yield from expect("other keys", len(found), 2 + len(others))
 
 
 def keys_at(graph, folder, configure):
