@@ -1,7 +1,7 @@
 //! What a row asks of a library, as text.
 
 use crate::deps_logs::put_of_log;
-use crate::joined_logs::put_joined;
+use crate::joined_logs::{put_joined, put_undeclared};
 use crate::keys::DrawnKeys;
 use crate::lexing::put_lexed;
 use crate::loads::{put_comparison, put_of_files};
@@ -47,6 +47,7 @@ fn put_call(
         "same-fault" => put_comparison(alloc, text, given, row.rest),
         "hash-keys" => keys.put_compared(alloc, text),
         "join-deps" => put_joined(alloc, text, given, row.rest),
+        "undeclared" => put_undeclared(alloc, text, given, row.rest),
         _ => put_other(alloc, text, given, row),
     }
 }

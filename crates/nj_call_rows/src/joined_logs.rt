@@ -1,10 +1,14 @@
-//! What deps logs add to the edges of the files of a row.
+//! What deps logs add to the edges of the files of a row, and what these do not declare.
+
+ghost use Rattle.std.specs.Prelude.{◌<◌, length};
+ghost use Rattle.nj_graph.specs.Graph.{edges_of, files_of};
 
 use crate::graphs::put_edges;
 use crate::loads::read_files;
 use crate::log_parts::log_of;
+use crate::printer::put_shown;
 use nj_deps::DepsLog;
-use nj_graph::{Graph, GraphFault, join_dyndeps};
+use nj_graph::{Graph, GraphFault, UndeclaredInput, join_dyndeps, undeclared_inputs};
 use nj_rows::Given;
 use std::alloc::{AllocError, Global};
 
@@ -20,6 +24,67 @@ pub(crate) fn put_joined(
         Ok(graph) => put_edges(alloc, text, &graph),
         Err(fault) => put_line(alloc, text, &fault),
     }
+}
+
+/// Appends the inputs that edges of `build.ninja` do not declare by the log of this file; or why
+/// there is no graph or no log.
+pub(crate) fn put_undeclared(
+    alloc: Global,
+    text: &mut Vec<u8>,
+    given: &Given,
+    name: &str,
+) -> Result<(), AllocError> {
+    let log = log_of(
+        alloc,
+        str::from_utf8(given.bytes(name)).unwrap_or("text not UTF-8"),
+    )?;
+    match DepsLog::read(alloc, &log) {
+        Ok(log) => put_uses(alloc, text, given, &log),
+        Err(fault) => {
+            put_shown(alloc, text, &fault)?;
+            text.extend_from_slice(b"\n")
+        }
+    }
+}
+
+/// Appends the inputs that edges of `build.ninja` do not declare by this log.
+fn put_uses(
+    alloc: Global,
+    text: &mut Vec<u8>,
+    given: &Given,
+    log: &DepsLog,
+) -> Result<(), AllocError> {
+    match with_dyndeps(alloc, given) {
+        Ok(graph) => put_uses_in(alloc, text, &graph, log),
+        Err(fault) => put_line(alloc, text, &fault),
+    }
+}
+
+/// Appends a line for each input of a graph that its edge does not declare by this log.
+fn put_uses_in(
+    alloc: Global,
+    text: &mut Vec<u8>,
+    graph: &Graph,
+    log: &DepsLog,
+) -> Result<(), AllocError> {
+    let inputs = undeclared_inputs(alloc, graph, log)?;
+    'inputs: for input in inputs.iter() {
+        put_use(text, graph, *input)?;
+    }
+    Ok(())
+}
+
+/// Appends an input, after the first output of its edge.
+fn put_use(text: &mut Vec<u8>, graph: &Graph, input: UndeclaredInput) -> Result<(), AllocError>
+    requires edge { input.edge.0 < length (edges_of graph.now) }
+    requires file { input.file.0 < length (files_of graph.now) }
+{
+    if let Some(output) = graph.outputs(input.edge).first() {
+        text.extend_from_slice(graph.path(*output))?;
+    }
+    text.extend_from_slice(b" uses ")?;
+    text.extend_from_slice(graph.path(input.file))?;
+    text.extend_from_slice(b"\n")
 }
 
 /// Appends the line of a fault.
