@@ -236,12 +236,15 @@ def listed_by(program, folder, build):
 
 @check
 def keys_of_random_builds(program, graph, folder):
+    lines = 0
     for seed in range(100):
         build = random_build(random.Random(seed), name_files)
         (folder / "build.ninja").write_text(build.text())
         keys = Keys([Known(build, edge) for edge in build.edges])
         whole = keys.lines(listed_by(program, folder, build))
         yield from expect(f"build {seed}", run(graph, folder, []), (DONE, whole, ""))
+        lines += whole.count("\n")
+    yield from expect("there are keys", lines > 100, True)
 
 
 # ---- builds in other folders

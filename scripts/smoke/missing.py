@@ -134,7 +134,9 @@ JOINED = re.compile(r"(?:\w+ \d+:.*\n)+|build\.ninja:\d+:1: dependency cycle thr
 USES = re.compile(r"(?:.* uses .*\n)*")
 KINDS = ("deps-log", READ), ("join-deps log", JOINED), ("undeclared log", USES)
 # How the program ends without memory for the rows, and what a row is without memory.
-NO_MEMORY_FOR_ROWS, NO_MEMORY = "Error: Kind(OutOfMemory)\n", "out of memory\n"
+NO_MEMORY_FOR_ROWS = "Error: Kind(OutOfMemory)\n"
+# Of a log, and of a graph.
+NO_MEMORY = "out of memory\n", "ninja-explain: out of memory\n"
 
 
 def damaged(log):
@@ -251,7 +253,7 @@ def logs_without_memory(runner, folder):
         as_usual = {*ample.output.splitlines()}
         others = [line for line in lines if line not in as_usual]
         refused += bool(others)
-        wrong = [line for line in others if not (found := CAME.fullmatch(line)) or unquoted(found[2]) != NO_MEMORY]
+        wrong = [line for line in others if not (found := CAME.fullmatch(line)) or unquoted(found[2]) not in NO_MEMORY]
         if ran.error not in (ample.error, NO_MEMORY_FOR_ROWS) or wrong:
             yield f"allocation {number}: {shown(ran)}"
         number += 1

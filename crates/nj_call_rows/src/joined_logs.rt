@@ -7,7 +7,7 @@ use crate::graphs::put_edges;
 use crate::loads::read_files;
 use crate::log_parts::log_of;
 use crate::printer::put_shown;
-use nj_deps::DepsLog;
+use nj_deps::{DepsLog, DepsLogFault};
 use nj_graph::{Graph, GraphFault, UndeclaredInput, join_dyndeps, undeclared_inputs};
 use nj_rows::Given;
 use std::alloc::{AllocError, Global};
@@ -114,6 +114,7 @@ fn with_log(alloc: Global, graph: Graph, parts: &[u8]) -> Result<Graph, GraphFau
     let log = log_of(alloc, str::from_utf8(parts).unwrap_or("text not UTF-8"))?;
     match DepsLog::read(alloc, &log) {
         Ok(log) => graph.join_deps(alloc, &log),
+        Err(DepsLogFault::OutOfMemory) => Err(GraphFault::out_of_memory()),
         Err(_) => Ok(graph),
     }
 }
