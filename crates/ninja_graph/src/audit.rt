@@ -33,11 +33,7 @@ pub fn command<'a>(alloc: Global) -> Result<Command<'a>, AllocError> {
             "Find this kind, in place of those on by default",
         ))?
         .arg(repeated(alloc, "except", "KIND", "Do not find this kind"))?
-        .arg(flag(
-            alloc,
-            "json",
-            "Write an object of JSON for each finding",
-        ))?
+        .arg(flag(alloc, "json", "Write an object of JSON for each finding"))?
         .arg(flag(alloc, "list", "List the kinds, and read nothing"))
 }
 

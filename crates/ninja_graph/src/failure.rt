@@ -52,10 +52,8 @@ impl Failure {
     pub fn status(&self) -> Status {
         match self {
             Failure::Graph(Error::Write) => Status::OutputFailed,
-            Failure::Graph(Error::BadMark)
-            | Failure::Words
-            | Failure::Base(_)
-            | Failure::Kind(_) => Status::Usage,
+            Failure::Graph(Error::BadMark) | Failure::Words | Failure::Base(_) | Failure::Kind(_) =>
+                Status::Usage,
             _ => Status::Fault,
         }
     }
@@ -83,7 +81,10 @@ impl fmt::Display for Failure {
             Failure::LogPath => f.write_str("the path of the deps log is not UTF-8"),
             Failure::Base(path) => write!(f, "'{path}' of --base is not absolute"),
             Failure::Kind(word) => {
-                write!(f, "unknown kind '{word}'; ninja-graph audit --list lists the kinds")
+                write!(
+                    f,
+                    "unknown kind '{word}'; ninja-graph audit --list lists the kinds"
+                )
             }
         }
     }

@@ -50,11 +50,9 @@ fn push_object(lines: &mut Vec<u8>, finding: &Finding<'_>) -> Result<(), AllocEr
     let kind = finding.kind.name();
     lines.extend_from_slice(b"{\"file\":")?;
     push_string(lines, finding.place.file)?;
-    let middle = format!(
-        in alloc;
+    let middle = format!(in alloc;
         ",\"line\":{},\"column\":{},\"kind\":\"{kind}\",\"name\":",
-        spot.line,
-        spot.column,
+        spot.line, spot.column,
     )?;
     lines.extend_from_slice(middle.as_bytes())?;
     push_string(lines, finding.name)?;
@@ -65,8 +63,7 @@ fn push_object(lines: &mut Vec<u8>, finding: &Finding<'_>) -> Result<(), AllocEr
 /// Appends the line of a kind.
 fn push_kind(lines: &mut Vec<u8>, kind: Kind) -> Result<(), AllocError> {
     let default = if kind.is_on_by_default() { "on" } else { "off" };
-    let line = format!(
-        in *lines.allocator();
+    let line = format!(in *lines.allocator();
         "{}, {default} by default: {}\n",
         kind.name(),
         kind.meaning(),

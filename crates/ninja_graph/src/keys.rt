@@ -19,7 +19,8 @@ use std::mem;
 
 const NAME: &str = "keys";
 
-const ABOUT: &str = "Write a key for each command that targets need, under which a cache may keep files";
+const ABOUT: &str =
+    "Write a key for each command that targets need, under which a cache may keep files";
 
 const MORE: &str = "\
 A line is a key and the first output of its edge, in the order of `ninja -t commands`. A key changes

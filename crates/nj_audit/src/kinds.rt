@@ -76,7 +76,8 @@ impl Kind {
             Kind::RepeatedCommand => "an edge with the command of an earlier edge",
             Kind::DepfileWithoutDeps => "an edge with a depfile and no deps",
             Kind::RepeatedInput => "an input that is given to its edge again",
-            Kind::UndeclaredInput => "a file that a command names and that an edge makes it does not need",
+            Kind::UndeclaredInput =>
+                "a file that a command names and that an edge makes it does not need",
         }
     }
 

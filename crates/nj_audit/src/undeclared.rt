@@ -36,7 +36,15 @@ pub fn undeclared_inputs<'a>(
     'edges: for number in 0..graph.edge_count() {
         let edge = EdgeNo(number);
         let files = named_files(alloc, graph, folder, edge)?;
-        push_late(alloc, graph, edge, &files, &mut makers, &mut users, &mut found)?;
+        push_late(
+            alloc,
+            graph,
+            edge,
+            &files,
+            &mut makers,
+            &mut users,
+            &mut found,
+        )?;
     }
     Ok(found)
 }

@@ -27,17 +27,17 @@ files-preserved c =
       makers = c.in_ok-may_come_late.ensures.makers;
       users = c.in_ok-may_come_late.ensures.users;
       knows =
-    subst (λ ns. KnowsLate g edge ns c.if-branch.seen base c.if-branch.found) (mapped-more (λ file. file.0) c.args.files.now i (record { 0 = 0 }) c.files-test.true)
-    (elim c.if-branch.branch [
-      | then-branch+in_ok-push_once w ↦
-          subst (λ seen. KnowsLate g edge (before ++ file.0 ∷ []) seen base c.if-branch.found) (sym w.seen-is)
-          (subst (λ found. KnowsLate g edge (before ++ file.0 ∷ []) w.push_once.new.seen base found) (sym w.found-is)
-          (late-more g edge before file.0 c.files.seen w.push_once.new.seen base c.files.found w.push_once.new.found c.files.invariant.knows
-          (c.in_ok-may_come_late.ensures.may.0 w.if-branch.true) w.in_ok-push_once.ensures (is_among c.files.seen (path_of g file.0)) refl))
-      | else-branch w ↦
-          subst (λ seen. KnowsLate g edge (before ++ file.0 ∷ []) seen base c.if-branch.found) (sym w.seen-is)
-          (subst (λ found. KnowsLate g edge (before ++ file.0 ∷ []) c.files.seen base found) (sym w.found-is)
-          (late-none g edge before file.0 c.files.seen c.files.seen base c.files.found c.files.found c.files.invariant.knows
-          (λ may. true≢false (sym (c.in_ok-may_come_late.ensures.may.1 may) ∙ w.if-branch.false))))
-    ]);
+          subst (λ ns. KnowsLate g edge ns c.if-branch.seen base c.if-branch.found) (mapped-more (λ file. file.0) c.args.files.now i (record { 0 = 0 }) c.files-test.true)
+          (elim c.if-branch.branch [
+            | then-branch+in_ok-push_once w ↦
+                subst (λ seen. KnowsLate g edge (before ++ file.0 ∷ []) seen base c.if-branch.found) (sym w.seen-is)
+                (subst (λ found. KnowsLate g edge (before ++ file.0 ∷ []) w.push_once.new.seen base found) (sym w.found-is)
+                (late-more g edge before file.0 c.files.seen w.push_once.new.seen base c.files.found w.push_once.new.found c.files.invariant.knows
+                (c.in_ok-may_come_late.ensures.may.0 w.if-branch.true) w.in_ok-push_once.ensures (is_among c.files.seen (path_of g file.0)) refl))
+            | else-branch w ↦
+                subst (λ seen. KnowsLate g edge (before ++ file.0 ∷ []) seen base c.if-branch.found) (sym w.seen-is)
+                (subst (λ found. KnowsLate g edge (before ++ file.0 ∷ []) c.files.seen base found) (sym w.found-is)
+                (late-none g edge before file.0 c.files.seen c.files.seen base c.files.found c.files.found c.files.invariant.knows
+                (λ may. true≢false (sym (c.in_ok-may_come_late.ensures.may.1 may) ∙ w.if-branch.false))))
+          ]);
     }
