@@ -85,7 +85,7 @@ the_include = record {
   file = m;
   spot = at 1;
   depth = 0;
-  number = 0;
+  scope = 0;
   around = [];
   item = IncludeModel (record { spot = at 9; parts = Text a ∷ [] });
   was_joined = false;

@@ -24,7 +24,7 @@ abbrev text : List ℕ
 text = codes "rule mk\n  command = mk $out\nbuild a: mk\nbuild b1: mk a\nbuild b2: mk a\nbuild d: mk b1 b2\n"
 
 abbrev entry : (line : ℕ) → StatementModel → ReadStatement
-entry line item = record { file = main_file; spot = at line 1; depth = 0; number = 0; around = []; item = item; was_joined = false; discovered = None }
+entry line item = record { file = main_file; spot = at line 1; depth = 0; scope = 0; around = []; item = item; was_joined = false; discovered = None }
 
 abbrev word : (line column : ℕ) → List ℕ → WordModel
 word line column bytes = record { spot = at line column; parts = Text bytes ∷ [] }

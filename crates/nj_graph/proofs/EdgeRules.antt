@@ -90,9 +90,9 @@ edges-have (e ∷ before) faultless = by e.item faultless.0 (edges-have before f
 -- ---- scopes
 
 abbrev InOpen : List ScopeModel → EdgeModel → Type 0
-InOpen scopes x = IsOpenScope scopes x.number x.around
+InOpen scopes x = IsOpenScope scopes x.scope x.around
 
-pub edges-open : (scopes : List ScopeModel) (entries : List ReadStatement) → AreOpen scopes entries → AllByRecursion (λ x. IsOpenScope scopes x.number x.around) (edges_read entries)
+pub edges-open : (scopes : List ScopeModel) (entries : List ReadStatement) → AreOpen scopes entries → AllByRecursion (λ x. IsOpenScope scopes x.scope x.around) (edges_read entries)
 unfolding edges_read
 edges-open scopes [] opened = tt
 edges-open scopes (e ∷ before) opened = by e.item (edges-open scopes before opened.1)
@@ -108,7 +108,7 @@ edges-open scopes (e ∷ before) opened = by e.item (edges-open scopes before op
 
 -- ---- both are there
 
-pub known-details : (declarations : DeclarationsModel) (edges : List EdgeModel) → AllByRecursion (λ x. IsOpenScope declarations.scopes x.number x.around) edges → AllByRecursion (HasRule declarations.rules) edges
+pub known-details : (declarations : DeclarationsModel) (edges : List EdgeModel) → AllByRecursion (λ x. IsOpenScope declarations.scopes x.scope x.around) edges → AllByRecursion (HasRule declarations.rules) edges
     → AllByRecursion (IsKnown declarations) (map detail_of edges)
 known-details declarations [] opened rules = tt
 known-details declarations (x ∷ edges) opened rules = ((opened.0.there.0, slice_get_within declarations.rules x.rule rules.0.rule rules.0.rule_is), known-details declarations edges opened.1 rules.1)

@@ -60,8 +60,8 @@ module _ (g : GraphModel) (entries : List ReadStatement) (is : IsGraphOf g entri
   abbrev pub edge : EdgeModel
   edge = there.0
 
-  pub edge-open : IsOpenScope g.declarations.scopes edge.number edge.around
-  edge-open = all-at (λ x. IsOpenScope g.declarations.scopes x.number x.around) (edges_read entries) n edge there.1 (edges-open g.declarations.scopes entries is.scopes)
+  pub edge-open : IsOpenScope g.declarations.scopes edge.scope edge.around
+  edge-open = all-at (λ x. IsOpenScope g.declarations.scopes x.scope x.around) (edges_read entries) n edge there.1 (edges-open g.declarations.scopes entries is.scopes)
 
   has : HasRule g.declarations.rules edge
   has = all-at (HasRule g.declarations.rules) (edges_read entries) n edge there.1 is.rules

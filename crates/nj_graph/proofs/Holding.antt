@@ -36,7 +36,7 @@ use Rattle.nj_graph.specs.Inside.ReaderContracts.{Has, Grows, Declares, site_of}
 
 -- a statement that names no file
 pub has-next : (main : List ℕ) (old held : Reader) (entries : List ReadStatement) (e : ReadStatement) → Has main old entries → DeclaredBy held.declarations (e ∷ entries) → held.origins ≡ origins_with e entries old.origins → held.files ≡ old.files
-    → path_named e entries e.item ≡ None → HasEdges held.building (e ∷ entries) → Grows old.declarations.scopes held.declarations.scopes → IsOpenScope old.declarations.scopes e.number e.around → Has main held (e ∷ entries)
+    → path_named e entries e.item ≡ None → HasEdges held.building (e ∷ entries) → Grows old.declarations.scopes held.declarations.scopes → IsOpenScope old.declarations.scopes e.scope e.around → Has main held (e ∷ entries)
 has-next main old held entries e has follows origins files names edges grows inside = record {
   declares = follows;
   edges = edges;
@@ -83,7 +83,7 @@ pool-new main held entries file scope name lines has new =
 -- after a statement that binds nothing each scope binds the same
 bounds-same : (e : ReadStatement) (entries : List ReadStatement) → ((value : List ℕ → List ℕ) (x : List ℕ) → binds value e.item x ≡ None) → (n : ℕ) (x : List ℕ) → bounds (e ∷ entries) n x ≡ bounds entries n x
 unfolding bounds
-bounds-same e entries nothing n x = by (n == e.number)
+bounds-same e entries nothing n x = by (n == e.scope)
   where
     by : (a : Bool) → option_or (if a then binds (value_in (bounds entries) (scope_of e)) e.item x else None) (bounds entries n x) ≡ bounds entries n x
     by true = ap (λ o. option_or o (bounds entries n x)) (nothing (value_in (bounds entries) (scope_of e)) x)
@@ -143,7 +143,7 @@ pub placed-entry : (file : OpenFile) (place : PlaceRef) (spot : Spot) (around : 
     → place.file.now ≡ file.name.now → place.spot ≡ spot
     → entry_at_place place file.scope around depth item ≡ entry_at (site_of file around depth) (record { spot = spot; item = item })
 placed-entry file place spot around depth item file_is spot_is =
-    ap (λ (name : List ℕ). entry_at (record { file = name; depth = depth; number = file.scope; around = around }) (record { spot = place.spot; item = item })) file_is
+    ap (λ (name : List ℕ). entry_at (record { file = name; depth = depth; scope = file.scope; around = around }) (record { spot = place.spot; item = item })) file_is
     ∙ ap (λ (s : Spot). entry_at (site_of file around depth) (record { spot = s; item = item })) spot_is
 
 -- and the place itself
@@ -154,7 +154,7 @@ placed-text place file spot file_is spot_is =
 -- a statement that leaves the declarations as they are and adds the edges of one statement
 pub built-declares : (main : List ℕ) (old held : Reader) (entries : List ReadStatement) (e : ReadStatement) (result : Result (Unit {0}) GraphFault) → Has main old entries
     → DeclaredBy held.declarations (e ∷ entries) → held.origins ≡ origins_with e entries old.origins → held.files ≡ old.files → path_named e entries e.item ≡ None
-    → Grows old.declarations.scopes held.declarations.scopes → IsOpenScope old.declarations.scopes e.number e.around
+    → Grows old.declarations.scopes held.declarations.scopes → IsOpenScope old.declarations.scopes e.scope e.around
     → ReadsStatement held.building (own_fault e entries) e entries result → Declares main held e entries result
 built-declares main old held entries e (Ok done) has follows origins files names grows inside reads =
     (reads.0, has-next main old held entries e has follows origins files names reads.1 grows inside)

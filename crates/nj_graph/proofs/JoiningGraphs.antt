@@ -102,7 +102,7 @@ module _ (stated : List ReadStatement) (before after : SourceState) (old : List 
       pub joined-graph : IsGraphOf (record { declarations = g.declarations; built = built; origins = g.origins }) f.now
       joined-graph = record {
         declares = stays (DeclaredBy g.declarations) (declared-discover g.declarations) is.declares;
-        scopes = stays (AllByRecursion (λ e. IsOpenScope g.declarations.scopes e.number e.around)) (all-discover (λ e. IsOpenScope g.declarations.scopes e.number e.around) (λ e was d h. h)) is.scopes;
+        scopes = stays (AllByRecursion (λ e. IsOpenScope g.declarations.scopes e.scope e.around)) (all-discover (λ e. IsOpenScope g.declarations.scopes e.scope e.around) (λ e was d h. h)) is.scopes;
         built = comes.0;
         rules = has-rules;
         acyclic = subst (λ es. IsAcyclic (makers_of_inputs es) (length es)) (sym comes.0.paths) (subst (λ n. IsAcyclic (makers_of_inputs (paths_of_edges (edges_read f.now))) n) (sym (length-map (edges_read f.now) (λ e. e.paths))) comes.1);

@@ -12,12 +12,12 @@ use Rattle.nj_graph.specs.Reading.{expanded_in}
 use Rattle.nj_graph.specs.Laws.{LaterBindingsCount, LaterBindingsChangeNoEdge}
 
 -- what the scope of the edge binds is the new value
-binds-now : (e : ReadStatement) (before : List ReadStatement) (edge : EdgeModel) (name : List ℕ) (word : WordModel) → e.item ≡ BindingModel name word → e.number ≡ edge.number → bounds (e ∷ before) edge.number name ≡ Some (expanded_in (scope_of e) before word)
+binds-now : (e : ReadStatement) (before : List ReadStatement) (edge : EdgeModel) (name : List ℕ) (word : WordModel) → e.item ≡ BindingModel name word → e.scope ≡ edge.scope → bounds (e ∷ before) edge.scope name ≡ Some (expanded_in (scope_of e) before word)
 unfolding bounds
 binds-now e before edge name word is number =
-    ap (λ b. option_or (if b then binds value e.item name else None) (bounds before edge.number name)) (eq-eqb edge.number e.number (sym number))
-    ∙ ap (λ (i : StatementModel). option_or (binds value i name) (bounds before edge.number name)) is
-    ∙ ap (λ b. option_or (if b then Some (expanded value word.parts) else None) (bounds before edge.number name)) ((bytes_eq-Decides name name).1 refl)
+    ap (λ b. option_or (if b then binds value e.item name else None) (bounds before edge.scope name)) (eq-eqb edge.scope e.scope (sym number))
+    ∙ ap (λ (i : StatementModel). option_or (binds value i name) (bounds before edge.scope name)) is
+    ∙ ap (λ b. option_or (if b then Some (expanded value word.parts) else None) (bounds before edge.scope name)) ((bytes_eq-Decides name name).1 refl)
   where
     value : List ℕ → List ℕ
     value = value_in (bounds before) (scope_of e)

@@ -74,7 +74,7 @@ module _ (log : LogModel) (g : GraphModel) (stated : List ReadStatement) (is : I
   pub log-graph : IsGraphOf (record { declarations = g.declarations; built = built; origins = g.origins }) (with_log log stated)
   log-graph = record {
     declares = declared-same g.declarations stated (with_log log stated) (as_read-named (named log stated) stated) is.declares;
-    scopes = all-named (λ e. IsOpenScope g.declarations.scopes e.number e.around) (λ e d h. h) (named log stated) stated is.scopes;
+    scopes = all-named (λ e. IsOpenScope g.declarations.scopes e.scope e.around) (λ e d h. h) (named log stated) stated is.scopes;
     built = comes.0;
     rules = all_edges-named (named log stated) (HasRule g.declarations.rules) (λ e outs ins h. record { rule = h.rule; rule_is = h.rule_is; phony_is = h.phony_is }) stated is.rules;
     acyclic = subst (λ es. IsAcyclic (makers_of_inputs es) (length es)) (sym comes.0.paths) (subst (λ n. IsAcyclic (makers_of_inputs (paths_of_edges (edges_read (with_log log stated)))) n) (sym (length-map (edges_read (with_log log stated)) (λ e. e.paths))) comes.1);

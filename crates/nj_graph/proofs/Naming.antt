@@ -128,11 +128,11 @@ module _ (kind : Naming) (site : Site) (start : Spot) (entries : List ReadStatem
 
   -- where it is opened from
   pub named-origins : (o : OriginsModel) → origins_with names entries o ≡ record o {
-    openings = o.openings ++ record { path = expanded_in (site_scope site) entries word; named_at = Some (place_of names); scope = (named_site kind names entries word).number } ∷ [];
+    openings = o.openings ++ record { path = expanded_in (site_scope site) entries word; named_at = Some (place_of names); scope = (named_site kind names entries word).scope } ∷ [];
   }
   named-origins o =
       elim kind as (λ k. origins_with (entry_at site (record { spot = start; item = named_item k word })) entries o ≡ record o {
-        openings = o.openings ++ record { path = expanded_in (site_scope site) entries word; named_at = Some (place_of (entry_at site (record { spot = start; item = named_item k word }))); scope = (named_site k (entry_at site (record { spot = start; item = named_item k word })) entries word).number } ∷ [];
+        openings = o.openings ++ record { path = expanded_in (site_scope site) entries word; named_at = Some (place_of (entry_at site (record { spot = start; item = named_item k word }))); scope = (named_site k (entry_at site (record { spot = start; item = named_item k word })) entries word).scope } ∷ [];
       })
       [ naming.Include ↦ refl | naming.Subninja ↦ refl ]
 
@@ -216,7 +216,7 @@ module _ (main : List ℕ) (before after : SourceState) (old : Reader) (entries 
 -- ---- a file that is named
 
 module _ (main : List ℕ) (before after : SourceState) (old mid held : Reader) (left : ℕ) (place : Place) (path : List ℕ) (e : ReadStatement) (entries : List ReadStatement) (text : List ℕ) where
-  pub opens-file : (inner : Site) → Has main old entries → OpensText main before after old mid left place path entries text → held.files ≡ mid.files → held.origins ≡ origins_with e entries old.origins → held.building ≡ old.building → names_files e.item ≡ false → Grows old.declarations.scopes held.declarations.scopes → IsOpenScope old.declarations.scopes e.number e.around
+  pub opens-file : (inner : Site) → Has main old entries → OpensText main before after old mid left place path entries text → held.files ≡ mid.files → held.origins ≡ origins_with e entries old.origins → held.building ≡ old.building → names_files e.item ≡ false → Grows old.declarations.scopes held.declarations.scopes → IsOpenScope old.declarations.scopes e.scope e.around
       → DeclaredBy held.declarations (e ∷ entries) → inner.file ≡ path → path_named e entries e.item ≡ Some path
       → ((opens : Opens) → statement_read opens e entries ≡ opens inner place e entries)
       → OpensNamed main before after old held left inner text e entries

@@ -31,11 +31,11 @@ open-grown before after number around grows comes = record {
 
 -- the scopes of statements
 abbrev pub AreOpen : List ScopeModel → List ReadStatement → Type 0
-AreOpen scopes entries = AllByRecursion (λ e. IsOpenScope scopes e.number e.around) entries
+AreOpen scopes entries = AllByRecursion (λ e. IsOpenScope scopes e.scope e.around) entries
 
 all-grown : (before after : List ScopeModel) → Grows before after → (entries : List ReadStatement) → AreOpen before entries → AreOpen after entries
 all-grown before after grows [] opened = tt
-all-grown before after grows (e ∷ entries) opened = (open-grown before after e.number e.around grows opened.0, all-grown before after grows entries opened.1)
+all-grown before after grows (e ∷ entries) opened = (open-grown before after e.scope e.around grows opened.0, all-grown before after grows entries opened.1)
 
-pub open-next : (before after : List ScopeModel) (e : ReadStatement) (entries : List ReadStatement) → Grows before after → IsOpenScope before e.number e.around → AreOpen before entries → AreOpen after (e ∷ entries)
+pub open-next : (before after : List ScopeModel) (e : ReadStatement) (entries : List ReadStatement) → Grows before after → IsOpenScope before e.scope e.around → AreOpen before entries → AreOpen after (e ∷ entries)
 open-next before after e entries grows inside opened = all-grown before after grows (e ∷ entries) (inside, opened)

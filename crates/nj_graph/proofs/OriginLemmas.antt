@@ -207,7 +207,7 @@ pool-by e before other same (SubninjaModel word) = refl
 
 opening-by : (e : ReadStatement) (before other : List ReadStatement) → value_after other ≡ value_after before → scopes_opened other ≡ scopes_opened before → (item : StatementModel) → opening_given e other item ≡ opening_given e before item
 opening-by e before other same count (IncludeModel word) =
-    ap (λ (values : List ℕ → List ℕ → List ℕ). Some (record { path = expanded (values (scope_of e)) word.parts; named_at = Some (place_of e); scope = e.number })) same
+    ap (λ (values : List ℕ → List ℕ → List ℕ). Some (record { path = expanded (values (scope_of e)) word.parts; named_at = Some (place_of e); scope = e.scope })) same
 opening-by e before other same count (SubninjaModel word) =
     ap (λ (values : List ℕ → List ℕ → List ℕ). Some (record { path = expanded (values (scope_of e)) word.parts; named_at = Some (place_of e); scope = scopes_opened other })) same
     ∙ ap (λ (n : ℕ). Some (record { path = expanded (value_after before (scope_of e)) word.parts; named_at = Some (place_of e); scope = n })) count

@@ -118,10 +118,10 @@ openings_are_bounded files main = reading-keeps (λ entries. files_opened entrie
 -- ---- rules
 
 -- a rule that has no fault is new
-rule-is-new : (e : ReadStatement) (before : List ReadStatement) (item : StatementModel) → item_fault e before item ≡ None → RuleIsNew before e.number item
-rule-is-new e before (RuleModel name lines) none = by (is_declared (rules before e.number name.name) name.name) refl none
+rule-is-new : (e : ReadStatement) (before : List ReadStatement) (item : StatementModel) → item_fault e before item ≡ None → RuleIsNew before e.scope item
+rule-is-new e before (RuleModel name lines) none = by (is_declared (rules before e.scope name.name) name.name) refl none
   where
-    by : (b : Bool) → is_declared (rules before e.number name.name) name.name ≡ b → then_some b (fault_at e.file name.spot (DuplicateRule name.name)) ≡ None → is_declared (rules before e.number name.name) name.name ≡ false
+    by : (b : Bool) → is_declared (rules before e.scope name.name) name.name ≡ b → then_some b (fault_at e.file name.spot (DuplicateRule name.name)) ≡ None → is_declared (rules before e.scope name.name) name.name ≡ false
     by true e h = absurd cc
     by false e h = e
 rule-is-new e before (BindingModel name value) none = tt

@@ -233,6 +233,6 @@ next-stops main reported after old held left site text entries lines before late
     by (inl none) = ends-memory main reported after old held left site text entries lines fault u none
     by (inr found) = ends-fault main reported after old held left site text entries lines fault found.0 u found.1 found.2
 
-pub site-same : (inner : Site) (file : List ℕ) (number : ℕ) → inner.file ≡ file → inner.number ≡ number → inner ≡ record { file = file; depth = inner.depth; number = number; around = inner.around }
+pub site-same : (inner : Site) (file : List ℕ) (number : ℕ) → inner.file ≡ file → inner.scope ≡ number → inner ≡ record { file = file; depth = inner.depth; scope = number; around = inner.around }
 site-same inner file number is at =
-    ap (λ f. record { file = f; depth = inner.depth; number = inner.number; around = inner.around }) is ∙ ap (λ n. record { file = file; depth = inner.depth; number = n; around = inner.around }) at
+    ap (λ f. record { file = f; depth = inner.depth; scope = inner.scope; around = inner.around }) is ∙ ap (λ n. record { file = file; depth = inner.depth; scope = n; around = inner.around }) at

@@ -49,7 +49,7 @@ pub record HasRule (rules : List RuleModel) (e : EdgeModel) : Type 0 where
 -- needs itself by a chain. Rules, pools and files come from where the statements are, after the main file was opened.
 pub record IsGraphOf (g : GraphModel) (entries : List ReadStatement) : Type 0 where
   pub declares : DeclaredBy g.declarations entries
-  pub scopes : AllByRecursion (λ e. IsOpenScope g.declarations.scopes e.number e.around) entries
+  pub scopes : AllByRecursion (λ e. IsOpenScope g.declarations.scopes e.scope e.around) entries
   pub built : IsBuiltOf g.built entries
   pub rules : AllByRecursion (HasRule g.declarations.rules) (edges_read entries)
   pub acyclic : IsAcyclic (makers_of_inputs (edges_of g)) (length (edges_of g))

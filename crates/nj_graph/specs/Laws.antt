@@ -59,7 +59,7 @@ OthersAreNotRead = (files all : List Reading) (main : List ℕ) → IsPrefix fil
 -- What a file binds after the statement of an edge, in the same scope, affects the values of the edge's variables.
 abbrev pub LaterBindingsCount : Type 0
 LaterBindingsCount = (e : ReadStatement) (before : List ReadStatement) (edge : EdgeModel) (name : List ℕ) (word : WordModel)
-    → e.item ≡ BindingModel name word → e.number ≡ edge.number
+    → e.item ≡ BindingModel name word → e.scope ≡ edge.scope
     → (names_of_edge (e ∷ before) edge).file name ≡ expanded_in (scope_of e) before word
 
 -- It changes no edge: neither its paths, nor what its block binds, nor its rule.

@@ -71,7 +71,7 @@ abbrev pub opening_by : ReadStatement → (before : List ReadStatement) → Word
 opening_by e before word scope = record { path = expanded_in (scope_of e) before word; named_at = Some (place_of e); scope = scope }
 
 abbrev pub opening_given : ReadStatement → (before : List ReadStatement) → StatementModel → Option OpeningModel
-opening_given e before (IncludeModel word) = Some (opening_by e before word e.number)
+opening_given e before (IncludeModel word) = Some (opening_by e before word e.scope)
 opening_given e before (SubninjaModel word) = Some (opening_by e before word (scopes_opened before))
 opening_given e before item = None
 

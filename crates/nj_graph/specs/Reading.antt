@@ -37,7 +37,7 @@ use Rattle.nj_graph.specs.Parsed.{parsed}
 pub record Site : Type 0 where
   pub file : List ℕ
   pub depth : ℕ
-  pub number : ℕ
+  pub scope : ℕ
   pub around : List ℕ
 
 abbrev pub entry_at : Site → PlacedModel → ReadStatement
@@ -45,7 +45,7 @@ entry_at site s = record {
   file = site.file;
   spot = s.spot;
   depth = site.depth;
-  number = site.number;
+  scope = site.scope;
   around = site.around;
   item = s.item;
   was_joined = false;
@@ -78,7 +78,7 @@ path_fault file spot path =
 
 abbrev pub item_fault : ReadStatement → (before : List ReadStatement) → StatementModel → Option GraphFault
 item_fault e before (BindingModel name value) = binding_fault e.file e.spot name (expanded_in (scope_of e) before value)
-item_fault e before (RuleModel name lines) = rule_fault e.file e.number before name
+item_fault e before (RuleModel name lines) = rule_fault e.file e.scope before name
 item_fault e before (PoolModel name lines) = pool_fault e.file (scope_of e) before name lines
 item_fault e before (BuildModel outputs rule inputs lines) = build_fault e before outputs rule inputs lines
 item_fault e before (DefaultModel words) = default_fault e before words
@@ -128,12 +128,12 @@ abbrev pub opened_site : ReadStatement → (before : List ReadStatement) → Wor
 opened_site e before word number around = record {
   file = expanded_in (scope_of e) before word;
   depth = suc e.depth;
-  number = number;
+  scope = number;
   around = around;
 }
 
 abbrev pub item_read : Opens → ReadStatement → (before : List ReadStatement) → StatementModel → ReadingModel
-item_read opens e before (IncludeModel word) = opens (opened_site e before word e.number e.around) (place_at e word.spot) e before
+item_read opens e before (IncludeModel word) = opens (opened_site e before word e.scope e.around) (place_at e word.spot) e before
 item_read opens e before (SubninjaModel word) =
     opens (opened_site e before word (scopes_opened before) (scope_of e)) (place_at e word.spot) e before
 item_read opens e before item = record { entries = e ∷ before; end = Whole }
@@ -179,7 +179,7 @@ opened_in files (suc left) site place e before =
 -- ---- a run
 
 abbrev pub main_site : (main : List ℕ) → Site
-main_site main = record { file = main; depth = 0; number = 0; around = [] }
+main_site main = record { file = main; depth = 0; scope = 0; around = [] }
 
 abbrev pub main_place : (main : List ℕ) → Place
 main_place main = record { file = main; spot = record { line = 1; column = 1 } }

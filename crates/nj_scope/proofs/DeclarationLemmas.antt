@@ -48,12 +48,12 @@ module _ (held after : DeclarationsModel) (entries : List ReadStatement) (e : Re
   listed is = is ∙ expanded-same (value_in (bound_at held.scopes) (scope_of e)) (value_after entries (scope_of e)) (value-same (bound_at held.scopes) (bounds entries) follows.bound (scope_of e)) word.parts
 
   bound-after : value ≡ expanded (value_in (bound_at held.scopes) (scope_of e)) word.parts
-      → ((n : ℕ) (x : List ℕ) → bound_at after.scopes n x ≡ (if n == e.number && bytes_eq x name then Some value else bound_at held.scopes n x))
+      → ((n : ℕ) (x : List ℕ) → bound_at after.scopes n x ≡ (if n == e.scope && bytes_eq x name then Some value else bound_at held.scopes n x))
       → (n : ℕ) (x : List ℕ) → bound_at after.scopes n x ≡ bounds (binding ∷ entries) n x
   unfolding bounds
   bound-after is bound n x =
-      bound n x ∙ ap (λ o. if n == e.number && bytes_eq x name then Some value else o) (follows.bound n x) ∙ ap (λ v. if n == e.number && bytes_eq x name then Some v else bounds entries n x) (listed is)
-      ∙ by (n == e.number) (bytes_eq x name)
+      bound n x ∙ ap (λ o. if n == e.scope && bytes_eq x name then Some value else o) (follows.bound n x) ∙ ap (λ v. if n == e.scope && bytes_eq x name then Some v else bounds entries n x) (listed is)
+      ∙ by (n == e.scope) (bytes_eq x name)
     where
       by : (a b : Bool) → (if a && b then Some (expanded (value_after entries (scope_of e)) word.parts) else bounds entries n x) ≡ option_or (if a then (if b then Some (expanded (value_after entries (scope_of e)) word.parts) else None) else None) (bounds entries n x)
       by true true = refl
@@ -61,14 +61,14 @@ module _ (held after : DeclarationsModel) (entries : List ReadStatement) (e : Re
       by false b = refl
 
   declared-after : ((n : ℕ) (x : List ℕ) → rule_at after.scopes n x ≡ rule_at held.scopes n x) → (n : ℕ) (x : List ℕ) → rule_at after.scopes n x ≡ rules (binding ∷ entries) n x
-  declared-after same n x = same n x ∙ follows.declared n x ∙ by (n == e.number)
+  declared-after same n x = same n x ∙ follows.declared n x ∙ by (n == e.scope)
     where
       by : (a : Bool) → rules entries n x ≡ option_or (if a && false then Some (length (rules_read entries)) else None) (rules entries n x)
       by true = refl
       by false = refl
 
   pub with-binding : value ≡ expanded (value_in (bound_at held.scopes) (scope_of e)) word.parts
-      → ((n : ℕ) (x : List ℕ) → bound_at after.scopes n x ≡ (if n == e.number && bytes_eq x name then Some value else bound_at held.scopes n x))
+      → ((n : ℕ) (x : List ℕ) → bound_at after.scopes n x ≡ (if n == e.scope && bytes_eq x name then Some value else bound_at held.scopes n x))
       → ((n : ℕ) (x : List ℕ) → rule_at after.scopes n x ≡ rule_at held.scopes n x) → length after.scopes ≡ length held.scopes → after.rules ≡ held.rules → after.pools ≡ held.pools
       → DeclaredBy after (binding ∷ entries)
   with-binding is bound declared count same_rules same_pools = record {
@@ -84,14 +84,14 @@ module _ (held after : DeclarationsModel) (entries : List ReadStatement) (e : Re
 -- a statement that is neither a binding nor a rule leaves the scopes' own names as they are
 bounds-kept : (e : ReadStatement) (entries : List ReadStatement) → ((value : List ℕ → List ℕ) (x : List ℕ) → binds value e.item x ≡ None) → (n : ℕ) (x : List ℕ) → bounds (e ∷ entries) n x ≡ bounds entries n x
 unfolding bounds
-bounds-kept e entries nothing n x = by (n == e.number)
+bounds-kept e entries nothing n x = by (n == e.scope)
   where
     by : (a : Bool) → option_or (if a then binds (value_in (bounds entries) (scope_of e)) e.item x else None) (bounds entries n x) ≡ bounds entries n x
     by true = ap (λ o. option_or o (bounds entries n x)) (nothing (value_in (bounds entries) (scope_of e)) x)
     by false = refl
 
 pub rules-kept : (e : ReadStatement) (entries : List ReadStatement) → ((x : List ℕ) → declares e.item x ≡ false) → (n : ℕ) (x : List ℕ) → rules (e ∷ entries) n x ≡ rules entries n x
-rules-kept e entries nothing n x = by (n == e.number) (declares e.item x) (nothing x)
+rules-kept e entries nothing n x = by (n == e.scope) (declares e.item x) (nothing x)
   where
     by : (a b : Bool) → b ≡ false → option_or (if a && b then Some (length (rules_read entries)) else None) (rules entries n x) ≡ rules entries n x
     by true true h = absurd (true≢false h)
@@ -101,16 +101,16 @@ rules-kept e entries nothing n x = by (n == e.number) (declares e.item x) (nothi
 -- ---- a rule
 
 module _ (held after : DeclarationsModel) (entries : List ReadStatement) (e : ReadStatement) (name : NameModel) (lines : List LineModel) (follows : DeclaredBy held entries) where
-  pub with-rule : ((n : ℕ) (x : List ℕ) → rule_at after.scopes n x ≡ (if n == e.number && bytes_eq x name.name then Some (length held.rules) else rule_at held.scopes n x))
+  pub with-rule : ((n : ℕ) (x : List ℕ) → rule_at after.scopes n x ≡ (if n == e.scope && bytes_eq x name.name then Some (length held.rules) else rule_at held.scopes n x))
       → ((n : ℕ) (x : List ℕ) → bound_at after.scopes n x ≡ bound_at held.scopes n x) → length after.scopes ≡ length held.scopes
-      → after.rules ≡ held.rules ++ record { scope = e.number; name = name.name; lines = map line_kept lines } ∷ [] → after.pools ≡ held.pools
+      → after.rules ≡ held.rules ++ record { scope = e.scope; name = name.name; lines = map line_kept lines } ∷ [] → after.pools ≡ held.pools
       → DeclaredBy after (record e { item = RuleModel name lines } ∷ entries)
   with-rule declared bound count one_more same_pools = record {
     bound = λ n x. bound n x ∙ follows.bound n x ∙ sym (bounds-kept (record e { item = RuleModel name lines }) entries (λ value y. refl) n x);
-    declared = λ n x. declared n x ∙ ap (λ o. if n == e.number && bytes_eq x name.name then Some (length held.rules) else o) (follows.declared n x)
-        ∙ ap (λ r. if n == e.number && bytes_eq x name.name then Some (length r) else rules entries n x) follows.rules ∙ by n x (n == e.number && bytes_eq x name.name);
+    declared = λ n x. declared n x ∙ ap (λ o. if n == e.scope && bytes_eq x name.name then Some (length held.rules) else o) (follows.declared n x)
+        ∙ ap (λ r. if n == e.scope && bytes_eq x name.name then Some (length r) else rules entries n x) follows.rules ∙ by n x (n == e.scope && bytes_eq x name.name);
     scopes = count ∙ follows.scopes;
-    rules = one_more ∙ ap (λ r. r ++ record { scope = e.number; name = name.name; lines = map line_kept lines } ∷ []) follows.rules;
+    rules = one_more ∙ ap (λ r. r ++ record { scope = e.scope; name = name.name; lines = map line_kept lines } ∷ []) follows.rules;
     pools = same_pools ∙ follows.pools;
   }
     where
@@ -140,7 +140,7 @@ module _ (held after : DeclarationsModel) (entries : List ReadStatement) (e : Re
   with-subninja bound declared count same_rules same_pools = record {
     bound = λ n x. bound n x ∙ follows.bound n x ∙ sym (bounds-kept (record e { item = SubninjaModel word }) entries (λ value y. refl) n x);
     declared = λ n x. declared n x ∙ follows.declared n x ∙ sym (rules-kept (record e { item = SubninjaModel word }) entries (λ y. refl) n x);
-    scopes = count ∙ ap (λ n. n + 1) (follows.scopes ∙ sym (length_push (gathered scope_given entries) e.number));
+    scopes = count ∙ ap (λ n. n + 1) (follows.scopes ∙ sym (length_push (gathered scope_given entries) e.scope));
     rules = same_rules ∙ follows.rules;
     pools = same_pools ∙ follows.pools;
   }
@@ -164,15 +164,15 @@ nothing-more held entries e item no_value no_rule no_scope none_given no_pool by
 module _ (held : DeclarationsModel) (number : ℕ) (around : List ℕ) where
   pub takes-include : (word : WordModel) → TakesIn held held number around (IncludeModel word)
   takes-include word entries file spot depth by =
-      nothing-more held entries (record { file = file; spot = spot; depth = depth; number = number; around = around; item = IncludeModel word; was_joined = false; discovered = None }) (IncludeModel word) (λ value x. refl) (λ x. refl) refl refl refl by
+      nothing-more held entries (record { file = file; spot = spot; depth = depth; scope = number; around = around; item = IncludeModel word; was_joined = false; discovered = None }) (IncludeModel word) (λ value x. refl) (λ x. refl) refl refl refl by
 
   pub takes-build : (outputs : OutputsModel) (rule : NameModel) (inputs : InputsModel) (lines : List LineModel) → TakesIn held held number around (BuildModel outputs rule inputs lines)
   takes-build outputs rule inputs lines entries file spot depth by =
-      nothing-more held entries (record { file = file; spot = spot; depth = depth; number = number; around = around; item = BuildModel outputs rule inputs lines; was_joined = false; discovered = None }) (BuildModel outputs rule inputs lines) (λ value x. refl) (λ x. refl) refl refl refl by
+      nothing-more held entries (record { file = file; spot = spot; depth = depth; scope = number; around = around; item = BuildModel outputs rule inputs lines; was_joined = false; discovered = None }) (BuildModel outputs rule inputs lines) (λ value x. refl) (λ x. refl) refl refl refl by
 
   pub takes-default : (words : List WordModel) → TakesIn held held number around (DefaultModel words)
   takes-default words entries file spot depth by =
-      nothing-more held entries (record { file = file; spot = spot; depth = depth; number = number; around = around; item = DefaultModel words; was_joined = false; discovered = None }) (DefaultModel words) (λ value x. refl) (λ x. refl) refl refl refl by
+      nothing-more held entries (record { file = file; spot = spot; depth = depth; scope = number; around = around; item = DefaultModel words; was_joined = false; discovered = None }) (DefaultModel words) (λ value x. refl) (λ x. refl) refl refl refl by
 
 -- ---- look-ups
 

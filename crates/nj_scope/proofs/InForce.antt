@@ -33,20 +33,20 @@ found-old strings more scope name number f = record { rule = f.rule; there = get
 
 found-more : (before : List ReadStatement) (e : ReadStatement) (item : StatementModel) (scope : ℕ) (name : List ℕ) (number : ℕ) → (rules before scope name ≡ Some number → Found (rules_read before) scope name number)
     → rules (record e { item = item } ∷ before) scope name ≡ Some number → Found (rules_read (record e { item = item } ∷ before)) scope name number
-found-more before e (RuleModel declared lines) scope name number rest h = by (scope == e.number) (bytes_eq name declared.name) (eqb-true scope e.number) (bytes_eq-Decides name declared.name).0 h
+found-more before e (RuleModel declared lines) scope name number rest h = by (scope == e.scope) (bytes_eq name declared.name) (eqb-true scope e.scope) (bytes_eq-Decides name declared.name).0 h
   where
-    by : (a b : Bool) → (a ≡ true → scope ≡ e.number) → (b ≡ true → name ≡ declared.name)
+    by : (a b : Bool) → (a ≡ true → scope ≡ e.scope) → (b ≡ true → name ≡ declared.name)
         → option_or (if a && b then Some (length (rules_read before)) else None) (rules before scope name) ≡ Some number
-        → Found (rules_read before ++ record { scope = e.number; name = declared.name; lines = map line_kept lines } ∷ []) scope name number
+        → Found (rules_read before ++ record { scope = e.scope; name = declared.name; lines = map line_kept lines } ∷ []) scope name number
     by true true at named h = record {
-      rule = record { scope = e.number; name = declared.name; lines = map line_kept lines };
-      there = ap (slice_get (rules_read before ++ record { scope = e.number; name = declared.name; lines = map line_kept lines } ∷ [])) (sym (some_same h))
-          ∙ get-last (rules_read before) (record { scope = e.number; name = declared.name; lines = map line_kept lines });
+      rule = record { scope = e.scope; name = declared.name; lines = map line_kept lines };
+      there = ap (slice_get (rules_read before ++ record { scope = e.scope; name = declared.name; lines = map line_kept lines } ∷ [])) (sym (some_same h))
+          ∙ get-last (rules_read before) (record { scope = e.scope; name = declared.name; lines = map line_kept lines });
       its_scope = sym (at refl);
       its_name = sym (named refl);
     }
-    by true false at named h = found-old (rules_read before) (record { scope = e.number; name = declared.name; lines = map line_kept lines }) scope name number (rest h)
-    by false b at named h = found-old (rules_read before) (record { scope = e.number; name = declared.name; lines = map line_kept lines }) scope name number (rest h)
+    by true false at named h = found-old (rules_read before) (record { scope = e.scope; name = declared.name; lines = map line_kept lines }) scope name number (rest h)
+    by false b at named h = found-old (rules_read before) (record { scope = e.scope; name = declared.name; lines = map line_kept lines }) scope name number (rest h)
 found-more before e (BindingModel bound word) scope name number rest h = rest (sym (rules-kept (record e { item = BindingModel bound word }) before (λ x. refl) scope name) ∙ h)
 found-more before e (PoolModel declared lines) scope name number rest h = rest (sym (rules-kept (record e { item = PoolModel declared lines }) before (λ x. refl) scope name) ∙ h)
 found-more before e (BuildModel outputs rule inputs lines) scope name number rest h = rest (sym (rules-kept (record e { item = BuildModel outputs rule inputs lines }) before (λ x. refl) scope name) ∙ h)

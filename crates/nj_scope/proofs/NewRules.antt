@@ -11,4 +11,4 @@ RuleIsNew before number item = Unit {0}
 -- each rule was new as it was declared
 abbrev pub EachRuleIsNew : List ReadStatement → Type 0
 EachRuleIsNew [] = Unit {0}
-EachRuleIsNew (e ∷ before) = RuleIsNew before e.number e.item × EachRuleIsNew before
+EachRuleIsNew (e ∷ before) = RuleIsNew before e.scope e.item × EachRuleIsNew before

@@ -64,12 +64,12 @@ listed-more : (before : List ReadStatement) (number : ℕ) (e : ReadStatement) (
     → is_declared (rules before number name) name ≡ names_have (rules_read before) number name
     → is_declared (rules (record e { item = item } ∷ before) number name) name ≡ names_have (rules_read (record e { item = item } ∷ before)) number name
 listed-more before number e (RuleModel declared lines) name rest =
-    taken-push (bytes_eq name phony) (number == e.number && bytes_eq name declared.name) (length (rules_read before)) (rules before number name)
-    ∙ ap (λ b. b || (number == e.number && bytes_eq name declared.name)) rest
-    ∙ ap (λ b. (bytes_eq name phony || list_any (bytes_eq name) (rule_names (rules_read before) number)) || b) (sym (any_one name declared.name (number == e.number)))
-    ∙ or_among (bytes_eq name phony) (list_any (bytes_eq name) (rule_names (rules_read before) number)) (list_any (bytes_eq name) (one_name (number == e.number) declared.name))
-    ∙ ap (λ b. bytes_eq name phony || b) (sym (list_any-append (bytes_eq name) (rule_names (rules_read before) number) (one_name (number == e.number) declared.name)))
-    ∙ ap (λ names. bytes_eq name phony || list_any (bytes_eq name) names) (sym (names-push (rules_read before) (record { scope = e.number; name = declared.name; lines = map line_kept lines }) number))
+    taken-push (bytes_eq name phony) (number == e.scope && bytes_eq name declared.name) (length (rules_read before)) (rules before number name)
+    ∙ ap (λ b. b || (number == e.scope && bytes_eq name declared.name)) rest
+    ∙ ap (λ b. (bytes_eq name phony || list_any (bytes_eq name) (rule_names (rules_read before) number)) || b) (sym (any_one name declared.name (number == e.scope)))
+    ∙ or_among (bytes_eq name phony) (list_any (bytes_eq name) (rule_names (rules_read before) number)) (list_any (bytes_eq name) (one_name (number == e.scope) declared.name))
+    ∙ ap (λ b. bytes_eq name phony || b) (sym (list_any-append (bytes_eq name) (rule_names (rules_read before) number) (one_name (number == e.scope) declared.name)))
+    ∙ ap (λ names. bytes_eq name phony || list_any (bytes_eq name) names) (sym (names-push (rules_read before) (record { scope = e.scope; name = declared.name; lines = map line_kept lines }) number))
 listed-more before number e (BindingModel bound word) name rest = no_rule before (record e { item = BindingModel bound word }) number name rest (λ x. refl)
 listed-more before number e (PoolModel declared lines) name rest = no_rule before (record e { item = PoolModel declared lines }) number name rest (λ x. refl)
 listed-more before number e (BuildModel outputs rule inputs lines) name rest = no_rule before (record e { item = BuildModel outputs rule inputs lines }) number name rest (λ x. refl)
@@ -101,9 +101,9 @@ distinct-more before r number new distinct = subst (IsDistinct bytes_eq) (sym (n
     by true same = IsDistinct-push nat_list_eq_equiv (rule_names before number) r.name distinct (new (same refl))
     by false same = subst (IsDistinct bytes_eq) (sym (append-nil (rule_names before number))) distinct
 
-distinct-with : (before : List ReadStatement) (number : ℕ) (e : ReadStatement) (item : StatementModel) → RuleIsNew before e.number item → IsDistinct bytes_eq (rule_names (rules_read before) number) → IsDistinct bytes_eq (rule_names (rules_read (record e { item = item } ∷ before)) number)
+distinct-with : (before : List ReadStatement) (number : ℕ) (e : ReadStatement) (item : StatementModel) → RuleIsNew before e.scope item → IsDistinct bytes_eq (rule_names (rules_read before) number) → IsDistinct bytes_eq (rule_names (rules_read (record e { item = item } ∷ before)) number)
 distinct-with before number e (RuleModel declared lines) is_new rest =
-    distinct-more (rules_read before) (record { scope = e.number; name = declared.name; lines = map line_kept lines }) number
+    distinct-more (rules_read before) (record { scope = e.scope; name = declared.name; lines = map line_kept lines }) number
     (λ same. or_false (bytes_eq declared.name phony) (list_any (bytes_eq declared.name) (rule_names (rules_read before) number))
     (sym (is_declared-listed before number declared.name) ∙ ap (λ n. is_declared (rules before n declared.name) declared.name) same ∙ is_new)) rest
 distinct-with before number e (BindingModel bound word) is_new rest = rest

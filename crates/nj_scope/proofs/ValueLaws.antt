@@ -18,8 +18,8 @@ not_binding value (DefaultModel words) name h = refl
 not_binding value (IncludeModel word) name h = refl
 not_binding value (SubninjaModel word) name h = refl
 
-none_here : (e : ReadStatement) (number : ℕ) (name : List ℕ) (value : List ℕ → List ℕ) → (number == e.number && binds_name e.item name) ≡ false → binds_in number e value name ≡ None
-none_here e number name value h = by (number == e.number) h
+none_here : (e : ReadStatement) (number : ℕ) (name : List ℕ) (value : List ℕ → List ℕ) → (number == e.scope && binds_name e.item name) ≡ false → binds_in number e value name ≡ None
+none_here e number name value h = by (number == e.scope) h
   where
     by : (b : Bool) → (b && binds_name e.item name) ≡ false → (if b then binds value e.item name else None) ≡ None
     by true h = not_binding value e.item name h
@@ -36,9 +36,9 @@ pub last_counts : LastBindingCounts
 unfolding bounds
 last_counts after before e name word is none = subst (λ item. value_after (after ++ record e { item = item } ∷ before) (scope_of e) name ≡ expanded (value_after before (scope_of e)) word.parts) (sym is) (
     ap (λ o. unwrap_or (option_or o (first_given (λ s. bounds (after ++ record e { item = BindingModel name word } ∷ before) s name) e.around)) [])
-    (passed after (record e { item = BindingModel name word } ∷ before) e.number name none
-    ∙ ap (λ b. option_or (if b then (if bytes_eq name name then Some (expanded (value_in (bounds before) (scope_of e)) word.parts) else None) else None) (bounds before e.number name)) (eq-eqb e.number e.number refl)
-    ∙ ap (λ b. option_or (if b then Some (expanded (value_in (bounds before) (scope_of e)) word.parts) else None) (bounds before e.number name)) ((bytes_eq-Decides name name).1 refl)))
+    (passed after (record e { item = BindingModel name word } ∷ before) e.scope name none
+    ∙ ap (λ b. option_or (if b then (if bytes_eq name name then Some (expanded (value_in (bounds before) (scope_of e)) word.parts) else None) else None) (bounds before e.scope name)) (eq-eqb e.scope e.scope refl)
+    ∙ ap (λ b. option_or (if b then Some (expanded (value_in (bounds before) (scope_of e)) word.parts) else None) (bounds before e.scope name)) ((bytes_eq-Decides name name).1 refl)))
 
 unbound : (entries : List ReadStatement) (number : ℕ) (name : List ℕ) → NoneBinds entries number name → bounds entries number name ≡ None
 unfolding bounds

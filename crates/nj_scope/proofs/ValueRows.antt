@@ -25,10 +25,10 @@ word parts = record { spot = first_spot; parts = parts }
 
 -- where the statements are; their spots do not matter here
 abbrev at_main : ReadStatement
-at_main = record { file = codes "build.ninja"; spot = first_spot; depth = 0; number = 0; around = []; item = DefaultModel []; was_joined = false; discovered = None }
+at_main = record { file = codes "build.ninja"; spot = first_spot; depth = 0; scope = 0; around = []; item = DefaultModel []; was_joined = false; discovered = None }
 
 abbrev at_child : ReadStatement
-at_child = record { file = codes "s"; spot = first_spot; depth = 1; number = 1; around = 0 ∷ []; item = DefaultModel []; was_joined = false; discovered = None }
+at_child = record { file = codes "s"; spot = first_spot; depth = 1; scope = 1; around = 0 ∷ []; item = DefaultModel []; was_joined = false; discovered = None }
 
 -- x = 1, y = a$x, x = 2: a value expands at once
 abbrev at_once : List ReadStatement

@@ -15,12 +15,12 @@ binds_name item name = false
 
 abbrev pub NoneBinds : List ReadStatement → (number : ℕ) → (name : List ℕ) → Type 0
 NoneBinds [] number name = Unit {0}
-NoneBinds (e ∷ others) number name = ((number == e.number && binds_name e.item name) ≡ false) × NoneBinds others number name
+NoneBinds (e ∷ others) number name = ((number == e.scope && binds_name e.item name) ≡ false) × NoneBinds others number name
 
 -- The value of a name in a scope that binds it itself is the value of its last binding there, expanded by what was bound before.
 abbrev pub LastBindingCounts : Type 0
 LastBindingCounts = (after before : List ReadStatement) (e : ReadStatement) (name : List ℕ) (word : WordModel)
-    → e.item ≡ BindingModel name word → NoneBinds after e.number name
+    → e.item ≡ BindingModel name word → NoneBinds after e.scope name
     → value_after (after ++ e ∷ before) (scope_of e) name ≡ expanded (value_after before (scope_of e)) word.parts
 
 -- In a scope that does not bind it, a name has the value that it has in the scopes around.
@@ -30,7 +30,7 @@ OthersAreInherited = (entries : List ReadStatement) (number : ℕ) (around name 
 
 -- What a scope binds changes the values of no other scope's own names.
 abbrev pub OthersKeepTheirs : Type 0
-OthersKeepTheirs = (e : ReadStatement) (before : List ReadStatement) (number : ℕ) (name : List ℕ) → (number == e.number) ≡ false
+OthersKeepTheirs = (e : ReadStatement) (before : List ReadStatement) (number : ℕ) (name : List ℕ) → (number == e.scope) ≡ false
     → bounds (e ∷ before) number name ≡ bounds before number name
 
 -- A rule that is in force under a name has that name, and one of the scopes declares it; `phony` belongs to the main file's.

@@ -22,8 +22,8 @@ pub record ReadStatement : Type 0 where
   pub spot : Spot
   -- how many files are open around that file; around the main file there is none
   pub depth : ℕ
-  -- the number of its scope, and the numbers of the scopes around it, the nearest first
-  pub number : ℕ
+  -- its scope, and the scopes around it, the nearest first, by their numbers
+  pub scope : ℕ
   pub around : List ℕ
   pub item : StatementModel
   -- whether a dyndep file was joined to it
@@ -33,7 +33,7 @@ pub record ReadStatement : Type 0 where
 
 -- its scope, with those around it
 abbrev pub scope_of : ReadStatement → List ℕ
-scope_of e = e.number ∷ e.around
+scope_of e = e.scope ∷ e.around
 
 -- ---- values
 
@@ -44,7 +44,7 @@ binds value item name = None
 
 -- what a statement binds in a scope
 abbrev pub binds_in : (number : ℕ) → ReadStatement → (value : List ℕ → List ℕ) → (name : List ℕ) → Option (List ℕ)
-binds_in number e value name = if number == e.number then binds value e.item name else None
+binds_in number e value name = if number == e.scope then binds value e.item name else None
 
 -- What each scope binds after some statements, the last read first. A value is expanded where it is read: by
 -- what the statements before it bind.
@@ -74,7 +74,7 @@ gathered given (e ∷ before) = let others = gathered given before in option_map
 -- ---- rules
 
 abbrev pub rule_given : ReadStatement → (before : List ReadStatement) → StatementModel → Option kept.RuleModel
-rule_given e before (RuleModel name lines) = Some (record { scope = e.number; name = name.name; lines = map line_kept lines })
+rule_given e before (RuleModel name lines) = Some (record { scope = e.scope; name = name.name; lines = map line_kept lines })
 rule_given e before item = None
 
 -- the rules in the order of their numbers: `phony`, and then those that were declared, in their order
@@ -89,7 +89,7 @@ declares item name = false
 abbrev pub rules : List ReadStatement → (number : ℕ) → (name : List ℕ) → Option ℕ
 rules [] number name = None
 rules (e ∷ before) number name =
-    option_or (if number == e.number && declares e.item name then Some (length (rules_read before)) else None) (rules before number name)
+    option_or (if number == e.scope && declares e.item name then Some (length (rules_read before)) else None) (rules before number name)
 
 -- whether a name is taken, where its own scope has this rule of the name; `phony` is always there
 abbrev pub is_declared : Option ℕ → (name : List ℕ) → Bool
@@ -114,7 +114,7 @@ pools entries = gathered pool_given entries
 
 -- the number of the scope in which a `subninja` opens one
 abbrev pub scope_given : ReadStatement → (before : List ReadStatement) → StatementModel → Option ℕ
-scope_given e before (SubninjaModel word) = Some e.number
+scope_given e before (SubninjaModel word) = Some e.scope
 scope_given e before item = None
 
 -- how many scopes there are, the main file's among them

@@ -18,7 +18,7 @@ word text = record { spot = record { line = 1; column = 7 }; parts = Text text �
 
 -- a statement on a line of its own
 abbrev on : (line : ℕ) → StatementModel → ReadStatement
-on line item = record { file = codes "build.ninja"; spot = record { line = line; column = 1 }; depth = 0; number = 0; around = []; item = item; was_joined = false; discovered = None }
+on line item = record { file = codes "build.ninja"; spot = record { line = line; column = 1 }; depth = 0; scope = 0; around = []; item = item; was_joined = false; discovered = None }
 
 abbrev build : (output : List ℕ) → (inputs : List WordModel) → StatementModel
 build output inputs =

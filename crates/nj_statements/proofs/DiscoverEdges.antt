@@ -61,7 +61,7 @@ abbrev edge_by : ReadStatement → Bounds → Declared → OutputsModel → Name
 edge_by e bound own outputs rule inputs lines = record {
   file = e.file;
   spot = e.spot;
-  number = e.number;
+  scope = e.scope;
   around = e.around;
   rule = number_by e own rule;
   block = block_of (value_in bound (scope_of e)) lines;

@@ -90,7 +90,7 @@ Declared = ℕ → List ℕ → Option ℕ
 
 -- one statement more, after this many rules
 abbrev declared_with : ReadStatement → (strings : List kept.RuleModel) → Declared → Declared
-declared_with e strings own number name = option_or (if number == e.number && declares e.item name then Some (length strings) else None) (own number name)
+declared_with e strings own number name = option_or (if number == e.scope && declares e.item name then Some (length strings) else None) (own number name)
 
 rules-as_read : (entries : List ReadStatement) → rules (as_read entries) ≡ rules entries
 rules-as_read [] = refl
@@ -120,11 +120,11 @@ is_new-by some others same number (SubninjaModel word) new = tt
 
 rules_new-as_read : (entries : List ReadStatement) → EachRuleIsNew entries → EachRuleIsNew (as_read entries)
 rules_new-as_read [] new = tt
-rules_new-as_read (e ∷ before) new = (is_new-by before (as_read before) (rules-as_read before) e.number e.item new.0, rules_new-as_read before new.1)
+rules_new-as_read (e ∷ before) new = (is_new-by before (as_read before) (rules-as_read before) e.scope e.item new.0, rules_new-as_read before new.1)
 
 rules_new-from_as_read : (entries : List ReadStatement) → EachRuleIsNew (as_read entries) → EachRuleIsNew entries
 rules_new-from_as_read [] new = tt
-rules_new-from_as_read (e ∷ before) new = (is_new-by (as_read before) before (sym (rules-as_read before)) e.number e.item new.0, rules_new-from_as_read before new.1)
+rules_new-from_as_read (e ∷ before) new = (is_new-by (as_read before) before (sym (rules-as_read before)) e.scope e.item new.0, rules_new-from_as_read before new.1)
 
 pub rules_new-discover : (edge : ℕ) (found : Discovered) (entries : List ReadStatement) → EachRuleIsNew entries → EachRuleIsNew (discover edge found entries)
 rules_new-discover edge found entries new =
@@ -223,7 +223,7 @@ names_by strings b e = record {
   block = e.block;
   lines = lines_of_rule (slice_get strings e.rule);
   is_phony = e.paths.is_phony;
-  file = value_in b (e.number ∷ e.around);
+  file = value_in b (e.scope ∷ e.around);
 }
 
 pub names_of_edge-same : (entries others : List ReadStatement) → as_read others ≡ as_read entries → (e : EdgeModel) → names_of_edge others e ≡ names_of_edge entries e

@@ -292,7 +292,7 @@ has-item : (held : BuildingModel) (e : ReadStatement) (before : List ReadStateme
 unfolding edges_read defaults_read pending_read assigned_read
 has-item held e before (BindingModel bound word) other has = record { edges = has.edges; none_open = has.none_open; blocks = has.blocks; block_names = has.block_names; details = has.details; assigned = has.assigned; defaults = has.defaults; dyndeps = has.dyndeps; references = has.references }
 has-item held e before (RuleModel declared lines) other has =
-    record { edges = has.edges; none_open = has.none_open; blocks = has.blocks; block_names = has.block_names; details = has.details; assigned = has.assigned; defaults = has.defaults; dyndeps = has.dyndeps; references = references-longer held.references (rules_read before) (record { scope = e.number; name = declared.name; lines = map line_kept lines } ∷ []) has.references }
+    record { edges = has.edges; none_open = has.none_open; blocks = has.blocks; block_names = has.block_names; details = has.details; assigned = has.assigned; defaults = has.defaults; dyndeps = has.dyndeps; references = references-longer held.references (rules_read before) (record { scope = e.scope; name = declared.name; lines = map line_kept lines } ∷ []) has.references }
 has-item held e before (PoolModel declared lines) other has = record { edges = has.edges; none_open = has.none_open; blocks = has.blocks; block_names = has.block_names; details = has.details; assigned = has.assigned; defaults = has.defaults; dyndeps = has.dyndeps; references = has.references }
 has-item held e before (BuildModel outputs rule inputs lines) other has = absurd (true≢false other)
 has-item held e before (DefaultModel words) other has = absurd (true≢false other)

@@ -29,7 +29,7 @@ build line output implicit dyndep = record {
   file = codes "build.ninja";
   spot = at line 1;
   depth = 0;
-  number = 0;
+  scope = 0;
   around = [];
   item = BuildModel (record { explicit = word 7 output ∷ []; implicit = word 9 implicit ∷ [] }) (record { spot = at 2 11; name = codes "phony" })
       (record { explicit = word 17 (codes "x") ∷ []; implicit = word 19 (codes "y") ∷ []; order_only = word 21 (codes "dd") ∷ word 24 (codes "ee") ∷ []; validations = [] })

@@ -45,7 +45,7 @@ abbrev phony : NameModel
 phony = by_rule (codes "phony")
 
 abbrev entry : StatementModel → ReadStatement
-entry item = record { file = codes "build.ninja"; spot = at 1; depth = 0; number = 0; around = []; item = item; was_joined = false; discovered = None }
+entry item = record { file = codes "build.ninja"; spot = at 1; depth = 0; scope = 0; around = []; item = item; was_joined = false; discovered = None }
 
 abbrev entries : List StatementModel → List ReadStatement
 entries items = map entry items

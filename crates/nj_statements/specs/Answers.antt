@@ -67,7 +67,7 @@ pub record BuildingModel : Type 0 where
 pub record IsDetail (names : List (List ℕ)) (d : DetailModel) (e : EdgeModel) : Type 0 where
   pub file : slice_get names d.file ≡ Some e.file
   pub spot : d.spot ≡ e.spot
-  pub scope : d.scope ≡ e.number
+  pub scope : d.scope ≡ e.scope
   pub rule : d.rule ≡ e.rule
 
 abbrev pub AreDetails : (names : List (List ℕ)) → List DetailModel → List EdgeModel → Type 0
@@ -124,7 +124,7 @@ entry_at_place place scope around depth item = record {
   file = place.file.now;
   spot = place.spot;
   depth = depth;
-  number = scope;
+  scope = scope;
   around = around;
   item = item;
   was_joined = false;

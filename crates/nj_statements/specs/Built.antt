@@ -46,7 +46,7 @@ defaults_in_force (path ∷ paths) edges = path ∷ paths
 -- ---- by the statements
 
 abbrev pub detail_of : EdgeModel → EdgeDetail
-detail_of e = record { file = e.file; spot = e.spot; scope = e.number; rule = e.rule }
+detail_of e = record { file = e.file; spot = e.spot; scope = e.scope; rule = e.rule }
 
 -- It has the edges and the defaults of these statements, the last read first.
 pub record IsBuiltOf (built : BuiltModel) (entries : List ReadStatement) : Type 0 where

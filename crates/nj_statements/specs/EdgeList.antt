@@ -53,8 +53,8 @@ pub record EdgeModel : Type 0 where
   -- the file of the build statement, by the name under which it was opened, and the place of its first byte there
   pub file : List ℕ
   pub spot : Spot
-  -- the number of its scope, and the numbers of the scopes around it, the nearest first
-  pub number : ℕ
+  -- its scope, and the scopes around it, the nearest first, by their numbers
+  pub scope : ℕ
   pub around : List ℕ
   -- the number of its rule: that which is in force before the statement; `phony` is 0
   pub rule : ℕ
@@ -113,7 +113,7 @@ abbrev pub edge_of_build : ReadStatement → (before : List ReadStatement) → O
 edge_of_build e before outputs rule inputs lines = record {
   file = e.file;
   spot = e.spot;
-  number = e.number;
+  scope = e.scope;
   around = e.around;
   rule = rule_number e before rule;
   block = build_block e before lines;
@@ -167,7 +167,7 @@ names_of_edge entries e = record {
   block = e.block;
   lines = unwrap_or (option_map (λ r. r.lines) (slice_get (rules_read entries) e.rule)) [];
   is_phony = e.paths.is_phony;
-  file = value_after entries (e.number ∷ e.around);
+  file = value_after entries (e.scope ∷ e.around);
 }
 
 -- ---- dyndep files

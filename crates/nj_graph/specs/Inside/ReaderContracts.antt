@@ -38,7 +38,7 @@ use Rattle.nj_graph.specs.Reading.{text_read}
 use Rattle.nj_graph.specs.Runs.{IsRead, Stops}
 
 abbrev pub site_scope : Site → List ℕ
-site_scope site = site.number ∷ site.around
+site_scope site = site.scope ∷ site.around
 
 -- ---- what is held
 
@@ -54,7 +54,7 @@ pub record IsNew (main : List ℕ) (held : Reader) : Type 0 where
 pub record Has (main : List ℕ) (held : Reader) (entries : List ReadStatement) : Type 0 where
   pub declares : DeclaredBy held.declarations entries
   pub edges : HasEdges held.building entries
-  pub scopes : AllByRecursion (λ e. IsOpenScope held.declarations.scopes e.number e.around) entries
+  pub scopes : AllByRecursion (λ e. IsOpenScope held.declarations.scopes e.scope e.around) entries
   pub origins : held.origins ≡ origins_read main entries
   pub paths_are : paths_of held.files ≡ paths_read main entries
   pub once : EachPathOnce held.files
@@ -68,7 +68,7 @@ abbrev pub ScopesGrow : (old held : Reader) → Type 0
 ScopesGrow old held = Grows old.declarations.scopes held.declarations.scopes
 
 abbrev pub site_of : OpenFile → (around : List ℕ) → (depth : ℕ) → Site
-site_of file around depth = record { file = file.name.now; depth = depth; number = file.scope; around = around }
+site_of file around depth = record { file = file.name.now; depth = depth; scope = file.scope; around = around }
 
 -- the scope of an open file
 abbrev pub IsOpenIn : Reader → OpenFile → (around : List ℕ) → Type 0
@@ -154,12 +154,12 @@ named_item naming.Subninja word = SubninjaModel word
 
 -- the site of the statements of the file that a statement names
 abbrev pub named_site : Naming → ReadStatement → (before : List ReadStatement) → WordModel → Site
-named_site naming.Include e before word = opened_site e before word e.number e.around
+named_site naming.Include e before word = opened_site e before word e.scope e.around
 named_site naming.Subninja e before word = opened_site e before word (scopes_opened before) (scope_of e)
 
 -- The statement that names a file is held, and the scope of that file is open.
 pub record EntersScope (held : Reader) (number : ℕ) (inner : Site) (e : ReadStatement) (entries : List ReadStatement) : Type 0 where
-  pub number_is : inner.number ≡ number
+  pub number_is : inner.scope ≡ number
   pub scope : IsOpenScope held.declarations.scopes number inner.around
   pub declares : DeclaredBy held.declarations (e ∷ entries)
 
@@ -184,7 +184,7 @@ pub record OpensNamed (main : List ℕ) (before after : SourceState) (old held :
 -- the file that a statement names, by the scope of its statements
 pub record IsOpened (held : Reader) (opened : Opened) (inner : Site) : Type 0 where
   pub file : inner.file ≡ string_bytes opened.path
-  pub number : inner.number ≡ opened.scope
+  pub number : inner.scope ≡ opened.scope
   pub scope : IsOpenScope held.declarations.scopes opened.scope inner.around
 
 -- a file is opened that the statement names, or the run stops there

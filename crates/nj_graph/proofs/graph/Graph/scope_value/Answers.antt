@@ -17,8 +17,8 @@ returns-clause-main c = λ entries is same.
 pub returns-clause-stated : goal.returns-clause-stated
 returns-clause-stated c = λ entries e is has same.
     let inside : c.self.inside.declarations ≡ c.args.self.now.declarations = ap (λ (x : GraphModel). x.declarations) c.self.view_is in
-    let there : IsOpenScope c.args.self.now.declarations.scopes e.number e.around =
-    subst (λ x. IsOpenScope c.args.self.now.declarations.scopes x.number x.around) has.2 (known-at (λ x. IsOpenScope c.args.self.now.declarations.scopes x.number x.around) entries has.0 e has.1 is.scopes) in
+    let there : IsOpenScope c.args.self.now.declarations.scopes e.scope e.around =
+    subst (λ x. IsOpenScope c.args.self.now.declarations.scopes x.scope x.around) has.2 (known-at (λ x. IsOpenScope c.args.self.now.declarations.scopes x.scope x.around) entries has.0 e has.1 is.scopes) in
     subst (λ n. option_copied c.value_if_bound.result ≡ value_if_bound entries (n ∷ e.around) c.args.name.now) (sym same)
     (c.value_if_bound.ensures entries e.around (subst (λ (d : DeclarationsModel). DeclaredBy d entries) (sym inside) is.declares)
     (subst (λ (d : DeclarationsModel). IsScope (parent_at d.scopes) c.args.scope (c.args.scope ∷ e.around)) (sym inside)

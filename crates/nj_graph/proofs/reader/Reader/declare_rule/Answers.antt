@@ -23,7 +23,7 @@ returns-then-branch-clause-declares c = λ main entries around depth has inside.
     let old : OriginsModel = c.args.self.now.origins in
     let declared = subst (λ lines. DeclaredBy c.declare_rule.new.self (at lines ∷ entries)) c.deref.ensures.value (c.in_ok-declare_rule.ensures.declared around c.args.rule.now.name_spot c.if-branch.true entries site.file start depth has.declares) in
     let origins = c.in_ok-add_rule.ensures ∙ ap (λ (place : Place). record old { rules = old.rules ++ Some place ∷ [] }) (placed-text c.place.result site.file start c.place.ensures.file c.place.ensures.spot) in (
-      rule-new main c.args.self.now entries site.file site.number name has (sym c.if-branch.true ∙ c.in_ok-declare_rule.ensures.is_new),
+      rule-new main c.args.self.now entries site.file site.scope name has (sym c.if-branch.true ∙ c.in_ok-declare_rule.ensures.is_new),
       has-next main c.args.self.now (record { declarations = c.declare_rule.new.self; building = c.args.self.now.building; files = c.args.self.now.files; origins = c.add_rule.new.self }) entries
           e has
           declared origins refl refl

@@ -16,7 +16,7 @@ kept-twice (l ∷ lines) = ap (λ ls. line_kept (line_model l) ∷ ls) (kept-twi
 pub returns-clause-declared : goal.returns-clause-declared
 returns-clause-declared c = λ around spot new entries file at depth by.
     with-rule (record { scopes = c.self.inside.scopes; rules = c.self.inside.rules.items; pools = c.self.inside.pools }) (record { scopes = c.declare.new.self; rules = c.push.new.self.items; pools = c.self.inside.pools })
-    entries (record { file = file; spot = at; depth = depth; number = c.args.scope; around = around; item = RuleModel (record { spot = spot; name = c.args.name.now }) (lines_model c.args.lines.now); was_joined = false; discovered = None })
+    entries (record { file = file; spot = at; depth = depth; scope = c.args.scope; around = around; item = RuleModel (record { spot = spot; name = c.args.name.now }) (lines_model c.args.lines.now); was_joined = false; discovered = None })
     (record { spot = spot; name = c.args.name.now }) (lines_model c.args.lines.now) (subst (λ held. DeclaredBy held entries) (sym c.self.view_is) by)
     (λ n x.
     c.in_default.ensures.declared n x
