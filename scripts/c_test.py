@@ -411,7 +411,8 @@ def try_package(tests):
     passed = ran.returncode == 0 and count and int(count[1]) > 0
     tests.expect("packages", f"tests of the wheel: {ran.stderr}", bool(passed), True)
     if shutil.which("mypy"):
-        ran = run(["mypy", "--strict", "--cache-dir", str(folder / "mypy"), str(PYTHON / "ninja_explain")])
+        checked = [str(PYTHON / part) for part in ("ninja_explain", "tests")]
+        ran = run(["mypy", "--strict", "--cache-dir", str(folder / "mypy"), *checked])
         tests.expect("packages", f"mypy: {ran.stdout}", ran.returncode, 0)
     else:
         print("c_test: mypy is not installed, so the annotations were not checked")

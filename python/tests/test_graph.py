@@ -7,6 +7,7 @@ import struct
 import tempfile
 import threading
 import unittest
+from collections.abc import Callable
 from pathlib import Path
 
 from ninja_explain import BadDepsLog, BadMark, Edge, Fault, FaultKind, File, Graph, Kind, Place, run
@@ -115,7 +116,8 @@ class Reading(unittest.TestCase):
             self.assertEqual([edge.number for edge in users], list(range(10_000)))
 
     def test_pages(self) -> None:
-        graph, seen, mark = self.graph, [], ""
+        graph, seen = self.graph, []
+        mark: "str | None" = ""
         while mark is not None:
             page = graph.page(graph.defaults(), 2, mark)
             seen.append([edge.number for edge in page.edges])
@@ -233,8 +235,9 @@ class Misuse(unittest.TestCase):
 
     def test_copies(self) -> None:
         with graph_of() as graph:
+            copies: "tuple[Callable[[object], object], ...]" = copy.copy, copy.deepcopy, pickle.dumps
             for kept in graph, graph.edges[0], graph.files[0]:
-                for copying in copy.copy, copy.deepcopy, pickle.dumps:
+                for copying in copies:
                     with self.assertRaises(TypeError):
                         copying(kept)
 
