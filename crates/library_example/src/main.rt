@@ -1,4 +1,4 @@
-//! Writes which edge makes `greet.c`, and what is made from it.
+//! Writes which edge makes `greet.c`, and the outputs made from it.
 #![tactic(auto)]
 
 mod tour; // not in README.md

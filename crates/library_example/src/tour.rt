@@ -1,5 +1,5 @@
 //! Calls each function that docs/LIBRARY.md shows, over the project in `data/` or over short texts,
-//! and writes what they return.
+//! and writes their results.
 
 ghost use Rattle.std.specs.Prelude.{◌<◌, length};
 ghost use Rattle.nj_graph.specs.Graph.{files_of};
@@ -35,7 +35,7 @@ use variables::{append_assigned, append_commands, append_whole_commands};
 use walks::{append_order, mark_text, write_page};
 use writers::write_lists;
 
-/// Writes what all of them return.
+/// Writes the results of all of them.
 pub fn run(rt: HostRuntime) -> Result<(), Error> {
     show_files(rt)?;
     show_joined_files(rt)?;
@@ -43,13 +43,13 @@ pub fn run(rt: HostRuntime) -> Result<(), Error> {
     write_text(rt, b"== README.md\n")
 }
 
-/// Writes a text to the output.
+/// Writes a text to standard output.
 fn write_text(rt: HostRuntime, text: &[u8]) -> Result<(), Error> {
     write_whole(&mut WriteSink::new(rt.stdout()), text)?;
     Ok(())
 }
 
-/// Shows the files of the working folder.
+/// Shows the files of the working directory.
 fn show_files(rt: HostRuntime) -> Result<(), Error> {
     let loaded = load_folder(rt)?;
     show_graph(rt, loaded.graph())
@@ -61,7 +61,7 @@ fn show_graph(rt: HostRuntime, graph: &Graph) -> Result<(), Error> {
     show_target(rt, graph, pick_target(rt.alloc(), graph, b"hello")?)
 }
 
-/// Writes what a graph has, and what its files declare.
+/// Writes the contents of a graph, and the declarations of its files.
 fn show_facts(rt: HostRuntime, graph: &Graph) -> Result<(), Error> {
     let mut text = Vec::new(rt.alloc());
     append_facts(rt.alloc(), &mut text, graph)?;
@@ -76,7 +76,7 @@ fn append_facts(alloc: Global, text: &mut Vec<u8>, graph: &Graph) -> Result<(), 
     Ok(())
 }
 
-/// Appends what a graph has of edges, files and targets.
+/// Appends the edges, files and targets of a graph.
 fn append_edges_and_targets(
     alloc: Global,
     text: &mut Vec<u8>,
@@ -100,7 +100,7 @@ fn append_variables(alloc: Global, text: &mut Vec<u8>, graph: &Graph) -> Result<
     append_assigned(text, graph)
 }
 
-/// Appends what the files of a graph declare.
+/// Appends the declarations of a graph's files.
 fn append_declared(alloc: Global, text: &mut Vec<u8>, graph: &Graph) -> Result<(), AllocError> {
     append_line(text, &[b"== rules, pools and scopes"])?;
     append_rules(alloc, text, graph)?;
@@ -108,7 +108,7 @@ fn append_declared(alloc: Global, text: &mut Vec<u8>, graph: &Graph) -> Result<(
     append_build_folders(text, graph)
 }
 
-/// Writes the order of what a target needs, its commands page by page, and lists.
+/// Writes the order of the edges that a target needs, its commands page by page, and lists.
 fn show_target(rt: HostRuntime, graph: &Graph, target: FileNo) -> Result<(), Error>
     requires { target.0 < length (files_of graph.now) }
 {
@@ -120,7 +120,7 @@ fn show_target(rt: HostRuntime, graph: &Graph, target: FileNo) -> Result<(), Err
     Ok(())
 }
 
-/// Writes the order of what a target needs.
+/// Writes the order of the edges that a target needs.
 fn show_order(rt: HostRuntime, graph: &Graph, target: FileNo) -> Result<(), Error>
     requires { target.0 < length (files_of graph.now) }
 {
@@ -152,13 +152,13 @@ fn show_mark(rt: HostRuntime, next: Option<&Mark>) -> Result<(), Error> {
     write_text(rt, line.as_bytes())
 }
 
-/// Writes what a change of `greet.h` reaches once dyndep files are joined.
+/// Writes the outputs that a change of `greet.h` affects once dyndep files are joined.
 fn show_joined_files(rt: HostRuntime) -> Result<(), Error> {
     let joined = load_joined_folder(rt)?;
     show_joined_graph(rt, joined.graph())
 }
 
-/// The files of the working folder alone, and what their dyndep files discover.
+/// The files of the working directory alone, and the discoveries of their dyndep files.
 fn load_joined_folder(rt: HostRuntime) -> Result<Loaded, nj_graph::Error> {
     let source = DiskFiles::new(rt, rt.alloc(), None)?;
     let mut files = FolderFiles { source };
@@ -173,7 +173,7 @@ fn show_joined_graph(rt: HostRuntime, graph: &Graph) -> Result<(), Error> {
     write_text(rt, &text)
 }
 
-/// Writes what is wrong with two manifests, and with a word.
+/// Writes the faults of two manifests, and of an argument.
 fn show_faults(rt: HostRuntime) -> Result<(), Error> {
     let mut text = Vec::new(rt.alloc());
     append_faults(rt.alloc(), &mut text)?;
@@ -188,7 +188,8 @@ fn append_faults(alloc: Global, text: &mut Vec<u8>) -> Result<(), AllocError> {
     append_fault(alloc, text, b"build a: phony\n", b"b")
 }
 
-/// Appends the line of the error of a manifest, or of a word that is asked of its graph.
+/// Appends the line of the error of a manifest, or of an argument that names no target of its
+/// graph.
 fn append_fault(
     alloc: Global,
     text: &mut Vec<u8>,
@@ -201,13 +202,13 @@ fn append_fault(
     }
 }
 
-/// Appends what an error is of, and its line.
+/// Appends the source of an error, and its line.
 fn append_error(alloc: Global, text: &mut Vec<u8>, error: &Error) -> Result<(), AllocError> {
     let line = log_line(alloc, error)?;
     append_line(text, &[blamed(error), &line])
 }
 
-/// What an error is of.
+/// The source of an error.
 fn blamed(error: &Error) -> &'static [u8] {
     if is_of_words(error) {
         b"of words: "
@@ -216,13 +217,13 @@ fn blamed(error: &Error) -> &'static [u8] {
     }
 }
 
-/// Asks for the target that a word means in the graph of a manifest.
+/// Picks the target that an argument means in the graph of a manifest.
 fn ask(alloc: Global, manifest: &[u8], word: &[u8]) -> Result<(), Error> {
     let loaded = load_text(alloc, manifest)?;
     ask_graph(alloc, loaded.graph(), word)
 }
 
-/// Asks a graph for it.
+/// Picks it in a graph.
 fn ask_graph(alloc: Global, graph: &Graph, word: &[u8]) -> Result<(), Error> {
     pick_target(alloc, graph, word)?;
     Ok(())

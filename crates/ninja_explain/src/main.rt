@@ -41,7 +41,7 @@ fn words(rt: HostRuntime) -> io::Result<Vec<String>> {
     Ok(env::args(&rt)?.skip(1).collect(rt.alloc())?)
 }
 
-/// The name of the file that is read from standard input, if the words ask for one.
+/// The name of the file that is read from standard input, if the arguments request that.
 fn stdin_for(alloc: Global, words: &[String]) -> Result<Option<String>, AllocError> {
     match read_words(alloc, words) {
         Ok(request) if request.from_stdin => Ok(Some(request.file)),

@@ -1,4 +1,4 @@
--- What is asked for ends with the fault of the first mistake.
+-- The reading of a request ends with the fault of the first mistake.
 use Rattle.std.proofs.Common.{◌≡◌, ℕ, Bool, true, false, List, [], ◌∷◌, ◌++◌, map, take, Option, Some, None, Result, Ok, Err, MatchOption, refl, sym, ap, subst, ◌∙◌}
 use Rattle.std.specs.Prelude.{codes, ok_or, option_map, unwrap_or, ◌↔◌, if◌then◌else◌, IsOk}
 use Rattle.std.specs.Option.{option_map_or}
@@ -85,7 +85,7 @@ module _ (rows : List Row) where
           (λ take. bound (λ start. Ok (commands (words_in rows) (is_on (codes "--validations") rows) take start)) (mark_ends (first_of (codes "--resume") rows) refl)
           (λ start. any (commands (words_in rows) (is_on (codes "--validations") rows) take start)))
 
--- ---- what is asked for
+-- ---- the request
 
 module _ (rows : List Row) (name : List ℕ) where
   query_ends : NamesTool rows name Query → (words : List (List ℕ)) → words_in rows ≡ words

@@ -1,4 +1,4 @@
--- What is asked for, by what `clap` reads in the words.
+-- The request, by the rows that `clap` reads in the arguments.
 use Rattle.std.proofs.Common.{◌≡◌, ◌⊎◌, ℕ, Bool, true, false, List, [], ◌∷◌, ◌<◌, ◌≤◌, length, map, Option, Some, None, Result, Ok, Err, refl, sym, ap, ◌∙◌, inl, inr, arith, String, Global}
 use Rattle.std.specs.Prelude.{string_bytes, option_map, unwrap_or, ok_or, codes, if◌then◌else◌}
 use Rattle.std.specs.Borrow.{Bor}
@@ -14,7 +14,7 @@ use Rattle.nj_args.specs.Requests.{given_request, request_in, request_of, wordle
 use Rattle.nj_args.specs.declared.usage_fault.UsageFault.{UsageFault}
 use Rattle.nj_args.specs.declared.usage_fault.UsageFault.TheVariants.{Unparsed, OutOfMemory}
 
--- the words of the matches
+-- the arguments of the matches
 pub words_held : (words : Option (Bor (List (Bor (List ℕ))))) (found : Found)
     → option_map (λ strings. map (λ text. text.now) strings.now) words ≡ option_map raw_values (matched_of found (codes "words"))
     → word_strings words ≡ words_in (rows_of found)
@@ -56,7 +56,7 @@ unfolding request_of
 of_some [] h = absurd (omega arith)
 of_some (word ∷ words) h = refl
 
--- the same fault of what is equal
+-- the same fault of equal results
 pub same_fault : (asked meant : Result RequestModel UsageFault) (fault : UsageFault) → asked ≡ meant
     → (fault ≡ OutOfMemory) ⊎ (meant ≡ Err fault) → (fault ≡ OutOfMemory) ⊎ (asked ≡ Err fault)
 same_fault asked meant fault e (inl memory) = inl memory

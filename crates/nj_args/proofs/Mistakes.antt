@@ -1,4 +1,4 @@
--- Mistakes in what is read in the words, and computations that end with the fault of the first.
+-- Mistakes in the rows of the arguments, and computations that end with the fault of the first.
 use Rattle.std.proofs.Common.{◌≡◌, ◌≢◌, ℕ, Bool, true, false, cond, List, [], ◌∷◌, ◌++◌, map, take, drop, Option, Some, None, Result, Ok, Err, refl, sym, ap, subst, ◌∙◌}
 use Rattle.std.specs.Prelude.{⊤, codes, not, ◌&&◌, is_some, find}
 use Rattle.nj_manifest.specs.LineSteps.{◌>>=◌}
@@ -81,7 +81,7 @@ no_first : {rows : List Row} {mistakes : List Mistake} {fault : UsageFault} → 
 no_first none (first h) = none.0 _ h
 no_first none (later lacks h) = no_first none.1 h
 
--- what ends so has a fault exactly where it is the first
+-- a computation that ends so has a fault exactly where it is the first
 pub reported : {A : Type 0} {rows : List Row} {mistakes : List Mistake} {fault : UsageFault} {result : Result A UsageFault}
     → Ends rows mistakes result → IsFirstOf rows mistakes fault → result ≡ Err fault
 reported (in_value none) h = absurd (no_first none h)
@@ -121,7 +121,7 @@ module _ (rows : List Row) (name : List ℕ) (tool : Tool) (names : NamesTool ro
       by_test true b e others = absurd (cc)
       by_test false b e others = skip (goes x b) (others e)
 
--- what is true of no option of a list is not true of one
+-- a test that no option of a list passes is not passed by one of them
 passed_over : (p : ToolOption → Bool) (before : List ToolOption) (x : ToolOption) (after : List ToolOption)
     → find p (before ++ x ∷ after) ≡ None → p x ≡ false
 passed_over p [] x after e = by_test (p x) refl e
@@ -158,7 +158,7 @@ lacks_bad_take rows e fault (no_number text f k) = absurd (cc)
 pub lacks_bad_mark : (rows : List Row) → first_of (codes "--resume") rows ≡ None → Lacks rows bad_mark
 lacks_bad_mark rows e fault (no_mark text f k) = absurd (cc)
 
--- ---- the words of a tool
+-- ---- the arguments of a tool
 
 module _ (rows : List Row) (name : List ℕ) (tool : Tool) (names : NamesTool rows name tool) where
   pub lacks_bad_words : TakesWords tool (words_in rows) → Lacks rows bad_words
@@ -168,7 +168,7 @@ module _ (rows : List Row) (name : List ℕ) (tool : Tool) (names : NamesTool ro
   pub lacks_bad_depth : tool ≢ Targets → Lacks rows bad_depth
   lacks_bad_depth e fault (no_depth other text two f k) = absurd (e (same_tool names two).1)
 
-  -- a tool that takes the words, and is not `targets`
+  -- a tool that takes the arguments, and is not `targets`
   pub takes_all : {A : Type 0} (x : A) → tool ≢ Targets → TakesWords tool (words_in rows) → Ends rows (bad_words ∷ bad_depth ∷ []) (Ok x)
   takes_all x other takes = in_value (lacks_bad_words takes, (lacks_bad_depth other, tt))
 

@@ -1,4 +1,4 @@
--- The command is one of which `clap` tells everything, and its errors.
+-- The command is one that `clap` describes in full, and its errors.
 use Rattle.std.proofs.Common.{◌≡◌, ◌⊎◌, Bool, true, false, [], ◌∷◌, length, eqb, arith, refl, inl, inr, ap}
 use Rattle.std.proofs.lemmas.Bool.Decides.{nat_tests}
 use Rattle.std.specs.Prelude.{not, if◌then◌else◌}

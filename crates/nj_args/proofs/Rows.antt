@@ -334,7 +334,7 @@ foreign_with_target_row : request_of (codes "-t" ∷ codes "commands" ∷ codes 
 unfolding request_of command clap_on_literals
 foreign_with_target_row = refl
 
--- ---- wrong words
+-- ---- invalid arguments
 
 no_file_row : request_of (codes "-t" ∷ codes "query" ∷ []) ≡ Err (BadWords (codes "query"))
 unfolding request_of command clap_on_literals
@@ -368,7 +368,7 @@ depth_too_great_row : request_of (codes "-t" ∷ codes "targets" ∷ codes "dept
 unfolding request_of command clap_on_literals
 depth_too_great_row = refl
 
--- ---- words that are refused
+-- ---- arguments that are refused
 
 no_value_row : request_of (codes "-f" ∷ []) ≡ Err Unparsed
 unfolding request_of command clap_on_literals

@@ -29,7 +29,7 @@ pub no_mark : (text : List ℕ) → given_mark (118 ∷ text) ≡ None
 unfolding given_mark
 no_mark text = ap numbers_in (slice_split-cons_no is_dot 118 text refl) ∙ no_numbers (slice_split is_dot text)
 
--- ---- and the text of a mark is what comes after the `v`
+-- ---- and the text of a mark is the rest after the `v`
 
 by_letter : (letter : ℕ) (b : Bool) (text : List ℕ) → (letter == 118) ≡ b → ((rest : List ℕ) → (letter ∷ text) ≢ (118 ∷ rest))
     → (if b then given_mark text else None) ≡ None

@@ -1,10 +1,10 @@
--- The command line, in the words of `clap`'s own specification.
+-- The command line, in terms of `clap`'s own specification.
 use Rattle.std.specs.Prelude.{ℕ, true, List, [], ◌∷◌, drop, slice_get, Some, codes}
 use Rattle.clap.specs.Words.{App, Rule, new_rule}
 use Rattle.clap.specs.Simple.{new_shape}
 use Rattle.clap.specs.declared.builder.ArgAction.TheVariants.{Append, SetTrue}
 
--- an option with a value, as it is written: `-L VALUE`; what it gives is kept under that text
+-- an option with a value, as it is written: `-L VALUE`; its values are kept under that text
 abbrev pub short_option : (text : List ℕ) → Rule
 short_option text = record (new_rule text) { short = slice_get text 1 }
 
@@ -20,11 +20,11 @@ short_flag text = record (short_option text) { action = Some SetTrue }
 abbrev pub long_flag : (text : List ℕ) → Rule
 long_flag text = record (long_option text) { action = Some SetTrue }
 
--- the words that are not options
+-- the arguments that are not options
 abbrev pub all_words : Rule
 all_words = record (new_rule (codes "words")) { action = Some Append }
 
--- the command without options and words; it knows neither help nor a version
+-- the command without options and arguments; it knows neither help nor a version
 abbrev pub nothing_yet : App
 nothing_yet = record { top = record (new_shape (codes "ninja-explain")) { no_binary_name = true; disable_help_flag = true }; subs = [] }
 

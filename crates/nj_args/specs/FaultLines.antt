@@ -1,4 +1,4 @@
--- The line that reports why words are not a valid request.
+-- The line that reports why arguments are not a valid request.
 use Rattle.std.specs.Prelude.{ℕ, List, ◌++◌, codes}
 use Rattle.nj_text.specs.Faults.{out_of_memory_text}
 use Rattle.nj_args.specs.declared.usage_fault.ToolOption.{ToolOption}
@@ -18,7 +18,7 @@ option_text option.DependencyOrder = codes "--dependency-order"
 option_text option.NoShellEscape = codes "--no-shell-escape"
 option_text option.Print0 = codes "--print0"
 
--- a text before a quoted word
+-- a text before a quoted argument
 abbrev pub quoting : (before word : List ℕ) → List ℕ
 quoting before word = before ++ (codes "'" ++ word ++ codes "'")
 

@@ -1,4 +1,4 @@
--- What the words of a command line give, as `clap` reads them: rows of values, each under the text of its option.
+-- The values of a command line's arguments, as `clap` reads them: rows of values, each under the text of its option.
 use Rattle.std.specs.Prelude.{ℕ, Bool, false, not, if◌then◌else◌, List, [], codes, Option, Some, None, unwrap_or}
 use Rattle.std.specs.Option.{option_map_or}
 use Rattle.std.specs.Str.{bytes_eq}
@@ -10,14 +10,14 @@ use Rattle.nj_args.specs.CommandLine.{command}
 abbrev pub is_on : (option : List ℕ) → List Row → Bool
 is_on option rows = option_map_or (λ text. bytes_eq text (codes "true")) (first_of option rows) false
 
--- the words that are not options
+-- the arguments that are not options
 abbrev pub words_in : List Row → List (List ℕ)
 words_in rows = unwrap_or (all_of (codes "words") rows) []
 
--- `clap` refuses the words, for a cause other than memory
+-- `clap` refuses the arguments, for a cause other than memory
 abbrev pub is_refused : (words : List (List ℕ)) → Bool
 is_refused words = not (is_empty (fault_of command words))
 
--- what the words give, where `clap` does not refuse them
+-- the rows of the arguments, where `clap` does not refuse them
 abbrev pub given_rows : (words : List (List ℕ)) → Option (List Row)
 given_rows words = if is_refused words then None else Some (matches_of command words)

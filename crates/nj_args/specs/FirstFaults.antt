@@ -12,7 +12,7 @@ use Rattle.nj_args.specs.declared.usage_fault.UsageFault.TheVariants.{Unparsed, 
 use Rattle.nj_args.specs.declared.tools.Tool.{Tool}
 use Rattle.nj_args.specs.declared.tools.Tool.TheVariants.{Commands, Inputs, Targets, Query, Rules, Compdb}
 
--- what can be wrong with the rows that `clap` reads in the words
+-- the mistakes in the rows that `clap` reads in the arguments
 pub data Mistake : Type 0 where
   no_tool : Mistake
   unknown_tool : Mistake
@@ -26,7 +26,7 @@ pub data Mistake : Type 0 where
 abbrev pub all_mistakes : List Mistake
 all_mistakes = no_tool ∷ unknown_tool ∷ (map foreign_option all_options ++ bad_take ∷ bad_mark ∷ bad_words ∷ bad_depth ∷ [])
 
--- the words that select what `targets` lists
+-- the arguments that select the list of `targets`
 pub data IsView (words : List (List ℕ)) : Type 0 where
   roots : words ≡ [] → IsView words
   one_level : words ≡ codes "depth" ∷ [] → IsView words
@@ -35,7 +35,7 @@ pub data IsView (words : List (List ℕ)) : Type 0 where
   sources : words ≡ codes "rule" ∷ [] → IsView words
   of_rule : (name : List ℕ) → words ≡ codes "rule" ∷ name ∷ [] → IsView words
 
--- the tool takes these words beside its options
+-- the tool takes these arguments beside its options
 abbrev pub TakesWords : Tool → (words : List (List ℕ)) → Type 0
 TakesWords Commands words = ⊤
 TakesWords Inputs words = ⊤
@@ -44,7 +44,7 @@ TakesWords Query words = words ≢ []
 TakesWords Rules words = words ≡ []
 TakesWords Compdb words = ⊤
 
--- the rows ask for this tool, by its name
+-- the rows name this tool
 pub record NamesTool (rows : List Row) (name : List ℕ) (tool : Tool) : Type 0 where
   pub asked : first_of (codes "-t") rows ≡ Some name
   pub known : tool_named name ≡ Some tool
@@ -78,15 +78,15 @@ pub data IsFirstOf (rows : List Row) : List Mistake → UsageFault → Type 0 wh
   later : {mistake : Mistake} {mistakes : List Mistake} {fault : UsageFault} → Lacks rows mistake → IsFirstOf rows mistakes fault
       → IsFirstOf rows (mistake ∷ mistakes) fault
 
--- of words that `clap` refuses only that is reported
+-- of arguments that `clap` refuses only that is reported
 abbrev pub IsFirstFault : (words : List (List ℕ)) → UsageFault → Type 0
 IsFirstFault words fault = MatchOption (given_rows words) (fault ≡ Unparsed) (λ rows. IsFirstOf rows all_mistakes fault)
 
--- `clap` reads the words, and nothing is wrong with what it reads
+-- `clap` reads the arguments, and its rows have no mistake
 abbrev pub AreFaultless : (words : List (List ℕ)) → Type 0
 AreFaultless words = MatchOption (given_rows words) ⊥ HasNoMistake
 
--- no words at all are a request too
+-- no arguments at all are a request too
 abbrev pub FirstFaultIsReported : Type 0
 FirstFaultIsReported = (words : List (List ℕ)) → words ≢ [] → (fault : UsageFault)
     → (request_of words ≡ Err fault) ↔ IsFirstFault words fault

@@ -1,4 +1,4 @@
--- what must be believed
+-- the definitions to believe
 pub mod CommandLine
 pub mod FaultLines
 pub mod Fields

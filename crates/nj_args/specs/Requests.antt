@@ -1,4 +1,4 @@
--- What the words of a command line ask for.
+-- The request of a command line's arguments.
 use Rattle.std.specs.Prelude.{ℕ, Bool, true, false, not, if◌then◌else◌, List, [], ◌∷◌, codes}
 use Rattle.std.specs.Prelude.{Option, Some, None, option_map, unwrap_or, ok_or, Result, Ok, Err}
 use Rattle.std.specs.Option.{option_map_or}
@@ -41,7 +41,7 @@ commands_of rows = if is_on (codes "-s") rows then Ok (single_commands (words_in
 abbrev pub depth_of : (text : List ℕ) → Result TargetsView UsageFault
 depth_of text = ok_or (option_map Depth (given_depth text)) (BadNumber text)
 
--- `depth`, `depth N`, `all`, `rule` or `rule NAME`; without words as `depth 1`
+-- `depth`, `depth N`, `all`, `rule` or `rule NAME`; without arguments as `depth 1`
 abbrev pub view_of : (name : List ℕ) (words : List (List ℕ)) → Result TargetsView UsageFault
 view_of name [] = Ok (Depth 1)
 view_of name (word ∷ []) =
@@ -70,15 +70,15 @@ abbrev pub query_of : (name : List ℕ) (words : List (List ℕ)) → Result Act
 query_of name [] = Err (BadWords name)
 query_of name (word ∷ words) = Ok (query (word ∷ words))
 
--- no words
+-- no arguments
 abbrev pub rules_of : (name : List ℕ) (descriptions : Bool) (words : List (List ℕ)) → Result ActionModel UsageFault
 rules_of name descriptions [] = Ok (rules descriptions)
 rules_of name descriptions (word ∷ words) = Err (BadWords name)
 
 -- ---- the request
 
--- What the tool of this name is asked for, by options that go with it. `inputs` takes any number of targets, and `compdb` any number of
--- rules; the working folder is its directory where no other is given.
+-- The action of the tool of this name, by options that go with it. `inputs` takes any number of targets, and `compdb` any number of
+-- rules; the working directory is its directory where no other is given.
 abbrev pub asked_of : Tool → (name : List ℕ) → List Row → Result ActionModel UsageFault
 asked_of tool.Commands name rows = commands_of rows
 asked_of tool.Inputs name rows = Ok (inputs (words_in rows) (is_on (codes "--validations") rows) (style_of rows))
@@ -109,11 +109,11 @@ request_in rows = do
     action = action;
   })
 
--- the rows are those that `clap` reads in the words
+-- the rows are those that `clap` reads in the arguments
 abbrev pub given_request : (words : List (List ℕ)) → Result RequestModel UsageFault
 given_request words = ok_or (given_rows words) Unparsed >>= request_in
 
--- without any words: all commands of a file that standard input gives
+-- without any arguments: all commands of a file from standard input
 abbrev pub wordless : RequestModel
 wordless = record { file = main_file; from_stdin = true; dyndep = false; action = commands [] false None [] }
 

@@ -8,7 +8,7 @@ ghost use Rattle.nj_args.specs.Inside.Held.{with_letter, with_name, as_flag};
 use clap::{Arg, ArgAction, Command};
 use std::alloc::{AllocError, Global};
 
-/// The command: its options, flags and words.
+/// The command: its options, flags and arguments.
 pub fn command<'a>(alloc: Global) -> Result<Command<'a>, AllocError>
     ensures { IfOk result (λ made. app_of made ≡ command) }
 {
@@ -30,7 +30,7 @@ pub fn command<'a>(alloc: Global) -> Result<Command<'a>, AllocError>
         .arg(all_words(alloc))
 }
 
-// The command without options and words. It knows neither help nor a version.
+// The command without options and arguments. It knows neither help nor a version.
 fn nothing_yet<'a>(alloc: Global) -> Command<'a>
     ensures { app_of result ≡ nothing_yet }
 {
@@ -71,7 +71,7 @@ fn long_flag<'a>(alloc: Global, text: &'a str, name: &'a str) -> Arg<'a>
     long_option(alloc, text, name).action(ArgAction::SetTrue)
 }
 
-// The words that are not options.
+// The arguments that are not options.
 fn all_words<'a>(alloc: Global) -> Arg<'a>
     ensures rule { rule_of result ≡ all_words }
     ensures local { result.global ≡ false }

@@ -1,4 +1,4 @@
-//! What the words of a command line give, as `clap` reads them.
+//! The values of a command line's arguments, as `clap` reads them.
 
 ghost use Rattle.std.specs.Prelude.{◌≡◌, ◌⊎◌, IfOk, IfErr, OnOk, true, false, map, string_bytes};
 ghost use Rattle.std.specs.Option.{option_copied};
@@ -14,7 +14,7 @@ use clap::ArgMatches;
 use clap::error::ErrorKind;
 use std::alloc::Global;
 
-/// What `clap` makes of the words. `Unparsed` where it refuses them.
+/// The matches of `clap` for the arguments. `Unparsed` where it refuses them.
 pub fn parse<'w>(alloc: Global, words: &'w [String]) -> Result<ArgMatches<'w>, UsageFault>
     ensures ok { OnOk result (is_refused (map string_bytes words.entry.now) ≡ false) }
     ensures rows { IfOk result (λ matches.
@@ -29,7 +29,7 @@ pub fn parse<'w>(alloc: Global, words: &'w [String]) -> Result<ArgMatches<'w>, U
     }
 }
 
-// What an error of `clap` is reported as.
+// The fault that reports an error of `clap`.
 fn refusal(kind: ErrorKind) -> UsageFault
     ensures { result ≡ refusal kind }
 {
@@ -56,7 +56,7 @@ pub fn is_on(matches: &ArgMatches<'_>, option: &str) -> bool
     }
 }
 
-/// The words that are not options.
+/// The arguments that are not options.
 pub fn words_in<'m, 'w>(matches: &'m ArgMatches<'w>) -> Option<&'m [&'w str]>
     ensures { word_strings result ≡ words_in (rows_in matches.entry.now) }
 {

@@ -1,4 +1,4 @@
-//! What the words of a command line are read by.
+//! Laws of how a command line is read.
 
 ghost use Rattle.nj_args.specs.FirstFaults.{FirstFaultIsReported, FaultlessWordsAreRequests};
 ghost use Rattle.nj_args.specs.RunMarks.{RunMarksAreApart};
@@ -9,12 +9,13 @@ pub fn run_marks_law()
     ensures { RunMarksAreApart }
 {}
 
-/// Which fault is reported of words that are not a request: the fault of their first mistake.
-/// `clap` refuses the words, and then nothing else is known of them; else, in this order, there is
-/// no tool, or none of that name; an option does not go with the tool, the first in the order of
+/// The fault that is reported of arguments that are not a request is that of their first mistake.
+/// `clap` refuses the arguments, and then nothing else is known of them; else, in this order, there
+/// is no tool, or none of that name; an option does not go with the tool, the first in the order of
 /// `ToolOption`; the value of `--take` is not a number, or the value of `--resume` not a mark; the
-/// tool does not take the words; the number of levels is not one. Each mistake is stated for
-/// itself, whatever else is wrong. Words without one are a request, and so are no words at all.
+/// tool does not take the arguments beside the options; the number of levels is not a number. Each
+/// mistake is stated for itself, whatever else is wrong. Arguments without one are a request, and
+/// so are no arguments at all.
 pub fn first_fault_law()
     ensures reported { FirstFaultIsReported }
     ensures faultless { FaultlessWordsAreRequests }

@@ -1,4 +1,4 @@
-//! What the words of a command line ask for.
+//! The request of a command line's arguments.
 #![tactic(auto)]
 
 mod command;

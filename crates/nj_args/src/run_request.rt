@@ -1,4 +1,4 @@
-//! Requests: what the words of a command line ask for.
+//! The request of a command line's arguments.
 
 ghost use Rattle.std.specs.Prelude.{◌≡◌, ◌⊎◌, None, Ok, Err, [], ◌∷◌, IfOk, IfErr, IfSome, IfNone, map, string_bytes};
 ghost use Rattle.nj_needs.specs.MarkTexts.{given_mark};
@@ -42,15 +42,15 @@ use std::alloc::{AllocError, Global};
 
 const MAIN_FILE: &str = "build.ninja";
 
-// The working folder, which `compdb` names if no other is given.
+// The working directory, which `compdb` names if no other is given.
 const HERE: &str = ".";
 
-/// What the words ask for, without the program's name. The first fault of the words in the order of
-/// [`UsageFault`] is reported.
+/// The request of these arguments, without the program's name. The first fault of the arguments in
+/// the order of [`UsageFault`] is reported.
 ///
 /// # Errors
 ///
-/// The words are not a valid request, or an allocation failed.
+/// The arguments are not a valid request, or an allocation failed.
 pub fn read_words(alloc: Global, words: &[String]) -> Result<Request, UsageFault>
     ensures ok { IfOk result (λ request.
         request_of (map string_bytes words.now) ≡ Ok (request_model request)) }
@@ -63,7 +63,7 @@ pub fn read_words(alloc: Global, words: &[String]) -> Result<Request, UsageFault
     }
 }
 
-// What is asked for without any words.
+// The request without any arguments.
 fn wordless(alloc: Global) -> Result<Request, UsageFault>
     ensures ok { IfOk result (λ request. request_model request ≡ wordless) }
     ensures err { IfErr result (λ fault. fault ≡ OutOfMemory) }
@@ -82,7 +82,7 @@ fn wordless(alloc: Global) -> Result<Request, UsageFault>
     })
 }
 
-// What is asked for by words as `clap` reads them.
+// The request of arguments as `clap` reads them.
 fn given_request(alloc: Global, words: &[String]) -> Result<Request, UsageFault>
     ensures ok { IfOk result (λ request.
         given_request (map string_bytes words.now) ≡ Ok (request_model request)) }
@@ -95,7 +95,7 @@ fn given_request(alloc: Global, words: &[String]) -> Result<Request, UsageFault>
     }
 }
 
-// What the matches ask for.
+// The request of the matches.
 fn request_in(alloc: Global, matches: &ArgMatches<'_>) -> Result<Request, UsageFault>
     ensures ok { IfOk result (λ request.
         request_in (rows_in matches.now) ≡ Ok (request_model request)) }
@@ -114,7 +114,7 @@ fn request_in(alloc: Global, matches: &ArgMatches<'_>) -> Result<Request, UsageF
     })
 }
 
-// What the tool of this name is asked for.
+// The action of the tool of this name.
 fn action_of(alloc: Global, name: &str, matches: &ArgMatches<'_>) -> Result<Action, UsageFault>
     ensures ok { IfOk result (λ action.
         action_of name.now (rows_in matches.now) ≡ Ok (action_model action)) }
@@ -133,7 +133,7 @@ fn action_of(alloc: Global, name: &str, matches: &ArgMatches<'_>) -> Result<Acti
     }
 }
 
-// What a tool is asked for, by options that go with it.
+// The action of a tool, by options that go with it.
 fn asked_of(
     alloc: Global,
     tool: Tool,
@@ -262,7 +262,7 @@ fn targets_of(alloc: Global, name: &str, matches: &ArgMatches<'_>) -> Result<Act
     })
 }
 
-// What `targets` lists by its words.
+// The list of `targets` by its arguments.
 fn view_of(alloc: Global, name: &str, words: Option<&[&str]>) -> Result<TargetsView, UsageFault>
     ensures ok { IfOk result (λ view. view_of name.now (word_strings words.entry) ≡ Ok view) }
     ensures err { IfErr result (λ fault. (fault ≡ OutOfMemory)
@@ -276,7 +276,7 @@ fn view_of(alloc: Global, name: &str, words: Option<&[&str]>) -> Result<TargetsV
     }
 }
 
-// What `targets` lists by one word.
+// The list of `targets` by one argument.
 fn view_of_word(alloc: Global, name: &str, word: &str) -> Result<TargetsView, UsageFault>
     ensures ok { IfOk result (λ view. view_of name.now (word.now ∷ []) ≡ Ok view) }
     ensures err { IfErr result (λ fault. (fault ≡ OutOfMemory)
@@ -290,7 +290,7 @@ fn view_of_word(alloc: Global, name: &str, word: &str) -> Result<TargetsView, Us
     }
 }
 
-// What `targets` lists by a word and its value.
+// The list of `targets` by an argument and its value.
 fn view_of_pair(
     alloc: Global,
     name: &str,
@@ -367,7 +367,7 @@ fn compdb_of(alloc: Global, matches: &ArgMatches<'_>) -> Result<Action, UsageFau
     })
 }
 
-// The words, as owned strings.
+// The arguments, as owned strings.
 fn owned(alloc: Global, words: Option<&[&str]>) -> Result<Vec<String>, AllocError>
     ensures { IfOk result (λ strings. map string_bytes strings.items ≡ word_strings words.entry) }
 {

@@ -1,4 +1,4 @@
-//! Why words are not a valid request.
+//! Why arguments are not a valid request.
 
 ghost use Rattle.std.specs.Prelude.{◌≡◌, Some, IfOk};
 ghost use Rattle.nj_args.specs.FaultLines.{fault_text, option_text};
@@ -10,7 +10,7 @@ use std::error::Error;
 use std::fmt;
 use std::marker::Model;
 
-/// A word of the command line, or the value of an option in it.
+/// An argument of the command line, or the value of an option in it.
 #[derive(Debug, Drop)]
 pub struct Word {
     text: String,
@@ -25,7 +25,7 @@ impl Model for Word {
 }
 
 impl Word {
-    /// The word of this text.
+    /// The argument of this text.
     pub fn new(alloc: Global, text: &str) -> Result<Word, AllocError>
         ensures { IfOk result (λ word. word ≡ text.now) }
     {
@@ -103,23 +103,24 @@ impl fmt::Display for ToolOption {
     }
 }
 
-/// Why the words of a command line are not a valid request.
+/// Why the arguments of a command line are not a valid request.
 #[derive(Debug, Drop)]
 pub enum UsageFault {
-    /// The words cannot be read: an option is unknown, given twice or without its value; or no tool
-    /// is given. The word after an option is not a value if it begins with `-`, but `-` itself is.
+    /// The arguments cannot be read: an option is unknown, given twice or without its value; or no
+    /// tool is given. The argument after an option is not a value if it begins with `-`, but `-`
+    /// itself is.
     Unparsed,
     /// There is no tool of this name ("Extra tools").
     UnknownTool(Word),
     /// The option does not go with the tool, or not with `-s`.
     ForeignOption { option: ToolOption, tool: Word },
-    /// The text is not a number: for `--take` one below 2 to the power of 64, for the words `depth
-    /// N` one of at most 2147483647.
+    /// The text is not a number: for `--take` one below 2 to the power of 64, for `depth N` one of
+    /// at most 2147483647.
     BadNumber(Word),
     /// The text is not a mark, or not a mark of such a run: with `--validations` it begins with
     /// `v`.
     BadMark(Word),
-    /// The tool of this name does not take the words given beside the options ("Extra tools").
+    /// The tool of this name does not take the arguments given beside the options ("Extra tools").
     BadWords(Word),
     /// An allocation failed.
     OutOfMemory,

@@ -1,4 +1,4 @@
-//! The line that reports why words are not a valid request.
+//! The line that reports why arguments are not a valid request.
 
 ghost use Rattle.std.specs.Prelude.{◌≡◌, IfOk};
 ghost use Rattle.nj_args.specs.FaultLines.{fault_line};
@@ -7,8 +7,8 @@ use crate::usage_fault::UsageFault;
 use std::alloc::{AllocError, Global};
 
 impl UsageFault {
-    /// The line that reports the fault, without a line end: `ninja-explain: TEXT`. Words are written
-    /// as they are.
+    /// The line that reports the fault, without a line end: `ninja-explain: TEXT`. Arguments are
+    /// written verbatim.
     ///
     /// # Errors
     ///

@@ -1,4 +1,4 @@
-//! What a row asks of a library, as text.
+//! The outcomes of rows of calls, as text.
 
 use crate::deps_logs::put_of_log;
 use crate::joined_logs::{put_joined, put_undeclared};
@@ -34,7 +34,7 @@ impl Outcomes for Calls {
     }
 }
 
-/// Appends what a row asks.
+/// Appends the outcome of a row.
 fn put_call(
     alloc: Global,
     text: &mut Vec<u8>,
@@ -52,7 +52,7 @@ fn put_call(
     }
 }
 
-/// Appends what a row asks of a text, of its words, or of the graph of the files.
+/// Appends the outcome of a row about a text, its words, or the graph of the files.
 fn put_other(
     alloc: Global,
     text: &mut Vec<u8>,
@@ -66,7 +66,7 @@ fn put_other(
     put_of_files(alloc, text, given, "build.ninja", row.kind, &words)
 }
 
-/// Appends what a row asks about one text. Returns whether its kind is one of these.
+/// Appends the outcome of a row about one text. Returns whether its kind is one of these.
 fn put_of_text(
     alloc: Global,
     text: &mut Vec<u8>,
@@ -87,7 +87,8 @@ fn put_of_text(
     Ok(true)
 }
 
-/// The text that a row is about: what comes after its kind, or if that is nothing the file `text`.
+/// The text that a row is about: the rest of its line after its kind, or if that is empty the file
+/// `text`.
 fn subject_of(alloc: Global, given: &Given, row: &Block<'_>) -> Result<Vec<u8>, AllocError> {
     if row.rest.is_empty() {
         return Vec::from_slice(alloc, given.bytes("text"));
@@ -95,7 +96,8 @@ fn subject_of(alloc: Global, given: &Given, row: &Block<'_>) -> Result<Vec<u8>, 
     bytes_of(alloc, row.rest)
 }
 
-/// Appends what a row asks by its words or its steps. Returns whether its kind is one of these.
+/// Appends the outcome of a row by its words or its steps. Returns whether its kind is one of
+/// these.
 fn put_of_words(
     alloc: Global,
     text: &mut Vec<u8>,

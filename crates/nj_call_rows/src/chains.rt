@@ -1,4 +1,4 @@
-//! What files need, and by which chain of inputs.
+//! The edges that files need, and by which chain of inputs.
 
 ghost use Rattle.std.specs.Prelude.{◌<◌, length, All};
 ghost use Rattle.nj_graph.specs.Graph.{files_of};

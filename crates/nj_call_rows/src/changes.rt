@@ -1,4 +1,4 @@
-//! What a change of files affects.
+//! The edges that a change of files affects.
 
 ghost use Rattle.std.specs.Prelude.{◌<◌, length, All, IfOk};
 ghost use Rattle.nj_graph.specs.Graph.{edges_of, files_of};
@@ -39,7 +39,7 @@ fn put_all_affected(
     Ok(())
 }
 
-/// The files at the clean paths of these words. A path that no edge names is passed over.
+/// The files at the clean paths of these texts. A path that no edge names is passed over.
 pub(crate) fn files_at(alloc: Global, graph: &Graph, paths: &str) -> Result<Vec<FileNo>, Error>
     ensures { IfOk result (λ files.
         All (λ file. file.0 < length (files_of graph.now)) files.items) }

@@ -1,4 +1,4 @@
-//! What the files of a run declare.
+//! The declarations of the files of a run.
 
 use crate::printer::{put_part, put_shown};
 use nj_graph::{EdgeNo, Graph, Rule};

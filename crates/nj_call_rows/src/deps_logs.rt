@@ -1,12 +1,12 @@
-//! What deps logs say.
+//! The contents of deps logs.
 
 use crate::log_parts::log_of;
 use crate::printer::put_shown;
 use nj_deps::{DepsLog, LoggedOutput};
 use std::alloc::{AllocError, Global};
 
-/// Appends what is asked of the deps log of these parts, or its fault: `deps-log`, all that it says,
-/// or `deps-of PATH`, what it says of the output at this path.
+/// Appends an outcome for the deps log of these parts, or its fault: `deps-log`, its whole
+/// contents, or `deps-of PATH`, its entry for the output at this path.
 pub fn put_of_log(
     alloc: Global,
     text: &mut Vec<u8>,

@@ -1,4 +1,4 @@
-//! What a graph has, as text.
+//! Parts of a graph, as text.
 
 ghost use Rattle.std.specs.Prelude.{◌<◌, length, All};
 ghost use Rattle.nj_graph.specs.Graph.{edges_of, files_of};
@@ -7,7 +7,7 @@ use crate::declared::{put_edge_rules, put_rule_lines, put_values, put_written};
 use nj_graph::{EdgeNo, FileNo, Graph, GraphFault, Kind, PlaceRef, pick_target};
 use std::alloc::{AllocError, Global};
 
-/// Appends what a row of this kind asks a graph for.
+/// Appends the part of a graph for a row of this kind.
 pub fn put_of_graph(
     alloc: Global,
     text: &mut Vec<u8>,
@@ -130,7 +130,7 @@ fn put_roots(text: &mut Vec<u8>, graph: &Graph) -> Result<(), AllocError> {
     text.extend_from_slice(b"\n")
 }
 
-/// Appends the path of the target that a word means, or the line of its fault.
+/// Appends the path of the target that an argument means, or the line of its fault.
 fn put_picked(
     alloc: Global,
     text: &mut Vec<u8>,
@@ -190,7 +190,8 @@ fn put_variable(text: &mut Vec<u8>, graph: &Graph, name: &[u8]) -> Result<(), Al
     Ok(())
 }
 
-/// Appends the commands of the edges as they are without their response files, a line each.
+/// Appends the commands of the edges with the contents of their response files in place, a line
+/// each.
 fn put_with_response_files(
     alloc: Global,
     text: &mut Vec<u8>,
@@ -264,7 +265,7 @@ fn put_openings(alloc: Global, text: &mut Vec<u8>, graph: &Graph) -> Result<(), 
     Ok(())
 }
 
-/// Appends what the block of each edge binds, a line each.
+/// Appends the bindings of each edge's block, a line each.
 fn put_blocks(text: &mut Vec<u8>, graph: &Graph) -> Result<(), AllocError> {
     'edges: for number in 0..graph.edge_count() {
         put_block(text, graph, EdgeNo(number))?;

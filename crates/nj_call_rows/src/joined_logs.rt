@@ -1,4 +1,5 @@
-//! What deps logs add to the edges of the files of a row, and what these do not declare.
+//! The inputs that deps logs add to the edges of the files of a row, and those that these do not
+//! declare.
 
 ghost use Rattle.std.specs.Prelude.{◌<◌, length};
 ghost use Rattle.nj_graph.specs.Graph.{edges_of, files_of};

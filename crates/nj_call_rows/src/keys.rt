@@ -12,7 +12,7 @@ pub(crate) struct DrawnKeys {
 }
 
 impl DrawnKeys {
-    /// The keys of two sources of the files of the working folder.
+    /// The keys of two sources of the files of the working directory.
     pub fn draw(rt: HostRuntime) -> Result<DrawnKeys, AllocError> {
         Ok(DrawnKeys {
             one: keys_of_source(rt)?,
@@ -30,7 +30,7 @@ impl DrawnKeys {
     }
 }
 
-/// The keys that a new source of the files of the working folder draws.
+/// The keys that a new source of the files of the working directory draws.
 fn keys_of_source(rt: HostRuntime) -> Result<HashKeys, AllocError> {
     let source = DiskFiles::new(rt, rt.alloc(), None)?;
     Ok(source.hash_keys())

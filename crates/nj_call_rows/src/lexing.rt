@@ -1,10 +1,10 @@
-//! What the calls of a lexer return, as text.
+//! The results of a lexer's calls, as text.
 
 use crate::printer::{put_answer, put_shown, put_word, steps_of};
 use nj_text::{LexFault, Lexer, LineStart, PlainBinding, PlainWord, Sign, Word};
 use std::alloc::{AllocError, Global};
 
-/// Appends the steps in which a text is read: each call with what it returns.
+/// Appends the steps in which a text is read: each call with its result.
 pub fn put_lexed(
     alloc: Global,
     text: &mut Vec<u8>,
@@ -19,7 +19,7 @@ pub fn put_lexed(
     Ok(())
 }
 
-/// Makes a call, and appends it with what it returns, as a line.
+/// Makes a call, and appends it with its result, as a line.
 fn put_step(
     alloc: Global,
     text: &mut Vec<u8>,
@@ -32,7 +32,7 @@ fn put_step(
     text.extend_from_slice(b"\n")
 }
 
-/// Makes a call, and appends what it returns.
+/// Makes a call, and appends its result.
 fn put_outcome(
     alloc: Global,
     text: &mut Vec<u8>,

@@ -1,4 +1,4 @@
-//! What the files of a row are loaded as: their graph, or their first fault.
+//! The loads of a row's files: their graph, or their first fault.
 
 use crate::chains::{put_between, put_needed};
 use crate::changes::put_affected;
@@ -9,11 +9,12 @@ use nj_rows::{Given, first_of};
 use nj_scope::MemoryFiles;
 use std::alloc::{AllocError, Global};
 
-/// Appends what is asked of the files, of which `main` is the main one: `load`, the line of their
-/// first fault, or `accepted`; `cause`, the cause of that fault; `kept`, the files that are kept;
-/// `affected` and `affected-joined`, what a change of the files at the paths `words` affects;
-/// `needed`, what these files need; `between`, and with validations `between-with-validations`, by
-/// which chain the first of them needs the second; any other kind, a part of their graph.
+/// Appends an outcome for the files with the main file `main`: `load`, the line of their first
+/// fault, or `accepted`; `cause`, the cause of that fault; `kept`, the files that are kept;
+/// `affected` and `affected-joined`, the outputs that a change of the files at the paths `words`
+/// affects; `needed`, those that these files need; `between`, and with validations
+/// `between-with-validations`, by which chain the first of them needs the second; any other kind, a
+/// part of their graph.
 pub(crate) fn put_of_files(
     alloc: Global,
     text: &mut Vec<u8>,
@@ -26,8 +27,8 @@ pub(crate) fn put_of_files(
     put_loaded(alloc, text, &mut files, main, kind, words)
 }
 
-/// What the files give, of which `main` is the main one. It has no clause, so that the proofs of
-/// what calls it need not go through those of `load`.
+/// The load of the files with the main file `main`. It has no clause, so that the proofs of its
+/// callers need not go through those of `load`.
 pub(crate) fn read_files(
     alloc: Global,
     files: &mut MemoryFiles,
@@ -36,7 +37,7 @@ pub(crate) fn read_files(
     load(alloc, files, main)
 }
 
-/// Appends what is asked of the files.
+/// Appends an outcome for the files.
 fn put_loaded(
     alloc: Global,
     text: &mut Vec<u8>,
@@ -51,7 +52,7 @@ fn put_loaded(
     }
 }
 
-/// What the files give, and for `affected-joined` what their dyndep files discover as well.
+/// The load of the files, for `affected-joined` with the discoveries of their dyndep files.
 fn loaded_for(
     alloc: Global,
     files: &mut MemoryFiles,
@@ -65,7 +66,7 @@ fn loaded_for(
     }
 }
 
-/// Appends what is asked of files that have no fault.
+/// Appends an outcome for files without a fault.
 fn put_success(
     alloc: Global,
     text: &mut Vec<u8>,
@@ -76,7 +77,7 @@ fn put_success(
     put_part_of(alloc, text, &loaded, kind, words)
 }
 
-/// Appends this part of what files give.
+/// Appends this part of the load of files.
 fn put_part_of(
     alloc: Global,
     text: &mut Vec<u8>,

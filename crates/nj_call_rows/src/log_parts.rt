@@ -76,8 +76,8 @@ fn padding_of(path: &str) -> &'static [u8] {
     }
 }
 
-/// Appends the record of an output: its number, a time of eight bytes, and the numbers of what it
-/// depends on.
+/// Appends the record of an output: its number, a time of eight bytes, and the numbers of its
+/// inputs.
 fn put_dependencies(alloc: Global, log: &mut Vec<u8>, record: &str) -> Result<(), AllocError> {
     let (output, rest) = first_of(record);
     let (time, inputs) = first_of(rest);

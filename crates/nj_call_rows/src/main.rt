@@ -1,4 +1,4 @@
-//! Runs the rows of calls: each is what one library returns, of those up to the graph or of deps
+//! Runs the rows of calls: each has results of one library, of those up to the graph or of deps
 //! logs. `nj_run_rows` has the rows of runs.
 #![tactic(auto)]
 

@@ -1,4 +1,4 @@
-//! What marks read as and are written as.
+//! How marks are read and written.
 
 use crate::printer::put_shown;
 use nj_needs::Mark;

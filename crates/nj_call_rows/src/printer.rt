@@ -1,10 +1,10 @@
-//! What calls return, as text.
+//! The results of calls, as text.
 
 use nj_manifest::{Part, Word};
 use std::alloc::{AllocError, Global};
 use std::fmt::Display;
 
-/// The steps of a row that says what calls to make by what it wants, a line each.
+/// The steps of a row whose wanted lines name the calls to make, a line each.
 pub fn steps_of(wanted: &[u8]) -> &str {
     match str::from_utf8(wanted) {
         Ok("") | Err(_) => "no steps",
@@ -12,7 +12,7 @@ pub fn steps_of(wanted: &[u8]) -> &str {
     }
 }
 
-/// Appends a value as it is shown.
+/// Appends a value as it is displayed.
 pub fn put_shown(
     alloc: Global,
     text: &mut Vec<u8>,

@@ -53,8 +53,8 @@ fn put_lines(alloc: Global, text: &mut Vec<u8>, fault: &GraphFault) -> Result<()
     text.extend_from_slice(b"\n")
 }
 
-/// The fault that words describe: `unknown-rule NAME FILE`, at line 7 and column 11 of the file,
-/// `no-statement OUTPUT FILE`, for which no place is to blame, or else a lack of memory.
+/// The fault that a text describes: `unknown-rule NAME FILE`, at line 7 and column 11 of the file,
+/// `no-statement OUTPUT FILE`, without a location, or else a lack of memory.
 fn fault_of(alloc: Global, asked: &str) -> Result<GraphFault, AllocError> {
     let (kind, names) = asked.split_once(' ').unwrap_or((asked, ""));
     let (first, second) = names.split_once(' ').unwrap_or((names, ""));

@@ -12,7 +12,7 @@ use nj_edges::{EdgeGraph, Edges, FileNo, Finished, HashKeys, KindEnds};
 use std::alloc::{AllocError, Global};
 use std::fmt::Write;
 
-/// Appends what is asked of the graph of these edges.
+/// Appends an outcome for the graph of these edges.
 pub fn put_of_edges(
     alloc: Global,
     text: &mut Vec<u8>,
@@ -155,7 +155,7 @@ fn put_counts(alloc: Global, text: &mut Vec<u8>, graph: &EdgeGraph) -> Result<()
     text.extend_from_slice(b"\n")
 }
 
-/// Appends the steps in which the files of edges are collected: each call with what it returns.
+/// Appends the steps in which the files of edges are collected: each call with its result.
 pub fn put_collected(alloc: Global, text: &mut Vec<u8>, wanted: &[u8]) -> Result<(), AllocError> {
     let mut edges = Edges::new(alloc, HashKeys::new(7));
     put_steps(alloc, text, &mut edges, steps_of(wanted))

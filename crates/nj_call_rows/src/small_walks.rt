@@ -1,7 +1,7 @@
-//! What walks over small graphs return.
+//! The results of walks over small graphs.
 //!
-//! What a walk has left is written as its edges, each with the mark after it, and the mark where
-//! none is left.
+//! The rest of a walk is written as its edges, each with the mark after it, and the mark where none
+//! is left.
 
 ghost use Rattle.std.specs.Prelude.{◌<◌, length, All};
 
@@ -12,8 +12,8 @@ use nj_edges::{EdgeGraph, FileNo};
 use nj_needs::{Mark, MarkFault, Needs, grow_targets};
 use std::alloc::{AllocError, Global};
 
-/// Appends what is asked of a walk over a graph: `walk PATH..`, `count PATH..`, `grown PATH..`,
-/// `begin MARK PATH..`, `resume MARK PATH..` or `resume-within TURNS MARK PATH..`.
+/// Appends an outcome of a walk over a graph: `walk PATH..`, `count PATH..`, `grown PATH..`, `begin
+/// MARK PATH..`, `resume MARK PATH..` or `resume-within TURNS MARK PATH..`.
 pub fn put_of_walk(
     alloc: Global,
     text: &mut Vec<u8>,
@@ -35,12 +35,12 @@ pub fn put_of_walk(
     }
 }
 
-/// What is asked of a walk that was resumed.
+/// The outcomes of a walk that was resumed.
 #[derive(Clone, Copy)]
 enum Left {
     /// Its mark before any edge is returned.
     Nothing,
-    /// What it has left, if it takes at most this many turns in all.
+    /// The rest of it, if it takes at most this many turns in all.
     Edges(u64),
 }
 
@@ -73,7 +73,7 @@ fn count_left(needs: &mut Needs<'_>) -> usize {
     count
 }
 
-/// Appends what is asked of the walk to these files that is resumed at a mark, or the fault.
+/// Appends an outcome of the walk to these files that is resumed at a mark, or the fault.
 fn put_resumed(
     alloc: Global,
     text: &mut Vec<u8>,
@@ -105,7 +105,7 @@ fn resumed<'g>(
     Needs::resume(alloc, graph, targets, &mark)
 }
 
-/// Appends what is asked of a walk that was resumed.
+/// Appends an outcome of a walk that was resumed.
 fn put_left_within(
     alloc: Global,
     text: &mut Vec<u8>,
@@ -122,7 +122,7 @@ fn put_left_within(
     Ok(())
 }
 
-/// Appends what the walk has left.
+/// Appends the rest of the walk.
 fn put_left(alloc: Global, text: &mut Vec<u8>, needs: &mut Needs<'_>) -> Result<(), AllocError> {
     'edges: while let Some(edge) = needs.next() {
         put_shown(alloc, text, &edge.0)?;
@@ -140,7 +140,7 @@ fn put_place(alloc: Global, text: &mut Vec<u8>, needs: &Needs<'_>) -> Result<(),
     text.extend_from_slice(b"\n")
 }
 
-/// Appends the paths of files and of what is to be validated when they are built, a line each.
+/// Appends the paths of files and of the validations of the edges that they need, a line each.
 fn put_grown(
     alloc: Global,
     text: &mut Vec<u8>,

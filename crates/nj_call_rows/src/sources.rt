@@ -1,11 +1,11 @@
-//! What sources and tables of files return.
+//! The results of sources and tables of files.
 
 use crate::printer::{put_answer, put_bytes, put_shown, steps_of};
 use nj_scope::{FileSource, FileTable, MemoryFiles};
 use std::alloc::{AllocError, Global};
 use std::rc::RcSlice;
 
-/// Files in memory, a table of what was read of them, and the bytes that it shared first.
+/// Files in memory, a table of their readings, and the bytes that it shared first.
 #[derive(Drop)]
 struct Sources {
     files: MemoryFiles,
@@ -13,7 +13,7 @@ struct Sources {
     held: Option<RcSlice<u8>>,
 }
 
-/// Appends the steps in which files are added and read: each call with what it returns.
+/// Appends the steps in which files are added and read: each call with its result.
 pub fn put_sources(alloc: Global, text: &mut Vec<u8>, wanted: &[u8]) -> Result<(), AllocError> {
     let files = MemoryFiles::new(alloc);
     let table = FileTable::new(alloc, files.hash_keys());
@@ -41,7 +41,7 @@ fn put_steps(
     Ok(())
 }
 
-/// Adds a file, sets which reading fails, or makes a call and appends what it returns.
+/// Adds a file, sets which reading fails, or makes a call and appends its result.
 fn put_step(
     alloc: Global,
     text: &mut Vec<u8>,
@@ -83,7 +83,7 @@ fn put_outcome(
     }
 }
 
-/// Appends what the reading of a path returns.
+/// Appends the result of reading a path.
 fn put_read(
     alloc: Global,
     text: &mut Vec<u8>,
@@ -97,7 +97,7 @@ fn put_read(
     }
 }
 
-/// Appends what the opening of a path returns. The first bytes that come are held.
+/// Appends the result of opening a path. The first bytes that come are held.
 fn put_opened(
     alloc: Global,
     text: &mut Vec<u8>,

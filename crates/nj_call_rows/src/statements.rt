@@ -1,4 +1,4 @@
-//! What texts are read as, line by line: manifests and dyndep files.
+//! The readings of texts, line by line: manifests and dyndep files.
 
 use crate::printer::{put_shown, put_word};
 use nj_manifest::{Build, DyndepParser, Entry, Line, Parser, Spot, Statement, Word};
@@ -7,7 +7,7 @@ use std::alloc::{AllocError, Global};
 /// How often a parser is called for a text: more often than any text of a row has statements.
 const CALLS: usize = 9;
 
-/// What a text is read as.
+/// The kind of file as which a text is read.
 #[derive(Clone, Copy)]
 pub enum Grammar {
     Manifest,
@@ -35,7 +35,7 @@ pub fn put_parsed(
     put_all(alloc, text, &mut reader)
 }
 
-/// Appends what the calls return.
+/// Appends the results of the calls.
 fn put_all(alloc: Global, text: &mut Vec<u8>, reader: &mut Reader<'_>) -> Result<(), AllocError> {
     for _ in 0..CALLS {
         put_next(alloc, text, reader)?;
@@ -43,7 +43,7 @@ fn put_all(alloc: Global, text: &mut Vec<u8>, reader: &mut Reader<'_>) -> Result
     Ok(())
 }
 
-/// Appends what the next call returns, as a line, unless that is the last line already.
+/// Appends the result of the next call, as a line, unless that is the last line already.
 fn put_next(alloc: Global, text: &mut Vec<u8>, reader: &mut Reader<'_>) -> Result<(), AllocError> {
     let mut line = Vec::new(alloc);
     match reader {

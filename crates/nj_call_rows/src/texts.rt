@@ -1,4 +1,4 @@
-//! What calls on single texts return: paths, quotes, numbers and hashes.
+//! The results of calls on single texts: paths, quotes, numbers and hashes.
 
 use crate::printer::put_shown;
 use nj_names::HashKeys;
@@ -6,7 +6,7 @@ use nj_rows::bytes_of;
 use nj_text::{Lossy, clean_into, clean_path, is_clean, leading_number, quote_into, version_of};
 use std::alloc::{AllocError, Global};
 
-/// Appends what a text gives by this call, as a line.
+/// Appends the result of this call for a text, as a line.
 pub fn put_meant(
     alloc: Global,
     text: &mut Vec<u8>,
@@ -41,7 +41,7 @@ pub fn put_clean(alloc: Global, text: &mut Vec<u8>, path: &[u8]) -> Result<(), A
     Ok(())
 }
 
-/// Appends what words give by this call, one directly after another, as a line. A fault is in
+/// Appends the results of this call for words, one directly after another, as a line. A fault is in
 /// brackets.
 pub fn put_in_turn(
     alloc: Global,

@@ -113,11 +113,11 @@ writes-the_needed entries words validations none ends_so =
 
 -- ---- pages
 
--- the targets of the words are these alone
+-- the targets of the arguments are these alone
 same-targets : (entries : List ReadStatement) (words : List (List ℕ)) (validations : Bool) (targets others : List (List ℕ)) → targets_of entries validations words ≡ Ok targets → targets_of entries validations words ≡ Ok others → others ≡ targets
 same-targets entries words validations targets others one other = let e : Ok others ≡ Ok targets = sym other ∙ one in cc
 
--- what was asked for is one run
+-- the request is one run
 run-is : (words : List (List ℕ)) (validations : Bool) (limit : Option ℕ) (resume : Option (List ℕ)) (run : ActionModel) (start : List ℕ) → start_of validations resume ≡ Ok start → IsRun words validations limit resume run
     → run ≡ commands words validations limit start
 run-is words validations limit resume run start meant (other, given_too, is) =

@@ -1,4 +1,4 @@
--- What was read of files, with what dyndep files discover.
+-- The statements read from files, with the discoveries of dyndep files.
 use Rattle.std.proofs.Common.{◌≡◌, inr, ℕ, Bool, true, false, Result, Ok, Err, List, [], subst}
 use Rattle.nj_scope.specs.Readings.{Reading}
 use Rattle.nj_scope.specs.Sources.{SourceState}

@@ -1,4 +1,4 @@
--- What is reported where the words ask for nothing.
+-- The report where the arguments are not a valid request.
 use Rattle.std.proofs.Common.{◌≡◌, ◌≢◌, ◌⊎◌, inl, inr, ℕ, None, Result, Err, List, refl, sym, subst}
 use Rattle.nj_args.specs.FaultLines as lines
 use Rattle.nj_args.specs.declared.usage_fault.UsageFault.{UsageFault}
@@ -47,7 +47,7 @@ module _ (words : List (List ℕ)) (old new : Around) (source : new.source ≡ o
   by_fault (usage.BadMark text) status why known = misused (usage.BadMark text) status why known
   by_fault (usage.BadWords tool) status why known = misused (usage.BadWords tool) status why known
 
--- what a run does whose words ask for nothing
+-- a run whose arguments are not a valid request
 pub RunsAndKeeps-misused : (words : List (List ℕ)) (old new : Around) (fault : UsageFault) (status : Status)
     → (fault ≡ usage.OutOfMemory) ⊎ (request_of words ≡ Err fault) → new.source ≡ old.source → new.output ≡ old.output
     → ReportsMisuse old.error new.error fault status → RunsAndKeeps words old new status None

@@ -48,7 +48,7 @@ use Rattle.nj_cli.specs.Inside.RunSteps.{ReturnsFor, fault_of_mark, fault_of_too
 use Rattle.nj_cli.specs.declared.run_fault.RunFault.{RunFault}
 use Rattle.nj_cli.specs.declared.run_fault.RunFault.TheVariants as fault
 
--- the targets of a run, by those that its words name
+-- the targets of a run, by those that its arguments name
 abbrev targets_from : List ReadStatement → (validations : Bool) → Result (List (List ℕ)) GraphFault → Result (List (List ℕ)) GraphFault
 targets_from entries validations named =
     named >>= (λ targets. Ok (with_validations validations (edges_by_path entries) targets))
@@ -94,20 +94,20 @@ module _ (entries : List ReadStatement) (g : GraphModel) (is : IsGraphOf g entri
       (ap (λ (ds : List (List ℕ)). targets_or ds (edges_by_path entries) words) (sym defaults-are)
       ∙ ap (λ (es : List EdgePaths). targets_or (defaults_in_force g.built.defaults (edges_of g)) es words) (sym edges-are) ∙ named)
 
-  -- a word that names no target
+  -- an argument that names no target
   pub targets-refused : (validations : Bool) (words : List (List ℕ)) (f : GraphFault) → (f ≡ no_memory) ⊎ (targets_of_graph words ≡ Err f)
       → (f ≡ no_memory) ⊎ (targets_of entries validations words ≡ Err f)
   targets-refused validations words f (inl none) = inl none
   targets-refused validations words f (inr named) = inr (targets-are validations words (Err f) named)
 
-  -- all words name targets
+  -- all arguments name targets
   pub targets-picked : (validations : Bool) (words paths : List (List ℕ)) (numbers : List FileNo) → targets_of_graph words ≡ Ok paths
       → AreFiles (files_of g) numbers (with_validations validations (edges_by_path entries) paths)
       → (targets : List (List ℕ)) × (targets_of entries validations words ≡ Ok targets) × AreFiles (files_of g) numbers targets
   targets-picked validations words paths numbers named are =
       (with_validations validations (edges_by_path entries) paths, targets-are validations words (Ok paths) named, are)
 
-  -- what is to be validated comes after them
+  -- validations come after them
   pub grown-are : (targets : List (List ℕ)) (numbers grown : List FileNo) → AreFiles (files_of g) numbers targets
       → AreFiles (files_of g) grown (grown_targets (edges_of g) (map (path_at (files_of g)) numbers))
       → AreFiles (files_of g) grown (with_validations true (edges_by_path entries) targets)
@@ -150,7 +150,7 @@ module _ (entries : List ReadStatement) (g : GraphModel) (is : IsGraphOf g entri
 
   -- ---- tools without targets
 
-  -- what a tool did to its sink
+  -- a tool and its sink
   finishes : (action : ActionModel) (old new : SinkState) → EndsWith entries action finished → Takes old new (output_of entries action)
       → ReturnsFor entries action old new (Ok None)
   finishes action old new ends took = (ends, took)
@@ -162,7 +162,7 @@ module _ (entries : List ReadStatement) (g : GraphModel) (is : IsGraphOf g entri
   stops action old new tool.OutOfMemory stopped_so = stopped_so
   stops action old new (tool.TextNotUtf8 edge) stopped_so = absurd stopped_so
 
-  -- ---- files that are asked about
+  -- ---- queried files
 
   module _ (words paths : List (List ℕ)) (named : targets_named (edges_of g) words ≡ Ok paths) (numbers : List FileNo) (are : AreFiles (files_of g) numbers paths) where
     query-text : query_text entries (map (path_at (files_of g)) numbers) ≡ output_of entries (ask.query words)
@@ -302,7 +302,7 @@ module _ (entries : List ReadStatement) (g : GraphModel) (is : IsGraphOf g entri
               (subst (λ (ns : List FileNo). IsMarkAfter (makers_of g.built.graph) (count_of g.built.graph) (row_of g.built.graph ns) w.mark edges mark) begins.targets
               (subst (λ (h : EdgeGraph). IsMarkAfter (makers_of h) (count_of h) (row_of h w.targets) w.mark edges mark) begins.graph after)))
 
-          -- what is left was written, or so much as may be
+          -- the rest was written, or so much as may be
           pub commands-answered : (old new : SinkState) (mark : Option (List ℕ)) → Takes old new (command_lines entries (written take w.left)) → StopsAt w take mark
               → ReturnsFor entries (commands words validations take start) old new (Ok mark)
           commands-answered old new None took stops = (

@@ -61,9 +61,9 @@ entries_of_text : (read_of text []).entries ≡ entries
 unfolding on_files
 entries_of_text = refl
 
--- ---- what a row shows
+-- ---- the facts of a row
 
--- what a row unfolds to compute on the entries
+-- the definitions that a row unfolds to compute on the entries
 unfoldable on_entries : ⊤
 unfolding on_files quoted defaults_read
 on_entries = tt
@@ -94,7 +94,7 @@ all_ends : ends_so (commands d false None []) finished
 unfolding on_entries
 all_ends = (refl, refl)
 
--- without words the defaults are the targets, which are the roots here
+-- without arguments the defaults are the targets, which are the roots here
 wordless : outputs (commands [] false None []) (codes "mk a\nmk b1\nmk b2\nmk d\n")
 unfolding on_entries
 wordless = refl
@@ -235,7 +235,7 @@ two_and_rest =
     stops (commands d false (Some 2) []) (0 ∷ 0 ∷ []) from_start two_stops two
     (no_runs (commands d false None (0 ∷ 0 ∷ [])) rest_from_text from_0_0)
 
--- ---- what is reported
+-- ---- reports
 
 error_of_ended : error_of false finished ≡ []
 error_of_ended = refl
@@ -291,7 +291,7 @@ one_followed_stops : EndsWith checked (commands t true (Some 1) []) (stopped (0 
 unfolding on_entries
 one_followed_stops = (refl, more, (refl, ([], refl, refl)), reads_0)
 
--- the second target is the validation, of which t is the first input
+-- the second target is the validation, whose first input is t
 from_1_0 : output_of checked (commands t true None (1 ∷ 0 ∷ [])) ≡ codes "mk v\n"
 unfolding on_entries
 from_1_0 = refl

@@ -95,13 +95,13 @@ pub Keeps-refused : (request : RequestModel) (files : List Reading) (old new : A
 Keeps-refused request files old new fault status kept read reading output error is none =
     (files, read, inl (record { fault = fault; reading = reading; output = output; error = error; status_is = is }, none))
 
--- what is kept of a request is kept of its words
+-- the files and graph kept for a request are kept for its arguments
 pub RunsAndKeeps-from : (words : List (List ℕ)) (request : RequestModel) (old new : Around) (status : Status) (kept : Option LoadedModel)
     → request_of words ≡ Ok request → RunsAsAndKeeps request old new status kept → RunsAndKeeps words old new status kept
 RunsAndKeeps-from words request old new status kept meant keeps =
     inl (subst (λ (r : Result RequestModel UsageFault). RunsAndKeepsWith r old new status kept) (sym meant) keeps)
 
--- what a run does, whatever is kept
+-- a run, whatever is kept
 pub RunsAs-kept : (request : RequestModel) (old new : Around) (status : Status) (kept : Option LoadedModel)
     → RunsAsAndKeeps request old new status kept → RunsAs request old new status
 RunsAs-kept request old new status kept (files, read, inl (refused, none)) = (files, read, inl refused)

@@ -1,4 +1,4 @@
--- The outcome of a run, by the statements of its files and by what is asked for: its output, and how it ends.
+-- The outcome of a run, by the statements of its files and by its action: its output, and how it ends.
 use Rattle.std.specs.Prelude.{◌≡◌, ◌≢◌, ℕ, Bool, true, false, if◌then◌else◌, Option, Some, None, Result, Ok, Err, MatchResult, List, [], ◌++◌, length, slice_get, codes}
 use Rattle.std.specs.Option.{option_map_or}
 use Rattle.nj_scope.specs.ReadingList.{ReadStatement}
@@ -27,7 +27,7 @@ use Rattle.nj_cli.specs.Targets.{edges_by_path, targets_of}
 use Rattle.nj_cli.specs.declared.status.Status.{Status}
 use Rattle.nj_cli.specs.declared.status.Status.TheVariants.{Done, Fault, Stopped, OutputFailed}
 
--- ---- what is left to write
+-- ---- the rest to write
 
 -- each step of a mark leads to an edge, starting from these targets; the mark of the start has no steps
 abbrev pub leads : List ReadStatement → (targets : List (List ℕ)) → (mark : List ℕ) → Bool
@@ -61,7 +61,7 @@ page_text entries take start targets =
 abbrev pub single_commands_text : List ReadStatement → (targets : List (List ℕ)) → List ℕ
 single_commands_text entries targets = command_lines entries (own_commands_in (edges_by_path entries) targets)
 
--- the whole output; empty at a fault, except for what `compdb` writes before one
+-- the whole output; empty at a fault, except for the objects that `compdb` writes before one
 abbrev pub output_of : List ReadStatement → ActionModel → List ℕ
 output_of entries (commands words validations take start) =
     for_targets (page_text entries take start) (targets_of entries validations words)
@@ -75,7 +75,7 @@ output_of entries (ask.compdb names directory expand) = compdb_text entries dire
 
 -- ---- how it ends
 
--- All was written; or the run stopped at a mark, and more is left; or this is what is wrong.
+-- All was written; or the run stopped at a mark, and more is left; or this text reports the fault.
 pub data Ending : Type 0 where
   finished : Ending
   stopped : (mark : List ℕ) → Ending
@@ -84,8 +84,8 @@ pub data Ending : Type 0 where
 abbrev pub out_of_range : List ℕ
 out_of_range = codes "ninja-explain: mark out of range"
 
--- Nothing is left after what is written; or the run stops at the mark after that, as written; or the mark from which it began leads to no
--- edge.
+-- Nothing is left after the written commands; or the run stops at the mark after them, as written; or the mark from which it began leads
+-- to no edge.
 abbrev pub PageEnds : List ReadStatement → (take : Option ℕ) → (start : List ℕ) → (targets : List (List ℕ)) → Ending → Type 0
 PageEnds entries take start targets finished =
     (leads entries targets start ≡ true) × (left_after take (commands_left entries targets start) ≡ [])
@@ -96,7 +96,7 @@ PageEnds entries take start targets (stopped mark) =
     × ReadsBack mark
 PageEnds entries take start targets (faulty text) = (leads entries targets start ≡ false) × (text ≡ out_of_range)
 
--- how a run ends for targets; if they have a fault, that is what is wrong
+-- how a run ends for targets; if they have a fault, with that
 abbrev pub EndsFor : (Ends : List (List ℕ) → Ending → Type 0) → (targets : Result (List (List ℕ)) GraphFault) → Ending → Type 0
 EndsFor Ends targets ending = MatchResult targets (λ targets. Ends targets ending) (λ fault. ending ≡ faulty (fault_line fault))
 
@@ -123,7 +123,7 @@ EndsWith entries (ask.compdb names directory expand) ending =
     let refused : ℕ → Ending = λ edge. faulty (fault_line (text_fault (slice_get (edges_read entries) edge))) in
     ending ≡ option_map_or refused (unheld_edge entries names expand) finished
 
--- ---- what is reported of it
+-- ---- the report of it
 
 -- whether a run follows validations
 abbrev pub follows_validations : ActionModel → Bool
@@ -135,7 +135,7 @@ follows_validations _ = false
 abbrev pub mark_line : (validations : Bool) → (mark : List ℕ) → List ℕ
 mark_line validations mark = line (codes "mark " ++ run_mark_text validations mark)
 
--- the error output
+-- the text on standard error
 abbrev pub error_of : (validations : Bool) → Ending → List ℕ
 error_of validations finished = []
 error_of validations (stopped mark) = mark_line validations mark
@@ -146,7 +146,7 @@ status_of finished = Done
 status_of (stopped mark) = Stopped
 status_of (faulty text) = Fault
 
--- the status if the error output failed: a run whose mark is not reported cannot be resumed
+-- the status if standard error failed: a run whose mark is not reported cannot be resumed
 abbrev pub status_untold : Ending → Status
 status_untold (stopped mark) = OutputFailed
 status_untold ending = status_of ending

@@ -1,4 +1,4 @@
--- What a run of `commands` is for.
+-- The law of a run of `commands`.
 use Rattle.std.specs.Prelude.{◌≡◌, ◌↔◌, ℕ, Bool, false, Option, None, Some, Ok, List, [], ◌∷◌, ◌++◌, length, Contains, nat_eq}
 use Rattle.std.specs.List.{concat, IsDistinct}
 use Rattle.nj_scope.specs.ReadingList.{ReadStatement}
@@ -17,8 +17,8 @@ use Rattle.nj_cli.specs.Answers.{output_of, Ending, finished, stopped, EndsWith}
 use Rattle.nj_cli.specs.Targets.{edges_by_path, NoEdgeNeedsItself, targets_of}
 
 -- These are the edges, by number, whose commands the targets need: exactly the edges that have a command and that the targets need through
--- any chain of inputs; each once; each after all others that it needs through any chain; in the order in which they are first completed
--- from left to right, as `needed_commands` defines it.
+-- any chain of inputs; without duplicates; each after all others that it needs through any chain; in the order in which they are first
+-- completed from left to right, as `needed_commands` defines it.
 pub record AreNeeded (edges : List EdgePaths) (targets : List (List ℕ)) (numbers : List ℕ) : Type 0 where
   pub reached : (e : ℕ) → Contains numbers e ↔ (Reached (makers_of_inputs edges) (row_of_paths edges targets) e × (is_phony_in edges e ≡ false))
   pub once : IsDistinct nat_eq numbers
@@ -26,7 +26,7 @@ pub record AreNeeded (edges : List EdgePaths) (targets : List (List ℕ)) (numbe
   pub order : numbers ≡ needed_commands (makers_of_inputs edges) (length edges) (is_phony_in edges) (row_of_paths edges targets)
 
 -- A run from the start that finishes writes a line for each of the needed edges: its command. If it follows validations, the targets are
--- the edges of its words and what is to be validated when they are built.
+-- those of its arguments and the validations of the edges that they need.
 abbrev pub WritesTheNeeded : Type 0
 WritesTheNeeded = (entries : List ReadStatement) (words : List (List ℕ)) (validations : Bool) → NoEdgeNeedsItself (edges_by_path entries)
     → EndsWith entries (commands words validations None []) finished
@@ -34,13 +34,14 @@ WritesTheNeeded = (entries : List ReadStatement) (words : List (List ℕ)) (vali
     × (numbers : List ℕ) × AreNeeded (edges_by_path entries) targets numbers
     × (output_of entries (commands words validations None []) ≡ command_lines entries numbers)
 
--- the run for these words that takes at most `take` edges, and begins at the mark that `--resume` gives, or at the start
+-- the run for these arguments that takes at most `take` edges, and begins at the mark that `--resume` gives, or at the
+-- start
 abbrev pub IsRun : (words : List (List ℕ)) → (validations : Bool) → (take : Option ℕ) → (resume : Option (List ℕ)) → ActionModel → Type 0
 IsRun words validations take resume run =
     (start : List ℕ) × (start_of validations resume ≡ Ok start) × (run ≡ commands words validations take start)
 
--- Runs with these words, one after another: each takes at most the number of edges in `takes`, and resumes at the text that the one before
--- wrote after `mark `. Their outputs, and the output of a run without a limit from the last mark; that is empty if a run finished.
+-- Runs with these arguments, one after another: each takes at most the number of edges in `takes`, and resumes at the text that the one
+-- before wrote after `mark `. Their outputs, and the output of a run without a limit from the last mark; that is empty if a run finished.
 pub data ArePageStrings (entries : List ReadStatement) (words : List (List ℕ)) (validations : Bool)
     : (resume : Option (List ℕ)) → (takes : List ℕ) → (outputs : List (List ℕ)) → (rest : List ℕ) → Type 0 where
   no_runs : {resume : Option (List ℕ)} {rest : List ℕ} (run : ActionModel) → IsRun words validations None resume run
@@ -60,7 +61,8 @@ PageStringsJoin = (entries : List ReadStatement) (words : List (List ℕ)) (vali
     → (takes : List ℕ) (outputs : List (List ℕ)) (rest : List ℕ) → ArePageStrings entries words validations resume takes outputs rest
     → output_of entries whole ≡ concat outputs ++ rest
 
--- A run that stopped can be resumed: what it wrote after `mark ` is a text for `--resume`, and a run without a limit from there finishes.
+-- A run that stopped can be resumed: the text that it wrote after `mark ` is one for `--resume`, and a run without a limit from there
+-- finishes.
 abbrev pub StoppedRunsContinue : Type 0
 StoppedRunsContinue = (entries : List ReadStatement) (words : List (List ℕ)) (validations : Bool) → NoEdgeNeedsItself (edges_by_path entries)
     → (take : Option ℕ) (start mark : List ℕ) → EndsWith entries (commands words validations take start) (stopped mark)

@@ -1,13 +1,13 @@
--- What a sink did with a text.
+-- A text that was passed to a sink.
 use Rattle.std.specs.Prelude.{◌≡◌, ◌⊎◌, ℕ, List, [], ◌∷◌}
 use Rattle.nj_tools.specs.Sinks.{SinkState, Takes}
 use Rattle.nj_tools.specs.Texts.{FailsWithin}
 
--- the sink took the whole text; it was not asked to take an empty one
+-- the sink took the whole text; an empty one was not passed to it
 abbrev pub Took : (old new : SinkState) → List ℕ → Type 0
 Took old new [] = new ≡ old
 Took old new (byte ∷ bytes) = Takes old new (byte ∷ bytes)
 
--- the text was written once: the sink took it, or failed on the way, and was asked for nothing more
+-- the text was written once: the sink took it, or failed on the way, and nothing more was passed to it
 abbrev pub Reported : (old new : SinkState) → List ℕ → Type 0
 Reported old new text = Took old new text ⊎ FailsWithin old new text

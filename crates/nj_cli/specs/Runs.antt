@@ -1,4 +1,4 @@
--- What a run does to its source and to its two sinks.
+-- A run, with its source and its two sinks.
 use Rattle.std.specs.Prelude.{◌≡◌, ◌⊎◌, ℕ, Bool, true, false, Option, None, IsSomeAnd, Result, Ok, Err, List, []}
 use Rattle.nj_scope.specs.Readings.{Reading}
 use Rattle.nj_scope.specs.Sources.{SourceState}
@@ -23,7 +23,7 @@ use Rattle.nj_cli.specs.Targets.{edges_by_path, NoEdgeNeedsItself}
 use Rattle.nj_cli.specs.declared.status.Status.{Status}
 use Rattle.nj_cli.specs.declared.status.Status.TheVariants.{Fault, Usage, OutputFailed}
 
--- what is known of a run's source and of its two sinks
+-- the known states of a run's source and of its two sinks
 pub record Around : Type 0 where
   pub source : SourceState
   pub output : SinkState
@@ -37,7 +37,7 @@ out_of_memory = fault_line no_memory
 
 -- ---- by the statements of its files
 
--- All was output. The error output took what is reported; or it failed, and a run that stopped cannot be resumed.
+-- All was output. Standard error took the report; or it failed, and a run that stopped cannot be resumed.
 pub record IsReported (entries : List ReadStatement) (action : ActionModel) (old new : Around) (status : Status) : Type 0 where
   pub ending : Ending
   pub ends : EndsWith entries action ending
@@ -45,7 +45,7 @@ pub record IsReported (entries : List ReadStatement) (action : ActionModel) (old
   pub error : (Took old.error new.error (error_of (follows_validations action) ending) × (status ≡ status_of ending))
       ⊎ (FailsWithin old.error new.error (error_of (follows_validations action) ending) × (status ≡ status_untold ending))
 
--- the output failed; nothing is reported
+-- standard output failed; nothing is reported
 pub record OutputFails (entries : List ReadStatement) (action : ActionModel) (old new : Around) (status : Status) : Type 0 where
   pub output : FailsWithin old.output new.output (output_of entries action)
   pub error : new.error ≡ old.error
@@ -59,8 +59,8 @@ pub record MemoryFails (entries : List ReadStatement) (action : ActionModel) (ol
 
 -- ---- by its files
 
--- The main file and all that it includes were read: these statements, none of which has a fault, and none of whose edges needs itself
--- by a chain. Only then, up to the end, more files were read.
+-- The main file and all that it includes were read: these statements, without a fault, and without an edge that needs itself by a
+-- chain. Only then, up to the end, more files were read.
 pub record ReadsMore (main : List ℕ) (before after : SourceState) (files : List Reading) : Type 0 where
   pub between : SourceState
   pub read : List Reading
@@ -71,14 +71,14 @@ pub record ReadsMore (main : List ℕ) (before after : SourceState) (files : Lis
   pub adds : IsRead between after read files
 
 -- The statements of the files: those in the main file and in all that it includes; with `--dyndep`, where no edge of these needs itself,
--- what dyndep files discover is joined to them.
+-- joined with the discoveries of dyndep files.
 abbrev pub AreStatements : (main : List ℕ) → (dyndep : Bool) → (before after : SourceState) → List Reading → List ReadStatement → Type 0
 AreStatements main false before after files entries = IsWhole before after files (main_reached main) entries
 AreStatements main true before after files entries =
     (more : ReadsMore main before after files) × IsWhole more.between after files (joined_after more.read more.stated) entries
 
--- This is what is wrong with the files: what ended the reading of the main file and all that it includes, or a cycle of their edges;
--- with `--dyndep` also what ended the joining after it.
+-- This is the fault of the files: the one that ended the reading of the main file and all that it includes, or a cycle of their
+-- edges; with `--dyndep` also one that ended the joining after it.
 abbrev pub HaveFault : (main : List ℕ) → (dyndep : Bool) → (before after : SourceState) → List Reading → GraphFault → Type 0
 HaveFault main false before after files fault = LoadingFails before after files (main_reached main) fault
 HaveFault main true before after files fault =
@@ -104,19 +104,19 @@ pub record IsAnswered (request : RequestModel) (files : List Reading) (old new :
 
 -- ---- the run
 
--- What a run of this request does: these files were read, each path once, and by them the request was refused or answered.
+-- A run of this request: these files were read, each path once, and by them the request was refused or answered.
 abbrev pub RunsAs : RequestModel → (old new : Around) → Status → Type 0
 RunsAs request old new status =
     (files : List Reading) × IsRead old.source new.source [] files
     × (IsRefused request files old new status ⊎ IsAnswered request files old new status)
 
--- no file is read and nothing is output; the error output gives the reason
+-- no file is read and nothing is output; standard error has the reason
 pub record EndsAtOnce (reason : List ℕ) (old new : Around) : Type 0 where
   pub source : new.source ≡ old.source
   pub output : new.output ≡ old.output
   pub error : Reported old.error new.error reason
 
--- what a run with words does, by the request that they are, or by the fault that they have
+-- a run with arguments, by their request or their fault
 abbrev pub RunsWith : Result RequestModel UsageFault → (old new : Around) → Status → Type 0
 RunsWith (Ok request) old new status = RunsAs request old new status
 RunsWith (Err fault) old new status = EndsAtOnce (line (usage.fault_line fault)) old new × (status ≡ Usage)
@@ -126,10 +126,10 @@ abbrev pub RunsWords : (words : List (List ℕ)) → (old new : Around) → Stat
 RunsWords words old new status =
     RunsWith (request_of words) old new status ⊎ (EndsAtOnce (line out_of_memory) old new × (status ≡ Fault))
 
--- ---- what is kept of a run
+-- ---- the files and the graph that a run keeps
 
--- What a run of this request does, and what is kept of it: where it was answered, the files that were read and the graph of their
--- statements; nothing where it was refused.
+-- A run of this request, and the files and the graph that are kept: where it was answered, the files that were read and the graph
+-- of their statements; nothing where it was refused.
 abbrev pub RunsAsAndKeeps : RequestModel → (old new : Around) → Status → Option LoadedModel → Type 0
 RunsAsAndKeeps request old new status kept =
     (files : List Reading) × IsRead old.source new.source [] files
@@ -137,12 +137,12 @@ RunsAsAndKeeps request old new status kept =
     ⊎ ((answered : IsAnswered request files old new status)
     × IsSomeAnd kept (λ loaded. (loaded.files ≡ files) × IsGraphOf loaded.graph answered.entries)))
 
--- nothing is kept where the words are not a valid request
+-- nothing is kept where the arguments are not a valid request
 abbrev pub RunsAndKeepsWith : Result RequestModel UsageFault → (old new : Around) → Status → Option LoadedModel → Type 0
 RunsAndKeepsWith (Ok request) old new status kept = RunsAsAndKeeps request old new status kept
 RunsAndKeepsWith (Err fault) old new status kept = EndsAtOnce (line (usage.fault_line fault)) old new × (status ≡ Usage) × (kept ≡ None)
 
--- what a run with words does, and what is kept of it
+-- a run with arguments, and the files and the graph that are kept
 abbrev pub RunsAndKeeps : (words : List (List ℕ)) → (old new : Around) → Status → Option LoadedModel → Type 0
 RunsAndKeeps words old new status kept =
     RunsAndKeepsWith (request_of words) old new status kept

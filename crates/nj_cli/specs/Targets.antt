@@ -19,12 +19,12 @@ edges_by_path entries = paths_of_edges (edges_read entries)
 abbrev pub NoEdgeNeedsItself : List EdgePaths → Type 0
 NoEdgeNeedsItself edges = IsAcyclic (makers_of_inputs edges) (length edges)
 
--- with `--validations` what is to be validated when they are built comes after them
+-- with `--validations` the validations of the edges that they need come after them
 abbrev pub with_validations : (validations : Bool) → List EdgePaths → (targets : List (List ℕ)) → List (List ℕ)
 with_validations false edges targets = targets
 with_validations true edges targets = grown_targets edges targets
 
--- the targets of a run with these words
+-- the targets of a run with these arguments
 abbrev pub targets_of : List ReadStatement → (validations : Bool) → (words : List (List ℕ)) → Result (List (List ℕ)) GraphFault
 targets_of entries validations words = do
   targets ← targets_or (defaults_in_force (defaults_read entries) (edges_by_path entries)) (edges_by_path entries) words

@@ -1,4 +1,4 @@
-//! A run of `ninja-explain`: from its words and the files of a build to what it writes.
+//! A run of `ninja-explain`: from its arguments and the files of a build to its output.
 #![tactic(auto)]
 
 mod laws;

@@ -20,7 +20,8 @@ use nj_tools::{
 };
 use std::alloc::{AllocError, Global};
 
-/// Writes what is asked for. Returns the mark at which the run stopped, if it did before its end.
+/// Writes the requested output. Returns the mark at which the run stopped, if it did before its
+/// end.
 pub(crate) fn perform<O: Sink>(
     alloc: Global,
     graph: &Graph,
@@ -54,7 +55,7 @@ pub(crate) fn perform<O: Sink>(
     }
 }
 
-/// Whether what is to be validated is asked for with the targets.
+/// Whether validations are requested with the targets.
 pub(crate) fn follows_validations(action: &Action) -> bool
     ensures { result ≡ follows_validations (action_model action.now) }
 {
@@ -132,7 +133,7 @@ fn run_targets<O: Sink>(
     Ok(None)
 }
 
-// What files are made of, and what is made of them.
+// The edges that make files, with their inputs, and the outputs made from the files.
 fn run_query<O: Sink>(
     alloc: Global,
     graph: &Graph,

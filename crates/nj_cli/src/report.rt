@@ -1,4 +1,4 @@
-//! What a run reports on its error output.
+//! The lines that a run reports on standard error.
 
 ghost use Rattle.std.specs.Prelude.{◌≡◌, ◌++◌, ◌∷◌, [], codes, IfOk};
 ghost use Rattle.nj_faults.specs.FaultLines.{fault_line};
@@ -93,8 +93,8 @@ fn line_of_fault(alloc: Global, fault: &GraphFault) -> Result<Vec<u8>, AllocErro
     Ok(line)
 }
 
-/// Reports why words are not a valid request, or out of memory if its line has to be made first and
-/// cannot be.
+/// Reports why arguments are not a valid request, or out of memory if its line has to be made first
+/// and cannot be.
 pub(crate) fn report_misuse<E: Sink>(alloc: Global, err: &mut E, fault: &UsageFault) -> Status
     ensures { ReportsMisuse (E.state err.old) (E.state err.new) fault.now result }
 {
@@ -110,7 +110,7 @@ pub(crate) fn report_misuse<E: Sink>(alloc: Global, err: &mut E, fault: &UsageFa
     }
 }
 
-// The line that reports why words are not a valid request.
+// The line that reports why arguments are not a valid request.
 fn line_of_misuse(alloc: Global, fault: &UsageFault) -> Result<Vec<u8>, AllocError>
     ensures { IfOk result (λ made. made.items ≡ line (usage.fault_line fault.now)) }
 {
@@ -119,7 +119,7 @@ fn line_of_misuse(alloc: Global, fault: &UsageFault) -> Result<Vec<u8>, AllocErr
     Ok(line)
 }
 
-/// Reports words that are not UTF-8.
+/// Reports arguments that are not UTF-8.
 pub fn refuse_words<E: Sink>(err: &mut E) -> Status
     ensures line { Reported (E.state err.old) (E.state err.new) (line (usage.fault_line Unparsed)) }
     ensures status { result ≡ Status.Usage }
@@ -137,7 +137,7 @@ pub fn report_out_of_memory<E: Sink>(err: &mut E) -> Status
     Status::Fault
 }
 
-// Writes a line to the error output. A failure to write it is ignored.
+// Writes a line to standard error. A failure to write it is ignored.
 fn report_line<E: Sink>(err: &mut E, line: &[u8])
     ensures { Reported (E.state err.old) (E.state err.new) line.now }
 {

@@ -14,16 +14,16 @@ use nj_scope::FileSource;
 use nj_tools::Sink;
 use std::alloc::Global;
 
-/// How a run ended, and what it loaded. What the run loaded is freed where this is dropped, which
-/// takes time: a program that is about to exit may forget it instead.
+/// How a run ended, with its files and graph. These are freed where this is dropped, which takes
+/// time: a program that is about to exit may forget it instead.
 #[derive(Drop)]
 pub struct Ended {
     pub status: Status,
     pub loaded: Option<Loaded>,
 }
 
-/// Runs the program with these words, without its own name. If they are not a valid request, that
-/// is reported on the error output, and no file is read.
+/// Runs the program with these arguments, without its own name. If they are not a valid request,
+/// that is reported on standard error, and no file is read.
 pub fn run_words<S: FileSource, O: Sink, E: Sink>(
     alloc: Global,
     source: &mut S,
@@ -38,8 +38,8 @@ pub fn run_words<S: FileSource, O: Sink, E: Sink>(
     run_words_and_keep(alloc, source, words, out, err).status
 }
 
-/// The same as [`run_words`], but what the run loaded is handed to the caller: where the run was
-/// answered, the files that were read and the graph of their statements; else nothing.
+/// The same as [`run_words`], but it also returns the loaded files: where the run was answered, the
+/// files that were read and the graph of their statements; else nothing.
 pub fn run_words_and_keep<S: FileSource, O: Sink, E: Sink>(
     alloc: Global,
     source: &mut S,
@@ -61,9 +61,9 @@ pub fn run_words_and_keep<S: FileSource, O: Sink, E: Sink>(
     }
 }
 
-/// Carries out a request: reads the main file and all that it includes, joins what dyndep files
-/// discover if that is asked for, and writes what is asked for of the graph. A fault, or the mark
-/// at which the run was stopped, is a line on the error output.
+/// Carries out a request: reads the main file and all that it includes, joins discoveries of dyndep
+/// files if that is requested, and writes the requested output. A fault, or the mark at which the
+/// run was stopped, is a line on standard error.
 pub fn run_tool<S: FileSource, O: Sink, E: Sink>(
     alloc: Global,
     source: &mut S,
@@ -78,7 +78,7 @@ pub fn run_tool<S: FileSource, O: Sink, E: Sink>(
     run_tool_and_keep(alloc, source, request, out, err).status
 }
 
-// The same as `run_tool`, but what the run loaded is handed to the caller.
+// The same as `run_tool`, but it also returns the loaded files and graph.
 fn run_tool_and_keep<S: FileSource, O: Sink, E: Sink>(
     alloc: Global,
     source: &mut S,

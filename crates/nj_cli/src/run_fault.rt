@@ -11,11 +11,11 @@ use std::alloc::AllocError;
 /// Why a run does not reach its end.
 #[derive(Drop)]
 pub(crate) enum RunFault {
-    /// A word names no target, or a text is not UTF-8.
+    /// An argument names no target, or a text is not UTF-8.
     Graph(GraphFault),
     /// The mark leads to no edge.
     MarkOutOfRange,
-    /// The output could not be written.
+    /// Standard output could not be written.
     Write,
     /// An allocation failed.
     OutOfMemory,

@@ -10,13 +10,13 @@ use nj_graph::{FileNo, Graph, GraphFault};
 use nj_needs::grow_targets;
 use std::alloc::Global;
 
-/// The files of a run's targets: those that words name, in their order, or the defaults in force if
-/// there are no words. With `validations`, what is to be validated when they are built comes after
-/// them.
+/// The files of a run's targets: those that arguments name, in their order, or the defaults in
+/// force if there are no arguments. With `validations`, the validations of the edges that they need
+/// come after them.
 ///
 /// # Errors
 ///
-/// The fault of the first word that names none; or an allocation failed.
+/// The fault of the first argument that names none; or an allocation failed.
 pub(crate) fn targets_of(
     alloc: Global,
     graph: &Graph,

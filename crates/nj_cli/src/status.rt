@@ -6,15 +6,15 @@ ghost use Rattle.nj_cli.specs.Status.{exit_code};
 /// How a run ends.
 #[derive(Clone, Copy, Debug, PartialEq, Eq)]
 pub enum Status {
-    /// What was asked for was found and written.
+    /// The requested output was written.
     Done,
-    /// A fault was found, which the error output names.
+    /// A fault was found, which standard error names.
     Fault,
-    /// The words are not a valid request.
+    /// The arguments are not a valid request.
     Usage,
     /// The run was stopped before its end.
     Stopped,
-    /// The output could not be written.
+    /// Standard output could not be written.
     OutputFailed,
 }
 

@@ -45,7 +45,7 @@ index_before xs n x le h =
 pub contains_before : (xs : List ℕ) (n i x : ℕ) → n ≤ length xs → i < n → slice_index xs i ≡ x → Contains (take n xs) x
 contains_before xs n i x le lt is = contains_at (take n xs) i x (omega (arith, length-take-le n xs le)) (get_or-take n xs i 0 lt ∙ is)
 
--- what an edge needs, by the index of an input
+-- the edge that an edge needs, by the index of an input
 pub maker_got : (makers : ℕ → List (Option ℕ)) (e f : ℕ) (needs : Needs makers e f) → slice_get (makers e) needs.0 ≡ Some (Some f)
 maker_got makers e f needs = slice_get-get_or (makers e) needs.0 (Some f) needs.1 ∙ ap Some needs.2
 

@@ -1,5 +1,5 @@
--- What the order in which the walk finished the edges is good for: ranks where no edge lies on a cycle, and else
--- the edges that lie on one.
+-- Consequences of the order in which the walk finished the edges: ranks where no edge lies on a
+-- cycle, and else the edges that lie on one.
 use Rattle.std.proofs.Common.{◌≡◌, ℕ, ◌<◌, ◌≤◌, ◌+◌, ◌-◌, Bool, Some, None, Option, List, [], ◌∷◌, length, take, drop, get_or, refl, sym, ap, subst, ◌∙◌, ◌⊎◌, inl, inr, arith}
 use Rattle.std.specs.Prelude.{Contains, slice_index, nat_eq, min, MatchOption}
 use Rattle.std.specs.List.{position_or_len}
@@ -46,7 +46,7 @@ module _ (makers : ℕ → List (Option ℕ)) (count : ℕ) (order : List ℕ) (
     },
   )
 
-  -- where no edge lies on a cycle, each edge comes after what it needs
+  -- where no edge lies on a cycle, each edge comes after the edges that it needs
   pub falls : ((e : ℕ) → Contains order e → ¬ IsOnCycle makers e) → IsFalling makers order
   falls none a f lt needs = elim (w.settled a a f (omega arith) lt needs) [
     | inl c ↦ c

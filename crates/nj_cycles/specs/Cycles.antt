@@ -27,7 +27,7 @@ AreEdges makers edge_count = (e f : ℕ) → Needs makers e f → (e < edge_coun
 abbrev pub FallsAlongNeeds : (makers : ℕ → List (Option ℕ)) → (rank : ℕ → ℕ) → Type 0
 FallsAlongNeeds makers rank = (e f : ℕ) → Needs makers e f → rank f < rank e
 
--- it is below the number of edges: no chain is longer than that. What edges need are edges
+-- it is below the number of edges: no chain is longer than that. Edges need only edges
 pub record IsRank (makers : ℕ → List (Option ℕ)) (edge_count : ℕ) (rank : ℕ → ℕ) : Type 0 where
   pub falls : FallsAlongNeeds makers rank
   pub bounded : (e : ℕ) → e < edge_count → rank e < edge_count

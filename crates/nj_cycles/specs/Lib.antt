@@ -1,4 +1,4 @@
--- what must be believed
+-- the definitions to believe
 pub mod Cycles
 -- how the code does that
 pub mod Inside

@@ -24,7 +24,7 @@ pub fn first_on_cycle<I: EdgeInputs>(alloc: Global, inputs: &I) -> Result<Option
     least_on_cycle(alloc, inputs, &users, &finished.order)
 }
 
-/// What a rank is for: where one falls along every need, no edge needs itself by a chain.
+/// The purpose of a rank: where one falls along every need, no edge needs itself by a chain.
 pub fn acyclic_law()
     ensures { FallingRanksLeaveNoCycle }
 {}

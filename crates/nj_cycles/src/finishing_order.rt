@@ -32,7 +32,7 @@ pub(crate) struct Finished {
     pub(crate) meets_open: bool,
 }
 
-/// The stage of what makes an input. There is nothing to do for a source.
+/// The stage of an input's maker. There is nothing to do for a source.
 fn stage_of_maker(stages: &[Stage], maker: Option<usize>) -> Stage
     requires { IfSome maker (λ edge. edge < length stages.now) }
     ensures { result ≡ stage_of_maker stages.now maker }

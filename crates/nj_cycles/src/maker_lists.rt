@@ -12,7 +12,7 @@ pub trait EdgeInputs {
     // How many edges there are.
     ghost count: { Self → ℕ };
 
-    /// How many edges there are. No others have inputs, and no others make any.
+    /// The number of edges. No others have inputs, and no others make any.
     fn edge_count(&self) -> usize
         ensures count { result ≡ count self.now }
         ensures known { AreEdges (makers self.now) (count self.now) };

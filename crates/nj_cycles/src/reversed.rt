@@ -53,7 +53,7 @@ fn add_edge<I: EdgeInputs>(
     Ok(())
 }
 
-/// Adds a user to what makes an input; a source has none.
+/// Adds a user to an input's maker; a source has none.
 fn add_user(
     users: &mut Vec<Vec<usize>>,
     maker: Option<usize>,

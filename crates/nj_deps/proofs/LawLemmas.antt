@@ -30,7 +30,7 @@ says_one_thing bytes one other a b =
 
 -- ---- the last record
 
--- what is known after more was said: the last of it
+-- the entry after more entries for the output: the last of them
 last_or : Option OutputModel → List OutputModel → Option OutputModel
 last_or known [] = known
 last_or known (o ∷ said) = last_or (Some o) said

@@ -7,7 +7,7 @@ use Rattle.nj_deps.specs.LogRecords.LogRecord.{path, dependencies}
 use Rattle.nj_deps.specs.Logs.{CountInTurn, EndsBefore, IsLogOf, paths_of, outputs_of, opening}
 use Rattle.nj_deps.proofs.WordLemmas.{length-word}
 
--- ---- two paths, and what the first one depends on
+-- ---- two paths, and the inputs of the first one
 
 two_paths : List LogRecord
 two_paths = path (97 ∷ 0 ∷ 0 ∷ 0 ∷ []) 4294967295 ∷ path (98 ∷ 98 ∷ 0 ∷ 0 ∷ []) 4294967294 ∷ dependencies 0 7 1 (1 ∷ []) ∷ []

@@ -3,7 +3,7 @@ use Rattle.std.proofs.Common.{◌≡◌, ◌≢◌, ℕ, Bool, true, false, cond
 use Rattle.std.specs.List.{list_any}
 use Rattle.nj_names.specs.NameTables.{with_name}
 
--- a name that was there leaves the names as they were
+-- a name that was there leaves the names unchanged
 known-name : (names : List (List ℕ)) (name : List ℕ) (b : Bool) → list_any (bytes_eq name) names ≡ b → length (cond b names (names ++ name ∷ [])) ≡ length names → list_any (bytes_eq name) names ≡ true
 known-name names name true is same = is
 known-name names name false is same = absurd (omega (arith, length-append names (name ∷ [])))

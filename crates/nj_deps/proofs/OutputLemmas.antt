@@ -67,7 +67,7 @@ set-new (o ∷ outputs) h none = by (nat_eq o.output h.output) none (set-new out
     by true none rest = absurd (omega arith)
     by false none rest = ap (λ os. o ∷ os) (rest (later-zero (place_of outputs h.output) none))
 
--- what is known of a place
+-- the facts about a place
 pub record IsAt (outputs : List HeldOutput) (h : HeldOutput) (index : ℕ) : Type 0 where
   pub within : index < length outputs
   pub set : with_held outputs h ≡ slice_set outputs index h
@@ -151,7 +151,7 @@ places-path size outputs places held are n below = by (cases_lt n (length places
         let last : n ≡ length places = omega (arith, length-append places (0 ∷ [])) in
         ap (λ k. slice_index_or (places ++ 0 ∷ []) k 0) last ∙ get_or-append_seam places 0 [] 0 ∙ sym (place-past size (length places) n outputs held past)
 
--- ---- what is found
+-- ---- the found output
 
 pub found-none : (inputs : List ℕ) (outputs : List HeldOutput) (n : ℕ) → place_of outputs n ≡ 0 → output_of (all_logged inputs outputs) n ≡ None
 found-none inputs [] n none = refl

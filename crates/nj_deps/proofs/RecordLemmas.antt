@@ -1,4 +1,4 @@
--- Lemmas on records as bytes: what is at the front is one record or none.
+-- Lemmas on records as bytes: one record is at the front, or none.
 use Rattle.std.proofs.Common.{◌≡◌, ◌<◌, ◌≤◌, ◌+◌, ◌^◌, ◌%◌, ℕ, List, [], ◌∷◌, ◌++◌, length, refl, sym, ap, subst, ◌∙◌, arith, append_assoc, length-append}
 use Rattle.std.specs.List.{AllByRecursion, flat_map, fold}
 use Rattle.nj_deps.specs.LogRecords.{LogRecord, word, content_of, kind_bit, bytes_of, path_in, Counts}
@@ -45,7 +45,7 @@ one_frame bytes h k c d a b small_h small_k f g =
 pub frame-long : (bytes : List ℕ) (h : ℕ) (c a : List ℕ) → IsFramed bytes h c a → 4 ≤ length bytes
 frame-long bytes h c a f = let l = ap length f.cut in omega (arith, length-append (word h) (c ++ a), length-word h)
 
--- what is known of a frame, where its head is
+-- the facts about a frame with this head
 pub record IsFrameAt (rest : List ℕ) (h k : ℕ) (c a : List ℕ) : Type 0 where
   pub heads : h ≡ k
   pub rests : rest ≡ c ++ a
@@ -90,7 +90,7 @@ one_record paths (dependencies o l h ns) (dependencies o' l' h' ms) few one othe
     (omega arith, (second.low_fits, (second.high_fits, known-small (length paths) ms few second.inputs_known))) same in
     cc
 
--- ---- what is at the front
+-- ---- the front of the bytes
 
 pub none-unframed : (paths : List (List ℕ)) (bytes : List ℕ) → IsUnframed bytes → EndsBefore paths bytes
 none-unframed paths bytes unframed r more counts e =

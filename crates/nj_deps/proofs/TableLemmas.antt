@@ -1,4 +1,4 @@
--- Lemmas on what records say, one after another.
+-- Lemmas on the table of records, one after another.
 use Rattle.std.proofs.Common.{◌≡◌, ◌≢◌, ◌⊎◌, inl, inr, ◌<◌, ◌≤◌, ◌+◌, ◌*◌, ◌^◌, ◌%◌, ℕ, Bool, true, false, List, [], ◌∷◌, ◌++◌, length, nat_eq, true≢false, refl, sym, ap, subst, ◌∙◌, arith, append_assoc, length-append}
 use Rattle.std.specs.List.{AllByRecursion, flat_map, fold}
 use Rattle.std.proofs.lemmas.List.{append-nil}
@@ -91,7 +91,7 @@ one-taken bytes rest after old new so_far taken =
       outputs = ap (λ t. t.outputs) taken.3 ∙ ap (λ os. with_dependencies os r) so_far.outputs ∙ sym (fold-append with_dependencies [] rs (r ∷ []));
     }
 
--- ---- what a content adds
+-- ---- the additions of a content
 
 pub path-adds : (padded : List ℕ) (complement : ℕ) (content : List ℕ) (old new : TableModel) → complement < 2 ^ 32 → content ≡ padded ++ word complement → length content ≤ 524287
     → path_in padded ≢ [] → complement + length old.paths + 1 ≡ 2 ^ 32 → (b : Bool) → AddsPath (path_in padded) old new b → Adds 0 content old new b
@@ -150,7 +150,7 @@ timed-words content output time bytes timed whole =
     let size : length content ≡ length bytes + 12 = omega (arith, length-append (word output) (word timed.low ++ (word timed.high ++ bytes)), length-append (word timed.low) (word timed.high ++ bytes), length-append (word timed.high) bytes, length-word output, length-word timed.low, length-word timed.high) in
     omega arith
 
--- ---- what a record adds
+-- ---- the additions of a record
 
 pub takes : (bytes : List ℕ) (head : ℕ) (content after : List ℕ) (old new : TableModel) → IsFramed bytes head content after → AddsAs head content old new true → TakesRecord bytes after old new
 takes bytes head content after old new frame added = (
@@ -180,7 +180,7 @@ log-read bytes body rest table size whole line read ends sizes is_whole = record
   is_whole = is_whole;
 }
 
--- what is left is no longer than the log
+-- the rest is no longer than the log
 pub rest-within : (bytes body rest : List ℕ) (table : TableModel) → bytes ≡ opening 4 ++ body → IsRead body rest table → length rest ≤ length bytes
 rest-within bytes body rest table line read =
     let whole = ap length line in

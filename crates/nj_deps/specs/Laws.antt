@@ -10,7 +10,7 @@ abbrev pub BytesSayOneThing : Type 0
 BytesSayOneThing = (bytes : List ℕ) (one other : LogModel)
     → IsLogOf bytes one → IsLogOf bytes other → one ≡ other
 
--- what a record says of an output
+-- the entry of a record for an output
 abbrev pub said_of : (number : ℕ) → LogRecord → Option OutputModel
 said_of number (path padded complement) = None
 said_of number (dependencies output low high inputs) =

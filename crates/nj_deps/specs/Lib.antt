@@ -1,4 +1,4 @@
--- what must be believed
+-- the definitions to believe
 pub mod LogRecords
 pub mod Logs
 pub mod Faults

@@ -4,8 +4,7 @@ use Rattle.std.specs.Int.{w32, to_le_bytes}
 use Rattle.std.specs.List.{AllByRecursion, list_any, flat_map}
 
 -- A record: a path, with zero bytes after it, and the complement of its number; or dependencies:
--- the number of an output, the lower and the upper half of a time, and the numbers of what the
--- output depends on.
+-- the number of an output, the lower and the upper half of a time, and the numbers of the output's inputs.
 pub data LogRecord : Type 0 where
   path : (padded : List ℕ) (complement : ℕ) → LogRecord
   dependencies : (output low high : ℕ) (inputs : List ℕ) → LogRecord
@@ -32,7 +31,7 @@ kind_bit (dependencies output low high inputs) = 2 ^ 31
 abbrev pub bytes_of : LogRecord → List ℕ
 bytes_of r = word (kind_bit r + length (content_of r)) ++ content_of r
 
--- ---- what counts
+-- ---- records that count
 
 -- without a zero byte at the end
 abbrev pub without_zero : List ℕ → List ℕ

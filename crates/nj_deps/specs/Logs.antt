@@ -1,4 +1,4 @@
--- What a deps log says.
+-- The contents of a deps log.
 use Rattle.std.specs.Prelude.{◌≡◌, ◌≢◌, ℕ, ◌+◌, ◌*◌, ◌<◌, ◌^◌, Bool, if◌then◌else◌, nat_eq, Option, List, [], ◌∷◌, ◌++◌, length, fold, codes}
 use Rattle.std.specs.List.{flat_map, find, AllByRecursion}
 use Rattle.nj_deps.specs.LogRecords.{LogRecord, word, bytes_of, path_in, Counts}
@@ -9,13 +9,13 @@ use Rattle.nj_deps.specs.declared.logged_outputs.LoggedOutput.{LoggedOutput}
 
 -- ---- of records
 
--- an output and what it depends on, by the numbers of their paths, and the time of the record
+-- an output and its inputs, by the numbers of their paths, and the time of the record
 pub record OutputModel : Type 0 where
   pub output : ℕ
   pub time : ℕ
   pub inputs : List ℕ
 
--- all its numbers are of paths, of which there are so many
+-- all its numbers are below this count of paths
 pub record IsOfPaths (count : ℕ) (o : OutputModel) : Type 0 where
   pub output : o.output < count
   pub inputs : AllByRecursion (λ number. number < count) o.inputs
@@ -29,7 +29,7 @@ abbrev pub with_path : List (List ℕ) → LogRecord → List (List ℕ)
 with_path paths (path padded complement) = paths ++ path_in padded ∷ []
 with_path paths (dependencies output low high inputs) = paths
 
--- in place of what was known of the output, or at the end
+-- in place of an earlier entry for the output, or at the end
 abbrev pub with_output : List OutputModel → OutputModel → List OutputModel
 with_output [] logged = logged ∷ []
 with_output (other ∷ outputs) logged =
@@ -66,16 +66,14 @@ first_line = codes "# ninjadeps" ++ 10 ∷ []
 abbrev pub opening : (version : ℕ) → List ℕ
 opening version = first_line ++ word version
 
--- what a deps log says: its paths and outputs, how many of its bytes were read, and whether they
--- were all
+-- the contents of a deps log: its paths and outputs, how many of its bytes were read, and whether they were all
 pub record LogModel : Type 0 where
   pub paths : List (List ℕ)
   pub outputs : List OutputModel
   pub size : ℕ
   pub is_whole : Bool
 
--- Bytes are an opening, records that count, and a rest that begins with none. What counts is these
--- records alone.
+-- Bytes are an opening, records that count, and a rest that begins with none. These records alone count.
 pub record IsLogOf (bytes : List ℕ) (log : LogModel) : Type 0 where
   pub records : List LogRecord
   pub rest : List ℕ
@@ -94,6 +92,6 @@ IsLogFault bytes (OtherVersion version) =
     (version ≢ 4) × (rest : List ℕ) × (bytes ≡ opening version ++ rest)
 IsLogFault bytes OutOfMemory = Unit {0}
 
--- what is known of the output of this number
+-- the entry for the output of this number
 abbrev pub output_of : List OutputModel → (number : ℕ) → Option OutputModel
 output_of outputs number = find (λ logged. nat_eq logged.output number) outputs

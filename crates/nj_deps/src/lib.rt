@@ -1,5 +1,5 @@
-//! The deps log, `.ninja_deps`: what builds found out about the inputs of edges ("Deps" in the
-//! Ninja manual).
+//! The deps log, `.ninja_deps`: the inputs of edges that builds discovered ("Deps" in the Ninja
+//! manual).
 #![tactic(auto)]
 
 mod laws;

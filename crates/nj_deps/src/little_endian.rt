@@ -6,7 +6,7 @@ ghost use Rattle.nj_deps.specs.Inside.RecordsRead.{AppendsNumbers, BeginsWith};
 
 use std::alloc::AllocError;
 
-/// The number at the front, and what comes after it; `None` if there are fewer than four bytes.
+/// The number at the front, and the bytes after it; `None` if there are fewer than four bytes.
 #[inline(always)]
 pub(crate) fn split_number(bytes: &[u8]) -> Option<(u32, &[u8])>
     ensures { MatchOption result (length bytes.now < 4)
@@ -18,7 +18,7 @@ pub(crate) fn split_number(bytes: &[u8]) -> Option<(u32, &[u8])>
     }
 }
 
-/// The number at the end, and what comes before it; `None` if there are fewer than four bytes.
+/// The number at the end, and the bytes before it; `None` if there are fewer than four bytes.
 pub(crate) fn split_last_number(bytes: &[u8]) -> Option<(&[u8], u32)>
     ensures { MatchOption result (length bytes.now < 4)
         (λ p. (p.1 < 2 ^ 32) × (bytes.now ≡ p.0.now ++ word p.1)) }

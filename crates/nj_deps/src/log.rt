@@ -15,7 +15,7 @@ use std::marker::Model;
 /// The only version that is read.
 const VERSION: u32 = 4;
 
-/// What a deps log says. Paths are numbered from 0 in the order in which the log names them.
+/// The contents of a deps log. Paths are numbered from 0 in the order in which the log names them.
 #[derive(Drop)]
 pub struct DepsLog {
     table: LogTable,
@@ -40,12 +40,12 @@ impl DepsLog {
     /// Reads a deps log of version 4, as every Ninja since 1.9 writes it ("Deps" in the Ninja
     /// manual).
     ///
-    /// Reading ends before the first record that is cut off, empty, too large or wrong, and what
-    /// came before it counts, as in Ninja. [`DepsLog::size`] is how far it went. Times are compared
-    /// with nothing: what the log says of an output counts even if the output is newer.
+    /// Reading ends before the first record that is cut off, empty, too large or wrong, and the
+    /// records before it count, as in Ninja. [`DepsLog::size`] is how far it went. Times are
+    /// compared with nothing: the record of an output counts even if the output is newer.
     ///
-    /// Names are hashed by keys that everyone knows. For a log that a stranger may have written
-    /// take [`DepsLog::read_with_keys`].
+    /// Names are hashed by keys that everyone knows. For an untrusted log take
+    /// [`DepsLog::read_with_keys`].
     ///
     /// # Errors
     ///
@@ -85,7 +85,7 @@ impl DepsLog {
         })
     }
 
-    /// How many paths there are.
+    /// The number of paths.
     pub fn path_count(&self) -> usize
         ensures count { result ≡ length self.now.paths }
         ensures each_path_once { IsDistinct bytes_eq self.now.paths }
@@ -109,7 +109,7 @@ impl DepsLog {
         self.table.paths.number(path)
     }
 
-    /// How many outputs with dependencies there are.
+    /// The number of outputs with dependencies.
     pub fn output_count(&self) -> usize
         ensures { result ≡ length self.now.outputs }
     {
@@ -153,7 +153,7 @@ impl DepsLog {
     }
 }
 
-// What comes after the opening of a deps log of version 4.
+// The bytes after the opening of a deps log of version 4.
 fn records_in(bytes: &[u8]) -> Result<&[u8], DepsLogFault>
     ensures records { IfOk result (λ records. bytes.now ≡ opening 4 ++ records.now) }
     ensures fault { IfErr result (λ fault. IsLogFault bytes.now fault) }

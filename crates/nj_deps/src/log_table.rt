@@ -1,4 +1,4 @@
-//! What the records of a deps log say.
+//! The table that the records of a deps log fill.
 
 ghost use Rattle.std.specs.Prelude.{◌≡◌, ◌≢◌, ◌<◌, ◌≤◌, ◌+◌, ◌^◌, [], Some, None, true, false, length, slice_get, IfOk, MatchOption};
 ghost use Rattle.std.specs.List.{AllByRecursion};
@@ -12,7 +12,7 @@ use nj_names::{HashKeys, Names};
 use std::alloc::{AllocError, Global};
 use std::marker::Model;
 
-/// What the records of a deps log say, up to some record.
+/// The paths and outputs of the records of a deps log, up to some record.
 #[derive(Drop)]
 pub(crate) struct LogTable {
     pub(crate) paths: Names,
@@ -31,7 +31,7 @@ impl Model for LogTable {
 }
 
 impl LogTable {
-    /// What no records say. It allocates nothing.
+    /// The table of no records. It allocates nothing.
     pub(crate) fn new(alloc: Global, keys: HashKeys) -> LogTable
         ensures { result ≡ record { paths = []; outputs = [] } }
     {
@@ -41,7 +41,7 @@ impl LogTable {
         }
     }
 
-    /// Adds the record at the front of the bytes, and returns what comes after it; `None` if no
+    /// Adds the record at the front of the bytes, and returns the bytes after it; `None` if no
     /// record that counts is there, which changes nothing.
     pub(crate) fn read_record<'a>(
         &mut self,
@@ -58,7 +58,7 @@ impl LogTable {
         if counts { Ok(Some(after)) } else { Ok(None) }
     }
 
-    /// Adds what a record of this content says. Returns whether the record counts.
+    /// Adds the path or output of a record of this content. Returns whether the record counts.
     fn read_content(&mut self, head: u32, content: &[u8]) -> Result<bool, AllocError>
         requires { length content.now ≤ 524287 }
         ensures { IfOk result (λ counts. AddsAs head content.now self.old self.new counts) }
@@ -101,7 +101,7 @@ impl LogTable {
     }
 
     /// Adds the output of a record of this content. Returns whether the record counts. After a path
-    /// for which there was no memory it fails for good.
+    /// for which there was no memory it always fails.
     fn read_dependencies(&mut self, content: &[u8]) -> Result<bool, AllocError>
         requires { length content.now ≤ 524287 }
         ensures { IfOk result (λ counts. Adds (2 ^ 31) content.now self.old self.new counts) }

@@ -1,4 +1,4 @@
-//! Outputs, and what they depend on.
+//! Outputs and their dependencies.
 
 ghost use Rattle.std.specs.Prelude.{◌≡◌, ◌<◌, ◌≤◌, ◌+◌, ◌%◌, ◌^◌, [], Some, None, length, slice_get, OnOk, OnErr, IfOk, MatchOption};
 ghost use Rattle.std.specs.List.{AllByRecursion};
@@ -10,7 +10,7 @@ use nj_names::short_number;
 use std::alloc::{AllocError, Global};
 use std::marker::Model;
 
-/// An output of a deps log, and what it depends on.
+/// An output of a deps log and its dependencies.
 #[derive(Clone, Copy, Debug)]
 pub struct LoggedOutput<'a> {
     /// The number of its path.
@@ -21,7 +21,7 @@ pub struct LoggedOutput<'a> {
     pub inputs: &'a [u32],
 }
 
-/// Outputs, and what they depend on, by the numbers of paths.
+/// Outputs and their dependencies, by the numbers of paths.
 #[derive(Drop)]
 pub(crate) struct OutputTable {
     // the inputs of all outputs
@@ -66,7 +66,7 @@ impl OutputTable {
         }
     }
 
-    /// Counts one path more.
+    /// Counts one more path.
     pub(crate) fn add_path(&mut self) -> Result<(), AllocError>
         ensures added { OnOk result (self.new
             ≡ record { count = self.old.count + 1; outputs = self.old.outputs }) }
@@ -75,8 +75,8 @@ impl OutputTable {
         Ok(self.places.push(0)?)
     }
 
-    /// Keeps what the output depends on, in place of what it depended on before. Returns whether
-    /// all numbers are of paths; if not, it keeps nothing.
+    /// Keeps the dependencies of the output, in place of its earlier ones. Returns whether all
+    /// numbers are of paths; if not, it keeps nothing.
     pub(crate) fn keep(&mut self, output: u32, time: u64, inputs: &[u8]) -> Result<bool, AllocError>
         requires words { length inputs.now % 4 ≡ 0 }
         requires count { self.old.count ≤ 2 ^ 32 }
@@ -109,7 +109,7 @@ impl OutputTable {
         self.places.as_slice().len()
     }
 
-    /// How many outputs there are.
+    /// The number of outputs.
     pub(crate) fn count(&self) -> usize
         ensures { result ≡ length self.now.outputs }
     {
@@ -144,7 +144,7 @@ impl OutputTable {
     }
 }
 
-// Sets the output, in place of what it was before.
+// Sets the output, in place of its earlier entry.
 fn set_output(
     outputs: &mut Vec<HeldOutput>,
     places: &mut Vec<u32>,

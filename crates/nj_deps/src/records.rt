@@ -15,7 +15,7 @@ const LARGEST: u32 = (1 << 19) - 1;
 
 const FIRST_LINE: &[u8] = b"# ninjadeps\n";
 
-/// The version and what comes after it; `None` if the bytes do not begin as a deps log.
+/// The version and the bytes after it; `None` if the bytes do not begin as a deps log.
 pub(crate) fn split_opening(bytes: &[u8]) -> Option<(u32, &[u8])>
     ensures { MatchOption result
         ((version : ℕ) (rest : List ℕ) → bytes.now ≢ opening version ++ rest)
@@ -27,7 +27,7 @@ pub(crate) fn split_opening(bytes: &[u8]) -> Option<(u32, &[u8])>
     }
 }
 
-/// The first word of a record, its content, and what comes after it; `None` if no content of a size
+/// The first word of a record, its content, and the bytes after it; `None` if no content of a size
 /// that a record may have is there.
 pub(crate) fn split_record(bytes: &[u8]) -> Option<(u32, &[u8], &[u8])>
     ensures { MatchOption result (IsUnframed bytes.now)

@@ -1,4 +1,4 @@
--- What was read, piece by piece.
+-- The bytes read, piece by piece.
 use Rattle.std.proofs.Common.{◌≡◌, ℕ, ◌+◌, ◌≤◌, Option, List, length, take, drop, sym, subst}
 use Rattle.std.proofs.KnownBytes.{Consumes-trans}
 use Rattle.std.proofs.Math.Seq.{take-add}
@@ -10,7 +10,7 @@ pub record IsFilled (first now : Option (List ℕ)) (capacity : List ℕ) (fille
   pub in_capacity : filled ≤ length capacity
   pub within : filled ≤ 1073741824
 
--- one piece more
+-- one more piece
 pub Consumes-piece : (a b c : Option (List ℕ)) (old new : List ℕ) (f n : ℕ) → Consumes a b (take f old) → take f new ≡ take f old → Consumes b c (take n (drop f new)) → Consumes a c (take (f + n) new)
 Consumes-piece a b c old new f n before front piece =
     subst (Consumes a c) (sym (take-add f n new)) (Consumes-trans a b c (take f new) (take n (drop f new)) (subst (Consumes a b) (sym front) before) piece)

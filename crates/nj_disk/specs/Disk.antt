@@ -1,4 +1,4 @@
--- What is known of the files of a disk.
+-- The known properties of the files of a disk.
 use Rattle.std.specs.Prelude.{ℕ, Option, None, List}
 use Rattle.nj_scope.specs.Sources.{SourceState}
 
@@ -8,6 +8,6 @@ pub record Disk : Type 0 where
   -- how often a read has failed; the count stays at 2 ^ 64 - 1
   pub failed : ℕ
 
--- what is known of it as a source: how often it failed, and nothing about its readings and files
+-- its known state as a source: how often it failed, and nothing about its readings and files
 abbrev pub disk_state : Disk → SourceState
 disk_state disk = record { readings = None; failures = disk.failed; files = λ path. None }

@@ -1,2 +1,2 @@
--- what must be believed
+-- the definitions to believe
 pub mod Disk

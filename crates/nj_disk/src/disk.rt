@@ -1,4 +1,4 @@
-//! The files of the working folder.
+//! The files of the working directory.
 
 ghost use Rattle.std.specs.Prelude.{◌≡◌, ◌+◌, ◌<◌, ◌≤◌, ◌↔◌, [], Some, Ok, Err, option_copied, vec_len, vec_capacity, length, take, drop, IfOk, OnOk, IsTrue};
 ghost use Rattle.std.specs.Io.KnownBytes.{Consumes, IsAtEnd};
@@ -27,7 +27,7 @@ const BEYOND: usize = 64;
 /// when the read fills them.
 const PIECE: usize = 131_072;
 
-/// The files of the working folder. One name may mean standard input.
+/// The files of the working directory. One name may mean standard input.
 #[derive(Drop)]
 pub struct DiskFiles<R: Drop> {
     rt: R,
@@ -49,9 +49,9 @@ impl<R: Drop> Model for DiskFiles<R> {
 }
 
 impl<R: RandomSource + Drop> DiskFiles<R> {
-    /// The files of the working folder. A file of the name `stdin_for` is read from standard input;
-    /// the name is compared as it is written. The keys of hashes are drawn here, once for the run.
-    /// If the system has no random bytes, they are those that everyone knows.
+    /// The files of the working directory. A file of the name `stdin_for` is read from standard
+    /// input; the name is compared as it is written. The keys of hashes are drawn here, once for
+    /// the run. If the system has no random bytes, they are those that everyone knows.
     pub fn new(rt: R, alloc: Global, stdin_for: Option<&str>) -> Result<DiskFiles<R>, AllocError>
         ensures { IfOk result (λ disk. disk ≡
             record { input_name = option_copied stdin_for.entry; failed = 0 }) }
@@ -70,7 +70,7 @@ impl<R: RandomSource + Drop> DiskFiles<R> {
     }
 }
 
-/// Keys that no stranger knows, if the system has random bytes to give.
+/// Keys that nobody else knows, if the system has random bytes to give.
 fn drawn_keys<R: RandomSource>(rt: &R) -> HashKeys {
     let mut drawn = [0; 8];
     match rt.fill_bytes(&mut drawn) {

@@ -1,4 +1,4 @@
-//! The files of the working folder, as a source of the files of a run.
+//! The files of the working directory, as a source of the files of a run.
 #![tactic(auto)]
 
 mod disk;

@@ -108,7 +108,7 @@ module _ (g : EdgeGraph) (distinct : IsDistinct bytes_eq g.files) (wv : Bool) (e
         fits = fits;
       }
 
--- ---- what chains reach
+-- ---- files that chains reach
 
 module _ (g : EdgeGraph) (wv : Bool) where
   abbrev inputs_at : (edge : ℕ) → List (List ℕ)
@@ -214,7 +214,7 @@ arrival-kept g wv numbers others i arrival below stays held = record {
   made = held.made ∙ ap Some (sym (stays i below));
 }
 
--- one input more, from an edge
+-- one more input, from an edge
 module _ (g : EdgeGraph) (wv : Bool) (edge : EdgeNo) (index place : ℕ) (s : Step) (at : IsStepAt g wv edge index s) (first old : NumberSetModel) (before after : List (Option Arrival))
     (place_below : place < length first.numbers) (edge_is : edge.0 ≡ slice_index first.numbers place)
     (held : AddsMakers g wv (MakesInputBefore g wv index (slice_index first.numbers place)) place first old before after) where
@@ -468,7 +468,7 @@ pub path-is : (g : EdgeGraph) (wv : Bool) (from to : FileNo) (first : ℕ) (path
 path-is g wv from to first None apart maker chain = path-none g wv from to first maker chain
 path-is g wv from to first (Some steps) apart maker chain = path-some g wv from to first steps apart maker chain
 
--- ---- what the steps of a chain name
+-- ---- the files that the steps of a chain name
 
 module _ (g : EdgeGraph) (wv : Bool) where
   made-below : (path : List ℕ) (n : ℕ) → maker_of g.edges path ≡ Some n → n < length g.edges

@@ -1,4 +1,4 @@
--- What a change of files reaches, by what edges need.
+-- The edges that a change of files affects, by the needs of edges.
 use Rattle.std.proofs.Common.{◌≡◌, ◌<◌, ◌+◌, ◌||◌, inl, inr, ℕ, zero, suc, Bool, true, false, cond, List, [], ◌∷◌, ◌++◌, length, get_or, Option, Some, None, is_some, option_map, unwrap_or, bytes_eq, refl, sym, ap, subst, ◌∙◌, true≢false, arith}
 use Rattle.std.specs.Prelude.{Contains}
 use Rattle.std.specs.List.{AllByRecursion, IsDistinct, flat_map}
@@ -77,7 +77,7 @@ unfolding IsDistinct
 distinct-right [] others apart = apart
 distinct-right (path ∷ paths) others apart = distinct-right paths others apart.1
 
--- what is among the second of two lists that are apart is not among the first
+-- an element of the second of two lists that are apart is not in the first
 apart-left : (paths others : List (List ℕ)) (path : List ℕ) → IsDistinct bytes_eq (paths ++ others) → is_among others path ≡ true → is_among paths path ≡ false
 unfolding IsDistinct
 apart-left [] others path apart is = refl
@@ -102,7 +102,7 @@ output-maker (e ∷ edges) apart path (suc f) is =
     ∙ ap (option_map (λ n. n + 1)) (output-maker edges (distinct-right (outputs_of e) (flat_map outputs_of edges) apart) path f is)
     ∙ ap Some after
 
--- ---- what edges need
+-- ---- the needs of edges
 
 module _ (edges : List EdgePaths) where
   abbrev edge : ℕ → EdgePaths
@@ -122,7 +122,7 @@ module _ (edges : List EdgePaths) where
       let output = contains-among any.1 (outputs_of (edge f)) (any.0, any.2, any.3) in
       needs-maker e f any.1 any.4 (output-maker edges apart any.1 f output)
 
-  -- and what is needed makes an input
+  -- and a needed edge makes an input
   needs-takes : (e f : ℕ) → Needs (makers_of_inputs edges) e f → has_input_of (outputs_of (edge f)) (edge e) ≡ true
   needs-takes e f needs =
       let inputs = inputs_of (edge e) in

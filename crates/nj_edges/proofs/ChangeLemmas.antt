@@ -249,7 +249,7 @@ module _ (edges : List EdgePaths) (files : List (List ℕ)) where
     pub finding-ends : (e : ℕ) → Contains found.numbers e ↔ IsAffected edges files e
     finding-ends e = (held.sound e, all-found e)
 
--- the flags of a set give what it has
+-- the flags of a set tell its members
 pub flags-are : (flags : List Bool) (numbers : List ℕ) (P : ℕ → Type 0) → ((n : ℕ) → get_or flags n false ≡ has numbers n) → ((e : ℕ) → Contains numbers e ↔ P e) → (e : ℕ) → IsFlagged flags e ↔ P e
 flags-are flags numbers P tell are e = (
   λ is. (are e).0 (has-contains numbers e (sym (tell e) ∙ is)),

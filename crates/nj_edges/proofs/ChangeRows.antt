@@ -1,4 +1,4 @@
--- What a change reaches, worked out on a small graph.
+-- The edges that a change affects, worked out on a small graph.
 use Rattle.std.proofs.Common.{◌≡◌, ℕ, zero, suc, Bool, true, false, List, [], ◌∷◌, refl, true≢false, sym, ◌∙◌}
 use Rattle.std.specs.List.{list_any}
 use Rattle.nj_edges.specs.Edges.{EdgePaths, edge_at, is_among, outputs_of}

@@ -268,7 +268,7 @@ module _ (files : List (List ℕ)) (makers : List (Option ℕ)) (outputs inputs 
 
 -- ---- a file of the edge that is being read
 
--- the number of a file in the table is that in what is held
+-- the number of a file in the table is that in the fields
 pub number-named : (t u : EdgeTable) (n : ℕ) {path : List ℕ} → t ≡ u → slice_get u.files n ≡ Some path → slice_get t.files n ≡ Some path
 number-named t u n is here = ap (λ v. slice_get v.files n) is ∙ here
 
@@ -455,7 +455,7 @@ module _ (files : List (List ℕ)) (makers : List (Option ℕ)) (outputs inputs 
   pub within-makers : n < length makers
   within-makers = subst (λ m. n < m) (sym held.makers_count) (slice_get_within files n path here)
 
-  -- what the list of makers has at the file
+  -- the maker that the list has at the file
   pub made-at : (found : Option ℕ) → found ≡ get_or makers n None → is_some found ≡ is_made (table_of files outputs inputs validations rows starts) path
   made-at found is = ap is_some (is ∙ get_or_from_slice_get makers n (first_edge (has_number n) (output_rows outputs starts.outputs rows)) None (held.makers_are n within-makers)) ∙ made-by
 

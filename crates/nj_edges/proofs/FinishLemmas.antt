@@ -1,4 +1,4 @@
--- Lemmas on the graph of all edges with what was added to them.
+-- Lemmas on the graph of all edges with their additions.
 use Rattle.std.proofs.Common.{◌≡◌, ◌<◌, ◌≤◌, ◌+◌, ◌-◌, ◌==◌, ◌||◌, ℕ, Bool, true, false, cond, List, [], ◌∷◌, ◌++◌, map, length, drop, get_or, Option, Some, None, is_some, option_map, refl, sym, ap, subst, ◌∙◌, true≢false, arith}
 use Rattle.std.specs.List.{AllByRecursion, flat_map}
 use Rattle.std.proofs.Math.Bool.{or-false}
@@ -100,7 +100,7 @@ module _ (n : ℕ) (outputs inputs validations added_outputs added_inputs : List
 
 -- ---- the makers
 
--- the first edge among two lists, of which one has none
+-- the first edge among two lists, one without any
 first-either : (n : ℕ) (outputs added_outputs : List FileNo) (rows : List EdgeRow) (added : List (Option AddedSpans)) → length added ≡ length rows
     → ((e : ℕ) → first_edge (has_number n) (map (added_outputs_of added_outputs) added) ≡ Some e → first_edge (has_number n) (stated_rows outputs rows) ≡ None)
     → first_edge (has_number n) (joined_with (joined_outputs outputs added_outputs) rows added) ≡ option_or (first_edge (has_number n) (map (added_outputs_of added_outputs) added)) (first_edge (has_number n) (stated_rows outputs rows))
@@ -128,7 +128,7 @@ first-either n outputs added_outputs (row ∷ rows) (found ∷ added) count apar
 
 -- ---- no file is collected
 
--- the table of the edges with what was added to them
+-- the table of the edges with their additions
 abbrev pub finished_table : JoinTable → EdgeTable
 finished_table t = record { files = t.files; edges = t.joined; «open» = no_files }
 
@@ -143,7 +143,7 @@ module _ (files : List (List ℕ)) (makers : List (Option ℕ)) (outputs inputs 
   abbrev Inside : EdgeRow → Type 0
   Inside = RowIsWithin (length outputs) (length inputs) (length validations)
 
-  -- what is asked for the joined lists
+  -- the conditions on the joined lists
   pub outputs-inside : AllByRecursion (λ (row : EdgeRow). IsWithin row.outputs (length outputs)) rows
   outputs-inside = all-of Inside (λ row. IsWithin row.outputs (length outputs)) (λ row h. h.outputs) rows held.lists_are.stated_are.rows_are
 

@@ -59,7 +59,7 @@ first-below test (e ∷ es) n h = by (test e) (first_edge test es) (first-below 
     by false None rest is = absurd (true≢false (sym (ap is_some is)))
     by false (Some m) rest is = let next : m + 1 ≡ n = ap (λ p. unwrap_or p 0) is in let below : m < length es = rest m refl in omega arith
 
--- what is made is made by something
+-- each edge of a list of makers is that of an element
 pub made-of : {X : Type 0} (maker : X → Option ℕ) (xs : List X) (m : ℕ) → Contains (map maker xs) (Some m) → (x : X) × (maker x ≡ Some m)
 made-of maker [] m c = absurd (omega (arith, c.1))
 made-of {X = X} maker (x ∷ xs) m c = by c.0 c.1 c.2 (made-of maker xs m)

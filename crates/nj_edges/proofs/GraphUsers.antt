@@ -73,7 +73,7 @@ module _ (files : List (List ℕ)) (makers : List (Option ℕ)) (outputs inputs 
     pub starts-below : (starts numbers : List ℕ) (uses : ℕ → List ℕ) → HaveUsers (length files) starts numbers uses → f.0 + 1 < length starts
     starts-below starts numbers uses users = let count : length starts ≡ length files + 1 = users.count_is in let less = below in omega (arith, count, less)
 
--- the parts, as they are lent
+-- the parts, as borrowed
 pub parts-lent : (count : ℕ) (starts ss : List ℕ) (edges es : List EdgeNo) (uses : ℕ → List ℕ) → ss ≡ starts → es ≡ edges → HaveUsers count starts (numbers_of edges) uses → AreParts ss (numbers_of es) uses
 parts-lent count starts ss edges es uses s e held = rw (s, e) held.parts_are
 

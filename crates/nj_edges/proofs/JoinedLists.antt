@@ -1,4 +1,4 @@
--- Lemmas on the lists of all edges with what was added to them.
+-- Lemmas on the lists of all edges with their additions.
 use Rattle.std.proofs.Common.{◌≡◌, ◌≤◌, ◌+◌, ◌-◌, ℕ, zero, suc, Bool, List, [], ◌∷◌, ◌++◌, map, length, take, drop, slice_get, slice_range, Option, Some, None, is_some, unwrap_or, refl, sym, ap, ◌∙◌, true≢false, arith, append_assoc, length-append, add-one}
 use Rattle.std.specs.List.{AllByRecursion}
 use Rattle.std.proofs.lemmas.List.{append-nil, drop-append-le, take-append-le, map-append, length-map}
@@ -17,7 +17,7 @@ use Rattle.nj_edges.specs.Joining.{none_added, with_added}
 use Rattle.nj_edges.specs.Inside.JoiningHeld.{added_inputs_of, added_outputs_of, flat, joined_by, joined_inputs, joined_outputs, joined_row, joined_rows, joined_with, needed_inputs, order_only_inputs, span_from, with_found}
 use Rattle.nj_edges.proofs.ListLemmas.{length-range}
 
--- ---- one edge more
+-- ---- one more edge
 
 drop-from : {X : Type 0} (xs : List X) (i : ℕ) (x : X) → slice_get xs i ≡ Some x → drop i xs ≡ x ∷ drop (suc i) xs
 drop-from [] i x h = absurd (true≢false (sym (ap is_some h)))
@@ -143,7 +143,7 @@ module _ (files : List (List ℕ)) (outputs inputs validations added_outputs add
   pub all-inputs : needed_inputs inputs row ++ order_only_inputs inputs row ≡ within inputs row.inputs
   all-inputs = range-split inputs row.inputs.start (row.inputs.start + row.kinds.implicit_inputs) row.inputs.end (omega arith) needed-end inside.inputs.ends
 
-  -- an edge with what was added to it, of its lists
+  -- an edge with its additions, from its lists
   edge-joined : (found : Option AddedSpans)
       → edge_with (paths_at files (joined_outputs outputs added_outputs row found)) (paths_at files (joined_inputs inputs added_inputs row found)) (paths_at files (within validations row.validations))
       (kinds_with row.kinds (length (needed_inputs inputs row ++ added_inputs_of added_inputs found))) row.is_phony
@@ -171,7 +171,7 @@ module _ (files : List (List ℕ)) (outputs inputs validations added_outputs add
 
 -- ---- all edges
 
--- rows that represent edges, with what was added to them
+-- rows that represent edges, with their additions
 pub record AreJoinedRows (files : List (List ℕ)) (outputs inputs validations added_outputs added_inputs : List FileNo) (rows : List EdgeRow) (added : List (Option AddedSpans))
     (new_outputs new_inputs : List FileNo) (new : List EdgeRow) : Type 0 where
   pub outputs_are : map (λ (row : EdgeRow). within new_outputs row.outputs) new ≡ joined_with (joined_outputs outputs added_outputs) rows added

@@ -352,7 +352,7 @@ or-shift false x y = refl
 
 module _ (files : List (List ℕ)) (makers : List (Option ℕ)) (outputs inputs validations : List FileNo) (rows : List EdgeRow) (added_makers : List (Option ℕ)) (added_outputs added_inputs : List FileNo) (added : List (Option AddedSpans)) (open_outputs open_inputs : ℕ)
     (held : JoinListsAreHeld files makers outputs inputs validations rows added_makers added_outputs added_inputs added open_outputs open_inputs) where
-  -- what the list of makers has at a file
+  -- the maker that the list has at a file
   pub stated-at : (n : ℕ) → n < length files → get_or makers n None ≡ first_edge (has_number n) (stated_rows outputs rows)
   stated-at n below =
       let count : length makers ≡ length files = held.stated_are.makers_count in

@@ -6,7 +6,7 @@ use Rattle.std.proofs.lemmas.List.{take_all}
 pub length-range : {A : Type 0} (items : List A) (start end : ℕ) → start ≤ end → end ≤ length items → length (slice_range items start end) ≡ end - start
 length-range items start end rise within = simp (length-take, length-drop) (omega arith)
 
--- what a vector has after it was lent as a slice
+-- the contents of a vector after it was borrowed as a slice
 pub lent-back : {A : Type 0} (len : ℕ) (new old : List A) → len ≡ length old → length new ≡ length old → take len (new ++ drop (length new) old) ≡ new
 lent-back len new old is same =
     let rest : drop (length new) old ≡ [] = drop_of_length-le old (omega arith) in

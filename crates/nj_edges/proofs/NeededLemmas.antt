@@ -1,4 +1,4 @@
--- What files need, nearest first.
+-- The edges that files need, nearest first.
 use Rattle.std.proofs.Common.{◌≡◌, ◌<◌, ◌≤◌, ◌+◌, ◌↔◌, inl, inr, ℕ, zero, suc, List, [], ◌∷◌, ◌++◌, map, length, take, get_or, Option, Some, None, refl, sym, ap, subst, ◌∙◌, arith}
 use Rattle.std.specs.Prelude.{Contains, slice_index}
 use Rattle.std.specs.List.{All}
@@ -71,7 +71,7 @@ module _ (edges : List EdgePaths) (files : List (List ℕ)) where
         subst (λ os. FindsMore (λ e. Contains os (Some e)) first old) (sym (makers-more ns i d below ∙ ap (λ o. makers (take i ns) ++ o ∷ []) unmade))
         (finds-source (makers (take i ns)) first old a)
 
--- ---- what is needed is needed in some number of steps
+-- ---- a needed edge is needed in some number of steps
 
 module _ (edges : List EdgePaths) (files : List (List ℕ)) where
   abbrev IsNeededSometime : ℕ → Type 0

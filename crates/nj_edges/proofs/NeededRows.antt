@@ -1,4 +1,4 @@
--- What files need, worked out on a small graph.
+-- The edges that files need, worked out on a small graph.
 use Rattle.std.proofs.Common.{ℕ, zero, suc, [], ◌∷◌, refl, arith}
 use Rattle.nj_edges.specs.Distances.{IsDistance, IsNeeded, IsNeededIn}
 use Rattle.nj_edges.proofs.ChangeRows.{a, b, four, s}

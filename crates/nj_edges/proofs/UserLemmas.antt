@@ -109,7 +109,7 @@ drop-row [] e row h = absurd (true≢false (sym (ap is_some h)))
 drop-row (x ∷ rows) zero row h = ap (λ o. unwrap_or o x ∷ rows) h
 drop-row (x ∷ rows) (suc e) row h = let more : drop e rows ≡ row ∷ drop (e + 1) rows = drop-row rows e row h in rw (add-one (suc e)) (rw (add-one e) at more)
 
--- one edge more, by the files that it has
+-- one more edge, by its files
 pub rows-next : (files : List FileNo) (part : RowPart) (rows : List EdgeRow) (e at : ℕ) (row : EdgeRow) (found : List FileNo) → at ≡ e + 1 → slice_get rows e ≡ Some row → found ≡ within files (span_of part row)
     → plus_uses found e (using_edges files part at (drop at rows)) ≡ using_edges files part e (drop e rows)
 rows-next files part rows e at row found at-is here is =

@@ -37,7 +37,7 @@ pub record IsShortest (g : EdgeGraph) (with_validations : Bool) (from : List ℕ
   pub chain : IsChain g with_validations from steps to
   pub shortest : (others : List Step) → IsChain g with_validations from others to → length steps ≤ length others
 
--- the chain that is asked for; there is none from a file to itself
+-- the requested chain; there is none from a file to itself
 abbrev pub PathIs : EdgeGraph → (with_validations : Bool) → (from to : FileNo) → Option (List Step) → Type 0
 PathIs g with_validations from to None =
     (from ≡ to) ⊎ ((steps : List Step) → ¬ IsChain g with_validations (path_at g.files from) steps (path_at g.files to))

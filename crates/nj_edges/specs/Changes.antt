@@ -1,4 +1,4 @@
--- What a change of files reaches.
+-- The edges that a change of files affects.
 use Rattle.std.specs.Prelude.{◌≡◌, ◌⊎◌, ◌↔◌, ℕ, Bool, true, List, bytes_eq}
 use Rattle.std.specs.List.{list_any, flat_map, IsDistinct}
 use Rattle.nj_cycles.specs.Cycles.{NeedsByChain}

@@ -1,4 +1,4 @@
--- What files need, and how far away it is.
+-- The edges that files need, and how far away they are.
 use Rattle.std.specs.Prelude.{ℕ, zero, suc, ◌<◌, ◌≤◌, Some, List, length, map, slice_index, Contains}
 use Rattle.nj_cycles.specs.Cycles.{Needs}
 use Rattle.nj_edges.specs.Edges.{EdgePaths, maker_of}
@@ -9,7 +9,7 @@ use Rattle.nj_edges.specs.Changes.{IsOrNeeds}
 abbrev pub MakesOneOf : List EdgePaths → (files : List (List ℕ)) → (edge : ℕ) → Type 0
 MakesOneOf edges files edge = Contains (map (maker_of edges) files) (Some edge)
 
--- files need the edges that make them, and what these need by any chain of inputs
+-- files need the edges that make them, and the edges that these need by any chain of inputs
 abbrev pub IsNeeded : List EdgePaths → (files : List (List ℕ)) → (edge : ℕ) → Type 0
 IsNeeded edges files edge = (maker : ℕ) × MakesOneOf edges files maker × IsOrNeeds edges maker edge
 

@@ -1,4 +1,4 @@
--- A graph of edges: the paths of its files, each once, and its edges in reading order.
+-- A graph of edges: the paths of its files, without duplicates, and its edges in reading order.
 use Rattle.std.specs.Prelude.{ℕ, List}
 use Rattle.nj_edges.specs.Edges.{EdgePaths}
 

@@ -11,7 +11,7 @@ pub record OpenEdge : Type 0 where
   pub inputs : List (List ℕ)
   pub validations : List (List ℕ)
 
--- the paths of all files, each once; the edges; and the one that is being read
+-- the paths of all files, without duplicates; the edges; and the one that is being read
 pub record EdgeTable : Type 0 where
   pub files : List (List ℕ)
   pub edges : List EdgePaths

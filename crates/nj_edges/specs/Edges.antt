@@ -52,11 +52,11 @@ edges_from number test (e ∷ edges) = if test e then number ∷ edges_from (num
 abbrev pub maker_of : List EdgePaths → (path : List ℕ) → Option ℕ
 maker_of edges path = first_edge (λ e. is_among (outputs_of e) path) edges
 
--- the edges that have a file as an input, each once
+-- the edges that have a file as an input, without duplicates
 abbrev pub users_of : List EdgePaths → (path : List ℕ) → List ℕ
 users_of edges path = edges_from 0 (λ e. is_among (inputs_of e) path) edges
 
--- the edges that name a file as a validation, each once
+-- the edges that name a file as a validation, without duplicates
 abbrev pub validation_users_of : List EdgePaths → (path : List ℕ) → List ℕ
 validation_users_of edges path = edges_from 0 (λ e. is_among e.validations path) edges
 

@@ -9,17 +9,17 @@ pub record AddedFiles : Type 0 where
   pub outputs : List (List ℕ)
   pub inputs : List (List ℕ)
 
--- The edges of a graph, and what was added to them so far.
+-- The edges of a graph, and the additions to them so far.
 pub record JoinTable : Type 0 where
-  -- the paths of all files, each once
+  -- the paths of all files, without duplicates
   pub files : List (List ℕ)
   -- the edges of the graph
   pub stated : List EdgePaths
-  -- the same with what was added to them
+  -- the same with their additions
   pub joined : List EdgePaths
   -- of each edge whether something was added
   pub was_joined : List Bool
-  -- what is to be added to the next one
+  -- the files for the next one
   pub «open» : AddedFiles
 
 abbrev pub none_added : AddedFiles
@@ -60,7 +60,7 @@ with_added_input t path = record t {
   «open» = record t.«open» { inputs = t.«open».inputs ++ path ∷ [] };
 }
 
--- what was collected is added to an edge
+-- the collected files are added to an edge
 abbrev pub with_joined : JoinTable → (edge : ℕ) → JoinTable
 with_joined t edge = record t {
   joined = changed_at (with_added t.«open») edge t.joined;

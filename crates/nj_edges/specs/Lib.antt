@@ -1,4 +1,4 @@
--- what must be believed
+-- the definitions to believe
 pub mod Edges
 pub mod EdgeGraphs
 pub mod Graph

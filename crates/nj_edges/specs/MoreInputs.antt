@@ -4,7 +4,7 @@ use Rattle.nj_edges.specs.Edges.{EdgePaths, edge_at, inputs_of, is_among}
 use Rattle.nj_edges.specs.Joining.{JoinTable, with_added, with_added_input, with_joined}
 use Rattle.nj_edges.specs.Repeats.{each_once}
 
--- of these paths those that an edge does not have as inputs, each once
+-- of these paths those that an edge does not have as inputs, without duplicates
 abbrev pub new_inputs : EdgePaths → (paths : List (List ℕ)) → List (List ℕ)
 new_inputs e paths = filter (λ path. not (is_among (inputs_of e) path)) (each_once bytes_eq paths)
 
@@ -24,7 +24,7 @@ with_new_input t path = if is_among (inputs_so_far t) path then t else record t 
 abbrev pub at_next_edge : InputTable → InputTable
 at_next_edge t = record { table = with_joined t.table t.edge; edge = t.edge + 1 }
 
--- the edges, of which the first one has this number, with the inputs that are added to each
+-- the edges, numbered from this number on, with the inputs that are added to each
 abbrev pub with_inputs_added : (added : (edge : ℕ) → List (List ℕ)) → (number : ℕ) → List EdgePaths → List EdgePaths
 with_inputs_added added number [] = []
 with_inputs_added added number (e ∷ edges) =

@@ -1,4 +1,4 @@
-//! What a change of files reaches.
+//! The edges that a change of files affects.
 
 ghost use Rattle.std.specs.Prelude.{◌≡◌, ◌↔◌, ℕ, ◌<◌, length, map, slice_index, All, Contains, IfOk, OnOk};
 ghost use Rattle.std.specs.List.Sorted.{IsStrictlyIncreasing};
@@ -58,9 +58,9 @@ fn add_users(found: &mut NumberSet, graph: &EdgeGraph, files: &[FileNo]) -> Resu
 
 impl EdgeGraph {
     /// The edges that a change of these files affects: those that need one of them through any
-    /// chain of inputs, phony edges among them, each once, by number. All kinds of inputs count
-    /// alike, and validations are no inputs. A file that an edge makes counts as changed too, and
-    /// its maker is not affected because of that.
+    /// chain of inputs, phony edges among them, without duplicates, by number. All kinds of inputs
+    /// count alike, and validations are no inputs. A file that an edge makes counts as changed too,
+    /// and its maker is not affected because of that.
     ///
     /// Takes time in proportion to the affected edges, their outputs and the users of these and of
     /// the files, but for a flag for each edge of the graph and one pass over the flags. Fails only

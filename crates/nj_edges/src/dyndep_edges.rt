@@ -30,7 +30,7 @@ pub(crate) struct AddedSpans {
 #[derive(Drop)]
 pub struct JoiningEdges {
     files: Files,
-    // as they are in the graph
+    // the edges of the graph, without the additions
     makers: Makers,
     outputs: Vec<FileNo>,
     inputs: Vec<FileNo>,
@@ -40,7 +40,7 @@ pub struct JoiningEdges {
     added_makers: Makers,
     added_outputs: Vec<FileNo>,
     added_inputs: Vec<FileNo>,
-    // for each edge, what was added to it
+    // for each edge, its additions
     added: Vec<Option<AddedSpans>>,
     // where the files that are to be added to the next edge begin
     open_outputs: usize,
@@ -104,8 +104,8 @@ impl JoiningEdges {
         &self.files
     }
 
-    /// The edge that makes the file at this path in the graph, without what was added to it; `None`
-    /// if there is none.
+    /// The edge that makes the file at this path in the graph without the additions; `None` if
+    /// there is none.
     pub fn stated_maker(&self, path: &[u8]) -> Option<EdgeNo>
         ensures maker { option_map (λ edge. edge.0) result ≡ maker_of self.now.stated path.now }
         ensures known { IfSome result (λ edge. edge.0 < length self.now.stated) }
@@ -138,7 +138,7 @@ impl JoiningEdges {
         part(&self.inputs, row.inputs.start, row.inputs.end)
     }
 
-    /// How many edges there are.
+    /// The number of edges.
     pub(crate) fn edge_count(&self) -> usize
         ensures { result ≡ length self.now.stated }
     {
@@ -204,7 +204,7 @@ impl JoiningEdges {
         Ok(())
     }
 
-    /// Adds what was collected to this edge, to which nothing was added before. Allocates nothing.
+    /// Adds the collected files to this edge, to which nothing was added before. Allocates nothing.
     pub fn end_join(&mut self, edge: EdgeNo)
         requires known { edge.0 < length self.old.stated }
         requires first { is_joined self.old edge.0 ≡ false }
@@ -231,8 +231,8 @@ impl JoiningEdges {
         self.open_inputs = inputs.end;
     }
 
-    /// The graph of all edges with what was added to them, or the lowest-numbered edge on a
-    /// dependency cycle. Takes time in proportion to the edges and their files.
+    /// The graph of all edges with their additions, or the lowest-numbered edge on a dependency
+    /// cycle. Takes time in proportion to the edges and their files.
     pub fn finish(self, alloc: Global) -> Result<Finished, AllocError>
         requires { self.«open» ≡ none_added }
         ensures { IfOk result (λ finished. FinishesAs self.files self.joined finished) }
@@ -338,7 +338,7 @@ struct Added<'a> {
     edges: &'a [Option<AddedSpans>],
 }
 
-// The outputs and inputs of all edges with what was added, and where each edge's are.
+// The outputs and inputs of all edges with the additions, and where each edge's are.
 #[derive(Drop)]
 struct JoinedLists {
     outputs: Vec<FileNo>,
@@ -346,7 +346,7 @@ struct JoinedLists {
     rows: Rows,
 }
 
-// The edges with what was added to them.
+// The edges with their additions.
 fn joined_lists(
     alloc: Global,
     stated: Stated<'_>,
@@ -384,7 +384,7 @@ fn joined_lists(
     Ok(lists)
 }
 
-// Appends the edge of this row, with what was added to it.
+// Appends the edge of this row, with its additions.
 fn push_edge(
     lists: &mut JoinedLists,
     stated: Stated<'_>,

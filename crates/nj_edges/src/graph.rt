@@ -61,7 +61,7 @@ pub struct CycleEdge {
     pub output: Vec<u8>,
 }
 
-/// What all edges of a run yield.
+/// The result of all edges of a run.
 #[derive(Drop)]
 pub enum Finished {
     /// A graph.
@@ -80,8 +80,8 @@ impl EdgeGraph {
         self.rows.count()
     }
 
-    /// How many files there are: the paths that edges name as outputs, inputs or validations, each
-    /// once.
+    /// The number of files: of the distinct paths that edges name as outputs, inputs or
+    /// validations.
     pub fn file_count(&self) -> usize
         ensures count { result ≡ length self.now.files }
         ensures each_path_once { IsDistinct bytes_eq self.now.files }
@@ -186,7 +186,7 @@ impl EdgeGraph {
         self.roots.as_slice()
     }
 
-    /// The edges that have this file as an input, by number, each once.
+    /// The edges that have this file as an input, by number, without duplicates.
     pub fn users(&self, file: FileNo) -> &[EdgeNo]
         requires { file.0 < length self.now.files }
         ensures users { map (λ edge. edge.0) result.now
@@ -197,7 +197,7 @@ impl EdgeGraph {
     }
 
     /// The edges that name this file as a validation ("Validations" in the Ninja manual), by
-    /// number, each once.
+    /// number, without duplicates.
     pub fn validation_users(&self, file: FileNo) -> &[EdgeNo]
         requires { file.0 < length self.now.files }
         ensures users { map (λ edge. edge.0) result.now

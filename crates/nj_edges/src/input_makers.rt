@@ -1,4 +1,4 @@
-//! Which edges make the inputs of edges, as the cycle check and walks ask for it.
+//! The edges that make the inputs of edges, as the cycle check and walks query them.
 
 ghost use Rattle.std.specs.Prelude.{◌≡◌, ℕ, ◌<◌, ◌≤◌, Some, None, All, length, slice_index_or};
 ghost use Rattle.nj_edges.specs.Inside.EdgesHeld.{makers_in_rows};

@@ -44,7 +44,7 @@ impl Makers {
         Ok(Makers { numbers })
     }
 
-    /// How many files there are.
+    /// The number of files.
     pub(crate) fn count(&self) -> usize
         ensures { result ≡ length self.now }
     {

@@ -53,7 +53,7 @@ impl EdgeGraph {
 }
 
 impl JoiningInputs {
-    /// How many edges there are.
+    /// The number of edges.
     pub fn edge_count(&self) -> usize
         ensures { result ≡ length self.now.table.stated }
     {
@@ -104,8 +104,8 @@ impl JoiningInputs {
         mark_inputs(&mut self.marks, &self.edges, self.edge);
     }
 
-    /// The graph of all edges with what was added to them, or the lowest-numbered edge on a
-    /// dependency cycle. Takes time in proportion to the edges and their files.
+    /// The graph of all edges with their additions, or the lowest-numbered edge on a dependency
+    /// cycle. Takes time in proportion to the edges and their files.
     pub fn finish(self, alloc: Global) -> Result<Finished, AllocError>
         requires { self.table.«open» ≡ none_added }
         ensures { IfOk result (λ finished.

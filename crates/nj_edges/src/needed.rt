@@ -1,4 +1,4 @@
-//! What files need.
+//! The edges that files need.
 
 ghost use Rattle.std.specs.Prelude.{◌≡◌, ◌↔◌, ℕ, ◌<◌, length, map, nat_eq, All, Contains, IfOk, OnOk};
 ghost use Rattle.std.specs.List.{IsDistinct};
@@ -14,9 +14,9 @@ use nj_names::{FileNo, NumberSet};
 use std::alloc::{AllocError, Global};
 
 impl EdgeGraph {
-    /// The edges that these files need through any chain of inputs, phony edges among them, each
-    /// once and nearest first: the makers of the files, then the makers of their inputs, and so on.
-    /// All kinds of inputs count alike, and validations are no inputs.
+    /// The edges that these files need through any chain of inputs, phony edges among them, without
+    /// duplicates, nearest first: the makers of the files, then the makers of their inputs, and so
+    /// on. All kinds of inputs count alike, and validations are no inputs.
     ///
     /// Takes time in proportion to the files, the needed edges and their inputs, but for a flag for
     /// each edge of the graph. Fails only if an allocation fails.

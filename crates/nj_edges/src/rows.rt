@@ -65,7 +65,7 @@ impl Rows {
         Ok(Rows { rows })
     }
 
-    /// How many rows there are.
+    /// The number of rows.
     pub(crate) fn count(&self) -> usize
         ensures count { result ≡ length self.now }
         ensures fits { result + 1 < 2 ^ 32 }
@@ -100,7 +100,7 @@ impl Rows {
     }
 }
 
-// The row of an edge, as it is kept.
+// The row of an edge, in its stored form.
 fn narrow_at(rows: &[NarrowRow], edge: usize) -> NarrowRow
     requires { edge < length rows.now }
     ensures { slice_get rows.now edge ≡ Some result }
@@ -108,7 +108,7 @@ fn narrow_at(rows: &[NarrowRow], edge: usize) -> NarrowRow
     rows[edge]
 }
 
-// The row, as it is kept.
+// The row, in its stored form.
 fn narrow_row(row: EdgeRow) -> Result<NarrowRow, AllocError>
     ensures { IfOk result (λ narrow. wide_row narrow ≡ row) }
 {

@@ -19,7 +19,7 @@ spot line column = record { line = line; column = column }
 abbrev at : (line column : ℕ) → Cause → GraphFault
 at line column cause = fault_at (codes "build.ninja") (spot line column) cause
 
--- what the parser reports in the file `build.ninja`
+-- the fault that the parser reports in the file `build.ninja`
 abbrev reported : Fault → GraphFault
 reported fault = fault_in (codes "build.ninja") fault
 

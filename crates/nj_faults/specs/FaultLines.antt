@@ -43,7 +43,7 @@ cause_text shown (cause.NoOutEdge path) = codes "'" ++ shown path ++ codes "' ha
 cause_text shown cause.TextNotUtf8 = codes "text is not UTF-8"
 cause_text shown cause.OutOfMemory = out_of_memory_text
 
--- the place of a fault, else what is given for one without a place; and its text
+-- the place of a fault, or `otherwise` for one without a place; and its text
 abbrev pub line_after : (shown : List ℕ → List ℕ) → (otherwise : List ℕ) → GraphFault → List ℕ
 line_after shown otherwise fault = unwrap_or (option_map (opening_text shown) fault.place) otherwise ++ cause_text shown fault.cause
 
@@ -59,7 +59,7 @@ fault_line_for program fault = line_after (λ name. name) (program ++ codes ": "
 abbrev pub bare_line : GraphFault → List ℕ
 bare_line fault = line_after (λ name. name) [] fault
 
--- ---- for people to read, with U+FFFD for what is not UTF-8 in names
+-- ---- for people to read, with U+FFFD for invalid UTF-8 in names
 
 abbrev pub shown_line : GraphFault → List ℕ
 shown_line fault = line_after utf8_lossy [] fault

@@ -1,4 +1,4 @@
--- Why files do not make a graph, or why what is asked of their graph cannot be answered: the place of a fault, and what is wrong there.
+-- Why files do not make a graph, or why a request about their graph has no answer: the place and the cause of a fault.
 use Rattle.std.specs.Prelude.{◌≡◌, ◌⊎◌, ℕ, Option, Some, None, List}
 use Rattle.std.specs.Option.{option_map_or}
 use Rattle.nj_text.specs.declared.spot.Spot.{Spot}
@@ -7,11 +7,11 @@ use Rattle.nj_faults.specs.declared.fault.GraphFault.{GraphFault}
 use Rattle.nj_faults.specs.declared.fault.Cause.{Cause}
 use Rattle.nj_faults.specs.declared.fault.Cause.TheVariants as cause
 
--- what is wrong at a place of a file
+-- a fault of this cause at a place of a file
 abbrev pub fault_at : (file : List ℕ) → Spot → Cause → GraphFault
 fault_at file spot cause = record { place = Some (record { file = file; spot = spot }); cause = cause }
 
--- a fault for which no place is to blame
+-- a fault without a location
 abbrev pub unplaced : Cause → GraphFault
 unplaced cause = record { place = None; cause = cause }
 
@@ -31,6 +31,6 @@ abbrev pub fault_by : (file : List ℕ) → Option Spot → Cause → GraphFault
 fault_by file (Some spot) cause = fault_at file spot cause
 fault_by file None cause = unplaced cause
 
--- what the parser reports of its text
+-- the fault that the parser reports of its text
 abbrev pub fault_in : (file : List ℕ) → Fault → GraphFault
 fault_in file fault = fault_by file (place_of fault) (cause_of fault)

@@ -1,4 +1,4 @@
--- The version of Ninja whose files are read, and whether a file asks for a newer one ("Version requirements" in the Ninja manual).
+-- The version of Ninja whose files are read, and whether a file requires a newer one ("Version requirements" in the Ninja manual).
 use Rattle.std.specs.Prelude.{ℕ, Bool, ◌&&◌, ◌||◌, nat_lt, ◌==◌, List, codes}
 use Rattle.nj_text.specs.Numbers.{version_pair_of}
 

@@ -1,4 +1,4 @@
-//! Why files do not make a graph, or why what is asked of their graph cannot be answered.
+//! Why files do not make a graph, or why a request about their graph has no answer.
 
 ghost use Rattle.std.specs.Prelude.{◌≡◌, Some, IfOk, nat_eq};
 ghost use Rattle.std.specs.Cmp.{partial_equiv_from_equiv};
@@ -117,7 +117,7 @@ impl PlaceRef<'_> {
     }
 }
 
-/// What is wrong at the place of a fault.
+/// The cause of a fault.
 #[derive(Debug, PartialEq, Eq, Drop)]
 pub enum Cause {
     /// The text of a file is no list of statements, or not those of a dyndep file.
@@ -130,7 +130,7 @@ pub enum Cause {
     DuplicateRule(Name),
     /// A second pool of this name, or one named `console`.
     DuplicatePool(Name),
-    /// `ninja_required_version` asks for this version, which is newer than 1.12.
+    /// `ninja_required_version` requires this version, which is newer than 1.12.
     VersionTooNew(Name),
     /// No file is at the path.
     Missing(Name),
@@ -148,7 +148,7 @@ pub enum Cause {
     /// that names it ("Build outputs").
     TwoMakers(Name),
     /// A path that no build statement names: at the word of a `default` statement ("Default target
-    /// statements"), or with no place for one that was asked for.
+    /// statements"), or without a place for one that was requested.
     UnknownTarget(Name),
     /// A variable of a rule whose value for an edge refers to itself, directly or through others,
     /// at the build statement ("Rule variables").
@@ -166,11 +166,10 @@ pub enum Cause {
     /// A path that no build statement bound to this dyndep file makes, at the word of the dyndep
     /// file.
     DyndepExtra(Name),
-    /// A path that is needed to make itself, at the build statement that makes it ("Build
-    /// statements").
+    /// A path on a dependency cycle, at the build statement that makes it ("Build statements").
     Cycle(Name),
-    /// A file that no build statement has as an input, where the first output made of it was asked
-    /// for ("Running Ninja"); the fault has no place.
+    /// A file that no build statement has as an input, where the first output made from it was
+    /// requested ("Running Ninja"); the fault has no place.
     NoOutEdge(Name),
     /// A command or a path that JSON cannot contain, at the build statement of its edge ("Extra
     /// tools").
@@ -180,7 +179,7 @@ pub enum Cause {
 }
 
 impl Cause {
-    // What is wrong at the place of a fault of the parser.
+    // The cause of a fault of the parser.
     fn of_text(alloc: Global, fault: ParseFault<'_>) -> Result<Cause, AllocError>
         ensures { IfOk result (λ cause. cause ≡ cause_of (parsed.fault_text fault.entry)) }
     {
@@ -198,10 +197,10 @@ fn owned(alloc: Global, cause: SyntaxCause<&[u8]>) -> Result<SyntaxCause<Name>, 
     cause.try_map(|key| Name::new(alloc, key))
 }
 
-/// The first fault of a run: of its files in reading order, else of what is asked of their graph.
+/// The first fault of a run: of its files in reading order, else of the request about their graph.
 #[derive(Debug, PartialEq, Eq, Drop)]
 pub struct GraphFault {
-    /// `None` where no place is to blame.
+    /// `None` where the fault has no location.
     pub place: Option<Place>,
     pub cause: Cause,
 }
@@ -229,7 +228,7 @@ impl GraphFault {
         }
     }
 
-    /// A fault of this cause, for which no place is to blame.
+    /// A fault of this cause without a location.
     pub fn unplaced(cause: Cause) -> GraphFault
         ensures { result ≡ unplaced cause }
     {

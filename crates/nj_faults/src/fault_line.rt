@@ -15,9 +15,9 @@ use std::error::Error;
 use std::fmt;
 
 impl GraphFault {
-    /// The line that `ninja-explain` reports the fault by, without a line end:
-    /// `FILE:LINE:COLUMN: TEXT`, or `ninja-explain: TEXT` where the fault has no place. Names and
-    /// paths are written as they are.
+    /// The line by which `ninja-explain` reports the fault, without a line end: `FILE:LINE:COLUMN:
+    /// TEXT`, or `ninja-explain: TEXT` where the fault has no place. Names and paths are written
+    /// verbatim.
     ///
     /// # Errors
     ///
@@ -54,7 +54,7 @@ impl GraphFault {
     }
 }
 
-// The line of a fault, with what comes before its text where it has no place.
+// The line of a fault, which begins with `otherwise` where it has no place.
 fn line_after(alloc: Global, fault: &GraphFault, otherwise: &str) -> Result<Vec<u8>, AllocError>
     ensures { IfOk result (λ line. line.items ≡ line_after (λ name. name) otherwise.now fault.now) }
 {
@@ -63,7 +63,7 @@ fn line_after(alloc: Global, fault: &GraphFault, otherwise: &str) -> Result<Vec<
     Ok(line)
 }
 
-// What comes before the text of a fault: its place, or what is given for a fault without one.
+// The text before that of a fault: its place, or `otherwise` for a fault without one.
 fn opening_text(
     alloc: Global,
     place: &Option<Place>,
@@ -85,7 +85,7 @@ fn opening_text(
 }
 
 impl Cause {
-    // What is wrong, in words.
+    // The text of the cause.
     fn text(&self) -> FaultText<'_>
         ensures exact { result.exact ≡ cause_text (λ name. name) self.now }
         ensures shown { result.shown ≡ cause_text utf8_lossy self.now }
@@ -142,7 +142,7 @@ fn quoted<'a>(before: &'static str, name: &'a Name) -> FaultText<'a>
     naming(before, name, "'")
 }
 
-/// U+FFFD replaces what is not UTF-8.
+/// U+FFFD replaces invalid UTF-8.
 impl fmt::Display for Name {
     ghost output = { λ name. Some (utf8_lossy name) };
 
@@ -152,7 +152,7 @@ impl fmt::Display for Name {
     }
 }
 
-/// `FILE:LINE:COLUMN`, with U+FFFD for what is not UTF-8 in the file's name.
+/// `FILE:LINE:COLUMN`, with U+FFFD for invalid UTF-8 in the file's name.
 impl fmt::Display for Place {
     ghost output = { λ place. Some (shown_place place) };
 
@@ -162,7 +162,7 @@ impl fmt::Display for Place {
     }
 }
 
-/// What is wrong, without a place, with U+FFFD for what is not UTF-8 in names.
+/// The text of the cause, without a place, with U+FFFD for invalid UTF-8 in names.
 impl fmt::Display for Cause {
     ghost output = { λ cause. Some (cause_text utf8_lossy cause) };
 
@@ -172,8 +172,8 @@ impl fmt::Display for Cause {
     }
 }
 
-/// `FILE:LINE:COLUMN: TEXT`, or `TEXT` where the fault has no place. In names U+FFFD replaces what
-/// is not UTF-8; [`GraphFault::bare_line`] has them as they are.
+/// `FILE:LINE:COLUMN: TEXT`, or `TEXT` where the fault has no place. In names U+FFFD replaces
+/// invalid UTF-8; [`GraphFault::bare_line`] has them verbatim.
 impl fmt::Display for GraphFault {
     ghost output = { λ fault. Some (shown_line fault) };
 

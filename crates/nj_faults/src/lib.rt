@@ -1,4 +1,4 @@
-//! Why the files of a run do not make a graph, or why what is asked of it cannot be answered, the
+//! Why the files of a run do not make a graph, or why a request about the graph has no answer, the
 //! line that reports it, and the version of Ninja whose files are read.
 #![tactic(auto)]
 

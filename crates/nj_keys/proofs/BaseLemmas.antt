@@ -33,17 +33,17 @@ may_begin-next before b =
     ∙ ap (λ word. not (list_any is_slash word)) (take_while-cons p b (reverse before))
     ∙ after-byte (is_separator b) (is_slash b) b (take_while p (reverse before)) refl
 
--- ---- one byte more
+-- ---- one more byte
 
 module _ (folders : List (List ℕ)) (before : List ℕ) (b : ℕ) (after rest : List ℕ) (rest-is : rest ≡ b ∷ after) where
-  -- a byte of a folder that counts
+  -- a byte of a directory that counts
   pub step-inside : (left : ℕ) → 0 < left → mapped_after folders (before ++ b ∷ []) (left - 1) after ≡ mapped_after folders before left rest
   step-inside zero some = absurd (omega (arith, some))
   step-inside (suc left) some =
       let is : suc left - 1 ≡ left = omega arith in
       ap (λ n. mapped_after folders (before ++ b ∷ []) n after) is ∙ ap (mapped_after folders before (suc left)) (sym rest-is)
 
-  -- a byte at which a folder of this length counts, or none
+  -- a byte at which a directory of this length counts, or none
   pub step-outside : (out written : List ℕ) (may : Bool) (size : ℕ) → may ≡ may_begin before → size ≡ cond may (longest_at folders rest) 0
       → written ≡ out ++ front_mapped folders size rest
       → written ++ mapped_after folders (before ++ b ∷ []) (size - 1) after ≡ out ++ mapped_after folders before 0 rest
@@ -55,7 +55,7 @@ module _ (folders : List (List ℕ)) (before : List ℕ) (b : ℕ) (after rest :
       ∙ ap (λ n. out ++ (front_mapped folders n (b ∷ after) ++ later n)) counts
       ∙ ap (λ t. out ++ mapped_after folders before 0 t) (sym rest-is)
 
--- ---- no folders
+-- ---- no directories
 
 pub empty-list : {X : Type 0} (xs : List X) → (length xs == 0) ≡ true → xs ≡ []
 empty-list [] is = refl
@@ -74,7 +74,7 @@ mapped-none before (b ∷ text) =
 pub mapped-without : (folders : List (List ℕ)) (text : List ℕ) → folders ≡ [] → mapped folders text ≡ text
 mapped-without folders text none = ap (λ fs. mapped fs text) none ∙ mapped-none [] text
 
--- ---- the number of a folder
+-- ---- the number of a directory
 
 module _ (path : List ℕ) (folders : List (Vec ℕ)) (n : ℕ) (d : Vec ℕ) (below : n < length folders) where
   abbrev first : List (Vec ℕ) → ℕ

@@ -1,9 +1,9 @@
--- Where base folders count, worked out on the definitions.
+-- Where base directories count, worked out on the definitions.
 use Rattle.std.proofs.Common.{◌≡◌, ℕ, List, [], ◌∷◌, ◌++◌, refl}
 use Rattle.std.specs.Prelude.{codes, decimal}
 use Rattle.nj_keys.specs.Bases.{mapped}
 
--- one folder, and two of which the first is in front of the second
+-- one directory, and two, where the first is in front of the second
 abbrev one : List (List ℕ)
 one = codes "/home/a" ∷ []
 
@@ -32,7 +32,7 @@ longer_names = refl
 before_separators : mapped one (codes "--at=/home/a:/home/a,/home/a;x") ≡ codes "--at=" ++ first (58 ∷ first (44 ∷ first (codes ";x")))
 before_separators = refl
 
--- -DAT=\"/home/a\", and a folder `a b` whose blank has a `\` before it
+-- -DAT=\"/home/a\", and a directory `a b` whose blank has a `\` before it
 before_quote : mapped one (codes "-DAT=" ++ 92 ∷ 34 ∷ codes "/home/a" ++ 92 ∷ 34 ∷ []) ≡ codes "-DAT=" ++ 92 ∷ 34 ∷ first (92 ∷ 34 ∷ [])
 before_quote = refl
 

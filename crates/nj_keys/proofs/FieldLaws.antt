@@ -23,7 +23,7 @@ both-true false t e = absurd cc
 not-colon : (d : ℕ) → is_ascii_digit d ≡ true → 58 ≡ d → ⊥
 not-colon d digit is = let colon : is_ascii_digit 58 ≡ true = ap is_ascii_digit is ∙ digit in absurd cc
 
--- what is before the first colon, and what is after it
+-- the bytes before the first colon, and those after it
 cut : (ds es r s : List ℕ) → all_ascii_digits ds ≡ true → all_ascii_digits es ≡ true → ds ++ 58 ∷ r ≡ es ++ 58 ∷ s → (ds ≡ es) × (r ≡ s)
 cut [] [] r s all also is = (refl, cc)
 cut [] (e ∷ es) r s all also is = absurd (not-colon e (both-true (is_ascii_digit e) (all_ascii_digits es) also).0 cc)

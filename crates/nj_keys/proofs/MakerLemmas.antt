@@ -12,7 +12,7 @@ use Rattle.nj_keys.specs.Keys.{fields_of, fields_text, input_makers, IsKey, Need
 use Rattle.nj_keys.specs.Keys.IsKey.{digest}
 use Rattle.nj_keys.specs.Inside.Keeping.{kept_key, IsAcyclic, IsKept, KeepsKeys, KeepsMakers}
 
--- what is found at a place, by its number
+-- the maker found at a place, by its number
 abbrev pub numbers : Option (Option EdgeNo) → Option (Option ℕ)
 numbers found = option_map (λ maker. option_map (λ e. e.0) maker) found
 
@@ -47,7 +47,7 @@ module _ (edges : List EdgePaths) (keys : List (Option (List ℕ))) (edge : ℕ)
   pub maker-below : IsAcyclic edges → (i f : ℕ) → slice_get makers i ≡ Some (Some f) → f < length edges
   maker-below (rank, ranked) i f at = ranked.within edge f (contains-at makers i (Some f) at)
 
-  -- one place more, at which is a source, or an edge whose key is kept
+  -- one more place, at which is a source, or an edge whose key is kept
   pub makers-more : (place : ℕ) (maker : Option ℕ) → slice_get makers place ≡ Some maker → ((f : ℕ) → maker ≡ Some f → IsKept keys f)
       → KeepsMakers edges keys edge place → KeepsMakers edges keys edge (place + 1)
   makers-more place maker here kept before i f below at = elim (cases_lt i place) [

@@ -1,4 +1,5 @@
--- Base folders: those that a build may lie in elsewhere. In a text a zero byte and a number stand for them.
+-- Base directories: those that differ between places where the same build lies. In a text a zero byte and a number
+-- stand for them.
 use Rattle.std.specs.Prelude.{ℕ, zero, suc, ◌-◌, ◌==◌, Bool, true, false, ◌&&◌, ◌||◌, not, if◌then◌else◌, unwrap_or, List, [], ◌∷◌, ◌++◌}
 use Rattle.std.specs.Prelude.{length, take, drop, reverse, max, position, bytes_eq, nat_eq, decimal}
 use Rattle.std.specs.List.{list_any, starts_with, take_while}
@@ -16,7 +17,7 @@ is_separator b = b == 32 || b == 9 || b == 10 || b == 13 || is_quote b || b == 6
 abbrev pub is_path_byte : ℕ → Bool
 is_path_byte b = not (is_separator b || b == 38 || b == 40 || b == 41 || b == 59 || b == 60 || b == 62 || b == 124)
 
--- ---- where a folder counts
+-- ---- where a directory counts
 
 -- a path may begin after this text: no `/` stands after its last separator
 abbrev pub may_begin : (before : List ℕ) → Bool
@@ -26,36 +27,39 @@ abbrev pub begins_with_quote : List ℕ → Bool
 begins_with_quote [] = false
 begins_with_quote (b ∷ text) = is_quote b
 
--- The path of a folder ends before this text: at a `/`, at no path byte, or at the end. A `\` before a quote is part of that.
+-- The path of a directory ends before this text: at a `/`, at no path byte, or at the end. A `\` before a quote is part of
+-- that.
 abbrev pub ends_before : (text : List ℕ) → Bool
 ends_before [] = true
 ends_before (b ∷ text) = is_slash b || not (is_path_byte b) || b == 92 && begins_with_quote text
 
--- a folder stands at the front of a text
+-- a directory stands at the front of a text
 abbrev pub stands_at : (text folder : List ℕ) → Bool
 stands_at text folder = starts_with nat_eq text folder && ends_before (drop (length folder) text)
 
--- the length of the longest folder that does; 0 if none does
+-- the length of the longest directory that does; 0 if none does
 abbrev pub longest_at : (folders : List (List ℕ)) → (text : List ℕ) → ℕ
 longest_at [] text = 0
 longest_at (folder ∷ folders) text = max (if stands_at text folder then length folder else 0) (longest_at folders text)
 
--- the length of the folder that counts where a text stands after what is before it
+-- the length of the directory that counts at the front of a text, after the text before it
 abbrev pub counted : (folders : List (List ℕ)) → (before text : List ℕ) → ℕ
 counted folders before text = if may_begin before then longest_at folders text else 0
 
 -- ---- the mapped text
 
--- a zero byte, and the number of a folder, from 0
+-- a zero byte, and the number of a directory, from 0
 abbrev pub token : (folders : List (List ℕ)) → (folder : List ℕ) → List ℕ
 token folders folder = 0 ∷ decimal (unwrap_or (position (bytes_eq folder) folders) 0)
 
--- what stands for the front of a text, where a folder of this length counts: its token, or the first byte where none does
+-- the text that stands for the front of a text, where a directory of this length counts: its token, or the first byte
+-- where none does
 abbrev pub front_mapped : (folders : List (List ℕ)) → (length : ℕ) → (text : List ℕ) → List ℕ
 front_mapped folders zero text = take 1 text
 front_mapped folders (suc more) text = token folders (take (suc more) text)
 
--- what stands for a text after what is before it, of which so many bytes more are of a folder that counts
+-- the text that stands for a text, after the text before it; the first `left` bytes are the rest of a directory that
+-- counts
 abbrev pub mapped_after : (folders : List (List ℕ)) → (before : List ℕ) → (left : ℕ) → (text : List ℕ) → List ℕ
 mapped_after folders before left [] = []
 mapped_after folders before (suc left) (b ∷ text) = mapped_after folders (before ++ b ∷ []) left text
@@ -63,6 +67,6 @@ mapped_after folders before zero (b ∷ text) =
     front_mapped folders (counted folders before (b ∷ text)) (b ∷ text)
     ++ mapped_after folders (before ++ b ∷ []) (counted folders before (b ∷ text) - 1) text
 
--- a text with a token in place of each folder that counts
+-- a text with a token in place of each directory that counts
 abbrev pub mapped : (folders : List (List ℕ)) → (text : List ℕ) → List ℕ
 mapped folders text = mapped_after folders [] 0 text

@@ -10,7 +10,7 @@ use Rattle.nj_graph.specs.Edges.{EdgePaths, edge_at, inputs_of, outputs_of, firs
 use Rattle.nj_graph.specs.Graph.{edges_of, late_text_of, GraphModel, IsGraphOf}
 use Rattle.nj_keys.specs.Bases.{mapped}
 
--- ---- what a key is made of
+-- ---- the contents of a key
 
 -- an input, with the key of the edge that makes it, which is empty where none does
 pub record InputFields : Type 0 where
@@ -36,7 +36,7 @@ number n = decimal n ++ 58 ∷ []
 abbrev pub field : List ℕ → List ℕ
 field bytes = number (length bytes) ++ bytes
 
--- what a manifest has before the inputs of a kind
+-- the sign before the inputs of a kind in a manifest
 abbrev pub bars : Kind → List ℕ
 bars Explicit = []
 bars Implicit = codes "|"
@@ -56,7 +56,7 @@ fields_text f =
 abbrev pub variable_of : List EdgePaths → List ReadStatement → (edge : ℕ) → (name : List ℕ) → List ℕ
 variable_of edges entries edge name = if (edge_at edges edge).is_phony then [] else late_text_of entries edge name
 
--- what a response file contains, if it has a name
+-- the contents of a response file, if it has a name
 abbrev pub content_of : (name content : List ℕ) → List ℕ
 content_of [] content = []
 content_of (byte ∷ name) content = content

@@ -1,4 +1,4 @@
--- what must be believed
+-- the definitions to believe
 pub mod Bases
 pub mod Keys
 -- how the code does that

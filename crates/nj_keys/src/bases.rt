@@ -1,4 +1,4 @@
-//! Folders that builds may lie in, and the texts that name them.
+//! Directories of builds, and the texts that name them.
 
 ghost use Rattle.std.specs.Prelude.{◌≡◌, ◌++◌, [], ◌∷◌, true, ◌-◌, ◌<◌, ◌≤◌, if◌then◌else◌, length, take, drop, IfOk, IfSome, OnOk, OnErr, bytes_eq, decimal, map, position, unwrap_or};
 ghost use Rattle.nj_text.specs.Paths.{clean_path_of, is_absolute};
@@ -10,11 +10,11 @@ use nj_text::{TextFault, clean_path};
 use std::alloc::{AllocError, Global};
 use std::marker::Model;
 
-/// Folders by their clean absolute paths, numbered from 0. In a text a zero byte, which no manifest
-/// holds, and the number stand for the path of a folder where this counts: where no `/` stands
-/// between it and the last blank, quote, `=`, `:` or `,` before it, and where `/`, no byte of a
-/// path or the end follows. Of several the longest counts. So texts of builds that lie in different
-/// folders agree.
+/// Directories by their clean absolute paths, numbered from 0. In a text a zero byte, which no
+/// manifest holds, and the number stand for the path of a directory where this counts: where no `/`
+/// stands between it and the last blank, quote, `=`, `:` or `,` before it, and where `/`, no byte
+/// of a path or the end follows. Of several the longest counts. So texts of builds that lie in
+/// different directories agree.
 #[derive(Drop)]
 pub struct Bases {
     folders: Vec<Vec<u8>>,
@@ -30,7 +30,7 @@ impl Model for Bases {
 }
 
 impl Bases {
-    /// No folders.
+    /// No directories.
     pub fn new(alloc: Global) -> Bases
         ensures { result ≡ [] }
     {
@@ -39,12 +39,12 @@ impl Bases {
         }
     }
 
-    /// Adds the folder at a path, which is cleaned, unless the path is relative. Returns whether it
-    /// was added.
+    /// Adds the directory at a path, which is cleaned, unless the path is relative. Returns whether
+    /// it was added.
     ///
     /// # Errors
     ///
-    /// If an allocation failed; no folder is added then.
+    /// If an allocation failed; no directory is added then.
     pub fn add(&mut self, alloc: Global, path: &[u8]) -> Result<bool, AllocError>
         ensures absolute { IfOk result (λ added. added ≡ is_absolute path.now) }
         ensures added { OnOk result (self.new ≡ self.old
@@ -63,7 +63,7 @@ impl Bases {
         }
     }
 
-    /// Appends a text with a zero byte and a number in place of each folder that counts.
+    /// Appends a text with a zero byte and a number in place of each directory that counts.
     ///
     /// # Errors
     ///
@@ -86,7 +86,7 @@ fn is_absolute(path: &[u8]) -> bool
     matches!(path, [b'/', ..])
 }
 
-// Appends a text with a zero byte and a number in place of each folder that counts.
+// Appends a text with a zero byte and a number in place of each directory that counts.
 fn append_mapped(folders: &[Vec<u8>], out: &mut Vec<u8>, text: &[u8]) -> Result<(), AllocError>
     ensures { OnOk result (out.new.items ≡ out.old.items ++ mapped (paths folders.now) text.now) }
 {
@@ -112,7 +112,7 @@ fn may_begin_after(may_begin: bool, byte: u8) -> bool
     is_separator(byte) || (may_begin && byte != b'/')
 }
 
-// The length of the folder that counts at the front of a text; 0 if none does.
+// The length of the directory that counts at the front of a text; 0 if none does.
 fn counted(folders: &[Vec<u8>], may_begin: bool, text: &[u8]) -> usize
     ensures longest { result ≡ (if may_begin then longest_at (paths folders.now) text.now else 0) }
     ensures fits { result ≤ length text.now }
@@ -124,7 +124,7 @@ fn counted(folders: &[Vec<u8>], may_begin: bool, text: &[u8]) -> usize
     }
 }
 
-// The length of the longest folder that stands at the front of a text; 0 if none does.
+// The length of the longest directory that stands at the front of a text; 0 if none does.
 fn longest_at(folders: &[Vec<u8>], text: &[u8]) -> usize
     ensures longest { result ≡ longest_at (paths folders.now) text.now }
     ensures fits { result ≤ length text.now }
@@ -138,14 +138,14 @@ fn longest_at(folders: &[Vec<u8>], text: &[u8]) -> usize
     longest
 }
 
-// Whether a folder stands at the front of a text.
+// Whether a directory stands at the front of a text.
 fn stands_at(text: &[u8], folder: &[u8]) -> bool
     ensures { result ≡ stands_at text.now folder.now }
 {
     text.starts_with(folder) && ends_before(&text[folder.len()..])
 }
 
-// Whether the path of a folder ends before a text.
+// Whether the path of a directory ends before a text.
 fn ends_before(text: &[u8]) -> bool
     ensures { result ≡ ends_before text.now }
 {
@@ -178,8 +178,8 @@ fn is_quote(byte: u8) -> bool
     matches!(byte, b'"' | b'\'')
 }
 
-// Appends what stands for the front of a text: the token of a folder of this length, or the first
-// byte if the length is 0.
+// Appends the text that stands for the front of a text: the token of a directory of this length, or
+// the first byte if the length is 0.
 fn append_front(
     folders: &[Vec<u8>],
     out: &mut Vec<u8>,
@@ -200,7 +200,7 @@ fn append_front(
     }
 }
 
-// The number of the first folder at this path; 0 if there is none.
+// The number of the first directory at this path; 0 if there is none.
 fn number_of(folders: &[Vec<u8>], path: &[u8]) -> usize
     ensures { result ≡ unwrap_or (position (bytes_eq path.now) (paths folders.now)) 0 }
 {

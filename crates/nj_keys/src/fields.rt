@@ -1,4 +1,4 @@
-//! What the key of an edge is made of.
+//! The contents of an edge's key.
 
 ghost use Rattle.std.specs.Prelude.{◌≡◌, ◌<◌, ◌++◌, List, codes, IfOk, OnOk, length, map};
 ghost use Rattle.std.specs.List.{flat_map};
@@ -138,7 +138,7 @@ fn push_inputs(
     Ok(())
 }
 
-// What a manifest has before the inputs of a kind.
+// The sign before the inputs of a kind in a manifest.
 fn bars(kind: Kind) -> &'static [u8]
     ensures { result.now ≡ bars kind }
 {

@@ -19,8 +19,8 @@ struct Frame {
     place: usize,
 }
 
-// Keeps the key of an edge, and first those of all edges that it needs, as far as they are missing.
-// `keys` has a place for each edge.
+// Keeps the key of an edge, after the missing ones of all edges that it needs. `keys` has a place
+// for each edge.
 pub(crate) fn keep_key(
     alloc: Global,
     graph: &Graph,

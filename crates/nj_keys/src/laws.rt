@@ -1,4 +1,4 @@
-//! What keys and their lines mean.
+//! Laws of keys and their lines.
 
 ghost use Rattle.nj_keys.specs.Keys.{EdgesHaveKeys, KeysAreUnique, LinesAreUnique, PagesOfLinesJoin, TextsTellFields};
 

@@ -1,4 +1,4 @@
-//! Keys of edges, under which a cache may keep what their commands make.
+//! Keys of edges, under which a cache may keep the outputs of their commands.
 #![tactic(auto)]
 
 mod bases;

@@ -26,9 +26,9 @@ pub struct Page {
     pub mark: Option<Mark>,
 }
 
-/// The lines of the commands that the targets need, from a mark on; at most `take` of them if that
-/// is given. A line is the key of an edge in hexadecimal digits, a space and its first output. In
-/// what a key is made of a number stands for each base.
+/// The lines of the commands that the targets need, from a mark on; at most `take` of them if there
+/// is a limit. A line is the key of an edge in hexadecimal digits, a space and its first output. In
+/// the contents of a key a number stands for each base.
 ///
 /// # Errors
 ///

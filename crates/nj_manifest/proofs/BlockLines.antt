@@ -54,8 +54,8 @@ abbrev pub BeginsLine : Keys → ℕ → Parse (List LineModel) → State → Ty
 BeginsLine allowed limit whole s =
     (l : Line) × (ls : List Line) × (s ≡ Inside (without_spaces l) ls) × (whole ≡ block_by allowed IndentedLine l ls (block allowed ls)) × (lines_weight ls < limit)
 
--- What the start of a line tells about the block, and where the lexer is then. The limit is the weight of the lines
--- that were left.
+-- The block that the start of a line implies, and where the lexer is then. The limit is the weight
+-- of the lines that were left.
 abbrev pub Begins : Keys → (limit : ℕ) → Parse (List LineModel) → Reply LineStart → Type 0
 Begins allowed limit whole (Ok (start.Indented, s)) = BeginsLine allowed limit whole s
 Begins allowed limit whole (Ok (start.Middle, s)) = ⊥
@@ -65,7 +65,7 @@ Begins allowed limit whole (Err f) = whole ≡ Err (Bad f)
 after-last : (l : Line) (ls : List Line) → l.is_last ≡ true → lines_after l ls ≡ with_units [] l ∷ ls
 after-last l ls h = ap (λ t. cond t (with_units [] l ∷ ls) ls) h
 
--- an empty end of the text stays as it is
+-- an empty end of the text stays unchanged
 same-end : (l : Line) (ls : List Line) → (l.is_last && is_empty l.units) ≡ true → lines_after l ls ≡ l ∷ ls
 same-end l ls h = by_units l.is_last l.units refl refl h
   where
@@ -122,7 +122,7 @@ begun-begins allowed limit (l ∷ ls) h = by_comment (is_comment (kind_of l)) re
     by_comment true e rest =
         subst (λ (whole : Parse (List LineModel)). Begins allowed limit whole (begun (lines_after l (without_comments ls)))) (sym (block-comment allowed (kind_of l) l ls (block allowed ls) e)) (by_last l.is_last refl rest)
 
--- what the lexer returns at the start of a line
+-- the result of the lexer at the start of a line
 pub start-begins : (allowed : Keys) (ls : List Line) (r : Reply LineStart) → start_line_of (Between ls) ≡ r → Begins allowed (lines_weight ls) (block allowed ls) r
 start-begins allowed ls r h = subst (Begins allowed (lines_weight ls) (block allowed ls)) h (begun-begins allowed (lines_weight ls) ls (omega arith))
 
@@ -137,11 +137,11 @@ block-after allowed l ls = by_last l.is_last refl
 
 -- ---- the turns of the loop
 
--- what is read before is put in front
+-- the lines read before are put in front
 abbrev pub in_front : List LineModel → Parse (List LineModel) → Parse (List LineModel)
 in_front front others = others >>= λ o. Ok (front ++ o.0, o.1)
 
--- What was read in front of what is still to be read is the whole.
+-- The lines read, in front of those that are still to be read, are the whole.
 abbrev pub StillReads : Keys → (front : List LineModel) → (before now : State) → Type 0
 StillReads allowed front (Between ls) now = (ms : List Line) × (now ≡ Between ms) × (in_front front (block allowed ms) ≡ block allowed ls)
 StillReads allowed front other now = Unit {0}
@@ -173,7 +173,7 @@ started-indented allowed (Failed f) middle h = absurd (false≢true (ap begins_i
 line-after : (allowed : Keys) (l : Line) (ls : List Line) (middle : State) (line : LineModel) (after : State) → middle ≡ Inside (without_spaces l) ls → line_next allowed middle ≡ Ok (line, after) → after ≡ Between (lines_after l ls)
 line-after allowed l ls middle line after i h = line-inside allowed (without_spaces l) ls line after (ap (line_next allowed) (sym i) ∙ h)
 
--- Behind a line fewer lines are left.
+-- After a line fewer lines are left.
 pub lines_left-line : (allowed : Keys) (s middle : State) (line : LineModel) (after : State) → Started start.Indented s middle → line_next allowed middle ≡ Ok (line, after) → lines_left after < lines_left s
 lines_left-line allowed s middle line after h e =
     let b = started-indented allowed s middle h in
@@ -222,7 +222,7 @@ block-end view allowed (Between ls) s after x lines still other h =
 block-end view allowed (Inside l ls) s after x lines still other h = tt
 block-end view allowed (Failed f) s after x lines still other h = tt
 
--- what fails of a step fails of the whole
+-- a fault of a step is a fault of the whole
 fails-so : {A B : Type 0} (f : ParseFault) (x : Result A Fault) (y : Result B Fault) → ((e : Fault) → x ≡ Err e → y ≡ Err e) → Fails f x → Fails f y
 fails-so (fault.Lex lex.OutOfMemory) x y so h = tt
 fails-so (fault.Lex (lex.BadByte spot)) x y so h = so _ h

@@ -1,4 +1,4 @@
--- What a call of the lexer gave, as a step.
+-- The result of a call of the lexer, as a step.
 use Rattle.std.proofs.Common.{◌≡◌, Result, Ok, Err, sym, ap, ◌∙◌}
 use Rattle.std.specs.Result.{IsErr, IsErrAnd}
 use Rattle.nj_text.specs.declared.fault.UnitFault.{UnitFault}
@@ -26,12 +26,12 @@ fails-by (lex.BadByte spot) before after r whole h so = so (unit_fault.BadByte s
 fails-by (lex.Tab spot) before after r whole h so = so (unit_fault.Tab spot) (failed-so (unit_fault.Tab spot) r h.0)
 fails-by (lex.BadEscape spot) before after r whole h so = so (unit_fault.BadEscape spot) (failed-so (unit_fault.BadEscape spot) r h.0)
 
--- what `?` hands on
+-- the error that `?` returns
 pub handed-on : {X Y : Type 0} (view : X → Y) (f : LexFault) (r : Result X ParseFault) (after : State) (whole : Step Y) → IsErr r × IsErrAnd r (λ e. e ≡ fault.Lex f) → Fails (fault.Lex f) whole → TakesStep view r after whole
 handed-on view f (Ok x) after whole h so = absurd cc
 handed-on view f (Err e) after whole h so = rw h.1 so
 
--- what a function returns with this fault
+-- the result of a function with this fault
 pub fails-so : {Y : Type 0} (f : ParseFault) (whole : Result Y Fault) → whole ≡ Err (fault_text f) → Fails f whole
 fails-so (fault.Lex lex.OutOfMemory) whole h = tt
 fails-so (fault.Lex (lex.BadByte spot)) whole h = h

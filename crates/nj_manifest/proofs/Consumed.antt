@@ -67,7 +67,7 @@ plain-units l h = by_units l.units h
 
 -- ---- a block
 
--- what is read of lines, without its value, leaves no more of them
+-- a reading of lines, without its value, leaves no more of them
 abbrev Within : {A : Type 0} → List Line → Parse A → Type 0
 Within {A} ls reading = (x : A) (rest : List Line) → reading ≡ Ok (x, rest) → ahead rest ≤ ahead ls
 
@@ -128,7 +128,7 @@ statement-takes l ls s rest e h =
     let taken = fewer l ls (plain-units l e) in
     omega arith
 
--- what is not read is not a statement
+-- a reading that finds a statement leaves fewer lines
 abbrev Takes : List Line → Parse (Option PlacedModel) → Type 0
 Takes ls reading = (s : PlacedModel) (rest : List Line) → reading ≡ Ok (Some s, rest) → ahead rest < ahead ls
 

@@ -1,4 +1,4 @@
--- Lines of dyndep files: what is read of them, and their form.
+-- Lines of dyndep files: their readings and their form.
 use Rattle.std.proofs.Common.{◌≡◌, ℕ, Bool, true, false, not, Option, Some, None, Ok, Err, List, [], refl, sym, ap, subst, ◌∙◌, codes}
 use Rattle.std.proofs.lemmas.Slice.Eq.{bytes_eq-Decides}
 use Rattle.nj_text.specs.declared.sign.Sign.{Sign}

@@ -38,7 +38,7 @@ use Rattle.nj_manifest.proofs.DyndepLeftmostPaths.{word_turn}
 
 -- ---- marks, reported
 
--- the place of a fault as it is meant
+-- the intended place of a fault
 abbrev pub Placed : Fault → Line → Type 0
 Placed f l = NamesPlaceInEntry (real f) l
 
@@ -75,7 +75,7 @@ real_offers OutOfMemory bytes h = refl
 
 -- ---- the start of a line
 
--- what an indented line is read as, if the lines begin with one
+-- the reading of an indented line, if the lines begin with one
 abbrev pub in_lines : (State → Result State Fault) → List Line → Result State Fault
 in_lines k ls = called (start_line_of (Between ls)) >>= λ first. if_indented first.0 first.1 k
 

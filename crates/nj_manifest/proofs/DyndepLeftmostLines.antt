@@ -23,7 +23,7 @@ use Rattle.nj_manifest.proofs.DyndepLeftmostMarks.{reported, this_word, path_ste
 use Rattle.nj_manifest.proofs.DyndepLeftmostOutputs.{OutputSeen, reads_on, ends_here, output_seen, after_output}
 use Rattle.nj_manifest.proofs.DyndepLeftmostPaths.{apart_after, clear_step, path_is_clear, path_is_passed, clear_turn, bar_turn, word_turn}
 
--- what is required of a line so that reading it reads an entry: if it fails, its units are apart
+-- the requirement on a line so that reading it reads an entry: if it fails, its units are apart
 abbrev pub Seen : Step EntryModel → List TextUnit → Type 0
 Seen (Ok y) us = Unit {0}
 Seen (Err f) us = are_apart us ≡ true
@@ -44,7 +44,7 @@ module _ (k : State → Step EntryModel) (g : Bool × State → Step EntryModel)
 along-clear : {whole : List TextUnit} {t : List TextUnit → Bool} {us : List TextUnit} (k : State → Step EntryModel) (g : Bool × State → Step EntryModel) → ((s : State) → k s ≡ (path_step s >>= g)) → Along EntryPlain whole k t us → Along EntryPlain whole (λ s. clear_step s >>= g) t us
 along-clear k g so a = record { begun = a.begun; cut = a.cut; goes = λ x d ms fit. by_clear k g so a.begun x d ms (a.goes x d ms fit) (clear_step (at x d ms)) refl }
 
--- ---- strings that complete what is begun
+-- ---- strings that complete a line begun
 
 abbrev nowhere : List Line → State
 nowhere ms = at [] (written []) ms

@@ -28,7 +28,7 @@ abbrev pub real : Fault → Fault
 real (UnknownKey spot key) = DyndepShape spot
 real fault = fault
 
--- what is read, with the faults that are meant
+-- a reading, with the intended faults
 abbrev pub reported : {A : Type 0} → Result A Fault → Result A Fault
 reported (Ok x) = Ok x
 reported (Err f) = Err (real f)
@@ -105,7 +105,7 @@ kept-value s =
 
 -- ---- steps
 
--- this identifier, and what is read after it
+-- this identifier, and the reading after it
 abbrev pub this_word : {B : Type 0} → (word : List ℕ) → (State → Step B) → NameModel × State → Step B
 this_word word next name = unless_missing (bytes_eq name.0.name word) (marked name.0.spot) (next name.1)
 

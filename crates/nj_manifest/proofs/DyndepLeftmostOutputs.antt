@@ -24,11 +24,11 @@ use Rattle.nj_manifest.proofs.LeftmostWords.{settled, settled_so, settled_blank,
 use Rattle.nj_manifest.proofs.LeftmostSections.{colon_settled}
 use Rattle.nj_manifest.proofs.DyndepLeftmostMarks.{marked, output_there, output_word}
 
--- what is written after the output
+-- the text written after the output
 abbrev pub after_output : List ℕ
 after_output = codes ":dyndep"
 
--- where the output is missing or broken, and what may be written there
+-- where the output is missing or broken, and a text that may be written there
 pub record OutputStuck (us : List TextUnit) (e : Line) (fault : Fault) : Type 0 where
   pub used : List TextUnit
   pub left : List TextUnit
@@ -44,7 +44,7 @@ pub data OutputSeen (us : List TextUnit) (e : Line) : Type 0 where
   reads_on : (passes : Passes output_word after_name after_words us) → OutputSeen us e
   ends_here : (fault : Fault) (so : OutputStuck us e fault) → OutputSeen us e
 
--- ---- the place of what is seen alike
+-- ---- the places of fronts that are seen alike
 
 -- units that are seen alike are at the same place, if there are any
 pub spot-same : (x y : List TextUnit) (d e : Spot) → front x ≡ front y → is_empty y ≡ false → spot_of_first x d ≡ spot_of_first y e

@@ -131,7 +131,7 @@ version-takes ls rest h =
         let no_more = there.1 in
         omega (arith, after, one, no_more)
 
--- So does what a parser of these reads next, if it is an entry.
+-- So does the next entry that a parser of these reads.
 pub left_entry-takes : (version_read : Bool) (ls : List Line) (entry : EntryModel) (rest : List Line) → left_entry version_read ls ≡ Ok (Some entry, rest) → ahead rest < ahead ls
 left_entry-takes true ls entry rest h = entry-takes ls entry rest h
 left_entry-takes false ls entry rest h =

@@ -1,4 +1,4 @@
--- The next entry: what is read of lines, and the forms.
+-- The next entry: the readings of lines, and the forms.
 use Rattle.std.proofs.Common.{◌≡◌, Bool, true, false, cond, Option, Some, None, Result, Ok, Err, ◌⊎◌, inl, inr, List, [], ◌∷◌, refl, sym, ap, subst, ◌∙◌, codes}
 use Rattle.std.specs.Str.{bytes_eq}
 use Rattle.std.proofs.lemmas.Slice.Eq.{bytes_eq-Decides}
@@ -105,7 +105,7 @@ restat-form ls s h =
     by_start start.Blank m b g = subst (λ (u : State). RestatForm ls (lines_from u)) (oks g) (no_block ls m b.0)
     by_start start.Plain m b g = subst (λ (u : State). RestatForm ls (lines_from u)) (oks g) (no_block ls m b.0)
 
--- what the start of a line gives where a block has no line
+-- the start of a line where a block has no line
 record Quiet (ls rest : List Line) : Type 0 where
   pub begun : LineStart
   pub after : State

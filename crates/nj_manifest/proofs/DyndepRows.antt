@@ -13,12 +13,12 @@ use Rattle.nj_manifest.specs.Openings.{Parse, opening}
 use Rattle.nj_manifest.specs.Dyndeps.{EntryModel, version_line, version_next, word_of_form, no_path, no_section, output_next, added_inputs, entry_line, restat_block, next_entry, WholeFile, entry_of}
 use Rattle.nj_manifest.proofs.StatementRows.{at}
 
--- what a row unfolds to compute on its text
+-- the definitions that a row unfolds to compute on its text
 unfoldable on_dyndeps : ⊤
 unfolding cut opening next_entry restat_block entry_line added_inputs output_next no_section no_path word_of_form version_next version_line equals_value name_next expect_sign words_next words_within section_next
 on_dyndeps = tt
 
--- ---- what a row shows
+-- ---- the facts of a row
 
 -- the first result, without the lines after it
 abbrev outcome_of : Parse (Option EntryModel) → Result (Option EntryModel) Fault
@@ -126,7 +126,7 @@ tab_first : first_of (codes "\tx") ≡ Err (Bad (unit_fault.Tab (at 1 1)))
 unfolding on_dyndeps
 tab_first = refl
 
--- ---- what departs from the form
+-- ---- texts that depart from the form
 
 other_kind : entry_in (codes "rule $!") ≡ Err (DyndepShape (at 1 1))
 unfolding on_dyndeps

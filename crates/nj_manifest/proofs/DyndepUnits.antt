@@ -65,7 +65,7 @@ cut-apart position (suc skip) spot (b ∷ bs) = cut-apart position skip (spot_af
 
 -- ---- lines
 
--- what passes among the units passes among the units of each line
+-- a test that all units pass is passed by the units of each line
 lines-all : (p : TextUnit → Bool) (us : List TextUnit) → list_all p us ≡ true → list_all (λ (l : Line). list_all p l.units) (lines_of us) ≡ true
 lines-all p [] h = refl
 lines-all p (u ∷ us) h = by_end (ending_of u.means) (lines_of us) (lines-all p us (and_parts _ _ h).1)

@@ -1,4 +1,4 @@
--- The version of a dyndep file: what is read of lines, and its form.
+-- The version of a dyndep file: its reading and its form.
 use Rattle.std.proofs.Common.{◌≡◌, ℕ, Bool, true, false, cond, ◌==◌, Result, Ok, Err, List, [], ◌∷◌, refl, sym, ap, subst, ◌∙◌, codes}
 use Rattle.std.proofs.lemmas.Bool.{and_parts, eqb-true}
 use Rattle.nj_text.specs.Numbers.{version_pair_of}

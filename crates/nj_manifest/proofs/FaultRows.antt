@@ -23,7 +23,7 @@ tab_in_block : refuses (codes "rule r\n\tcommand = x") (Bad (lex.Tab (at 2 1)))
 unfolding on_strings
 tab_in_block = refl
 
--- before what is wanted there
+-- before the wanted element there
 bad_word : refuses (codes "build a$! b") (Bad (lex.BadEscape (at 1 8)))
 unfolding on_strings
 bad_word = refl
@@ -114,7 +114,7 @@ joined_key : refuses (codes "rule r\n  $\n  foo = 1") (UnknownKey (at 3 3) (code
 unfolding on_strings
 joined_key = refl
 
--- the key is looked at before what follows it
+-- the key is looked at before the rest of its line
 unknown_key_alone : refuses (codes "rule r\n  foo") (UnknownKey (at 2 3) (codes "foo"))
 unfolding on_strings
 unknown_key_alone = refl

@@ -1,4 +1,4 @@
--- Blocks: what is read of their lines, and the forms of the grammar.
+-- Blocks: the readings of their lines, and the forms of the grammar.
 use Rattle.std.proofs.Common.{◌≡◌, Bool, true, false, cond, Result, Ok, List, [], ◌∷◌, refl, sym, ap, subst, ◌∙◌}
 use Rattle.nj_text.specs.Bytes.{drop_while, is_space}
 use Rattle.nj_text.specs.Units.{Meaning, Ordinary, Escape, Reference, Join, OpeningJoin, Comment, LeadingTab, LineEnd, TextEnd, BadByte, BadEscape, TextUnit, is_ordinary_in}
@@ -63,7 +63,7 @@ if_allowed-ok : {A : Type 0} (t : Bool) (key : NameModel) (others : Result A Fau
 if_allowed-ok true key others y h = (refl, h)
 if_allowed-ok false key others y h = absurd cc
 
--- what a line gives
+-- the binding of a line
 abbrev LineIs : Keys → Line → List TextUnit → LineModel → Type 0
 LineIs allowed l us line = BindingForm us l.end (record { spot = line.spot; name = line.name }) line.value × (allows allowed line.name ≡ true)
 

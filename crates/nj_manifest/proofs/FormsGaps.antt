@@ -8,7 +8,7 @@ use Rattle.nj_text.specs.Words.{is_blank}
 use Rattle.nj_text.proofs.Lists.{take_while-cons_yes, take_while-cons_no}
 use Rattle.nj_manifest.specs.Grammar.{begins, AreBlanks}
 
--- the front and what is after it
+-- the front and the rest
 pub both_parts : (p : TextUnit → Bool) (us : List TextUnit) → us ≡ take_while p us ++ drop_while p us
 both_parts p [] = refl
 both_parts p (u ∷ us) = by_test (p u) refl (both_parts p us)
@@ -60,7 +60,7 @@ run_taken p (u ∷ run) us h n =
 
 -- ---- blanks
 
--- what is after the blanks
+-- the units after the blanks
 abbrev pub skip : List TextUnit → List TextUnit
 skip us = drop_while is_blank us
 

@@ -1,4 +1,4 @@
--- What a block has to give: the keys of its lines, and the forms of the grammar.
+-- The required lines of a block: the keys of its lines, and the forms of the grammar.
 use Rattle.std.proofs.Common.{◌≡◌, ℕ, Bool, true, false, cond, ◌&&◌, not, Result, Ok, List, [], ◌∷◌, ◌++◌, refl, sym, ap, ◌∙◌, codes}
 use mathlib.Core.Bool.{beq}
 use Rattle.std.specs.Prelude.{◌↔◌}

@@ -107,7 +107,7 @@ pool-lacks spot name ls rest lines f b h = by_depth (names (codes "depth") lines
     by_depth true d g = no_err g
     by_depth false d g = subst (λ (x : Fault). LackForm spot (PoolHead name) ls x) (errs g) (LackForm.depth b d)
 
--- what was read of a block, or its fault
+-- the reading of a block, or its fault
 with_lines : {A P : Type 0} (allowed : Keys) (ls : List Line) (k : List LineModel × List Line → Result A Fault) (f : Fault) → is_syntax f ≡ false → (block allowed ls >>= k) ≡ Err f → ((lines : List LineModel) (rest : List Line) → BlockForm allowed ls lines rest → k (lines, rest) ≡ Err f → P) → P
 with_lines {A = A} {P = P} allowed ls k f n h go = by_block (block allowed ls) refl h
   where

@@ -1,4 +1,4 @@
--- The first lines of statements: what is read of them, and the forms of the grammar.
+-- The first lines of statements: their readings, and the forms of the grammar.
 use Rattle.std.proofs.Common.{◌≡◌, ℕ, Bool, true, false, cond, ◌&&◌, ◌||◌, Option, Some, None, Result, Ok, List, refl, sym, ap, subst, ◌∙◌, codes}
 use Rattle.std.specs.Prelude.{ok_or}
 use Rattle.std.specs.List.{list_any}
@@ -108,7 +108,7 @@ file-read l ls us rest word f e =
 
 -- ---- the parts of a build statement
 
--- what is next before a section
+-- the next units before a section
 at_validations : {us rest : List TextUnit} {words : List WordModel} → SectionForm sign.PipeAt us words rest → Stops rest false false false → (at : Bool) × Stops us false false at
 at_validations left_out stops = (false, stops)
 at_validations {us} (there {after = remainder} s ws) stops = (true, pipe_at_stops us remainder s)
@@ -219,7 +219,7 @@ record PartsForm (us : List TextUnit) (outputs : OutputsModel) (rule : NameModel
   pub of_inputs : InputsForm after_rule inputs after_inputs
   pub end : AreBlanks after_inputs
 
--- what is read of a build statement
+-- the reading of a build statement
 abbrev PartsRead : Line → List Line → List TextUnit → HeadModel → State → Type 0
 PartsRead l ls us head s = (outputs : OutputsModel) × (rule : NameModel) × (inputs : InputsModel) × PartsForm us outputs rule inputs × (head ≡ BuildHead outputs rule inputs) × (s ≡ Between (lines_after l ls))
 
@@ -289,7 +289,7 @@ none_of false false false false true u x1 x2 x3 x4 x5 x6 x7 h = absurd cc
 none_of false false false false false true x1 x2 x3 x4 x5 x6 x7 h = absurd cc
 none_of false false false false false false x1 x2 x3 x4 x5 x6 x7 h = refl
 
--- what is read where the word is not a keyword
+-- the reading where the word is not a keyword
 no_keyword : (word : List ℕ) (s : State) → list_any (bytes_eq word) keywords ≡ false → head_after word s ≡ as_head (λ value. Alone (BindingModel word value)) (equals_value s)
 unfolding head_after
 no_keyword word s h =

@@ -1,4 +1,4 @@
--- Statements: what is read next of lines, and the forms of the grammar.
+-- Statements: the next reading of lines, and the forms of the grammar.
 use Rattle.std.proofs.Common.{◌≡◌, Bool, true, false, cond, Option, Some, None, Ok, List, [], ◌∷◌, refl, sym, ap, subst, ◌∙◌}
 use Rattle.nj_text.specs.declared.spot.Spot.{Spot}
 use Rattle.nj_text.specs.Lines.{Line, line_spot, lines_after, Kind, CommentLine, TabLine, BlankLine, IndentedLine, PlainLine, kind_of}
@@ -71,7 +71,7 @@ statement-read : (l : Line) (ls rest : List Line) (head : HeadModel) (item : Sta
 unfolding statement_here
 statement-read l ls rest head item h w = rw (h, w) refl
 
--- What is read next of lines is so.
+-- The next reading of lines has its form.
 pub next-form : (ls : List Line) (found : Option PlacedModel) (rest : List Line) → next_statement ls ≡ Ok (found, rest) → NextForm ls found rest
 next-form [] found rest h = next-is [] [] rest None found (sym next-nothing ∙ h) NextForm.nothing
 next-form (l ∷ ls) found rest h = by_kind (kind_of l) refl (sym (next-line l ls) ∙ h) (next-form ls found rest)
@@ -91,7 +91,7 @@ next-form (l ∷ ls) found rest h = by_kind (kind_of l) refl (sym (next-line l l
     by_kind BlankLine k g others = by_last_blank l.is_last refl k others g
     by_kind PlainLine k g others = statement-form l ls found rest k g
 
--- What is there next is read.
+-- A statement of this form that is next is read.
 pub next-read : {ls rest : List Line} {found : Option PlacedModel} → NextForm ls found rest → next_statement ls ≡ Ok (found, rest)
 next-read (NextForm.statement {l = l} {ls = ls} {rest = rest} {head = head} {item = item} k f s) = next-kind l ls PlainLine k ∙ statement-read l ls rest head item (head-read l ls head f) (with_block-read (line_spot l) s)
 next-read (NextForm.blank {l = l} {ls = ls} k e others) = next-kind l ls BlankLine k ∙ (ap (λ (t : Bool). cond t (nothing_more (lines_after l ls)) (next_statement ls)) e ∙ next-read others)

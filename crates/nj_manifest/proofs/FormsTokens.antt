@@ -1,4 +1,4 @@
--- Names and signs: what a call of the lexer gives within a line, and the forms of the grammar.
+-- Names and signs: the results of the lexer's calls within a line, and the forms of the grammar.
 use Rattle.std.proofs.Common.{◌≡◌, ℕ, Bool, true, false, cond, ◌&&◌, not, eqb, Option, Some, None, Ok, List, [], ◌∷◌, ◌++◌, map, ◌⊎◌, inl, inr, refl, sym, ap, ◌∙◌, append_assoc}
 use Rattle.std.specs.List.{list_all, take_while}
 use Rattle.std.proofs.lemmas.Bool.{and_parts, and_right, not-true, eqb-true, false≢true}
@@ -27,7 +27,7 @@ within l ls us = Inside (with_units us l) ls
 
 -- ---- tests on a unit
 
--- what passes a test that no bad unit passes has no fault
+-- a unit that passes a test that no bad unit passes has no fault
 pub passes_without_fault : (q : Meaning → Bool) → q LeadingTab ≡ false → q BadByte ≡ false → q BadEscape ≡ false → (m : Meaning) (spot : Spot) → q m ≡ true → fault_of m spot ≡ None
 passes_without_fault q a b c (Ordinary x) spot h = refl
 passes_without_fault q a b c (Escape x) spot h = refl
@@ -81,7 +81,7 @@ identifier_no_blank u h = ordinary_no_blank is_identifier_byte refl u.means h
 
 -- ---- names
 
--- what is read of a run of units that may be none
+-- the reading of a run of units that may be empty
 abbrev name_of : Wanted → Option UnitFault → Spot → (run : List TextUnit) → State → Step NameModel
 name_of want f spot run s = called (calls.unless_fault f (reply (some_bytes (bytes_of run)) s)) >>= λ n. named want spot n.0 n.1
 
@@ -150,7 +150,7 @@ name_of-gives want f run taken spot s t name e r h p b some =
     ∙ ap (λ (n : NameModel). Ok (n, s)) (same_name name spot (bytes_of run) p b)
     ∙ ap (λ (s : State). Ok (name, s)) h
 
--- what is after the blanks before an identifier
+-- the units after the blanks before an identifier
 identifier_next : {us rest : List TextUnit} {name : NameModel} → (f : IdentifierForm us name rest) → skip us ≡ (f.first ∷ f.others) ++ rest
 identifier_next {us} {rest} f = skip_gap us f.gap ((f.first ∷ f.others) ++ rest) (f.cut ∙ append_assoc f.gap (f.first ∷ f.others) rest) f.blanks (identifier_no_blank f.first (and_parts (in_identifier f.first) (list_all in_identifier f.others) f.of_name).0)
 
@@ -211,7 +211,7 @@ two_bytes b c us gap (u ∷ v ∷ []) rest n e g m =
     let second : v.means ≡ Ordinary c = cc in
     (u, v, skip_gap us gap (u ∷ v ∷ rest) (e ∙ append_assoc gap (u ∷ v ∷ []) rest) g (rw (first, n) refl), first, second)
 
--- what comes next, where it is not a word
+-- the next units, where they are not a word
 pub record Stops (us : List TextUnit) (pipe pipe2 pipe_at : Bool) : Type 0 where
   pub no_fault : next_fault (skip us) ≡ None
   pub no_word : begins_word (skip us) ≡ false
@@ -299,7 +299,7 @@ sign_at-gives want l ls us f t e h = rw (e, h) refl
 pub sign-none : (want : Sign) (l : Line) (ls : List Line) (us : List TextUnit) → next_fault (skip us) ≡ None → is_sign want (skip us) ≡ false → called (sign_of want (within l ls us)) ≡ Ok (false, within l ls (skip us))
 sign-none want l ls us n h = sign_at-gives want l ls (skip us) (next_fault (skip us)) false n h
 
--- what a sign that is there is after the blanks
+-- a sign that is there, after the blanks
 pub record IsBetweenStatements (want : Sign) (l : Line) (ls : List Line) (us rest : List TextUnit) : Type 0 where
   pub no_fault : next_fault (skip us) ≡ None
   pub is_there : is_sign want (skip us) ≡ true

@@ -1,4 +1,4 @@
--- Values and bindings: what is read to the end of a line, and the forms of the grammar.
+-- Values and bindings: the readings to the end of a line, and the forms of the grammar.
 use Rattle.std.proofs.Common.{◌≡◌, Bool, true, false, cond, Option, Some, None, Ok, List, [], ◌∷◌, ◌++◌, refl, sym, ap, subst, ◌∙◌, append_assoc}
 use Rattle.std.proofs.lemmas.Bool.{false≢true}
 use Rattle.nj_text.specs.declared.fault.UnitFault.{UnitFault}
@@ -49,7 +49,7 @@ opening_passed us (u ∷ v ∷ ws) others o = absurd (false≢true o.opens)
 
 -- ---- values
 
--- what a call gives, of its parts
+-- the result of a call, by its parts
 abbrev value_by : Line → List Line → Option UnitFault → List TextUnit → Step WordModel
 value_by l ls f us = called (calls.unless_fault f (reply (record { spot = spot_of_first us l.end; parts = parts_of us }) (within l ls [])))
 

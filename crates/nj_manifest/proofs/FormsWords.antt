@@ -1,4 +1,4 @@
--- Words and sections: what is read within a line, and the forms of the grammar.
+-- Words and sections: the readings within a line, and the forms of the grammar.
 use Rattle.std.proofs.Common.{◌≡◌, Bool, true, false, cond, Option, Some, None, Ok, Err, List, [], ◌∷◌, ◌++◌, refl, sym, ap, subst, ◌∙◌, append_assoc}
 use Rattle.std.specs.List.{list_all, take_while}
 use Rattle.nj_text.specs.declared.fault.UnitFault.{UnitFault}
@@ -51,7 +51,7 @@ fault_after_blanks (u ∷ us) h = by_test (is_blank u) refl h
 
 -- ---- one word
 
--- what a call gives, of its parts
+-- the result of a call, by its parts
 abbrev word_by : Line → List Line → (here remainder : Option UnitFault) → (opens : Bool) → (us run rest : List TextUnit) → Step (Option WordModel)
 word_by l ls f g t us run rest =
     called (calls.unless_fault f (cond t (calls.unless_fault g (reply (Some (record { spot = spot_of_first us l.end; parts = parts_of run })) (within l ls rest))) (reply None (within l ls us))))

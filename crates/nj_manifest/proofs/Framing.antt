@@ -1,4 +1,4 @@
--- Where what is read of a line leaves the lexer.
+-- Where the readings of a line leave the lexer.
 use Rattle.std.proofs.Common.{◌≡◌, ℕ, zero, suc, Bool, true, false, cond, ◌&&◌, Option, Some, None, Result, Ok, Err, List, [], refl, sym, ap, subst, ◌∙◌, codes}
 use Rattle.std.proofs.lemmas.Bool.{false≢true}
 use Rattle.std.specs.Prelude.{ok_or}
@@ -154,7 +154,7 @@ section-inside want l ls s y i o h =
 
 -- ---- lines
 
--- What ends its line leaves the lexer after it.
+-- A reading that ends its line leaves the lexer after it.
 pub ends-line : {A : Type 0} (l : Line) (ls : List Line) (x : A) (s : State) (y : A × State) → On l ls s → (expect_sign sign.LineEnd wanted.Newline s >>= λ end. Ok (x, end)) ≡ Ok y → Ended l ls y.1
 ends-line l ls x s y o h =
     let end = bind-ok (expect_sign sign.LineEnd wanted.Newline s) (λ end. Ok (x, end)) y h in

@@ -1,4 +1,4 @@
--- What `?` hands on.
+-- The errors that `?` returns.
 use Rattle.std.proofs.Common.{◌≡◌, true≢false, Result, Ok, Err, IsErr, refl, sym, ap}
 use Rattle.std.specs.Result.{IsErrAnd}
 

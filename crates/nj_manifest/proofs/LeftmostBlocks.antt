@@ -50,7 +50,7 @@ line_outcome allowed l h = line_turn l allowed (after_spaces l.units) (begin (Sp
         (identifier_spaced (spaces_of l.units) x (spaces_pass l.units) f ∙ ap text_kind (indented_spaces l.units h), unspaced (spaces_of l.units) x (spaces_pass l.units) (identifier_no_space x f), refl)
     by_fit x e ms (inr f) = (kind_replaced l.units x f ∙ h, unspaced (spaces_of l.units) x (spaces_pass l.units) (no_space_same l.units x f), refl)
 
--- what an indented line adds to a block
+-- the addition of an indented line to a block
 abbrev block_line : Keys → (us : List TextUnit) → Line → List Line → (others : Parse (List LineModel)) → Parse (List LineModel)
 block_line allowed us e ms others =
     line_next allowed (at (after_spaces us) e ms) >>= λ line. or_last e (no_lines (lines_after e ms)) others >>= λ more. Ok (line.0 ∷ more.0, more.1)

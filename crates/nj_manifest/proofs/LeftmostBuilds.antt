@@ -96,7 +96,7 @@ build_is : (s : State) → build_head s ≡ (words_next s >>= with_explicit_outp
 unfolding build_head
 build_is s = outputs_is s
 
--- ---- strings that complete what is begun
+-- ---- strings that complete a line begun
 
 abbrev nowhere : List Line → State
 nowhere ms = at [] (written []) ms

@@ -86,7 +86,7 @@ pool_whole : (spot : Spot) (name : NameModel) (front : List LineModel) → whole
 unfolding whole_pool
 pool_whole spot name front = rw (any_after (λ (m : LineModel). bytes_eq m.name (codes "depth")) front (closing_model (PoolHead name)) refl) refl
 
--- What reads a block up to these lines reads a statement with them.
+-- A reading of a block up to these lines reads a statement with them.
 pub closed : (spot : Spot) (h : HeadModel) (ls : List Line) (front : List LineModel) → block (keys_of h) ls ≡ in_front front (block (keys_of h) (map written (closing h))) → (item : StatementModel) × (rest : List Line) × (with_block spot h ls ≡ Ok (item, rest))
 closed spot (Alone item) ls front e = (item, ls, refl)
 closed spot (RuleHead name) ls front e =

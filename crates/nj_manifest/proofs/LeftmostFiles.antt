@@ -24,7 +24,7 @@ use Rattle.nj_manifest.proofs.LeftmostSections.{colon_settled}
 abbrev pub file_word : State → Step WordModel
 file_word s = word_call s >>= λ found. path_there found.0 found.1
 
--- where it is missing or broken, and what may be written there
+-- where it is missing or broken, and a text that may be written there
 pub record FileStuck (us : List TextUnit) (e : Line) (fault : Fault) : Type 0 where
   pub used : List TextUnit
   pub left : List TextUnit

@@ -1,4 +1,5 @@
--- What a reading sees of the units before it: the first one, and of `||` and `|@` both.
+-- ` and `|@` both. || The units before a reading that it sees: the first one, and both of `||` and
+-- `|@`.||` and `|@` both.
 use Rattle.std.proofs.Common.{◌≡◌, ℕ, Bool, true, false, ◌&&◌, ◌||◌, not, eqb, List, [], ◌∷◌, ◌++◌, take, refl, sym, ap, ◌∙◌}
 use Rattle.std.specs.List.{take_while}
 use Rattle.nj_text.specs.declared.sign.Sign.{Sign}
@@ -172,7 +173,7 @@ element-head x = by_test (begins in_identifier x) refl
 element-heads : (x y : List TextUnit) → element x ≡ element y → take 1 x ≡ take 1 y
 element-heads x y h = sym (element-head x) ∙ (ap (take 1) h ∙ element-head y)
 
--- What begins with the same element is seen alike.
+-- Units that begin with the same element are seen alike.
 pub element-front : (x y : List TextUnit) → element x ≡ element y → front x ≡ front y
 element-front x y h = by_test (begins in_identifier y) refl
   where

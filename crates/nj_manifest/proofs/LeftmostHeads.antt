@@ -79,7 +79,7 @@ file_led s = by_found (word_call s)
 file_is : (head : WordModel → HeadModel) (s : State) → as_head head (file_next s) ≡ (file_word s >>= file_end head)
 file_is head s = ap (as_head head) (file_led s) ∙ file_by head (file_word s)
 
--- ---- strings that complete what is begun
+-- ---- strings that complete a line begun
 
 ends_name : (want : Wanted) (head : NameModel → HeadModel) → ReadTo (λ ms. name_next want (at (text (32 ∷ 114 ∷ [])) (written []) ms) >>= named_end head)
 unfolding name_next expect_sign

@@ -91,7 +91,7 @@ plain_same us x h e =
     let none = plain_begins us h in
     unspaced_kind x (begins-same is_space_unit x us e ∙ none) ∙ (kind_same x us false e ∙ (sym (unspaced_kind us none) ∙ h))
 
--- ---- what a name begins
+-- ---- lines that begin with a name
 
 identifier_kind : (m : Meaning) (spot : Spot) (t : Bool) → is_ordinary_in is_identifier_byte m ≡ true → kind_with m spot t ≡ text_kind t
 identifier_kind (Ordinary b) spot t h = refl

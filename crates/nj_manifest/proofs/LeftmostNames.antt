@@ -26,9 +26,9 @@ identifier_no_blank u h = no_other is_identifier_byte is_blank_meaning (not_byte
 identifier_no_fault : (u : TextUnit) → in_identifier u ≡ true → fault_of u.means u.spot ≡ None
 identifier_no_fault u h = ordinary_no_fault is_identifier_byte u.means u.spot h
 
--- ---- what is read after the blanks
+-- ---- the readings after the blanks
 
--- by the fault there, the identifier, its place, and what is after it
+-- by the fault there, the identifier, its place, and the rest after it
 abbrev named_by : Wanted → Option UnitFault → List TextUnit → Spot → State → Step NameModel
 named_by want f run spot s = called (unless_fault f (reply (some_bytes (bytes_of run)) s)) >>= λ n. named want spot n.0 n.1
 
@@ -65,7 +65,7 @@ name_reads want gap run x u e ms b bs g i h n =
     ∙ named_ok want (next_fault ((u ∷ run) ++ x)) (take_while in_identifier ((u ∷ run) ++ x)) (u ∷ run) u.spot u.spot (at (drop_while in_identifier ((u ∷ run) ++ x)) e ms) (at x e ms) b bs
     (identifier_no_fault u i.0) (run_taken in_identifier (u ∷ run) x i n) refl (ap (λ (y : List TextUnit). at y e ms) (run_passed in_identifier (u ∷ run) x i n)) h)
 
--- ---- what reading a name gives
+-- ---- the result of reading a name
 
 -- the same element means the same identifier
 pub same_run : (x y : List TextUnit) → element x ≡ element y → take_while in_identifier x ≡ take_while in_identifier y
@@ -78,7 +78,7 @@ same_run x y h = by_test (begins in_identifier y) refl
     by_test true e = sym (element-identifier x (seen ∙ e)) ∙ (h ∙ element-identifier y e)
     by_test false e = none_taken in_identifier x (seen ∙ e) ∙ sym (none_taken in_identifier y e)
 
--- what comes after the blanks is seen as if it came in their place
+-- the units after the blanks are seen as if they came in their place
 pub no_blank_there : (us x : List TextUnit) → element x ≡ element (skip us) → begins is_blank x ≡ false
 no_blank_there us x h = begins-same is_blank x (skip us) (element-front x (skip us) h) ∙ skip_stops us
 

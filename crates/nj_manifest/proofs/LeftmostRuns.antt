@@ -12,7 +12,7 @@ abbrev pub begins : (TextUnit → Bool) → List TextUnit → Bool
 begins p [] = false
 begins p (u ∷ us) = p u
 
--- the front and what is after it
+-- the front and the rest
 pub both_parts : (p : TextUnit → Bool) (us : List TextUnit) → us ≡ take_while p us ++ drop_while p us
 both_parts p [] = refl
 both_parts p (u ∷ us) = by_test (p u) refl (both_parts p us)
@@ -47,7 +47,7 @@ run_taken p (u ∷ run) us h n = take_while-cons_yes p u (run ++ us) h.0 ∙ ap 
 
 -- ---- blanks
 
--- what is after the blanks
+-- the units after the blanks
 abbrev pub skip : List TextUnit → List TextUnit
 skip us = drop_while is_blank us
 
@@ -85,7 +85,7 @@ no_other p test f TextEnd h = absurd (false≢true h)
 no_other p test f BadByte h = absurd (false≢true h)
 no_other p test f BadEscape h = absurd (false≢true h)
 
--- what passes is not this byte, which does not pass
+-- a byte that passes is not this one, which does not pass
 pub not_byte : (p : ℕ → Bool) (n : ℕ) → p n ≡ false → (b : ℕ) → p b ≡ true → eqb b n ≡ false
 not_byte p n e b h = by_test (eqb b n) refl
   where

@@ -1,4 +1,4 @@
--- The sections of a build statement: what begins with `|`, `||` or `|@`.
+-- ` or `|@`. || The sections of a build statement that begin with `|`, `||` or `|@`.||` or `|@`.
 use Rattle.std.proofs.Common.{◌≡◌, ℕ, Bool, true, false, cond, ◌&&◌, not, eqb, Option, None, Ok, inl, inr, List, [], ◌∷◌, ◌++◌, refl, sym, ap, ◌∙◌, append_assoc}
 use Rattle.nj_text.specs.declared.fault.UnitFault.{UnitFault}
 use Rattle.nj_text.specs.declared.sign.Sign.{Sign}
@@ -18,7 +18,7 @@ use Rattle.nj_manifest.proofs.LeftmostSteps.{at, Fits, Passes, FailsAt, opens-no
 use Rattle.nj_manifest.proofs.LeftmostWords.{settled, settled_blank, settled_fault, settled_so, settled_same, one_more, WordsRun, WordsPass, WordsSeen, there, broken, words_seen}
 use Rattle.nj_manifest.specs.Leftmost.{offers}
 
--- ---- what may follow words
+-- ---- units that may follow words
 
 pub colon_settled : (us : List TextUnit) → after_words us ≡ true → settled us ≡ true
 colon_settled us h =
@@ -61,7 +61,7 @@ section_absent f t on other h g = rw (h, g) refl
 pub section_none : (want : Sign) (us : List TextUnit) (e : Line) (ms : List Line) → settled us ≡ true → is_sign want us ≡ false → section_next want (at us e ms) ≡ Ok ([], at us e ms)
 section_none want us e ms h g = section_is want us e ms h ∙ section_absent _ _ _ _ (settled_fault us h) g
 
--- The units of a sign, what may follow it so that it stays that sign, and how it is read.
+-- The units of a sign, the units that may follow it so that it stays that sign, and how it is read.
 pub record Mark (want : Sign) (us : List TextUnit) : Type 0 where
   pub mark : List TextUnit
   pub rest : List TextUnit
@@ -74,7 +74,7 @@ pub record Mark (want : Sign) (us : List TextUnit) : Type 0 where
   pub seen : (x : List TextUnit) → follows x ≡ true → front (mark ++ x) ≡ front us
   pub reads : (x : List TextUnit) (e : Line) (ms : List Line) → follows x ≡ true → section_next want (at (mark ++ x) e ms) ≡ words_next (at x e ms)
 
--- what shows that `|` is alone
+-- the test that `|` is alone
 abbrev bare : List TextUnit → Bool
 bare us = not (begins_with_byte 124 us) && not (begins_with_byte 64 us)
 
@@ -194,7 +194,7 @@ pub data SectionSeen (want : Sign) (us : List TextUnit) (e : Line) : Type 0 wher
   present : (run : SectionRun want us) (words : SectionPass want us run) → SectionSeen want us e
   faulty : (fault : Fault) (of : (bytes : List ℕ) → offers fault bytes ≡ true) (run : SectionRun want us) (here : FailsAt (section_next want) us e fault run.used run.left) → SectionSeen want us e
 
--- what fits here is settled, where this is
+-- units that fit here are settled, where these are
 pub fits_settled : (us x : List TextUnit) → settled us ≡ true → Fits after_words us x → settled x ≡ true
 fits_settled us x h (inl f) = colon_settled x f
 fits_settled us x h (inr f) = settled_same x us f ∙ h

@@ -1,4 +1,5 @@
--- Reading on along a line: where a reading passes, where it fails, and what both tell about a whole line.
+-- Reading on along a line: where a reading passes, where it fails, and the consequences of both for
+-- a whole line.
 use Rattle.std.proofs.Common.{◌≡◌, ℕ, Bool, true, false, ◌||◌, ◌==◌, eqb, Option, Some, None, Result, Ok, Err, ◌⊎◌, inl, inr, List, [], ◌∷◌, ◌++◌, map, refl, sym, ap, subst, ◌∙◌, append_assoc}
 use Rattle.std.proofs.lemmas.Bool.{eqb-true}
 use Rattle.nj_text.specs.declared.fault.UnitFault.{UnitFault}
@@ -26,7 +27,7 @@ at us e ms = Inside (with_units us e) ms
 abbrev pub text : List ℕ → List TextUnit
 text bytes = map written_unit bytes
 
--- ---- what may be written after a front
+-- ---- texts that may be written after a front
 
 -- nothing, or an ordinary byte that passes
 abbrev pub opens : (ℕ → Bool) → List TextUnit → Bool
@@ -99,7 +100,7 @@ opens-no_fault t (u ∷ us) h = ordinary_no_fault t u.means u.spot h
 abbrev pub Fits : (List TextUnit → Bool) → List TextUnit → List TextUnit → Type 0
 Fits t us x = (t x ≡ true) ⊎ (front x ≡ front us)
 
--- what a text and the units here have in common
+-- the tests that a text passes as the units here do
 pub by_fits : {t : List TextUnit → Bool} (us x : List TextUnit) (p : List TextUnit → Bool) → ((y : List TextUnit) → t y ≡ true → p y ≡ false) → ((y : List TextUnit) → front y ≡ front us → p y ≡ p us) → p us ≡ false → Fits t us x → p x ≡ false
 by_fits us x p f g h (inl e) = f x e
 by_fits us x p f g h (inr e) = g x e ∙ h
@@ -150,13 +151,13 @@ fault-place (u ∷ us) end f h = by_meaning u.means h
     by_meaning LeadingTab h = ap fault_spot (sym (same (lex.Tab u.spot) h))
     by_meaning m h = absurd cc
 
--- What begins with this that is wanted begins with what the fault expects.
+-- A text that begins with this wanted element begins with one that the fault expects.
 abbrev pub OfWanted : Wanted → Fault → Type 0
 OfWanted want fault = (bytes : List ℕ) → offers_next want (drop_while is_space bytes) ≡ true → offers fault bytes ≡ true
 
 -- ---- a whole line
 
--- what describes a line's reading: its units, its end, the lines after it, and the reading
+-- the description of a line's reading: its units, its end, the lines after it, and the reading
 abbrev pub Claim : Type 0 → Type 1
 Claim B = List TextUnit → Line → List Line → Step B → Type 0
 
@@ -223,7 +224,7 @@ stick {P = P} {whole = whole} {us = us} {e = e} {fault = fault} {used = used} {l
   some = λ ms. subst (λ (y : List TextUnit). P y (written []) ms (Ok (value, Between ms))) (sym (append_assoc a.begun used (text bytes))) (subst (P (a.begun ++ (used ++ text bytes)) (written []) ms) (some ms) (a.goes (used ++ text bytes) (written []) ms fit));
 }
 
--- what is read to the end of the line
+-- a reading to the end of the line
 pub arrive : {B : Type 0} {P : Claim B} {whole : List TextUnit} {t : List TextUnit → Bool} {us : List TextUnit} (e : Line) (k : State → Step B) (value : B) → Along P whole k t us → ((ms : List Line) → k (at us e ms) ≡ Ok (value, Between (lines_after e ms))) → Outcome P whole e
 arrive {P = P} {us = us} e k value a so = through value (λ ms. subst (λ (y : List TextUnit). P y e ms (Ok (value, Between (lines_after e ms)))) (sym a.cut) (subst (P (a.begun ++ us) e ms) (so ms) (a.goes us e ms (inr refl))))
 

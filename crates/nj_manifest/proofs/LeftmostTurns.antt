@@ -1,4 +1,4 @@
--- One step on along a line: it passes, and what follows decides; or the line is stuck there.
+-- One step on along a line: it passes, and the rest decides; or the line is stuck there.
 use Rattle.std.proofs.Common.{◌≡◌, ℕ, Bool, true, false, Ok, List, [], ◌∷◌, ◌++◌, ap, ◌∙◌}
 use Rattle.nj_text.specs.declared.sign.Sign.{Sign}
 use Rattle.nj_text.specs.Units.{TextUnit}
@@ -19,7 +19,7 @@ use Rattle.nj_manifest.proofs.LeftmostWords as words
 use Rattle.nj_manifest.proofs.LeftmostSections.{IsMark, SectionRun, SectionPass, SectionSeen, section_seen, absent, present, faulty, pass_words, pass_absent, pass_present}
 use Rattle.nj_text.specs.Bytes.{is_space, drop_while}
 
--- what some text is read to, whatever lines follow
+-- some text is read up to here, whatever lines follow
 abbrev pub ReadTo : {B : Type 0} → (List Line → Step B) → Type 0
 ReadTo {B = B} reading = (value : B) × ((ms : List Line) → reading ms ≡ Ok (value, Between ms))
 

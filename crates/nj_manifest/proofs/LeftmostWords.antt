@@ -274,7 +274,7 @@ pub fits-word : (t : List TextUnit → Bool) (us gap : List TextUnit) (u : TextU
 fits-word t us [] u run left x g o c = fits-alone t us u run left x (opening_no_pipe u.means o) c
 fits-word t us (v ∷ gap) u run left x g o c = fits-alone t us v (gap ++ u ∷ run) left x (blank_no_pipe v.means g.0) c
 
--- what is read after a word that is not the last
+-- the reading after a word that is not the last
 from_more : (w : WordModel) (s : State) (others : Step (List WordModel)) (ws : List WordModel) (after : State) → others ≡ Ok (ws, after) → words_from (Some w) s others ≡ Ok (w ∷ ws, after)
 from_more w s others ws after h = rw h refl
 
@@ -303,7 +303,7 @@ module _ (us gap : List TextUnit) (u : TextUnit) (run rest : List TextUnit) (e :
     refuses = λ x d ms same. words_next-fails (at ((gap ++ u ∷ run) ++ x) d ms) (Bad bad) (word_fails gap u run x d ms bad g o a (fault-same x rest (element-front x rest same) ∙ f));
   })
 
-  -- what ends the word ends it with other units after it too
+  -- the units that end the word end it with other units after them too
   module _ (ends : ends_word rest ≡ true) (others : WordsRun rest) where
     ends_before : (x : List TextUnit) → ends_word x ≡ true → ends_word (others.used ++ x) ≡ true
     ends_before x h = by_fit (others.fits ends_word x h)

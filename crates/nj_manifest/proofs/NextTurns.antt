@@ -20,7 +20,7 @@ use Rattle.nj_manifest.proofs.Choices.{ended}
 
 -- ---- two steps
 
--- what is done with what is read, in one step or in two
+-- the use of a reading, in one step or in two
 in_two : {A B C : Type 0} (r : Result A Fault) (k : A → Result B Fault) (j : B → Result C Fault) (m : A → Result C Fault) → ((x : A) → m x ≡ (k x >>= j)) → (r >>= m) ≡ ((r >>= k) >>= j)
 in_two (Ok x) k j m h = h x
 in_two (Err e) k j m h = refl
@@ -123,7 +123,7 @@ statement-steps l ls = by_name (name_next wanted.Statement (Inside l ls))
 abbrev pub nothing_more : List Line → Parse (Option PlacedModel)
 nothing_more rest = Ok (None, rest)
 
--- what is next at a line of this kind, if the others are what is next after it
+-- the next statement at a line of this kind, given the next one after it
 abbrev pub next_by : Kind → Line → List Line → Parse (Option PlacedModel) → Parse (Option PlacedModel)
 next_by CommentLine l ls others = or_last l (nothing_more (lines_after l (without_comments ls))) others
 next_by (TabLine tab) l ls others = Err (Bad (lex.Tab tab))

@@ -1,4 +1,4 @@
--- What is read where the next statement begins.
+-- The reading where the next statement begins.
 use Rattle.std.proofs.Common.{◌≡◌, true, false, Option, Some, None, Result, Ok, Err, List, refl, sym, ap, subst, ◌∙◌}
 use Rattle.nj_text.specs.Lines.{Line}
 use Rattle.nj_text.specs.Calls.{State, Between, Inside, Failed}
@@ -18,7 +18,7 @@ next-opens ls = refl
 
 -- ---- reading on from there
 
--- what is read from an opening on
+-- the reading from an opening on
 module _ {A : Type 0} (from : Option Line × List Line → Parse (Option A)) (whole : List Line → Parse (Option A)) (is : (ls : List Line) → whole ls ≡ (opening ls >>= from)) where
   pub fails-opening : (f : ParseFault) (before after : State) → FindsOpening before after (Err f) → Fails f (whole (lines_from before))
   fails-opening f before after h = subst (Fails f) (sym (is (lines_from before))) (fails-on f (opening (lines_from before)) from h)

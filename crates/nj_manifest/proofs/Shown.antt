@@ -1,4 +1,4 @@
--- What is shown of byte strings without names.
+-- Byte strings without names, as they are displayed.
 use Rattle.std.proofs.Common.{◌≡◌, ℕ, List, [], ◌++◌, refl, ap, ◌∙◌, append-nil}
 use Rattle.std.proofs.lemmas.Str.{utf8_lossy_empty}
 use Rattle.std.specs.Str.Lossy.{utf8_lossy}

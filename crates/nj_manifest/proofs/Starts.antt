@@ -1,4 +1,4 @@
--- Where the next statement of lines begins, by what the lexer returns at their start.
+-- Where the next statement of lines begins, by the lexer's result at their start.
 use Rattle.std.proofs.Common.{◌≡◌, ℕ, suc, ◌<◌, ◌≤◌, Bool, true, false, cond, ◌&&◌, Option, Some, Ok, Err, List, [], ◌∷◌, refl, sym, ap, subst, ◌∙◌, arith}
 use Rattle.std.proofs.lemmas.Bool.{false≢true}
 use Rattle.nj_text.specs.declared.fault.UnitFault.TheVariants as unit_fault
@@ -29,7 +29,7 @@ front_at spot = record { line = spot.line; column = 1 }
 abbrev pub BeginsHere : Next → State → Type 0
 BeginsHere next s = (l : Line) × (ls : List Line) × (s ≡ Inside l ls) × (kind_of l ≡ PlainLine) × (next ≡ Ok (Some l, ls))
 
--- what the start of a line tells about the next statement
+-- the next statement that the start of a line implies
 abbrev pub Begins : Next → Reply LineStart → Type 0
 Begins next (Ok (start.End, s)) = (next ≡ ended (lines_from s)) × (ls : List Line) × (s ≡ Between ls)
 Begins next (Ok (start.Blank, s)) = (ls : List Line) × (s ≡ Between ls) × (next ≡ opening ls)
@@ -91,7 +91,7 @@ begun-next (l ∷ ls) = by_comment (is_comment (kind_of l)) refl (begun-next ls)
     by_comment false e rest = begun-kind (kind_of l) l ls refl e
     by_comment true e rest = rw (next-comment (kind_of l) l ls (opening ls) e) (by_last l.is_last refl rest)
 
--- what the lexer returns at the start of a line
+-- the lexer's result at the start of a line
 start-begins : (ls : List Line) (r : Reply LineStart) → start_line_of (Between ls) ≡ r → Begins (opening ls) r
 start-begins ls r h = subst (Begins (opening ls)) h (begun-next ls)
 
@@ -174,7 +174,7 @@ blank-begun : (ls : List Line) (after : State) → begun ls ≡ Ok (start.Blank,
 blank-begun [] after h = not_blank (begun []) after refl h
 blank-begun (l ∷ ls) after h = blank-kind (kind_of l) l ls after h
 
--- Behind a blank line there are fewer.
+-- After a blank line there are fewer.
 pub blank-falls : (before after : State) → Answers (λ start. start) (Ok start.Blank) after (start_line_of before) → lines_ahead after < lines_ahead before
 blank-falls (Between ls) after h =
     let within = blank-begun (without_comments ls) after h in
@@ -189,7 +189,7 @@ begins-as before after got want e comes h = subst (λ x. Begins (opening (lines_
 pub blank-falls-as : (before after : State) (got : LineStart) → got ≡ start.Blank → Answers (λ start. start) (Ok got) after (start_line_of before) → lines_ahead after < lines_ahead before
 blank-falls-as before after got e h = blank-falls before after (subst (λ x. Answers (λ start. start) (Ok x) after (start_line_of before)) e h)
 
--- ---- as it is found
+-- ---- the code's search
 
 pub found-end : (before after : State) → opening (lines_from before) ≡ ended (lines_from after) × (ls : List Line) × (after ≡ Between ls) → FindsOpening before after (Ok false)
 found-end before (Between ls) h = (h.0, tt, refl)

@@ -10,19 +10,19 @@ use Rattle.nj_manifest.specs.LineSteps.{NameModel, name_next, expect_sign, words
 use Rattle.nj_manifest.specs.Openings.{Parse, opening}
 use Rattle.nj_manifest.specs.Statements.{LineModel, OutputsModel, InputsModel, PlacedModel, StatementModel, BindingModel, RuleModel, PoolModel, BuildModel, DefaultModel, IncludeModel, SubninjaModel, equals_value, line_next, outputs_next, inputs_next, build_next, rule_next, pool_next, targets_next, file_next, statement_after, block, next_statement}
 
--- what a row unfolds to compute on its text
+-- the definitions that a row unfolds to compute on its text
 unfoldable pub on_strings : ⊤
 unfolding cut opening next_statement statement_after name_next expect_sign words_next words_within section_next outputs_next inputs_next build_next rule_next pool_next targets_next file_next equals_value line_next block
 on_strings = tt
 
--- ---- what a row shows
+-- ---- the facts of a row
 
 -- the statement, without the lines after it
 abbrev pub item_of : Parse (Option PlacedModel) → Result (Option PlacedModel) Fault
 item_of (Ok r) = Ok r.0
 item_of (Err f) = Err f
 
--- what is read first of a text
+-- the first statement of a text
 abbrev pub first_of : List ℕ → Result (Option PlacedModel) Fault
 first_of text = item_of (next_statement (text_lines text))
 
@@ -139,7 +139,7 @@ no_statement : first_of [] ≡ Ok None
 unfolding on_strings
 no_statement = refl
 
--- the end of a text is answered for good
+-- the end of a text is answered again and again
 to_the_end : outcomes 5 (text_lines (codes "include a\nsubninja b\ndefault c d")) ≡
     placed 1 1 (IncludeModel (word 1 9 (codes "a"))) ∷ placed 2 1 (SubninjaModel (word 2 10 (codes "b"))) ∷ placed 3 1 (DefaultModel (word 3 9 (codes "c") ∷ word 3 11 (codes "d") ∷ [])) ∷ Ok None ∷ Ok None ∷ []
 unfolding on_strings

@@ -50,7 +50,7 @@ ok_parts {A} x y s t e =
 none_is_not_word : {w : WordModel} → ◌≡◌ {A = Option WordModel} None (Some w) → ⊥
 none_is_not_word e = absurd cc
 
--- what a call that gives a word leaves
+-- the rest after a call that returns a word
 word_left : (l : Line) (ls : List Line) (w : WordModel) (after : State) (f g : Option UnitFault) (t : Bool) → begins_word l.units ≡ t
     → ◌≡◌ {A = Step (Option WordModel)} (called (unless_fault f (cond t (unless_fault g (reply (Some (word_here l)) (Inside (with_units (drop_while in_word l.units) l) ls))) (reply None (Inside l ls))))) (Ok (Some w, after))
     → units_left after < length l.units
@@ -62,7 +62,7 @@ word_left l ls w after None None true b e =
     let takes = word_takes l.units b in
     omega arith
 
--- Behind a word fewer units are left.
+-- After a word fewer units are left.
 pub units_left-word : (s : State) (w : WordModel) (after : State) → called (path_word_of s) ≡ Ok (Some w, after) → units_left after < units_left s
 units_left-word (Between ls) w after h = absurd (none_is_not_word (ok_parts None (Some w) (Between ls) after h).0)
 units_left-word (Failed f) w after h = absurd cc
@@ -103,7 +103,7 @@ words_next-more s w after h =
 
 -- ---- turns of a loop
 
--- what is read before is put in front
+-- the words read before are put in front
 abbrev pub in_front : List WordModel → Step (List WordModel) → Step (List WordModel)
 in_front front others = others >>= λ o. Ok (front ++ o.0, o.1)
 

@@ -1,4 +1,4 @@
--- Statements as they are in memory, without their addresses.
+-- Statements in memory, without their addresses.
 use Rattle.std.specs.Prelude.{List, map}
 use Rattle.nj_text.specs.declared.word.Word.{Word}
 use Rattle.nj_text.specs.Words.{WordModel, word_model}

@@ -1,5 +1,5 @@
--- Where the first fault of an entry of a dyndep file is: what is before it begins some entry, and with
--- the element at which it is it begins none.
+-- Where the first fault of an entry of a dyndep file is: the elements before it begin some entry, and with the element
+-- at the fault they begin none.
 use Rattle.std.specs.Prelude.{◌≡◌, ℕ, Bool, true, ◌&&◌, not, Option, Some, Ok, Err, List, [], ◌∷◌, ◌++◌, map, ◌⊎◌}
 use Rattle.std.specs.List.{list_all}
 use Rattle.nj_text.specs.Units.{TextUnit}
@@ -9,7 +9,7 @@ use Rattle.nj_manifest.specs.Grammar.{AreBlanks}
 use Rattle.nj_manifest.specs.Leftmost.{continues, element, written, are_plain, NamesThePlaceOf, met_before, offers}
 use Rattle.nj_manifest.specs.Dyndeps.{EntryModel, is_same_spot, version_next, next_entry}
 
--- Units of which each has a place of its own, as the units of a text have.
+-- Units each with a place of its own, as the units of a text have.
 abbrev pub are_apart : List TextUnit → Bool
 are_apart [] = true
 are_apart (u ∷ us) = list_all (λ v. not (is_same_spot v.spot u.spot)) us && are_apart us
@@ -22,8 +22,8 @@ abbrev pub NamesPlaceInEntry : Fault → Line → Type 0
 NamesPlaceInEntry (DyndepShape spot) l = spot ≡ line_spot l
 NamesPlaceInEntry fault l = NamesThePlaceOf fault l
 
--- From this front an entry continues: in the same line with these bytes, of which the first are what the fault names as
--- expected, and then with these lines. Each byte means itself.
+-- From this front an entry continues: in the same line with these bytes, which begin with an element that the fault
+-- names as expected, and then with these lines. Each byte means itself.
 pub record SomeEntry (before : List Line) (begun : List TextUnit) (fault : Fault) : Type 0 where
   pub bytes : List ℕ
   pub lines : List (List ℕ)

@@ -106,7 +106,7 @@ abbrev pub if_indented : LineStart → State → (indented : State → Result St
 if_indented start.Indented s indented = indented s
 if_indented other s indented = Ok s
 
--- what the next line of a block is read as; where the block ends, it is the end
+-- the reading of the next line of a block; where the block ends, it is the end
 abbrev pub in_block : State → (line : State → Result State Fault) → Result State Fault
 in_block s line = called (start_line_of s) >>= λ first. if_indented first.0 first.1 line
 
@@ -130,8 +130,8 @@ next_entry ls = opening ls >>= entry_from
 
 -- ---- a parser
 
--- What a parser still has before it: all lines, the version first; lines after the version; or the fault that it returns
--- for good.
+-- The rest before a parser: all lines, the version first; lines after the version; or the fault that it returns
+-- permanently.
 pub data DyndepLeft : Type 0 where
   WholeFile : (lines : List Line) → DyndepLeft
   Entries : (lines : List Line) → DyndepLeft
@@ -142,7 +142,7 @@ abbrev pub left_entry : (version_read : Bool) → List Line → Parse (Option En
 left_entry true ls = next_entry ls
 left_entry false ls = version_next ls >>= next_entry
 
--- what comes next of these
+-- the next entry of these
 abbrev pub entry_of : DyndepLeft → Parse (Option EntryModel)
 entry_of (WholeFile ls) = left_entry false ls
 entry_of (Entries ls) = left_entry true ls

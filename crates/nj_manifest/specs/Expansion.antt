@@ -1,4 +1,4 @@
--- What stands in the place of references.
+-- The texts that references stand for.
 use Rattle.std.specs.Prelude.{ℕ, List, []}
 use Rattle.std.specs.List.{flat_map}
 use Rattle.nj_text.specs.Words.{PartModel, Text, Name}

@@ -47,7 +47,7 @@ fault_text (fault.MissingDepth spot) = MissingDepth spot
 fault_text (fault.DyndepVersion spot) = DyndepVersion spot
 fault_text (fault.DyndepShape spot) = DyndepShape spot
 
--- A fault of the syntax of statements; the others name what a whole block lacks, or are of dyndep files.
+-- A fault of the syntax of statements; the others are of a whole block that lacks a line, or of dyndep files.
 abbrev pub is_syntax : Fault → Bool
 is_syntax (Bad unit) = true
 is_syntax (Expected spot wanted) = true
@@ -55,7 +55,7 @@ is_syntax (UnexpectedIndent spot) = true
 is_syntax (UnknownKey spot key) = true
 is_syntax fault = false
 
--- the text of what is wanted
+-- the text for the wanted element
 abbrev pub wanted_text : Wanted → List ℕ
 wanted_text wanted.Statement = codes "statement"
 wanted_text wanted.RuleName = codes "rule name"
@@ -83,7 +83,7 @@ place_of (DyndepVersion spot) = Some spot
 place_of (DyndepShape spot) = Some spot
 place_of OutOfMemory = None
 
--- what is wrong there
+-- the cause of the fault
 abbrev pub syntax_cause : Fault → Option (SyntaxCause (List ℕ))
 syntax_cause (Bad (unit_fault.BadByte spot)) = Some cause.BadByte
 syntax_cause (Bad (unit_fault.Tab spot)) = Some cause.Tab
@@ -114,12 +114,12 @@ syntax_text shown cause.DyndepShape = codes "not a dyndep statement"
 
 -- ---- for people to read
 
--- A text with names in it: its bytes, and the same with U+FFFD for what is not UTF-8 in the names.
+-- A text with names in it: its bytes, and the same with U+FFFD for invalid UTF-8 in the names.
 pub record Message : Type 0 where
   pub exact : List ℕ
   pub shown : List ℕ
 
--- `LINE:COLUMN: TEXT`, or `TEXT` where no place is to blame
+-- `LINE:COLUMN: TEXT`, or `TEXT` where the fault has no place
 abbrev pub shown_fault : Fault → List ℕ
 shown_fault fault = placed_text (place_of fault) (option_map_or (syntax_text utf8_lossy) (syntax_cause fault) out_of_memory_text)
 

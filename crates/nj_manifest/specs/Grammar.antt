@@ -1,5 +1,5 @@
 -- The forms of the manual: which lines are a statement. A line's units are cut into parts, and each part is tested by
--- itself; nothing here describes how one reads on from a place, or what is refused.
+-- itself; nothing here describes how one reads on from a place, or how texts are refused.
 use Rattle.std.specs.Prelude.{◌≡◌, ℕ, Bool, true, false, ◌&&◌, not, Option, Some, None, List, [], ◌∷◌, ◌++◌, map, codes, ◌↔◌}
 use Rattle.std.specs.List.{list_all, list_any}
 use Rattle.std.specs.Str.{bytes_eq}
@@ -178,7 +178,7 @@ pub record DefaultForm (us : List TextUnit) (targets : List WordModel) : Type 0 
   pub some_target : is_empty targets ≡ false
   pub end : AreBlanks after_targets
 
--- what a statement gives on its first line
+-- the contents of a statement's first line
 pub data HeadModel : Type 0 where
   -- a statement without block
   Alone : (item : StatementModel) → HeadModel
@@ -245,7 +245,7 @@ pub data StatementForm : HeadModel → List Line → StatementModel → (rest : 
   build : {outputs : OutputsModel} {name : NameModel} {inputs : InputsModel} {ls rest : List Line} {lines : List LineModel}
       → BlockForm keys.All ls lines rest → StatementForm (BuildHead outputs name inputs) ls (BuildModel outputs name inputs lines) rest
 
--- What the block of a rule or a pool lacks, though each of its lines has its form.
+-- The faults of the block of a rule or a pool whose lines all have their form.
 pub data LackForm (spot : Spot) : HeadModel → List Line → Fault → Type 0 where
   -- only one of the two keys of a response file
   pair : {name : NameModel} {ls rest : List Line} {lines : List LineModel} → BlockForm keys.OfRule ls lines rest

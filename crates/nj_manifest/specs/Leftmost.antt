@@ -1,5 +1,5 @@
--- Where the first fault of some lines is: what is before it begins some statement, and with the element
--- at which it is it begins none.
+-- Where the first fault of some lines is: the elements before it begin some statement, and with the element at the
+-- fault they begin none.
 use Rattle.std.specs.Prelude.{◌≡◌, ℕ, Bool, true, false, ◌||◌, ◌==◌, Some, Ok, Err, List, [], ◌∷◌, ◌++◌, map, take}
 use Rattle.std.specs.List.{take_while, list_all}
 use Rattle.nj_text.specs.declared.sign.Sign.TheVariants as sign
@@ -65,7 +65,7 @@ abbrev pub begins_in : (ℕ → Bool) → List ℕ → Bool
 begins_in p [] = false
 begins_in p (b ∷ bs) = p b
 
--- what these bytes begin with, after spaces, where that is wanted
+-- whether these bytes, which follow spaces, begin with an element that is wanted
 abbrev pub offers_next : Wanted → List ℕ → Bool
 offers_next wanted.Statement bytes = begins_in is_identifier_byte bytes
 offers_next wanted.RuleName bytes = begins_in is_identifier_byte bytes
@@ -78,13 +78,13 @@ offers_next wanted.VariableName bytes = begins_in is_identifier_byte bytes
 offers_next wanted.Equals bytes = begins_in (λ b. b == 61) bytes
 offers_next wanted.Newline bytes = is_empty bytes
 
--- whether the bytes begin with what the fault names as expected
+-- whether the bytes begin with an element that the fault names as expected
 abbrev pub offers : Fault → List ℕ → Bool
 offers (Expected spot wanted) bytes = offers_next wanted (drop_while is_space bytes)
 offers fault bytes = true
 
--- From this front a statement continues: in the same line with these bytes, of which the first are what the fault names as
--- expected, and then with these lines. Each byte means itself.
+-- From this front a statement continues: in the same line with these bytes, which begin with an element that the fault
+-- names as expected, and then with these lines. Each byte means itself.
 pub record SomeStatement (before : List Line) (begun : List TextUnit) (fault : Fault) : Type 0 where
   pub bytes : List ℕ
   pub lines : List (List ℕ)

@@ -1,4 +1,4 @@
--- what must be believed
+-- the definitions to believe
 pub mod Contents
 pub mod DyndepForms
 pub mod DyndepLeftmost

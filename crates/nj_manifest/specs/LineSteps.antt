@@ -11,7 +11,7 @@ use Rattle.nj_manifest.specs.declared.cause.Wanted.{Wanted}
 use Rattle.nj_manifest.specs.declared.cause.Wanted.TheVariants as wanted
 use Rattle.nj_manifest.specs.Faults.{Fault, Bad, Expected}
 
--- what is read, and the lexer after it; or the fault at which no statement continues
+-- the value read, and the lexer after it; or the fault at which no statement continues
 abbrev pub Step : Type 0 → Type 0
 Step A = Result (A × State) Fault
 
@@ -42,7 +42,7 @@ expect_sign want wanted s = do
   there ← called (sign_of want s)
   if there.0 then Ok there.1 else Err (Expected (spot_of there.1) wanted)
 
--- what is read up to the end of its line
+-- the value of a step, which has to end its line
 abbrev pub whole_line : {A : Type 0} → Step A → Step A
 whole_line step = step >>= λ x. expect_sign sign.LineEnd wanted.Newline x.1 >>= λ end. Ok (x.0, end)
 
@@ -53,7 +53,7 @@ words_within (suc limit) s = do
   word ← called (path_word_of s)
   option_map_or (λ first. words_within limit word.1 >>= λ more. Ok (first ∷ more.0, more.1)) word.0 (Ok ([], word.1))
 
--- the words from here on, up to what is not a word; each has a unit at least
+-- the words from here on, up to the first element that is not a word; each has a unit at least
 unfoldable pub words_next : State → Step (List WordModel)
 words_next (Inside l ls) = words_within (suc (length l.units)) (Inside l ls)
 words_next s = words_within (suc zero) s

@@ -8,7 +8,7 @@ use Rattle.nj_text.specs.Lines.{kind_of, is_space_unit}
 use Rattle.nj_text.specs.Calls.{without_comments}
 use Rattle.nj_manifest.specs.Faults.{Fault, Bad, UnexpectedIndent}
 
--- what is read of lines, and the lines after it
+-- the value read from lines, and the lines after it
 abbrev pub Parse : Type 0 → Type 0
 Parse A = Result (A × List Line) Fault
 

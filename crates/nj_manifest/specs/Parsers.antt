@@ -1,4 +1,4 @@
--- What a parser returns.
+-- The results of a parser.
 use Rattle.std.specs.Prelude.{◌≡◌, Option, option_map, Result, Ok, Err, List}
 use Rattle.nj_text.specs.declared.fault.LexFault.TheVariants as lex
 use Rattle.nj_text.specs.Lines as lines
@@ -16,7 +16,7 @@ abbrev pub Fails : {Y : Type 0} → ParseFault → Result Y Fault → Type 0
 Fails (fault.Lex lex.OutOfMemory) expected = Unit {0}
 Fails f expected = expected ≡ Err (fault_text f)
 
--- what a parser returns if this is read from the lines
+-- the result of a parser if this is read from the lines
 abbrev pub ReturnsNext : Parse (Option PlacedModel) → (after : Left) → Result (Option (Placed Statement)) ParseFault → Type 0
 ReturnsNext expected after (Ok found) =
     (rest : List lines.Line) × (expected ≡ Ok (option_map placed_model found, rest)) × (after ≡ Lines rest)
@@ -27,8 +27,8 @@ abbrev pub Again : Fault → Result (Option (Placed Statement)) ParseFault → T
 Again fault (Ok found) = ⊥
 Again fault (Err f) = fault_text f ≡ fault
 
--- It returns the next statement of the lines that are left, and leaves the lines after it; or the first fault, and then
--- that fault for good.
+-- It returns the next statement of the lines that are left, and leaves the lines after it; or the first fault, and from
+-- then on that fault.
 abbrev pub IsNext : (before after : Left) → Result (Option (Placed Statement)) ParseFault → Type 0
 IsNext (Lines ls) after result = ReturnsNext (next_statement ls) after result
 IsNext (Refused fault) after result = Again fault result × (after ≡ Refused fault)

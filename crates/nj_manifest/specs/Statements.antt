@@ -129,7 +129,7 @@ file_next s = do
   word ← ok_or found.0 (Expected (spot_of found.1) wanted.Path)
   whole_line (Ok (word, found.1))
 
--- ---- what a block has to give
+-- ---- lines that a block needs
 
 -- the line of a name that counts: the last one
 abbrev pub last_line : {X : Type 0} → (name_of : X → List ℕ) → List X → (name : List ℕ) → Option X
@@ -173,7 +173,7 @@ build_next s = do
 abbrev pub alone : {A : Type 0} → (A → StatementModel) → Step A → Parse StatementModel
 alone item step = step >>= λ x. Ok (item x.0, lines_from x.1)
 
--- what follows the identifier with which a statement begins; where its first line begins is the place of what it lacks
+-- the rest of a statement, after the identifier with which it begins; a fault for a missing line is at its start
 unfoldable pub statement_after : (word : List ℕ) → Spot → State → Parse StatementModel
 statement_after word spot s =
     if bytes_eq word (codes "build") then build_next s
@@ -197,7 +197,7 @@ next_statement ls = opening ls >>= statement_from
 
 -- ---- a parser
 
--- What a parser still has before it: lines; or the fault that it returns for good.
+-- The rest before a parser: lines; or the fault that it returns permanently.
 pub data Left : Type 0 where
   Lines : (lines : List Line) → Left
   Refused : (fault : Fault) → Left

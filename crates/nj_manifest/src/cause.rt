@@ -1,4 +1,4 @@
-//! What is wrong with the syntax of a text, wherever it is.
+//! The causes of syntax faults, without their places.
 
 ghost use Rattle.std.specs.Prelude.{◌≡◌, Ok, Some, IfOk};
 ghost use Rattle.std.specs.Str.Lossy.{utf8_lossy};
@@ -10,7 +10,7 @@ use std::alloc::AllocError;
 use std::convert::AsSlice;
 use std::fmt;
 
-/// What would have to be at a place, in the words of the fault's text.
+/// An element that a fault expects at its place, by its text.
 #[derive(Clone, Copy, Debug, PartialEq, Eq)]
 pub enum Wanted {
     /// A statement's first identifier, at a line's start.
@@ -36,7 +36,7 @@ pub enum Wanted {
 }
 
 impl Wanted {
-    /// The fixed text of what is wanted.
+    /// The fixed text for the wanted element.
     pub fn text(self) -> &'static str
         ensures { result.now ≡ wanted_text self }
     {
@@ -55,7 +55,7 @@ impl Wanted {
     }
 }
 
-/// What is wrong at the place of a fault of the syntax, over the name that it may hold.
+/// The cause of a syntax fault, over the type of the name that it may hold.
 #[derive(Clone, Copy, Debug, PartialEq, Eq, Drop)]
 pub enum SyntaxCause<N> {
     /// A NUL, or a carriage return that no line feed follows, outside comments ("Lexical syntax").
@@ -140,7 +140,7 @@ impl<N: AsSlice<u8>> SyntaxCause<N> {
     }
 }
 
-/// What is wrong, without a place. In a name U+FFFD replaces what is not UTF-8.
+/// The text of the cause, without a place. In a name U+FFFD replaces invalid UTF-8.
 impl<N: AsSlice<u8>> fmt::Display for SyntaxCause<N> {
     ghost output = { λ cause. Some (syntax_text (λ name. utf8_lossy (N.items name)) cause) };
 

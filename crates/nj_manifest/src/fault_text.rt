@@ -9,7 +9,7 @@ use std::fmt;
 use std::marker::Model;
 
 /// The text of a fault: a name between two fixed texts, or two names with fixed texts before,
-/// between and after them. The names are as they are in files, so they need not be UTF-8.
+/// between and after them. The names are those of the files, so they need not be UTF-8.
 #[derive(Debug, Drop)]
 pub struct FaultText<'a> {
     opening: &'static str,
@@ -98,7 +98,7 @@ impl<'a> FaultText<'a> {
         }
     }
 
-    /// Appends the text to the bytes, with the names as they are.
+    /// Appends the text to the bytes, with the names verbatim.
     ///
     /// # Errors
     ///
@@ -114,7 +114,7 @@ impl<'a> FaultText<'a> {
     }
 }
 
-/// In a name U+FFFD replaces what is not UTF-8.
+/// In a name U+FFFD replaces invalid UTF-8.
 impl fmt::Display for FaultText<'_> {
     ghost output = { λ text. Some text.shown };
 

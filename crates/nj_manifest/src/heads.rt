@@ -129,7 +129,7 @@ fn file_next<'a>(alloc: Global, lexer: &mut Lexer<'a>) -> Result<Word<'a>, Parse
     }
 }
 
-/// What follows the identifier with which a statement begins, on its first line.
+/// The rest of a statement's first line, after the identifier with which it begins.
 #[tactic(auto, unfolding(crate::specs::Inside::Heads::head_after))]
 fn head_after<'a>(
     alloc: Global,

@@ -19,8 +19,8 @@ pub fn missing_lines_are_lacking()
 {}
 
 /// A fault of syntax is at the first element with which no statement continues: whatever follows
-/// it, the result is this fault. From what is before that element a statement does continue, with
-/// what the fault names as expected.
+/// it, the result is this fault. After the elements before it a statement does continue, with the
+/// one that the fault names as expected.
 pub fn faults_are_leftmost()
     ensures { FaultsAreLeftmost }
 {}
@@ -42,9 +42,9 @@ pub fn dyndep_versions_are_the_forms()
 {}
 
 /// A fault of an entry of a dyndep file is at the first element with which no entry continues:
-/// whatever follows it, the result is this fault. From what is before that element an entry does
-/// continue, with what the fault names as expected; before a line that is one too many it is
-/// complete.
+/// whatever follows it, the result is this fault. After the elements before it an entry does
+/// continue, with the one that the fault names as expected; before a line that is one too many it
+/// is complete.
 pub fn dyndep_faults_are_leftmost()
     ensures { DyndepFaultsAreLeftmost }
 {}

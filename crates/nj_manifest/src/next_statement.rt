@@ -15,7 +15,7 @@ use crate::statement_start::find_statement;
 use nj_text::{Lexer, Spot};
 use std::alloc::Global;
 
-/// A statement with its block, of which the first line was read.
+/// A statement with its block, after its first line was read.
 #[tactic(auto, unfolding(crate::specs::Inside::Heads::with_block))]
 fn with_block<'a>(
     alloc: Global,

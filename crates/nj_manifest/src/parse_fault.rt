@@ -55,7 +55,7 @@ impl<'a> ParseFault<'a> {
         }
     }
 
-    /// What is wrong; `None` if an allocation failed.
+    /// The cause of the fault; `None` if an allocation failed.
     pub fn cause(self) -> Option<SyntaxCause<&'a [u8]>>
         ensures { option_map (named_by (λ key. key.now)) result ≡ syntax_cause (fault_text self.entry) }
     {
@@ -76,8 +76,7 @@ impl<'a> ParseFault<'a> {
     }
 }
 
-/// `LINE:COLUMN: TEXT`, or `TEXT` for lack of memory. In a name U+FFFD replaces what is not
-/// UTF-8.
+/// `LINE:COLUMN: TEXT`, or `TEXT` for lack of memory. In a name U+FFFD replaces invalid UTF-8.
 impl fmt::Display for ParseFault<'_> {
     ghost output = { λ fault. Some (shown_fault (fault_text fault)) };
 

@@ -72,8 +72,8 @@ impl<'a> Parser<'a> {
         }
     }
 
-    /// Takes a statement back, whichever it is: the next one is read into the memory of its lists.
-    /// What the calls return stays the same.
+    /// Takes back any statement: the next one is read into the memory of its lists. The results of
+    /// calls stay the same.
     pub fn reuse(&mut self, statement: Statement<'a>)
         ensures { self.new ≡ self.old }
     {

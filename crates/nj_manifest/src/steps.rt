@@ -50,7 +50,7 @@ pub fn expect_sign<'a>(
     Err(ParseFault::Expected(lexer.spot(), wanted))
 }
 
-/// The words from here on, up to what is not a word.
+/// The words from here on, up to the first element that is not a word.
 pub fn words_next<'a>(
     alloc: Global,
     lexer: &mut Lexer<'a>,

@@ -18,7 +18,7 @@ slice_range-rest items start below =
     let n : length (drop start items) ≡ length items - start = length-drop start items in
     rw (← n) (take-length (drop start items))
 
--- what was appended is last
+-- the appended element is last
 pub get-last : {X : Type 0} (xs : List X) (x : X) → slice_get (xs ++ x ∷ []) (length xs) ≡ Some x
 get-last [] x = refl
 get-last (y ∷ xs) x = get-last xs x

@@ -1,4 +1,4 @@
--- Lemmas on names, each once.
+-- Lemmas on names without duplicates.
 use Rattle.std.proofs.Common.{◌≡◌, ◌≢◌, ◌<◌, ◌≤◌, ◌+◌, ◌-◌, ◌==◌, ◌||◌, ◌⊎◌, inl, inr, ℕ, zero, suc, Bool, true, false, cond, not, List, [], ◌∷◌, ◌++◌, length, get_or, slice_get, slice_range, Option, Some, None, is_some, unwrap_or, bytes_eq, nat_eq, refl, sym, ap, subst, ◌∙◌, true≢false, arith, length-append, add-one}
 use Rattle.std.specs.List.{IsDistinct, list_any, position, prefix_len}
 use Rattle.std.proofs.lemmas.Bool.{cases_eq, cases_lt, lt-ltb, le-ltb}
@@ -60,7 +60,7 @@ prefix-all name (k ∷ ks) absent = by (prefix-all name ks) (bytes_eq name k) re
         let more : 1 + prefix_len (λ k. not (bytes_eq name k)) ks ≡ suc (length ks) = omega (arith, all) in
         ap (λ b. cond (not b) (1 + prefix_len (λ k. not (bytes_eq name k)) ks) 0) other ∙ more
 
--- what was found is the index
+-- the found number is the index
 pub found-index : (name : List ℕ) (names : List (List ℕ)) (found : Option ℕ) → IsDistinct bytes_eq names → IsFound names name found → found ≡ position (bytes_eq name) names
 found-index name names None apart absent = rw (prefix-all name names absent, le-ltb (length names) (length names) (omega arith)) refl
 found-index name names (Some n) apart here = rw (prefix-here name names n apart here, lt-ltb n (length names) (slice_get_within names n name here)) refl
@@ -159,7 +159,7 @@ newest-none hash names wanted (suc c) h m below = by (λ none. newest-none hash 
     by rest (inl same) = let top : suc c ≡ 0 = ap (λ b. cond b (suc c) down) (sym same.0) ∙ h in absurd (omega arith)
     by rest (inr apart) = late apart.1 (rest (ap (λ b. cond b (suc c) down) (sym apart.0) ∙ h)) (cases_eq m c)
 
--- what is found is among those that count
+-- the found name is among those that count
 newest-below : (hash : Hash) (names : List (List ℕ)) (wanted count : ℕ) → newest_below hash names wanted count ≤ count
 newest-below hash names wanted zero = omega arith
 newest-below hash names wanted (suc c) = by (hash (name_of names c) == wanted) (newest-below hash names wanted c)

@@ -22,7 +22,7 @@ or-false : (b : Bool) → (b || false) ≡ b
 or-false true = refl
 or-false false = refl
 
--- ---- what is in a list
+-- ---- members of a list
 
 pub has-contains : (numbers : List ℕ) (n : ℕ) → has numbers n ≡ true → Contains numbers n
 has-contains numbers n is = Contains-from_any (λ x y same. (Decides-eqb x y).0 same) n numbers is
@@ -30,7 +30,7 @@ has-contains numbers n is = Contains-from_any (λ x y same. (Decides-eqb x y).0 
 pub contains-has : (numbers : List ℕ) (n : ℕ) → Contains numbers n → has numbers n ≡ true
 contains-has numbers n is = list_any-from_Contains nat_eq_equiv n numbers is
 
--- ---- one number more
+-- ---- one more number
 
 pub has-push : (numbers : List ℕ) (number n : ℕ) → has (numbers ++ number ∷ []) n ≡ (has numbers n || nat_eq n number)
 has-push numbers number n = list_any-append (nat_eq n) numbers (number ∷ []) ∙ ap (λ b. has numbers n || b) (or-false (nat_eq n number))

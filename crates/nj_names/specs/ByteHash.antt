@@ -26,7 +26,7 @@ last_words bytes = if nat_lt (length bytes) 16 then short_words bytes else words
 abbrev pub after_blocks : (factor start : ℕ) → List (List ℕ) → ℕ
 after_blocks factor start blocks = fold (λ state block. take_words factor state (words_of block)) start blocks
 
--- The state after bytes: each whole sixteen, and then the last sixteen, some of which are taken in again.
+-- The state after bytes: each whole sixteen, and then the last sixteen, which may take in some bytes again.
 abbrev pub state_after : (factor start : ℕ) → List ℕ → ℕ
 state_after factor start bytes =
     take_words factor (after_blocks factor start (first_chunks 16 (length bytes / 16) bytes)) (last_words bytes)

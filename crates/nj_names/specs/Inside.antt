@@ -1,3 +1,3 @@
--- How the code meets the definitions beside this folder. No contract of a public call needs these.
+-- How the code meets the definitions beside this directory. No contract of a public call needs these.
 pub mod NamesHeld
 pub mod NumbersHeld

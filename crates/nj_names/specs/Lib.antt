@@ -1,4 +1,4 @@
--- what must be believed
+-- the definitions to believe
 pub mod ByteHash
 pub mod Files
 pub mod NameHash

@@ -4,9 +4,9 @@ use Rattle.std.specs.Int.{w64, from_le_bytes}
 
 -- a hasher, between two calls
 pub record HasherState : Type 0 where
-  -- what the blocks so far came to
+  -- the state after the blocks so far
   pub state : ℕ
-  -- what a sum with a block is multiplied by
+  -- the factor of a sum with a block
   pub factor : ℕ
   -- the bytes since the last block, the first one highest, below a bit that is set
   pub pending : ℕ
@@ -15,7 +15,7 @@ pub record HasherState : Type 0 where
 abbrev pub folded_product : ℕ → ℕ → ℕ
 folded_product a b = bit_xor (a * b % 2 ^ 64) (a * b / 2 ^ 64)
 
--- a number with one byte more at its end, in 64 bits
+-- a number with one more byte at its end, in 64 bits
 abbrev pub with_byte : ℕ → (byte : ℕ) → ℕ
 with_byte number byte = bit_or (number * 2 ^ 8 % 2 ^ 64) byte
 
@@ -34,6 +34,6 @@ take_byte hasher byte =
 abbrev pub write : HasherState → List ℕ → HasherState
 write hasher bytes = if nat_eq (length bytes) 8 then take_block hasher (from_le_bytes w64 bytes) else fold take_byte hasher bytes
 
--- the hash of what was taken in
+-- the hash of the bytes so far
 abbrev pub finish : HasherState → ℕ
 finish hasher = folded_product ((hasher.state + hasher.pending) % 2 ^ 64) hasher.factor

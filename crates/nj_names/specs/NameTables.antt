@@ -1,4 +1,4 @@
--- Names in a list, each once. The number of a name is its place.
+-- Names in a list, without duplicates. The number of a name is its place.
 use Rattle.std.specs.Prelude.{ℕ, Bool, unwrap_or, List, [], ◌∷◌, ◌++◌, slice_get, bytes_eq, if◌then◌else◌}
 use Rattle.std.specs.List.{list_any}
 

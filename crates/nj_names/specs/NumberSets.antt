@@ -2,7 +2,7 @@
 use Rattle.std.specs.Prelude.{ℕ, Bool, List, [], ◌∷◌, ◌++◌, nat_eq, if◌then◌else◌}
 use Rattle.std.specs.List.{list_any}
 
--- numbers below a limit, each once, in the order in which they were added
+-- numbers below a limit, without duplicates, in the order in which they were added
 pub record NumberSetModel : Type 0 where
   pub limit : ℕ
   pub numbers : List ℕ

@@ -12,9 +12,9 @@ pub(crate) struct Words {
     second: u64,
 }
 
-/// The state after these bytes: each whole sixteen of them is a step, and the last sixteen are one
-/// more, some of which are taken in again. So no step goes byte by byte, unless there are fewer
-/// than eight.
+/// The state after these bytes: each whole sixteen of them is a step, and the last sixteen are
+/// another, which may take in some bytes again. So no step goes byte by byte, unless there are
+/// fewer than eight.
 pub(crate) fn state_after(factor: u64, start: u64, bytes: &[u8]) -> u64
     ensures { result ≡ state_after factor start bytes.now }
 {

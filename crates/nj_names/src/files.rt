@@ -13,7 +13,7 @@ use std::marker::Model;
 #[derive(Clone, Copy, Debug, PartialEq, Eq)]
 pub struct FileNo(pub usize);
 
-/// The paths that were named, each once. The number of a file is that of its path.
+/// The named paths, without duplicates. The number of a file is that of its path.
 #[derive(Drop)]
 pub struct Files {
     names: Names,
@@ -39,7 +39,7 @@ impl Files {
         }
     }
 
-    /// How many files there are.
+    /// The number of files.
     pub fn count(&self) -> usize
         ensures count { result ≡ length self.now }
         ensures each_path_once { IsDistinct bytes_eq self.now }

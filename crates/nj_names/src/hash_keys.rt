@@ -7,11 +7,11 @@ use crate::name_hasher::NameHasher;
 use std::hash::BuildHasher;
 use std::marker::Model;
 
-/// The keys by which the names of a run are hashed. Names come from strangers, and whoever knows
+/// The keys by which the names of a run are hashed. Names are untrusted input, and whoever knows
 /// how names are hashed can choose ones that all collide, so that each look-up goes through all.
 ///
 /// So a number is drawn for each run, and which names collide depends on all of its 64 bits
-/// ([`NameHasher`]). A stranger does not know it, and learns nothing about it from a run, whose
+/// ([`NameHasher`]). An attacker does not know it, and learns nothing about it from a run, whose
 /// output depends on no hash.
 #[derive(Clone, Copy)]
 pub struct HashKeys {
@@ -43,12 +43,12 @@ impl HashKeys {
     /// factor, and the halves of the product of both sums, joined by xor, are the next state.
     /// Whoever chooses names knows neither the state nor the factor, so only by a guess can a
     /// number make the product 0, which would drop the other one. As in [`NameHasher`], there are
-    /// names of which two collide for one drawn number of 300 million; nothing is known that makes
+    /// pairs of names that collide for one drawn number of 300 million; nothing is known that makes
     /// a flood of them. How many bytes there are is taken in last, in a step of its own: so `a` and
     /// `\0a` differ, which are the same number, and bytes that make up for more or fewer of them
     /// can only be guessed.
     ///
-    /// These too are reasons, and the contract states what is computed.
+    /// These too are reasons, and the contract states the computation.
     pub fn hash_bytes(&self, bytes: &[u8]) -> u64
         ensures { result ≡ hash_bytes self.now bytes.now }
     {
@@ -57,7 +57,7 @@ impl HashKeys {
 }
 
 impl Default for HashKeys {
-    /// Keys that everyone knows, for files that no stranger wrote, as in tests.
+    /// Keys that everyone knows, for trusted files, as in tests.
     fn default() -> HashKeys {
         HashKeys::new(0)
     }

@@ -1,4 +1,5 @@
-//! Names, each once, by their numbers; sets of numbers; and how the names of a run are hashed.
+//! Names without duplicates, by their numbers; sets of numbers; and how the names of a run are
+//! hashed.
 #![tactic(auto)]
 
 mod byte_hash;

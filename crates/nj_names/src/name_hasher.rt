@@ -12,15 +12,15 @@ const PI: u64 = 0x243f_6a88_85a3_08d3;
 /// The 64 bits of the golden ratio after its point.
 const GOLDEN_RATIO: u64 = 0x9e37_79b9_7f4a_7c15;
 
-/// Hashes names by a number that was drawn. A map hands over a name byte by byte, and eight bytes
-/// are taken in at once: as a block, which costs one multiplication.
+/// Hashes names by a number that was drawn. A map passes a name byte by byte, and eight bytes are
+/// taken in at once: as a block, which costs one multiplication.
 ///
 /// A block is added to the state, the sum is multiplied by the factor to 128 bits, and the halves of
 /// the product, joined by xor, are the next state. The state starts as the number that was drawn,
 /// and the factor is made of it, so which names collide depends on all of its bits. Whoever chooses
-/// names chooses blocks alone, and knows neither what they are added to nor multiplied by. So only
-/// by a guess can a block make the product 0, which would drop the number, and no two blocks are
-/// known to collide whatever was drawn.
+/// names chooses blocks alone, and knows neither the state nor the factor. So only by a guess can a
+/// block make the product 0, which would drop the number, and no two blocks are known to collide
+/// whatever was drawn.
 ///
 /// Two blocks can collide more often than once in 2^64 numbers. The worst pairs that are known
 /// differ by a third of 2^64, and collide for about one number of 300 million. So names may collide
@@ -31,8 +31,8 @@ const GOLDEN_RATIO: u64 = 0x9e37_79b9_7f4a_7c15;
 /// blocks differ in the top bit, twice in a row, would collide whatever was drawn, and the low bits
 /// of a hash, which choose a place in a table, would tell little of the blocks.
 ///
-/// These are reasons and trials, and nothing of them is proved: the contracts state what is
-/// computed.
+/// These are reasons and trials, and nothing of them is proved: the contracts state the
+/// computation.
 #[derive(Clone, Copy)]
 pub struct NameHasher {
     state: u64,

@@ -7,8 +7,8 @@ ghost use Rattle.nj_names.specs.NumberSets.{has, with_number};
 use std::alloc::{AllocError, Global};
 use std::marker::Model;
 
-/// Numbers below a limit, each once, in the order in which they were added: a flag for each number
-/// below the limit, and the numbers with a flag.
+/// Numbers below a limit, without duplicates, in the order in which they were added: a flag for
+/// each number below the limit, and the numbers with a flag.
 #[derive(Drop)]
 pub struct NumberSet {
     flags: Vec<bool>,

@@ -6,7 +6,7 @@ use crate::byte_hash::with_bytes;
 use std::hash::Hasher;
 use std::marker::Model;
 
-/// Takes a number of 64 bits as it is: the hasher of a map whose keys are hashes, such as the
+/// Returns a number of 64 bits unchanged: the hasher of a map whose keys are hashes, such as the
 /// hashes of [`HashKeys::hash_bytes`](crate::HashKeys::hash_bytes). Which of them share a place in
 /// the map depends on the number that was drawn, as the keys do.
 #[derive(Clone, Copy)]

@@ -14,7 +14,7 @@ use std::alloc::{AllocError, Global};
 use std::hash::BuildHasherDefault;
 use std::marker::Model;
 
-/// Names, each once. The number of a name is its place in the order of adding.
+/// Names without duplicates. The number of a name is its place in the order of adding.
 ///
 /// They are one text. Each is found by its hash, which is computed once for a look-up: the map
 /// leads to the newest name with that hash, and each name to the one before it with the same hash.
@@ -58,7 +58,7 @@ impl Names {
         }
     }
 
-    /// How many names there are.
+    /// The number of names.
     pub fn count(&self) -> usize
         ensures count { result ≡ length self.now }
         ensures each_name_once { IsDistinct bytes_eq self.now }

@@ -1,4 +1,4 @@
--- The address of an open edge, and what it represents.
+-- The address of an open edge, and the edges done there.
 use Rattle.std.proofs.Common.{◌≡◌, ℕ, ◌+◌, Option, Some, None, List, [], ◌∷◌, ◌++◌, get_or, take, refl, ap, ◌∙◌}
 use Rattle.std.specs.Prelude.{slice_get}
 use Rattle.std.proofs.lemmas.Option.{get_or_from_slice_get}
@@ -11,7 +11,7 @@ module _ (makers : ℕ → List (Option ℕ)) (count : ℕ) where
   inputs-at : (row : List (Option ℕ)) (f : Frame) → slice_get row f.at ≡ Some (Some f.edge) → inputs_of makers (get_or row f.at None) ≡ makers f.edge
   inputs-at row f at = ap (inputs_of makers) (get_or_from_slice_get row f.at (Some f.edge) None at)
 
-  -- what is done at the address of an edge is what is done once it is closed
+  -- the edges done at the address of an edge are those done once it is closed
   pub done-places : (row : List (Option ℕ)) (path : List Frame) (f : Frame) → IsLinked makers row (path ++ f ∷ [])
       → done makers count row (places (path ++ f ∷ [])) ≡ done_at makers count row path (f.at + 1)
   done-places row [] f h = refl

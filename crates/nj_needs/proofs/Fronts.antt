@@ -25,7 +25,7 @@ front-map f xs ys h = (map f h.0, ap (map f) h.1 ∙ map-append f xs h.0)
 pub front-flat_map : {X Y : Type 0} (f : X → List Y) (xs ys : List X) → IsFront xs ys → IsFront (flat_map f xs) (flat_map f ys)
 front-flat_map f xs ys h = (flat_map f h.0, ap (flat_map f) h.1 ∙ flat_map-append f xs h.0)
 
--- two lists of which each begins with the other, or of which the longer begins with the shorter, and is none
+-- a front of a list is no longer than the list, and one that is no shorter is the list
 pub front-length : {X : Type 0} (xs ys : List X) → IsFront xs ys → length xs ≤ length ys
 front-length xs ys h = omega (arith, ap length h.1, length-append xs h.0)
 

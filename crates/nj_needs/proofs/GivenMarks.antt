@@ -35,7 +35,7 @@ parts-written : (n : ℕ) (ns : List ℕ) → AllByRecursion (λ k. k < 2 ^ 64) 
 parts-written n [] h = parts-one (decimal n) (no_dot-decimal n h.0)
 parts-written n (m ∷ ns) h = parts-at (decimal n) (mark_text (m ∷ ns)) (no_dot-decimal n h.0) ∙ ap (λ ps. decimal n ∷ ps) (parts-written m ns h.1)
 
--- ---- what was written is read
+-- ---- a written mark is read
 
 -- the number of a part, before those of the others
 abbrev and_then : Option ℕ → Option (List ℕ) → Option (List ℕ)
@@ -69,7 +69,7 @@ written_given numbers h = meant numbers (recursion_from_All (λ k. k < 2 ^ 64) n
 pub all-fit : (numbers : List ℕ) → ((k : ℕ) → get_or numbers k 0 < 2 ^ 64) → All (λ n. n < 2 ^ 64) numbers
 all-fit numbers h k d lt = subst (λ n. n < 2 ^ 64) (get_or_default numbers k 0 d lt) (h k)
 
--- ---- what is read was written
+-- ---- a mark that is read was written
 
 parts-meant : (ps : List (List ℕ)) (ns : List ℕ) → numbers_in ps ≡ Some ns → map decimal ns ≡ ps
 parts-meant [] ns e = let x : ns ≡ [] = cc in rw x refl

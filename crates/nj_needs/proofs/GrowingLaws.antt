@@ -66,15 +66,15 @@ module _ (edges : List EdgePaths) where
     pub grown-same : (n : ℕ) → length edges ≤ n → after n ≡ grown_targets edges targets
     grown-same n le = same-all (List ℕ) (makers_of_inputs edges) (length edges) maker checks targets after refl next (λ k. order-short (after k)) n le
 
-    -- a further round leaves them as they are
+    -- a further round leaves them unchanged
     pub grown-fixed : grown_targets edges targets ≡ targets ++ validations_of edges (edges_of (grown_targets edges targets))
     grown-fixed = all-fixed (List ℕ) (makers_of_inputs edges) (length edges) maker checks targets after refl next (λ k. order-short (after k))
 
-    -- and they begin each list that a round leaves as it is
+    -- and they begin each list that a round leaves unchanged
     pub grown-least : (files : List (List ℕ)) → files ≡ targets ++ validations_of edges (edges_of files) → IsFront (grown_targets edges targets) files
     grown-least files fixed = front-fixed (List ℕ) (makers_of_inputs edges) (length edges) maker checks targets after refl next files fixed (length edges + 1)
 
-    -- ---- only what is followed is reached
+    -- ---- only files that are followed are reached
 
     followed-reached : (paths : List (List ℕ)) → ((e : ℕ) → Makes edges paths e → Followed edges targets e) → (e : ℕ) → Reached (makers_of_inputs edges) (row_of_paths edges paths) e → Followed edges targets e
     followed-reached paths all e (target c) = all e c

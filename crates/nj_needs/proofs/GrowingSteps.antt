@@ -48,7 +48,7 @@ AreFiles-known files (n ∷ ns) known =
     slice_get_known (f ∷ fs) zero lt = refl
     slice_get_known (f ∷ fs) (suc k) lt = slice_get_known fs k (omega (arith, lt))
 
--- what a look-up found is in the row on top
+-- the result of a look-up is in the row on top
 pub comes : (given g : EdgeGraph) (listed files : List FileNo) (opened path : List Frame) (edge : Option ℕ) (found : Option (Option ℕ)) (place : ℕ) → given ≡ g → listed ≡ files → opened ≡ path → IsTop opened edge
     → found ≡ slice_get (row_in given listed edge) place → slice_get (top_of g files path) place ≡ found
 comes given g listed files opened path edge found place graph list same top is =

@@ -1,5 +1,5 @@
--- The walk over a list that grows. It is a walk over the grown targets, of which the list is a beginning: the targets, and then the
--- validations of the edges that are done.
+-- The walk over a list that grows. It is a walk over the grown targets, which begin with the list:
+-- the targets, and then the validations of the edges that are done.
 use Rattle.std.proofs.Common.{◌≡◌, ℕ, zero, suc, ◌+◌, ◌<◌, ◌≤◌, Bool, true, false, Option, Some, None, List, [], ◌∷◌, ◌++◌, length, get_or, set, map, take, refl, sym, ap, subst, ◌∙◌, arith, append_assoc, length-append}
 use Rattle.std.specs.Prelude.{nat_eq, slice_get}
 use Rattle.std.specs.List.{flat_map, list_any}
@@ -20,7 +20,7 @@ use Rattle.nj_needs.proofs.Striking.{In-first}
 use Rattle.nj_needs.proofs.Turning.{turns_left-pass}
 use Rattle.nj_needs.proofs.Walking.{top_row-push, done_at-open, done_at-pass, done_front, top-within}
 
--- nothing is left of what is done
+-- nothing is left of the edges done
 without-done : (done es : List ℕ) → ((x : ℕ) → In es x → In done x) → without done es ≡ []
 without-done done [] all = refl
 without-done done (e ∷ es) all =
@@ -78,7 +78,7 @@ module _ (X : Type 0) (makers : ℕ → List (Option ℕ)) (count : ℕ) (rank :
     front-files : IsFront files all
     front-files = subst (λ (xs : List X). IsFront xs all) (sym h.grown) (front-all path place h.standing.linked)
 
-    -- what the walk finds in the list is in the grown targets
+    -- each file that the walk finds in the list is in the grown targets
     pub found-all : (x : Option ℕ) → slice_get (top_row makers (map maker files) path) place ≡ Some x → slice_get (top_row makers row path) place ≡ Some x
     found-all x at = by path at
       where

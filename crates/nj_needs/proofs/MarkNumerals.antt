@@ -72,7 +72,7 @@ no_plus (d ∷ e ∷ ds) f = λ p. let x : not (eqb 43 43) ≡ true = ap (λ b. 
 pub number-no_front : (bs : List ℕ) → has_plain_front bs ≡ false → number_of bs ≡ None
 number-no_front bs f = number-none bs (λ h l. let x = numeral_front bs h in cc)
 
--- what `parse` returns for a part with a plain front; the error does not matter
+-- the result of `parse` for a part with a plain front; the error does not matter
 pub number-parsed : (bs : List ℕ) (x : ℕ) → ParsesUnsigned {E = ℕ} 64 10 bs (Ok x) → has_plain_front bs ≡ true → number_of bs ≡ Some x
 number-parsed bs x p f =
     let meant = parse_plain own {E = ℕ} 64 bs (Ok x) p (no_plus bs f) in
@@ -83,9 +83,9 @@ number-not_parsed bs p f =
     let meant = parse_plain own {E = ℕ} 64 bs (Err 0) p (no_plus bs f) in
     number-none bs (λ h l. let d = numeral_digits bs h in meant (d.0, d.1, l))
 
--- ---- what is written of a number
+-- ---- the written form of a number
 
--- a part that writes a number is what is written of it
+-- a part that writes a number is its written form
 pub number-written : (bs : List ℕ) (n : ℕ) → number_of bs ≡ Some n → (decimal n ≡ bs) × (n < 2 ^ 64)
 number-written bs n e = by_tests (is_numeral bs) (leb (digits_value 10 bs) 18446744073709551615) refl refl
   where
@@ -120,7 +120,7 @@ pub numeral-decimal : (n : ℕ) → n < 2 ^ 64 → is_numeral (decimal n) ≡ tr
 numeral-decimal zero h = decimal_zero
 numeral-decimal (suc n) h = numeral_digits_of (decimal (suc n)) (digits_decimal own (suc n) h) (decimal_nonempty (suc n) h) (first_decimal (suc n) (omega arith) h)
 
--- what is written of a number writes that number
+-- the written form of a number writes that number
 pub number-decimal : (n : ℕ) → n < 2 ^ 64 → number_of (decimal n) ≡ Some n
 number-decimal n h =
     let value : digits_value 10 (decimal n) ≡ n = digits_value-decimal own n h in
@@ -140,7 +140,7 @@ plain-digits (d ∷ ds) h =
 pub no_dot-decimal : (n : ℕ) → n < 2 ^ 64 → list_any is_dot (decimal n) ≡ false
 no_dot-decimal n h = plain-digits (decimal n) (digits_decimal own n h)
 
--- digits, and what follows them, are not `start`
+-- digits, and the bytes after them, are not `start`
 pub not_start : (bs more : List ℕ) → is_numeral bs ≡ true → bs ++ more ≡ codes "start" → ⊥
 not_start [] more h e = cc
 not_start (d ∷ ds) more h e =

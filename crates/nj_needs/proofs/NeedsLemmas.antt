@@ -1,4 +1,4 @@
--- What is true of a walk and its saved address, at the start and after each turn.
+-- The state of a walk and its saved address, at the start and after each turn.
 use Rattle.std.proofs.Common.{◌≡◌, ℕ, ◌+◌, ◌-◌, ◌<◌, ◌≤◌, min, Bool, true, false, cond, List, [], ◌∷◌, ◌++◌, length, get_or, take, refl, sym, ap, subst, ◌∙◌, inl, inr, arith, vec_capacity}
 use Rattle.std.specs.Global.{Vec}
 use Rattle.std.proofs.lemmas.List.{take-take, take-append-le, map_push, length-map, length_push}

@@ -1,4 +1,5 @@
--- The needed commands are the commands of the reached edges, each once, and each after what it needs.
+-- The needed commands are the commands of the reached edges, without duplicates, each after those
+-- that it needs.
 use Rattle.std.proofs.Common.{◌≡◌, ℕ, zero, suc, ◌<◌, Bool, true, false, not, cond, Option, Some, None, List, [], ◌∷◌, ◌++◌, length, get_or, take, filter, refl, sym, ap, subst, ◌∙◌, ◌⊎◌, inl, inr, arith}
 use Rattle.std.specs.Prelude.{nat_eq, slice_get}
 use Rattle.std.specs.List.{flat_map, list_any, AllByRecursion, IsDistinct}
@@ -77,9 +78,9 @@ pub commands-once : CommandsComeOnce
 commands-once makers count phony targets =
     IsDistinct-from (needed_commands makers count phony targets) (Differ-filter (λ x. not (phony x)) (order makers count targets) (Differ-first (unfolded_row makers count targets)))
 
--- ---- each after what it needs
+-- ---- each edge after those that it needs
 
--- what each element wants was seen, or comes before it
+-- the elements that each one wants were seen, or come before it
 Ordered : (want : ℕ → ℕ → Type 0) → (seen : List ℕ) → List ℕ → Type 0
 Ordered want seen [] = Unit {0}
 Ordered want seen (e ∷ es) = ((f : ℕ) → want e f → In seen f) × Ordered want (e ∷ seen) es
@@ -104,7 +105,7 @@ module _ (want : ℕ → ℕ → Type 0) where
     ]) p),
   )
 
-  -- what is dropped was seen, or is not wanted
+  -- a dropped element was seen, or is not wanted
   Ordered-filter : (p : ℕ → Bool) (es seen more : List ℕ) → ((x e : ℕ) → want e x → In seen x → In more x) → ((x : ℕ) → p x ≡ false → ((e : ℕ) → want e x → ⊥) ⊎ In more x) → Ordered want seen es → Ordered want more (filter p es)
   unfolding Ordered
   Ordered-filter p [] seen more keeps drops o = tt
@@ -147,7 +148,7 @@ module _ (makers : ℕ → List (Option ℕ)) (count : ℕ) (rank : ℕ → ℕ)
   abbrev Want : ℕ → ℕ → Type 0
   Want e f = NeedsByChain makers e f × (phony f ≡ false)
 
-  -- what an edge needs by a chain is unfolded before it
+  -- an edge that another needs by a chain is unfolded before it
   chain_in : (e f : ℕ) → NeedsByChain makers e f → In (unfolded_row makers count (makers e)) f
   chain_in e f (directly needs) = In-row_from (unfolded makers count) (makers e) f f (Among-from_Contains (makers e) f needs) (In-unfolded makers count f)
   chain_in e f (through {g = g} needs chain) =

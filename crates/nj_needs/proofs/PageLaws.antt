@@ -1,4 +1,5 @@
--- What is left at a mark is a suffix of the needed commands: what comes after the mark's edge. So pages join.
+-- The rest at a mark is a suffix of the needed commands: those after the mark's edge. So pages
+-- join.
 use Rattle.std.proofs.Common.{◌≡◌, ℕ, Bool, true, false, not, cond, Option, Some, None, List, [], ◌∷◌, ◌++◌, filter, refl, sym, ap, subst, ◌∙◌, inl, inr, append_assoc}
 use Rattle.std.specs.Prelude.{nat_eq, MatchOption}
 use Rattle.std.specs.List.{list_any, concat, last_or}
@@ -39,7 +40,7 @@ differ-front (x ∷ xs) e ys d = false_from_ne_true (list_any (nat_eq e) (x ∷ 
   | inr t ↦ let never : list_any (nat_eq e) xs ≡ false = differ-front xs e ys d.1 in cc
 ])
 
--- what comes after the first occurrence of an element
+-- the elements after the first occurrence of one
 same-after : (e : ℕ) (xs ys ms ns : List ℕ) → xs ++ e ∷ ms ≡ ys ++ e ∷ ns → list_any (nat_eq e) xs ≡ false → list_any (nat_eq e) ys ≡ false → ms ≡ ns
 same-after e [] [] ms ns is f g = cc
 same-after e [] (y ∷ ys) ms ns is f g = absurd (let same : e ≡ y = cc in let i : In (y ∷ ys) e = subst (λ z. In (z ∷ ys) e) same (In-head e ys) in cc)
@@ -66,7 +67,7 @@ module _ (phony : ℕ → Bool) where
   abbrev plain : ℕ → Bool
   plain e = not (phony e)
 
-  -- where some of an unfolded order is done, what is left is an end of its commands
+  -- where some of an unfolded order is done, the rest is an end of its commands
   left-is_end : (whole front more : List ℕ) → whole ≡ front ++ more
       → filter plain (each_once nat_eq whole) ≡ filter plain (each_once nat_eq front) ++ without front (filter plain (each_once nat_eq whole))
   left-is_end whole front more is =
@@ -77,7 +78,7 @@ module _ (phony : ℕ → Bool) where
       ∙ filter-append plain F (without front (each_once nat_eq whole))
       ∙ ap (λ (es : List ℕ). filter plain F ++ es) (filter_comm plain (λ e. not (list_any (nat_eq e) front)) (each_once nat_eq whole))
 
-  -- and what is left after the first occurrence of an edge with a command comes after the edge
+  -- and the rest after the first occurrence of an edge with a command comes after the edge
   left-after : (whole before : List ℕ) (e : ℕ) (more : List ℕ) → whole ≡ before ++ e ∷ more → list_any (nat_eq e) before ≡ false → plain e ≡ true
       → filter plain (each_once nat_eq whole) ≡ filter plain (each_once nat_eq before) ++ e ∷ without (before ++ e ∷ []) (filter plain (each_once nat_eq whole))
   left-after whole before e more is fresh command =
@@ -91,7 +92,7 @@ module _ (phony : ℕ → Bool) where
       ∙ ap (λ b. cond b (e ∷ filter plain (without done N)) (filter plain (without done N))) command
       ∙ ap (λ (es : List ℕ). e ∷ es) (filter_comm plain (λ x. not (list_any (nat_eq x) done)) N))
 
-  -- so it is what comes after the edge wherever the edge is in a suffix of the commands
+  -- so it is the rest after the edge wherever the edge is in a suffix of the commands
   same-left : (whole before : List ℕ) (e : ℕ) (more taken front left : List ℕ) → whole ≡ before ++ e ∷ more → list_any (nat_eq e) before ≡ false
       → filter plain (each_once nat_eq whole) ≡ taken ++ (front ++ e ∷ left) → without (before ++ e ∷ []) (filter plain (each_once nat_eq whole)) ≡ left
   same-left whole before e more taken front left is fresh split =

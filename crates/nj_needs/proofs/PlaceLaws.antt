@@ -142,7 +142,7 @@ module _ (makers : ℕ → List (Option ℕ)) (count : ℕ) (rank : ℕ → ℕ)
       (deep ∙ ap (λ n. length (done makers count (makers s.0) (n ∷ y))) (sym number)) in
       ap (λ (n : ℕ). n ∷ x) number ∙ ap (λ (z : List ℕ). t ∷ z) rest
 
-  -- what is done at a valid mark is a prefix of the unfolded order
+  -- the edges done at a valid mark are a prefix of the unfolded order
   pub done-front : (row : List (Option ℕ)) → ((m : ℕ) → Among row m → m < count) → (mark : List ℕ) → is_valid makers row mark ≡ true → (more : List ℕ) × (unfolded_row makers count row ≡ done makers count row mark ++ more)
   done-front row inside [] v = (unfolded_row makers count row, refl)
   done-front row inside (p ∷ []) v =

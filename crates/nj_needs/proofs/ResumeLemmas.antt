@@ -1,4 +1,4 @@
--- Resuming: addresses that are valid, what is done at one, and the way to it.
+-- Resuming: addresses that are valid, the edges done at one, and the way to it.
 use Rattle.std.proofs.Common.{◌≡◌, ℕ, zero, suc, ◌+◌, ◌<◌, ◌≤◌, Bool, true, false, ◌&&◌, Option, Some, None, List, [], ◌∷◌, ◌++◌, length, get_or, take, drop, refl, sym, ap, subst, ◌∙◌, inl, inr, arith, append_assoc}
 use Rattle.std.specs.Prelude.{nat_eq, slice_get, is_some}
 use Rattle.std.specs.List.{list_any}
@@ -62,7 +62,7 @@ module _ (makers : ℕ → List (Option ℕ)) (count : ℕ) (rank : ℕ → ℕ)
   row-front : (n : ℕ) (row : List (Option ℕ)) (x : ℕ) → In (unfolded_row makers count (take n row)) x → In (unfolded_row makers count row) x
   row-front n row x i = let r = In-row (unfolded makers count) (take n row) x i in In-row_from (unfolded makers count) row r.0 x (Among-take n row r.0 r.1) r.2
 
-  -- what is done at a mark is of the unfolded order
+  -- the edges done at a mark are of the unfolded order
   pub done-within : (row : List (Option ℕ)) → ((m : ℕ) → Among row m → m < count) → (mark : List ℕ) → is_valid makers row mark ≡ true → (x : ℕ) → In (done makers count row mark) x → In (unfolded_row makers count row) x
   done-within row inside [] h x i = absurd cc
   done-within row inside (p ∷ []) h x i = row-front (p + 1) row x i
@@ -77,7 +77,8 @@ module _ (makers : ℕ → List (Option ℕ)) (count : ℕ) (rank : ℕ → ℕ)
             In-row_from (unfolded makers count) row s.0 x a (own-row s.0 x (inside s.0 a) deep)
       ]
 
-  -- done at a mark that continues at a place of the row on top: what is done before that place, and some of what its edge unfolds to
+  -- done at a mark that continues at a place of the row on top: the edges done before that place,
+  -- and some of the unfolded order of its edge
   pub done-split : (row : List (Option ℕ)) → ((m : ℕ) → Among row m → m < count) → (path : List Frame) → IsLinked makers row path → (q m : ℕ) (mark : List ℕ)
       → slice_get (top_row makers row path) q ≡ Some (Some m) → is_valid makers (makers m) mark ≡ true
       → (more : List ℕ) × (done makers count row (places path ++ q ∷ mark) ≡ done_at makers count row path q ++ more) × ((x : ℕ) → In more x → In (unfolded makers count m) x)

@@ -30,7 +30,7 @@ module _ (X : Type 0) (makers : ℕ → List (Option ℕ)) (count : ℕ) (maker 
 
   -- the lists after each round
   module _ (R : ℕ → List X) (start : R 0 ≡ targets) (next : (n : ℕ) → R (suc n) ≡ next_round (R n)) where
-    -- any list that a round leaves as it is begins with each of them
+    -- any list that a round leaves unchanged begins with each of them
     pub front-fixed : (files : List X) → files ≡ next_round files → (n : ℕ) → IsFront (R n) files
     front-fixed files fixed zero = (flat_map checks (order_of files), fixed ∙ ap (λ (ts : List X). ts ++ flat_map checks (order_of files)) (sym start))
     front-fixed files fixed (suc n) =
@@ -86,7 +86,7 @@ module _ (X : Type 0) (makers : ℕ → List (Option ℕ)) (count : ℕ) (maker 
       pub same-all : (n : ℕ) → count ≤ n → R n ≡ R (count + 1)
       same-all n le = same-count n le ∙ sym (same-count (count + 1) (omega arith))
 
-      -- and a round leaves the last list as it is
+      -- and a round leaves the last list unchanged
       pub all-fixed : R (count + 1) ≡ next_round (R (count + 1))
       all-fixed =
           let one : count + 1 ≡ suc count = omega arith in

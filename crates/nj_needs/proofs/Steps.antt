@@ -1,4 +1,4 @@
--- The turns of a walk: what is true after each, what is left, and that one turn less is left.
+-- The turns of a walk: the state after each, the rest, and that one turn less is left.
 use Rattle.std.proofs.Common.{◌≡◌, ℕ, zero, suc, ◌+◌, ◌<◌, ◌≤◌, Bool, true, false, not, ◌||◌, cond, Option, Some, None, List, [], ◌∷◌, ◌++◌, length, get_or, set, filter, refl, sym, ap, subst, ◌∙◌, inl, inr, arith, append_assoc}
 use Rattle.std.specs.Prelude.{nat_eq, slice_get}
 use Rattle.std.specs.List.{list_any}
@@ -27,7 +27,7 @@ module _ (makers : ℕ → List (Option ℕ)) (count : ℕ) (rank : ℕ → ℕ)
   abbrev pub Same : List ℕ → List ℕ → Type 0
   Same xs ys = (x : ℕ) → list_any (nat_eq x) xs ≡ list_any (nat_eq x) ys
 
-  -- a place is passed: what it represents is done
+  -- a place is passed: its edge is done
   pub same-pass : (path : List Frame) (place : ℕ) (x : Option ℕ) → slice_get (top_row makers row path) place ≡ Some x → ((m : ℕ) → x ≡ Some m → In (done_now path place) m)
       → Same (done_now path place) (done_now path (place + 1))
   same-pass path place x at all y =

@@ -1,4 +1,4 @@
--- What is left of a list without its repeats when some of it is done.
+-- The rest of a list without its repeats when some of it is done.
 use Rattle.std.proofs.Common.{◌≡◌, ℕ, Bool, true, false, not, ◌&&◌, ◌||◌, cond, List, [], ◌∷◌, ◌++◌, refl, sym, ap, subst, ◌∙◌, ◌⊎◌, inl, inr}
 use Rattle.std.specs.Prelude.{nat_eq, filter}
 use Rattle.std.specs.List.{list_any}
@@ -57,7 +57,7 @@ without-struck x xs es =
     ∙ filter_agree (λ y. q y && q y) q (λ y. same_and (q y)) (without xs es)
     ∙ sym (without-cons x xs es)
 
--- what is done need not be in front
+-- the elements done need not be in front
 pub without-front : (xs ys : List ℕ) → without xs (each_once nat_eq (xs ++ ys)) ≡ without xs (each_once nat_eq ys)
 without-front [] ys = refl
 without-front (x ∷ xs) ys =
@@ -106,7 +106,7 @@ without-next xs m more fresh =
     or_swap false true = refl
     or_swap false false = refl
 
--- ---- each once
+-- ---- no duplicates
 
 -- the elements differ
 abbrev pub Differ : List ℕ → Type 0

@@ -134,7 +134,7 @@ module _ (g : EdgeGraph) (targets : List FileNo) (turns : ℕ) (path : Vec Frame
       counted = more after (f.at + 1) closed-turn;
     }
 
-    -- its address represents what is done now
+    -- its address represents the edges done now
     address-done : done (makers_of g) (count_of g) (row_of g targets) (places path.items) ≡ done_of g targets after.items (f.at + 1)
     address-done =
         ap (λ (fs : List Frame). done (makers_of g) (count_of g) (row_of g targets) (places fs)) shrunk

@@ -44,7 +44,7 @@ module _ (makers : ℕ → List (Option ℕ)) where
       let later : list_any (nat_eq m) es ≡ false = false_from_ne_true (list_any (nat_eq m) es) (λ i. let t = In-tail e es m i in absurd cc) in
       rw (same e differs, absent seen other es m later same) refl
 
-  -- one edge more is seen
+  -- one more edge is seen
   pub turns_unseen-new : (seen other es : List ℕ) (m : ℕ) → Differ es → In es m → list_any (nat_eq m) seen ≡ false → list_any (nat_eq m) other ≡ true
       → ((x : ℕ) → (x ≡ m → ⊥) → list_any (nat_eq x) seen ≡ list_any (nat_eq x) other)
       → turns_unseen makers seen es ≡ turns_unseen makers other es + weight m

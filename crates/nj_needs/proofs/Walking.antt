@@ -1,4 +1,5 @@
--- What is done where a walk is, and each turn: a place is passed, an edge is opened, an edge is closed.
+-- The edges done where a walk is, and each turn: a place is passed, an edge is opened, an edge is
+-- closed.
 use Rattle.std.proofs.Common.{◌≡◌, ℕ, ◌+◌, ◌<◌, ◌≤◌, Option, Some, List, [], ◌∷◌, ◌++◌, length, take, drop, refl, sym, ap, subst, ◌∙◌, inl, inr, arith, append_assoc}
 use Rattle.std.specs.Prelude.{slice_get}
 use Rattle.std.specs.List.{flat_map}
@@ -61,7 +62,7 @@ module _ (makers : ℕ → List (Option ℕ)) (count : ℕ) (rank : ℕ → ℕ)
   pub Below-makers : (e : ℕ) → Below (rank e) (makers e)
   Below-makers e m a = falls makers count rank ranked e m a
 
-  -- the rank falls along the path, to what is in its row
+  -- the rank falls along the path, to the edges in its row
   pub rank-top : (bound : ℕ) (row : List (Option ℕ)) → Below bound row → (path : List Frame) → IsLinked makers row path
       → (p m : ℕ) → slice_get (top_row makers row path) p ≡ Some (Some m) → rank m < bound
   rank-top bound row below [] h p m at = below m (Among-get row p m at)
@@ -112,7 +113,7 @@ module _ (makers : ℕ → List (Option ℕ)) (count : ℕ) (rank : ℕ → ℕ)
       let own : In (U f.edge) m = subst (λ us. In us m) (sym (unfolded-row makers count rank ranked f.edge (inside f.edge a))) (In-append_left (unfolded_row makers count (makers f.edge)) (f.edge ∷ []) m deep) in
       In-row_from U row f.edge m a own
 
-  -- what is done has what its edges need
+  -- the edges done contain those that they need
   pub done_closed : (row : List (Option ℕ)) → ((m : ℕ) → Among row m → m < count) → (path : List Frame) (place : ℕ) (x y : ℕ)
       → In (done_at makers count row path place) x → In (unfolded makers count x) y → In (done_at makers count row path place) y
   done_closed row inside [] place x y i j = closed_row makers count rank ranked (take place row) (λ m a. inside m (Among-take place row m a)) x y i j
@@ -124,7 +125,7 @@ module _ (makers : ℕ → List (Option ℕ)) (count : ℕ) (rank : ℕ → ℕ)
         | inr there ↦ In-append_right front deep y (done_closed (makers f.edge) (within makers count rank ranked f.edge) path place x y there j)
       ]
 
-  -- what is done is a prefix of the unfolded order
+  -- the edges done are a prefix of the unfolded order
   pub done_front : (row : List (Option ℕ)) → ((m : ℕ) → Among row m → m < count) → (path : List Frame) (place : ℕ) → IsLinked makers row path
       → (more : List ℕ) × (unfolded_row makers count row ≡ done_at makers count row path place ++ more)
   done_front row inside [] place h =

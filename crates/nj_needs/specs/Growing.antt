@@ -1,4 +1,4 @@
--- Targets together with what is to be validated when they are built ("Validations" in the Ninja manual), by the paths of the files.
+-- Targets together with the validations of the edges that they need ("Validations" in the Ninja manual), by the paths of the files.
 use Rattle.std.specs.Prelude.{◌≡◌, ℕ, zero, suc, ◌+◌, ◌≤◌, ◌↔◌, Some, List, ◌++◌, length, Contains}
 use Rattle.std.specs.List.{flat_map}
 use Rattle.nj_cycles.specs.Cycles.{IsAcyclic}

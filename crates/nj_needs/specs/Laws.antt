@@ -1,4 +1,4 @@
--- What the order of the needed commands is for.
+-- Laws of the order of the needed commands.
 use Rattle.std.specs.Prelude.{◌≡◌, ℕ, ◌<◌, ◌≤◌, ◌↔◌, Bool, false, Option, List, [], ◌∷◌, ◌++◌, Some, slice_get, Contains, nat_eq}
 use Rattle.std.specs.List.{IsDistinct}
 use Rattle.nj_cycles.specs.Cycles.{IsAcyclic, NeedsByChain}
@@ -11,7 +11,7 @@ abbrev pub FuelIsEnough : Type 0
 FuelIsEnough = (makers : ℕ → List (Option ℕ)) (count fuel : ℕ) (row : List (Option ℕ)) → IsAcyclic makers count → AreWithin row count
     → count ≤ fuel → unfolded_row makers fuel row ≡ unfolded_row makers count row
 
--- so, without fuel: an edge unfolds to what each of its makers unfolds to, in turn, and then the edge
+-- so, without fuel: an edge unfolds to the unfolded order of each of its makers, in turn, and then the edge
 abbrev pub EdgesComeAfterMakers : Type 0
 EdgesComeAfterMakers = (makers : ℕ → List (Option ℕ)) (count e : ℕ) → IsAcyclic makers count → e < count
     → unfolded makers count e ≡ unfolded_row makers count (makers e) ++ e ∷ []

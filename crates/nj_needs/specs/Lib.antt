@@ -1,4 +1,4 @@
--- what must be believed
+-- the definitions to believe
 pub mod Counts
 pub mod Graphs
 pub mod Growing

@@ -1,5 +1,5 @@
--- What targets need. A list of targets is a row of makers, as the inputs of an edge are: the edge that makes a target, or None
--- for a source.
+-- The edges that targets need. A list of targets is a row of makers, as the inputs of an edge are: the edge that makes a
+-- target, or None for a source.
 use Rattle.std.specs.Prelude.{ℕ, ◌<◌, Option, Some, List, Contains}
 use Rattle.nj_cycles.specs.Cycles.{Needs}
 

@@ -3,7 +3,7 @@ use Rattle.std.specs.Prelude.{ℕ, zero, suc, Bool, not, Option, Some, None, Lis
 use Rattle.std.specs.List.{flat_map}
 use Rattle.nj_edges.specs.Repeats.{each_once}
 
--- what an input leads to: nothing for a source
+-- the edges of an input's maker: none for a source
 abbrev pub made_by : (ℕ → List ℕ) → Option ℕ → List ℕ
 made_by edges None = []
 made_by edges (Some e) = edges e
@@ -18,7 +18,7 @@ unfolded makers (suc fuel) e = flat_map (made_by (unfolded makers fuel)) (makers
 abbrev pub unfolded_row : (makers : ℕ → List (Option ℕ)) → (count : ℕ) → List (Option ℕ) → List ℕ
 unfolded_row makers count row = flat_map (made_by (unfolded makers count)) row
 
--- the targets' makers and what they need, each edge once, where it is first completed
+-- the targets' makers and the edges that they need, each edge once, where it is first completed
 abbrev pub order : (makers : ℕ → List (Option ℕ)) → (count : ℕ) → (targets : List (Option ℕ)) → List ℕ
 order makers count targets = each_once nat_eq (unfolded_row makers count targets)
 

@@ -1,4 +1,4 @@
--- Pages: what consecutive runs return, each from the mark of the one before.
+-- Pages: the edges of consecutive runs, each from the mark of the one before.
 use Rattle.std.specs.Prelude.{◌≡◌, ◌≤◌, ℕ, Bool, true, Option, None, MatchOption, List, [], ◌∷◌, ◌++◌, length}
 use Rattle.std.specs.List.{concat, last_or}
 use Rattle.nj_cycles.specs.Cycles.{IsAcyclic}
@@ -12,7 +12,7 @@ abbrev pub IsMarkAfter : (makers : ℕ → List (Option ℕ)) → (count : ℕ) 
 IsMarkAfter makers count targets begun edges mark =
     MatchOption (last_or None edges) (mark ≡ begun) (λ e. IsFirstPlace makers count targets mark e)
 
--- what is left after these edges is what is left at the mark after them
+-- the rest after these edges is the rest at the mark after them
 abbrev pub MarkKeepsTheRest : Type 0
 MarkKeepsTheRest = (makers : ℕ → List (Option ℕ)) (count : ℕ) (phony : ℕ → Bool) (targets : List (Option ℕ))
     → IsAcyclic makers count → AreWithin targets count
@@ -20,7 +20,7 @@ MarkKeepsTheRest = (makers : ℕ → List (Option ℕ)) (count : ℕ) (phony : �
     → rest makers count phony targets begun ≡ edges ++ left → IsMarkAfter makers count targets begun edges mark
     → (is_valid makers targets mark ≡ true) × (rest makers count phony targets mark ≡ left)
 
--- Runs from a mark: each takes at most the number of edges in `takes`; the edges that each returns; and what is left after the last.
+-- Runs from a mark: each takes at most the number of edges in `takes`; the edges that each returns; and the rest after the last.
 pub data ArePages (makers : ℕ → List (Option ℕ)) (count : ℕ) (phony : ℕ → Bool) (targets : List (Option ℕ))
     : (mark : List ℕ) → (takes : List ℕ) → (pages : List (List ℕ)) → (left : List ℕ) → Type 0 where
   -- no further run
@@ -35,7 +35,7 @@ pub data ArePages (makers : ℕ → List (Option ℕ)) (count : ℕ) (phony : �
       → IsMarkAfter makers count targets mark page next → ArePages makers count phony targets next takes pages left
       → ArePages makers count phony targets mark (take ∷ takes) (page ∷ pages) left
 
--- the pages, one after another, and then what is left after them, are what was left at the first mark
+-- the pages, one after another, and then the rest after them, are the rest at the first mark
 abbrev pub PagesJoin : Type 0
 PagesJoin = (makers : ℕ → List (Option ℕ)) (count : ℕ) (phony : ℕ → Bool) (targets : List (Option ℕ))
     → IsAcyclic makers count → AreWithin targets count
@@ -43,7 +43,7 @@ PagesJoin = (makers : ℕ → List (Option ℕ)) (count : ℕ) (phony : ℕ → 
     → ArePages makers count phony targets mark takes pages left
     → rest makers count phony targets mark ≡ concat pages ++ left
 
--- what is left at a mark is a suffix of the needed commands
+-- the rest at a mark is a suffix of the needed commands
 abbrev pub RestIsSuffix : Type 0
 RestIsSuffix = (makers : ℕ → List (Option ℕ)) (count : ℕ) (phony : ℕ → Bool) (targets : List (Option ℕ))
     → IsAcyclic makers count → AreWithin targets count

@@ -8,7 +8,7 @@ use Rattle.nj_needs.specs.Order.{needed_commands}
 use Rattle.nj_needs.specs.Marks.{rest, IsFirstPlace}
 use Rattle.nj_needs.specs.Turns.{turn_bound}
 
--- the commands that the targets need, and what is left of them at a mark
+-- the commands that the targets need, and the rest of them at a mark
 abbrev pub commands_of : EdgeGraph → (targets : List FileNo) → List ℕ
 commands_of g targets = needed_commands (makers_of g) (count_of g) (is_phony g) (row_of g targets)
 
@@ -68,7 +68,7 @@ pub record HasNone (old new : WalkState) : Type 0 where
   pub mark : new.mark ≡ old.mark
   pub turns : new.turns ≡ bound_of new.graph new.targets + new.begun
 
--- what `next` returns
+-- the result of `next`
 abbrev pub NextIs : (old : WalkState) → Option ℕ → (new : WalkState) → Type 0
 NextIs old None new = HasNone old new
 NextIs old (Some e) new = HasReturned old new e
@@ -77,7 +77,7 @@ NextIs old (Some e) new = HasReturned old new e
 abbrev pub number_of : Option EdgeNo → Option ℕ
 number_of edge = option_map (λ e. e.0) edge
 
--- what a call of `next` does: it returns an edge of the graph, or that none is left
+-- a call of `next`: it returns an edge of the graph, or that none is left
 pub record ReturnsNext (old : WalkState) (edge : Option EdgeNo) (new : WalkState) : Type 0 where
   pub next : NextIs old (number_of edge) new
   pub same : IsSameWalk old new

@@ -1,4 +1,4 @@
-//! Targets together with what is to be validated when they are built.
+//! Targets together with the validations of the edges that they need.
 
 ghost use Rattle.std.specs.Prelude.{◌≡◌, ◌<◌, ◌++◌, List, true, false, Some, length, map, All, IfOk, OnOk, IfSome, IfNone, slice_index_or};
 ghost use Rattle.std.specs.Option.{ForSome};
@@ -12,7 +12,7 @@ use crate::walk::top_edge;
 use nj_edges::{EdgeGraph, EdgeNo, FileNo};
 use std::alloc::{AllocError, Global};
 
-/// The targets together with what is to be validated when they are built ("Validations" in the
+/// The targets together with the validations of the edges that they need ("Validations" in the
 /// Ninja manual): after them come the validations of each edge that this list reaches, phony or
 /// not, edge by edge in the order in which these are first completed. A file that is named again is
 /// listed again, and a source is listed too. Takes time in proportion to the edges that are

@@ -1,10 +1,10 @@
-//! What the order of the commands is for.
+//! Laws of the order of the commands.
 
 ghost use Rattle.nj_needs.specs.Laws.{FuelIsEnough, EdgesComeAfterMakers, CommandsAreTheReached, CommandsComeOnce, CommandsComeAfterNeeds, FirstPlacesAreOne};
 ghost use Rattle.nj_needs.specs.Pages.{MarkKeepsTheRest, PagesJoin, RestIsSuffix};
 
 /// The unfolded order has fuel enough: with more of it the order is the same. So an edge unfolds to
-/// what each of its makers unfolds to, in turn, and then the edge.
+/// the unfolded order of each of its makers, in turn, and then the edge.
 pub fn unfolding_law()
     ensures fuel { FuelIsEnough }
     ensures edges { EdgesComeAfterMakers }
@@ -24,10 +24,9 @@ pub fn place_law()
     ensures { FirstPlacesAreOne }
 {}
 
-/// What is left at a mark is a suffix of the needed commands. What is left after some edges of a
-/// walk is what is left at the mark after them; so the joined pages of runs, each of which
-/// continues at the mark of the one before, and then what is left after the last, are what was left
-/// at first.
+/// The rest at a mark is a suffix of the needed commands. The rest after some edges of a walk is
+/// the rest at the mark after them. So if each run continues at the mark of the one before, their
+/// pages, one after another, and then the rest after the last are the rest at the first mark.
 pub fn page_law()
     ensures keeps { MarkKeepsTheRest }
     ensures join { PagesJoin }

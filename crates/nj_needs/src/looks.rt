@@ -8,9 +8,9 @@ ghost use Rattle.nj_needs.specs.Walks.{number_of};
 
 use nj_edges::{EdgeGraph, EdgeNo, FileNo};
 
-/// What makes the input at a place of an edge, or the target there if there is no edge. `None` past
-/// the end, and `Some(None)` at a source. It counts nothing: a walk looks by its `Turns`, which
-/// alone has its graph.
+/// The maker of the input at a place of an edge, or of the target there if there is no edge. `None`
+/// past the end, and `Some(None)` at a source. It counts nothing: a walk looks by its `Turns`,
+/// which alone has its graph.
 pub(crate) fn look_at(
     graph: &EdgeGraph,
     targets: &[FileNo],

@@ -1,4 +1,4 @@
-//! What is wrong with a mark.
+//! Faults of marks.
 
 ghost use Rattle.std.specs.Prelude.{◌≡◌, Some};
 ghost use Rattle.nj_needs.specs.declared.mark_fault.MarkFault.TheVariants.{OutOfMemory};

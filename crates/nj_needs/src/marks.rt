@@ -11,9 +11,9 @@ use itoa::Buffer;
 use std::alloc::{AllocError, Global};
 use std::marker::Model;
 
-/// Where a walk is: at its start, or after an edge, of which this is the address. An address is the
-/// number of a target, and then indexes in lists of inputs, all from 0. The value of the start is
-/// the empty list.
+/// Where a walk is: at its start, or after the edge with this address. An address is the number of
+/// a target, and then indexes in lists of inputs, all from 0. The value of the start is the empty
+/// list.
 #[derive(Drop)]
 pub struct Mark {
     numbers: Vec<u64>,

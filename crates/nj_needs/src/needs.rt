@@ -70,8 +70,8 @@ impl<'g> Needs<'g> {
     }
 }
 
-/// The walk in a `for` loop, or through the adapters of `std`: each item is what `Needs::next`
-/// returns. A loop over `&mut needs` leaves the walk after its last item.
+/// The walk in a `for` loop, or through the adapters of `std`: each item is a result of
+/// `Needs::next`. A loop over `&mut needs` leaves the walk after its last item.
 impl<'g> Iterator for Needs<'g> {
     type Item = EdgeNo;
 

@@ -10,9 +10,9 @@ use nj_edges::EdgeNo;
 use std::alloc::{AllocError, Global};
 
 impl<'g> Needs<'g> {
-    /// The next edge of a page: what `next` returns, unless the page has all that it may have.
-    /// `room` is how many it may still have, `None` for any number: it falls by one with each
-    /// edge. It allocates nothing.
+    /// The next edge of a page: that of `next`, unless the page has all edges that it may have.
+    /// `room` is how many it may still have, `None` for any number: it falls by one with each edge.
+    /// It allocates nothing.
     pub fn next_on_page(&mut self, room: &mut Option<u64>) -> Option<EdgeNo>
         ensures goes_on { (begun : WalkState) → (limit : Option ℕ) → (edges : List ℕ)
             → HasSoFar begun limit edges self.old room.old

@@ -41,9 +41,8 @@ impl Saved {
         self.kept = self.kept.min(len);
     }
 
-    /// Takes the address of the edge that was closed last, and stood at this index in the row on
-    /// top of the path. Only what changed since the address before is written, into capacity that
-    /// is there.
+    /// Takes the address of the edge that was closed last, at this index of the row on top of the
+    /// path. Only the part that differs from the address before is written, into existing capacity.
     pub fn save(&mut self, path: &[Frame], at: usize)
         requires front { KeepsFront self.old path.now }
         requires capacity { length path.now < vec_capacity self.old.numbers }

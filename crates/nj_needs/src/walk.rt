@@ -23,7 +23,8 @@ pub(crate) struct Walk<'g> {
     pub begun: usize,
 }
 
-/// What one turn did: it looked at a place, it closed an edge, or there was nothing left to do.
+/// The result of one turn: it looked at a place, it closed an edge, or there was nothing left to
+/// do.
 #[derive(Drop)]
 pub(crate) enum Turn {
     Looked,

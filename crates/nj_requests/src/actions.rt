@@ -1,30 +1,30 @@
-//! What can be asked of a file and of its graph.
+//! Requests about a file and its graph.
 
 use crate::style::InputsStyle;
 use crate::view::TargetsView;
 use nj_needs::Mark;
 
-/// What the words of a command line ask for.
+/// The request of a command line.
 #[derive(Drop)]
 pub struct Request {
     /// The main file's name ("Running Ninja").
     pub file: String,
     /// Whether the main file is standard input.
     pub from_stdin: bool,
-    /// Whether what dyndep files discover is joined first.
+    /// Whether discoveries of dyndep files are joined first.
     pub dyndep: bool,
     pub action: Action,
 }
 
-/// What is asked of the file ("Extra tools"). Targets, files and names of rules are the words that
-/// are not options, as they were written. Without targets, the file determines them ("Default
+/// A tool with its options and targets ("Extra tools"). Targets, files and names of rules are the
+/// arguments that are not options, verbatim. Without targets, the file determines them ("Default
 /// target statements").
 #[derive(Drop)]
 pub enum Action {
     /// `commands`: the commands of the edges that the targets need, from a mark on.
     Commands {
         targets: Vec<String>,
-        /// Whether what is to be validated when the targets are built counts as a target too
+        /// Whether the validations of the edges that the targets need count as targets too
         /// ("Validations").
         validations: bool,
         /// At most this many commands.
@@ -46,7 +46,8 @@ pub enum Action {
     Targets {
         view: TargetsView,
     },
-    /// `query`: what each file is made of, and what is made of it. There is one or more.
+    /// `query`: the files from which each file is made, and those made from it. There is at least
+    /// one file.
     Query {
         files: Vec<String>,
     },
@@ -59,7 +60,7 @@ pub enum Action {
     Compdb {
         /// The rules whose edges it has; without any, all rules.
         rules: Vec<String>,
-        /// The folder in which it says that each command runs.
+        /// The directory that it names as that of each command.
         directory: String,
         /// Whether response files are expanded in the commands.
         expand: bool,

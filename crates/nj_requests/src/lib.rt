@@ -1,5 +1,5 @@
-//! What can be asked of a file and of its graph, as the words of a command line do: which tool, on
-//! what, and in which way.
+//! Requests about a file and its graph, as a command line makes them: a tool, its targets and its
+//! options.
 #![tactic(auto)]
 
 mod actions;

@@ -4,9 +4,9 @@
 /// command line it is sorted, quoted for a shell, a line each.
 #[derive(Clone, Copy, Debug, PartialEq, Eq)]
 pub struct InputsStyle {
-    /// In the order of the edges that need them; else sorted by the bytes of what is written.
+    /// In the order of the edges that need them; else sorted by the bytes of the written texts.
     pub dependency_order: bool,
-    /// Each path is quoted for a shell; else it is written as it is.
+    /// Each path is quoted for a shell; else it is written verbatim.
     pub shell_escape: bool,
     /// Each is followed by the byte 0; else by a line feed.
     pub zero: bool,

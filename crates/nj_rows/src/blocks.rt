@@ -9,7 +9,7 @@ pub struct Block<'r> {
     pub line: usize,
     /// The first word of the line.
     pub kind: &'r str,
-    /// What comes after this word and a space.
+    /// The rest of the line, after this word and a space.
     pub rest: &'r str,
     /// The indented lines, each with its line end.
     pub text: Vec<u8>,
@@ -63,7 +63,7 @@ fn put_bytes(bytes: &mut Vec<u8>, text: &str) -> Result<(), AllocError> {
     Ok(())
 }
 
-/// Appends the bytes of what comes after a `<`.
+/// Appends the bytes of the text after a `<`.
 fn put_piece(bytes: &mut Vec<u8>, piece: &str) -> Result<(), AllocError> {
     let (digits, rest) = piece.split_once('>').unwrap_or(("no byte", ""));
     if let Ok(byte) = u8::from_str_radix(digits, 16) {
@@ -84,7 +84,7 @@ pub fn bytes_of(alloc: Global, text: &str) -> Result<Vec<u8>, AllocError> {
     Ok(bytes)
 }
 
-/// A word, and what comes after the space that ends it.
+/// A word, and the text after the space that ends it.
 pub fn first_of(words: &str) -> (&str, &str) {
     words.split_once(' ').unwrap_or((words, ""))
 }

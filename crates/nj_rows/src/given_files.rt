@@ -1,4 +1,4 @@
-//! What is given for rows.
+//! The settings of rows: files, failures and limits.
 
 use crate::blocks::Block;
 use crate::repeats::{Repeat, with_number};
@@ -13,20 +13,20 @@ const WANTED: &[u8] = b"<wanted>\n";
 pub struct GivenFile {
     /// Its path, by which runs name it.
     pub name: String,
-    /// What it holds.
+    /// Its contents.
     pub text: Vec<u8>,
 }
 
-/// What was given before a row: files for all rows of a section, the rest for the next row alone.
+/// The settings before a row: files for all rows of a section, the others for the next row alone.
 #[derive(Drop)]
 pub struct Given {
-    /// The files, of which the last one counts where several have the same name.
+    /// The files; the last one counts where several have the same name.
     pub files: Vec<GivenFile>,
     /// The reading that fails, counted from 1; 0: none does.
     pub failing: u64,
-    /// How many bytes the output takes; `None`: all.
+    /// How many bytes standard output takes; `None`: all.
     pub output: Option<usize>,
-    /// How many bytes the error output takes; `None`: all.
+    /// How many bytes standard error takes; `None`: all.
     pub error: Option<usize>,
 }
 
@@ -57,7 +57,7 @@ impl Given {
         Ok(true)
     }
 
-    /// Forgets what was given for one row.
+    /// Forgets the settings for one row.
     pub fn end_row(&mut self) {
         self.failing = 0;
         self.output = None;

@@ -1,5 +1,5 @@
-//! Files of rows: how they are read, what is given in them, and how a program runs them.
-//! CONTRIBUTING.md describes how rows are written.
+//! Files of rows: how they are read, their settings, and how a program runs them. CONTRIBUTING.md
+//! describes how rows are written.
 #![tactic(auto)]
 
 mod blocks;

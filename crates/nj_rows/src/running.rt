@@ -7,9 +7,9 @@ use std::process::ExitCode;
 use std::rt::{Env, Files};
 use std::{env, fs, io};
 
-/// What rows ask for.
+/// The outcomes of rows.
 pub trait Outcomes {
-    /// What a row asks for, as a text.
+    /// The outcome of a row, as a text.
     fn outcome(&self, alloc: Global, given: &Given, row: &Block<'_>) -> Result<Vec<u8>, AllocError>;
 }
 
@@ -27,9 +27,9 @@ impl Count {
     }
 }
 
-/// Runs the rows of the files that the program's words name. Prints each row whose outcome is not
-/// the wanted text, how many rows each file has, and how many there are. The status is 1 if a row
-/// differs.
+/// Runs the rows of the files that the program's arguments name. Prints each row whose outcome is
+/// not the wanted text, how many rows each file has, and how many there are. The status is 1 if a
+/// row differs.
 pub fn run_files(
     rt: &(impl Env + Files + Print + AllocGlobal),
     outcomes: &impl Outcomes,
@@ -73,7 +73,7 @@ fn run_blocks(
     Ok(count)
 }
 
-/// Runs a row, and prints how it differs from what is wanted.
+/// Runs a row, and prints how its outcome differs from the wanted one.
 fn run_row(
     rt: &(impl Print + AllocGlobal),
     outcomes: &impl Outcomes,
@@ -90,7 +90,7 @@ fn run_row(
     Ok(Count { rows: 1, differ: 1 })
 }
 
-/// Prints what was wanted of the row at a line, and what came.
+/// Prints the wanted outcome of the row at a line, and the one that came.
 fn print_difference(
     rt: &(impl Print + AllocGlobal),
     name: &str,

@@ -7,8 +7,8 @@ use nj_rows::{Given, bytes_of, first_of};
 use nj_tools::{Error, Mark, MemorySink, SinkFault, ToolFault, write_compdb};
 use std::alloc::{AllocError, Global};
 
-/// Appends what work on the graph of the files gives, or the text of its error: `turns`, a walk, or
-/// `client`, several calls.
+/// Appends the results of work on the graph of the files, or the text of its error: `turns`, a
+/// walk, or `client`, several calls.
 pub(crate) fn put_work(
     alloc: Global,
     text: &mut Vec<u8>,
@@ -27,7 +27,7 @@ fn put_error(alloc: Global, text: &mut Vec<u8>, error: &Error) -> Result<(), All
     text.extend_from_slice(format!(in alloc; "{error}\n")?.as_bytes())
 }
 
-/// Appends what work on the graph of the files gives.
+/// Appends the results of work on the graph of the files.
 fn put_work_or_fail(
     alloc: Global,
     text: &mut Vec<u8>,
@@ -40,13 +40,13 @@ fn put_work_or_fail(
     put_work_on(alloc, text, loaded.graph(), kind, words)
 }
 
-/// What the files give. It has no clause, so that the proofs of what calls it need not go through
+/// The load of the files. It has no clause, so that the proofs of its callers need not go through
 /// those of `load`.
 fn read_files(alloc: Global, files: &mut MemoryFiles) -> Result<Loaded, GraphFault> {
     load(alloc, files, "build.ninja")
 }
 
-/// Appends what work on a graph gives.
+/// Appends the results of work on a graph.
 fn put_work_on(
     alloc: Global,
     text: &mut Vec<u8>,
@@ -60,7 +60,7 @@ fn put_work_on(
     }
 }
 
-/// Asks for a target, for a mark, and for the compilation database within so many bytes. Appends
+/// Picks a target, reads a mark, and writes the compilation database within so many bytes. Appends
 /// `done` if nothing fails.
 fn put_asked(alloc: Global, text: &mut Vec<u8>, graph: &Graph, words: &str) -> Result<(), Error> {
     let (target, words) = first_of(words);
@@ -72,14 +72,14 @@ fn put_asked(alloc: Global, text: &mut Vec<u8>, graph: &Graph, words: &str) -> R
     Ok(())
 }
 
-/// Asks for the compilation database, which is written to a sink that takes so many bytes.
+/// Writes the compilation database to a sink that takes so many bytes.
 fn ask_for_database(alloc: Global, graph: &Graph, limit: Option<usize>) -> Result<(), Error> {
     let mut sink = MemorySink::new(alloc, limit);
     write_compdb(alloc, graph, ".", &[], false, &mut sink)?;
     Ok(())
 }
 
-/// Appends what becomes of the faults of several calls in one error, a line each, and after them two
+/// Appends the faults of several calls, as one type of error, a line each, and after them two
 /// faults of tools.
 pub(crate) fn put_taken_in(alloc: Global, text: &mut Vec<u8>) -> Result<(), AllocError> {
     let lack = nj_graph::Error::from(GraphFault::out_of_memory());

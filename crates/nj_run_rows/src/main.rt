@@ -1,6 +1,6 @@
-//! Runs the rows of runs: each gives some files and words, and has the text that is wanted of them.
-//! Beside them are the rows of what runs are made of: requests, pages, sinks and errors.
-//! `nj_call_rows` has the rows of calls.
+//! Runs the rows of runs: each has some files and arguments, and the wanted output. Beside them are
+//! the rows of parts of runs: requests, pages, sinks and errors. `nj_call_rows` has the rows of
+//! calls.
 #![tactic(auto)]
 
 mod clients;

@@ -1,4 +1,4 @@
-//! What rows ask for, as text.
+//! The outcomes of rows of runs, as text.
 
 use crate::clients::{put_taken_in, put_work};
 use crate::pages::put_pages;
@@ -25,7 +25,7 @@ impl Outcomes for Runs {
     }
 }
 
-/// Appends what a row asks for.
+/// Appends the outcome of a row.
 fn put_outcome(
     alloc: Global,
     text: &mut Vec<u8>,

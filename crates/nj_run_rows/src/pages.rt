@@ -5,8 +5,8 @@ use nj_cli::{MemoryFiles, MemorySink};
 use nj_rows::{Given, words_of};
 use std::alloc::{AllocError, Global};
 
-/// Appends what pages of so many commands write, each resumed at the mark of the page before, and
-/// the mark that the last one reports.
+/// Appends the output of pages of so many commands, each resumed at the mark of the page before,
+/// and the mark that the last one reports.
 pub(crate) fn put_pages(
     alloc: Global,
     text: &mut Vec<u8>,
@@ -30,7 +30,8 @@ fn put_mark(text: &mut Vec<u8>, mark: &str) -> Result<(), AllocError> {
     text.extend_from_slice(b"\n")
 }
 
-/// Appends what a page of so many commands writes, from a mark on. Returns the mark that it reports.
+/// Appends the output of a page of so many commands, from a mark on. Returns the mark that it
+/// reports.
 fn put_page(
     alloc: Global,
     text: &mut Vec<u8>,
@@ -43,7 +44,7 @@ fn put_page(
     put_run_of(alloc, text, files, &words)
 }
 
-/// Appends what a run writes. Returns the mark that it reports.
+/// Appends the output of a run. Returns the mark that it reports.
 fn put_run_of(
     alloc: Global,
     text: &mut Vec<u8>,

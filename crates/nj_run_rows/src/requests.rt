@@ -1,11 +1,11 @@
-//! What words ask for, as a text.
+//! The requests of arguments, as text.
 
 use nj_cli::{Action, InputsStyle, Mark, Request, TargetsView, UsageFault, read_words};
 use nj_rows::words_of;
 use std::alloc::{AllocError, Global};
 use std::fmt::Write;
 
-/// The words, each between brackets.
+/// The arguments, each between brackets.
 fn put_words(text: &mut String, words: &[String]) -> Result<(), AllocError> {
     'words: for word in words {
         text.push_str(" [")?;
@@ -15,7 +15,7 @@ fn put_words(text: &mut String, words: &[String]) -> Result<(), AllocError> {
     Ok(())
 }
 
-/// What the tool is, with its words.
+/// The tool, with its arguments.
 fn put_tool(text: &mut String, tool: &str, words: &[String]) -> Result<(), AllocError> {
     text.push_str(tool)?;
     put_words(text, words)
@@ -32,7 +32,7 @@ fn put_flags(text: &mut String, flags: &[(bool, &str)]) -> Result<(), AllocError
     Ok(())
 }
 
-/// What is asked for of `commands`.
+/// The action of `commands`.
 fn put_commands(
     alloc: Global,
     text: &mut String,
@@ -47,7 +47,7 @@ fn put_commands(
     write!(text, " from {}", start.to_text(alloc)?.as_str())
 }
 
-/// What is asked for of `inputs`.
+/// The action of `inputs`.
 fn put_inputs(
     text: &mut String,
     targets: &[String],
@@ -66,7 +66,7 @@ fn put_inputs(
     )
 }
 
-/// What `targets` is to list.
+/// The list of `targets`.
 fn put_view(text: &mut String, view: &TargetsView) -> Result<(), AllocError> {
     match view {
         TargetsView::OfRule(rule) => {
@@ -79,7 +79,7 @@ fn put_view(text: &mut String, view: &TargetsView) -> Result<(), AllocError> {
     }
 }
 
-/// What is asked for.
+/// The action.
 fn put_action(alloc: Global, text: &mut String, action: &Action) -> Result<(), AllocError> {
     match action {
         Action::Commands {
@@ -111,7 +111,7 @@ fn put_action(alloc: Global, text: &mut String, action: &Action) -> Result<(), A
     }
 }
 
-/// What a request asks for.
+/// A request.
 fn request_text(alloc: Global, request: &Request) -> Result<String, AllocError> {
     let input = if request.from_stdin { "stdin as " } else { "" };
     let joined = if request.dyndep { "joined " } else { "" };
@@ -120,7 +120,7 @@ fn request_text(alloc: Global, request: &Request) -> Result<String, AllocError> 
     Ok(text)
 }
 
-/// Appends what words ask for, or the line of their fault.
+/// Appends the request of arguments, or the line of their fault.
 pub(crate) fn put_asked(alloc: Global, text: &mut Vec<u8>, words: &str) -> Result<(), AllocError> {
     let words = words_of(alloc, words)?;
     match read_words(alloc, &words) {
@@ -129,7 +129,7 @@ pub(crate) fn put_asked(alloc: Global, text: &mut Vec<u8>, words: &str) -> Resul
     }
 }
 
-/// Appends what a request asks for, as a line.
+/// Appends a request, as a line.
 fn put_request(alloc: Global, text: &mut Vec<u8>, request: &Request) -> Result<(), AllocError> {
     let asked = request_text(alloc, request)?;
     text.extend_from_slice(asked.as_bytes())?;
@@ -143,7 +143,7 @@ fn put_fault(alloc: Global, text: &mut Vec<u8>, fault: &UsageFault) -> Result<()
     text.extend_from_slice(b"\n")
 }
 
-/// Appends what the fault of words quotes, and its text.
+/// Appends the text that the fault of arguments quotes, and its own text.
 pub(crate) fn put_quoted(alloc: Global, text: &mut Vec<u8>, words: &str) -> Result<(), AllocError> {
     let words = words_of(alloc, words)?;
     match read_words(alloc, &words) {
@@ -152,7 +152,7 @@ pub(crate) fn put_quoted(alloc: Global, text: &mut Vec<u8>, words: &str) -> Resu
     }
 }
 
-/// Appends what a fault quotes, and its text.
+/// Appends the text that a fault quotes, and its own text.
 fn put_quoted_by(alloc: Global, text: &mut Vec<u8>, fault: &UsageFault) -> Result<(), AllocError> {
     let line = match fault {
         UsageFault::ForeignOption { option, tool } => {

@@ -7,7 +7,7 @@ use nj_cli::{
 use nj_rows::{Given, first_of, words_of};
 use std::alloc::{AllocError, Global};
 
-/// Makes a run, and returns its status. It has no clause, so that the proofs of what calls it need
+/// Makes a run, and returns its status. It has no clause, so that the proofs of its callers need
 /// not go through those of `run_words`.
 pub(crate) fn status_of(
     alloc: Global,
@@ -24,12 +24,12 @@ fn output_of(alloc: Global, given: &Given) -> MemorySink {
     MemorySink::new(alloc, given.output)
 }
 
-/// The error output of a run.
+/// The standard error of a run.
 fn error_of(alloc: Global, given: &Given) -> MemorySink {
     MemorySink::new(alloc, given.error)
 }
 
-/// Appends how a run with these words ends.
+/// Appends how a run with these arguments ends.
 pub(crate) fn put_run(
     alloc: Global,
     text: &mut Vec<u8>,
@@ -40,7 +40,7 @@ pub(crate) fn put_run(
     put_run_over(alloc, text, given, &mut files, words)
 }
 
-/// Appends how a run with these words ends over the files.
+/// Appends how a run with these arguments ends over the files.
 fn put_run_over(
     alloc: Global,
     text: &mut Vec<u8>,
@@ -71,8 +71,8 @@ pub(crate) fn put_run_and_read(
     text.extend_from_slice(line)
 }
 
-/// Appends what a run wrote, its status in brackets, and what it wrote to its error output. If this
-/// does not end with a line end, `<end>` is there in its place.
+/// Appends the output of a run, its status in brackets, and its standard error. If this does not
+/// end with a line end, `<end>` is there in its place.
 fn put_ending(
     text: &mut Vec<u8>,
     status: Status,
@@ -93,8 +93,7 @@ fn put_ending(
     Ok(())
 }
 
-/// Appends how a run ends that a request asks for: for at most two commands that a target needs in
-/// a file.
+/// Appends how a run by a request ends, for at most two commands that a target needs in a file.
 pub(crate) fn put_run_by_request(
     alloc: Global,
     text: &mut Vec<u8>,
@@ -107,7 +106,7 @@ pub(crate) fn put_run_by_request(
     put_request(alloc, text, given, &mut files, &request)
 }
 
-/// Appends how a run ends that a request asks for.
+/// Appends how a run by a request ends.
 fn put_request(
     alloc: Global,
     text: &mut Vec<u8>,
@@ -138,8 +137,8 @@ fn request_for(alloc: Global, file: &str, target: &str) -> Result<Request, Alloc
     })
 }
 
-/// Appends what a run writes, and how many of the outputs that take fewer bytes, down to none, end
-/// it with the status 4 and contain the front of this.
+/// Appends the output of a run, and how many of the sinks that take fewer bytes, down to none, end
+/// it with the status 4 and contain the front of this output.
 pub(crate) fn put_cut_off(
     alloc: Global,
     text: &mut Vec<u8>,
@@ -152,7 +151,7 @@ pub(crate) fn put_cut_off(
     put_cut(alloc, text, &mut files, &words)
 }
 
-/// Appends what a run writes to its output.
+/// Appends the standard output of a run.
 fn put_output(
     alloc: Global,
     text: &mut Vec<u8>,
@@ -183,8 +182,8 @@ fn put_cut(
     text.extend_from_slice(format!(in alloc; "{count} fail\n")?.as_bytes())
 }
 
-/// Whether a run whose output takes just as many bytes as these ends with the status 4, and these
-/// in its output.
+/// Whether a run whose standard output takes just as many bytes as these ends with the status 4,
+/// after these bytes.
 fn ends_at(alloc: Global, files: &mut MemoryFiles, words: &[String], front: &[u8]) -> bool {
     let mut output = MemorySink::new(alloc, Some(front.len()));
     let mut error = MemorySink::new(alloc, None);

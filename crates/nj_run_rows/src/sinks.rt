@@ -6,10 +6,11 @@ use std::alloc::{AllocError, Global};
 use std::io;
 use std::io::{ErrorKind, Write};
 
-/// What is written to the sinks.
+/// The lines that are written to the sinks.
 const LINES: &[u8] = b"mk a\nmk b1\n";
 
-/// Appends what a sink in memory takes of two lines within a limit, and how often it failed.
+/// Appends the bytes that a sink in memory takes of two lines within a limit, and how often it
+/// failed.
 pub(crate) fn put_to_memory(
     alloc: Global,
     text: &mut Vec<u8>,
@@ -21,8 +22,8 @@ pub(crate) fn put_to_memory(
     put_ending(alloc, text, is_well, "failures", sink.failures())
 }
 
-/// Appends what a writer takes of two lines that takes at most so many bytes at a call, and whose
-/// call of this number is interrupted; and how often it was called.
+/// Appends the bytes of two lines that a writer takes, at most so many at a call, where the call of
+/// this number is interrupted; and how often it was called.
 pub(crate) fn put_to_writer(
     alloc: Global,
     text: &mut Vec<u8>,

@@ -5,8 +5,8 @@ use nj_rows::{bytes_of, first_of};
 use nj_tools::{Error, Mark, Needs};
 use std::alloc::{AllocError, Global};
 
-/// Appends how many edges the walk to a target gives from a mark on, and its turns. Where the words
-/// give a most, the turns are counted only if they are more.
+/// Appends how many edges the walk to a target returns from a mark on, and its turns. Where the row
+/// has a limit, the turns are counted only if they are more.
 pub(crate) fn put_walk(
     alloc: Global,
     text: &mut Vec<u8>,

@@ -20,7 +20,7 @@ use Rattle.nj_text.specs.Inside.States.{first_line, other_lines, inside, lines_f
 use Rattle.nj_text.proofs.LineStarts.{cut_has_line}
 use Rattle.nj_text.proofs.Lists.{drop_while-cons_yes, drop_while-cons_no, take_while-cons_yes, take_while-cons_no}
 
--- ---- what begins
+-- ---- beginnings
 
 pub fault_badly : (spot : Spot) (bs : List ℕ) (m : Meaning) (f : UnitFault) → BeginsBadly spot bs m → fault_of m spot ≡ Some f → Some f ≡ next_fault (units_within spot bs)
 fault_badly spot bs m f b e = rw b.2 (sym e)
@@ -130,7 +130,8 @@ front_of t ends (u ∷ us) h = by_end (ending_of u.means) refl (front_of t ends 
 
 -- ---- the first unit of a line
 
--- what is known of the first unit alone, and is not true of any end of a line
+-- a value that depends on the first unit alone, and is the same at each end of a line as where no
+-- unit is left
 module _ {A : Type 0} (f : Meaning → Spot → A) (none : A) (at_line_end : (spot : Spot) → f LineEnd spot ≡ none) (at_text_end : (spot : Spot) → f TextEnd spot ≡ none) where
   abbrev pub of_first : List TextUnit → A
   of_first [] = none
@@ -272,7 +273,7 @@ value_of_line (u ∷ us) h = by_end (ending_of u.means) refl (value_of_line us) 
     by_end None e rest k = let has = line_after u (lines_of us) k in by_case has e (rest has) (value_or_bad u.means u.spot e)
     by_end (Some b) e rest k = value_ends u us b e
 
--- what is left of a line when a front of it was passed has a line too
+-- the rest of a line after a front of it has a line too
 pub passed_has_line : (t : TextUnit → Bool) → EndsFail t → (us : List TextUnit) → HasLine (lines_of us) → HasLine (lines_of (drop_while t us))
 passed_has_line t ends [] h = h
 passed_has_line t ends (u ∷ us) h = by_test (t u) refl (passed_has_line t ends us)

@@ -1,4 +1,4 @@
--- The clean paths: what cleaning makes, and what it leaves as it is.
+-- The clean paths: the results of cleaning, and the paths that it leaves unchanged.
 use Rattle.std.proofs.Common.{◌≡◌, ◌≢◌, ℕ, zero, suc, ◌+◌, ◌<◌, Bool, true, false, eqb, List, [], ◌∷◌, ◌++◌, length, drop, replicate, refl, sym, ap, ◌∙◌, subst, arith, append_assoc, length-append}
 use Rattle.std.specs.Prelude.{◌||◌, ◌↔◌, IsTrue}
 use Rattle.std.specs.List.{slice_split, AllByRecursion}
@@ -14,7 +14,7 @@ use Rattle.nj_text.proofs.SlashComponents.{slash_is}
 use Rattle.nj_text.proofs.WrittenComponents.{text_of, AllGo, go-kept, long_text}
 use Rattle.nj_text.proofs.CleanStrings.{AllWhole, kept_of, names-kept, relative-kept, absolute-kept, components-text, text-relative, stay-names, stay-ups, stay-kept, stay-down}
 
--- ---- what is written
+-- ---- the written path
 
 here_is : (path : List ℕ) → is_here path ≡ true → path ≡ 46 ∷ []
 here_is [] h = absurd (cc)

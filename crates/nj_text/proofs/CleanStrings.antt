@@ -1,4 +1,4 @@
--- What the components of a path make of it, and the paths that are clean already.
+-- The path that its components make, and the paths that are clean already.
 use Rattle.std.proofs.Common.{◌≡◌, ℕ, zero, suc, Bool, true, false, List, [], ◌∷◌, ◌++◌, replicate, refl, sym, ap, ◌∙◌, subst, append_assoc}
 use Rattle.std.specs.Prelude.{◌&&◌}
 use Rattle.std.specs.List.{slice_split, onto_first, list_any, AllByRecursion}
@@ -48,14 +48,14 @@ names-after (p ∷ ps) ups names h w = by_component (leads_nowhere p) (is_up p) 
     by_component false true e u [] h rest = at_component Up [] (component-up p e u) (rest (suc ups) [] tt)
     by_component false true e u (n ∷ ns) h rest = at_component Up (n ∷ ns) (component-up p e u) (rest ups ns h.1)
 
--- what is kept of a path
+-- the kept components of a path
 abbrev pub kept_of : List ℕ → Kept
 kept_of path = kept_after nothing_kept (slice_split is_slash path)
 
 pub names-kept : (path : List ℕ) → AllByRecursion IsName (kept_of path).names
 names-kept path = names-after (slice_split is_slash path) 0 [] tt (whole-components path)
 
--- ---- the clean path, by what is kept
+-- ---- the clean path, by its kept components
 
 pub relative-kept : (path : List ℕ) → is_absolute path ≡ false → clean_path_of path ≡ relative_text (components_kept (kept_of path).ups (kept_of path).names)
 unfolding clean_path_of
@@ -95,7 +95,7 @@ pub stay-ups : (n : ℕ) (ps : List (List ℕ)) → all_stay false ps ≡ true �
 stay-ups zero ps h = h
 stay-ups (suc n) ps h = stay-ups n ps h
 
--- components that stay are kept as they are
+-- components that stay are kept unchanged
 pub stay-kept : (ps : List (List ℕ)) (named : Bool) (ups : ℕ) (names : List (List ℕ)) → (named ≡ false → names ≡ []) → all_stay named ps ≡ true
     → components_after (record { ups = ups; names = names }) ps ≡ components_kept ups names ++ ps
 stay-kept [] named ups names n h = sym (append-nil (components_kept ups names))

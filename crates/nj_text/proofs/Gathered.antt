@@ -18,7 +18,7 @@ use Rattle.nj_text.specs.Inside.Gathering.{run_of, in_text, gathered, after_text
 use Rattle.nj_text.proofs.Lists.{AllIn, AllIn-weaker, AllIn-take_while, drop_while-append, take_while-append, take_while-cons_yes, take_while-cons_no, drop_while-cons_no}
 use Rattle.nj_text.proofs.Cuts.{plain_units, cut-run, unit-ordinary}
 
--- ---- what ends a text
+-- ---- the end of a text
 
 pub text_ends : (k : TextKind) (u : TextUnit) (us : List TextUnit) → in_text k u ≡ false → (gathered k (u ∷ us) ≡ []) × (after_text k (u ∷ us) ≡ u ∷ us)
 text_ends k u us h = (ap parts_of (take_while-cons_no (in_text k) u us h), drop_while-cons_no (in_text k) u us h)
@@ -126,7 +126,7 @@ run_ends k spot (b ∷ bs) h =
     front_is_not_byte (in_text k) (record { spot = spot; bytes = b ∷ take (unit_at b bs).1 bs; means = (unit_at b bs).0 }) (cut (position_after Within (unit_at b bs).0) (unit_at b bs).1 (spot_after b spot) bs)
     (run_is_over k b bs spot (b ∷ take (unit_at b bs).1 bs) (is_ordinary_byte b) refl h)
 
--- the parts of a run, and of what follows it
+-- the parts of a run, and of the units after it
 run_parts : (spot : Spot) (x : ℕ) (xs : List ℕ) (us : List TextUnit) → begins_with_ordinary us ≡ false → parts_of (plain_units spot (x ∷ xs) ++ us) ≡ Text (x ∷ xs) ∷ parts_of us
 run_parts spot x [] us h = rw h refl
 run_parts spot x (y ∷ ys) us h = ap (λ ps. longer_run x ps) (run_parts (advance 1 spot) y ys us h)

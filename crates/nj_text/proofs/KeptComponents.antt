@@ -60,7 +60,7 @@ going-no p ps e = rw e refl
 going-yes : (p : List ℕ) (ps : List (List ℕ)) → leads_nowhere p ≡ false → going (p ∷ ps) ≡ p ∷ going ps
 going-yes p ps e = rw e refl
 
--- what is kept of the components, as components
+-- the kept ones of the components, as components
 abbrev pub components_after : Kept → List (List ℕ) → List (List ℕ)
 components_after kept ps = components_kept (kept_after kept ps).ups (kept_after kept ps).names
 

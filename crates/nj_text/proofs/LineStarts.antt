@@ -45,7 +45,7 @@ cut_has_line position (suc skip) spot (b ∷ bs) = cut_has_line position skip (s
 pub inside_is : (ls : List Line) → HasLine ls → ls ≡ first_line ls ∷ other_lines ls
 inside_is ls h = rw h.2 refl
 
--- ---- what a line may plainly begin with
+-- ---- plain beginnings of a line
 
 abbrev pub starts_plainly : Meaning → Bool
 starts_plainly (Ordinary b) = not (is_space b)
@@ -96,7 +96,7 @@ HasLine-after u [] h = absurd (nil_is_not_cons h.0 h.1 h.2)
     nil_is_not_cons l others e = absurd cc
 HasLine-after u (l ∷ ls) h = (l, ls, refl)
 
--- ---- the first unit of a line, and of what is within one
+-- ---- the first unit of a line, and of a text within one
 
 abbrev reopened : List TextUnit → List TextUnit
 reopened [] = []
@@ -149,7 +149,7 @@ spaces_position TextEnd h = refl
 spaces_position BadByte h = refl
 spaces_position BadEscape h = refl
 
--- what is at a line's start, where that is neither a comment, nor a space, nor a tab
+-- the start of a line, where that is neither a comment, nor a space, nor a tab
 cut-start : (spot : Spot) (bs : List ℕ) → opens_comment bs ≡ false → begins_with_space_byte bs ≡ false → begins_with 9 bs ≡ false → cut AtStart 0 spot bs ≡ reopened (cut Within 0 spot bs)
 unfolding cut
 cut-start spot [] c s t = refl
@@ -176,7 +176,7 @@ no_tab spot (b ∷ bs) m n remainder e h = by_test (eqb b 9) refl
     by_test true f = absurd (h (sym (ap first_meaning e) ∙ ap (λ x. (unit_at x bs).0) (eqb-true b 9 f)))
     by_test false f = refl
 
--- ---- what the lexer finds at a line's start
+-- ---- the start of a line, as the lexer finds it
 
 pub at_once_end : (spot : Spot) (bs : List ℕ) → bs ≡ [] → begun (lines_from spot bs) ≡ reply start.End (Between (lines_from spot bs))
 unfolding cut
@@ -401,7 +401,7 @@ within_moved spot there bs rest n k s r h = let e : (n - k) + k ≡ n = omega ar
 pub plain_ordinary : (b : ℕ) (bs : List ℕ) → begins_with b bs ≡ true → begins_with_space_byte bs ≡ false → starts_plainly (Ordinary b) ≡ true
 plain_ordinary b bs e s = rw (first_is_not_space b bs e s) refl
 
--- how a line begins, of which the leading spaces were read
+-- how a line begins, after its leading spaces were read
 pub begun_after_spaces : (spot : Spot) (bytes xs : List ℕ) (c : Cursor) (found : Begun) → bytes ≡ xs ++ c.rest.now → xs ≡ take_while is_space bytes → c.spot ≡ advance (length xs) spot → opens_comment bytes ≡ false → eqb (length xs) 0 ≡ false
     → BegunAfterSpaces c found → BegunIs (lines_from spot bytes) found
 begun_after_spaces spot bytes xs c found whole run there no_comment some h =
@@ -421,7 +421,7 @@ abbrev gives_comment : Meaning → Bool
 gives_comment Comment = true
 gives_comment m = false
 
--- what the units found within a line never are
+-- meanings that units found within a line never have
 pub record IsUnsaid (q : Meaning → Bool) : Type 0 where
   pub ordinary : (b : ℕ) → q (Ordinary b) ≡ false
   pub escape : (b : ℕ) → q (Escape b) ≡ false

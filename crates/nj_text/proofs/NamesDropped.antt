@@ -34,7 +34,7 @@ same_head (x ∷ xs) (y ∷ ys) a b h k e =
     let t : xs ++ 47 ∷ a ≡ ys ++ 47 ∷ b = cc in
     rw first (ap (λ zs. y ∷ zs) (same_head xs ys a b h k t))
 
--- what ends without a slash does not end after one
+-- a text that ends without a slash does not end after one
 not_longer : (xs a ys b : List ℕ) → xs ++ a ≡ ys ++ 47 ∷ b → length xs ≤ length ys → list_any is_slash a ≡ false → ⊥
 not_longer [] a ys b e l h = no_slash a ys b h e
 not_longer (x ∷ xs) a [] b e l h = absurd (omega arith)

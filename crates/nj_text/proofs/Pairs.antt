@@ -32,7 +32,7 @@ leftmost-none [] h = leftmost-nil
 leftmost-none (a ∷ []) h = leftmost-one a
 leftmost-none (a ∷ b ∷ ps) h = leftmost-cons a b ps h.0 ∙ ap (λ qs. a ∷ qs) (leftmost-none (b ∷ ps) h.1)
 
--- the leftmost pair is taken out, and what comes before and after it stays
+-- the leftmost pair is taken out, and the components before and after it stay
 pub leftmost-at : (front : List (List ℕ)) (a b : List ℕ) (ps : List (List ℕ)) → HasNoPair (front ++ a ∷ []) → is_pair a b ≡ true → without_leftmost_pair (front ++ a ∷ b ∷ ps) ≡ front ++ ps
 leftmost-at [] a b ps h e = leftmost-cons_pair a b ps e
 leftmost-at (x ∷ []) a b ps h e = leftmost-cons x a (b ∷ ps) h.0 ∙ ap (λ qs. x ∷ qs) (leftmost-cons_pair a b ps e)
@@ -82,7 +82,7 @@ pairs-at front a b ps h e =
     ap (λ n. iterate without_leftmost_pair n (front ++ a ∷ b ∷ ps)) long ∙ ap (iterate without_leftmost_pair (suc (length (front ++ ps)))) (leftmost-at front a b ps h e)
     ∙ enough (suc (length (front ++ ps))) (length (front ++ ps)) (front ++ ps) (omega arith) (omega arith)
 
--- one component more, other than `..`
+-- one more component, other than `..`
 pub no_pair-push : (ps : List (List ℕ)) (b : List ℕ) → HasNoPair ps → is_up b ≡ false → HasNoPair (ps ++ b ∷ [])
 no_pair-push [] b h e = tt
 no_pair-push (a ∷ []) b h e = (no_pair (is_up a) (is_up b) e, tt)

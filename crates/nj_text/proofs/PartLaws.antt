@@ -12,7 +12,7 @@ use Rattle.nj_text.specs.Laws.{part_bytes, AreInOrder, PartsComeInOrder}
 use Rattle.nj_text.proofs.Lists.{take_while-cons_yes, take_while-cons_no}
 use Rattle.nj_text.proofs.UnitLaws.{are_the_text}
 
--- ---- what a unit means is in its bytes
+-- ---- the meaning of a unit is in its bytes
 
 abbrev Denotes : Meaning → List ℕ → Type 0
 Denotes (Ordinary b) bytes = bytes ≡ b ∷ []
@@ -101,7 +101,7 @@ rest_gives (u ∷ us) vs h = rest_gives us vs h.1
 
 -- ---- parts in order
 
--- bytes before them are one gap more
+-- bytes before them are one more gap
 after_gap : (gap : List ℕ) (pieces : List (List ℕ)) (bytes : List ℕ) → AreInOrder pieces bytes → AreInOrder pieces (gap ++ bytes)
 after_gap gap [] bytes h = tt
 after_gap gap (piece ∷ pieces) bytes h = (gap ++ h.0, h.1, ap (λ zs. gap ++ zs) h.2 ∙ simp append_assoc, h.3)

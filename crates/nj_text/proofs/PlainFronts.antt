@@ -25,6 +25,6 @@ module _ {X : Type 0} (p : X → Bool) where
       by_test true e rest = let one = prefix_len-cons_yes p x xs e in omega (arith, one, rest (omega (arith, one, low)))
       by_test false e rest = absurd (omega (arith, prefix_len-cons_no p x xs e, low))
 
--- what comes after the front does not pass
+-- the byte after the front does not pass
 pub some_fails : (p : ℕ → Bool) (xs : List ℕ) → prefix_len p xs < length xs → list_all p xs ≡ false
 some_fails p xs short = list_all_at p xs (prefix_len p xs) 0 short (prefix_len_stops p xs 0 short)

@@ -26,7 +26,7 @@ over_space spot there b bytes rest tail e is_space r t =
     let here : rest ≡ tail = r ∙ ap (drop 1) e in
     blanks_over_spaces spot bytes (32 ∷ []) tail whole (refl, tt) ∙ ap (λ p. drop_while is_blank (units_within p tail)) (sym t) ∙ ap (λ bs. drop_while is_blank (units_within there bs)) (sym here)
 
--- ---- what begins there
+-- ---- the beginning of a word
 
 -- the units at a place begin with no blank and with no fault, and whether they begin a word
 abbrev StartsWith : Bool → List TextUnit → Type 0
@@ -84,7 +84,7 @@ word_starts spot (b ∷ bs) h =
     let w = first_passes is_word_byte b bs h in
     rw (cut-ordinary spot b bs (word_byte_is_ordinary b w)) (rw (word_byte_is_no_space b w) refl, refl, w)
 
--- ---- what ends there
+-- ---- the end of a word
 
 -- no text goes on at a place where the units begin with no fault
 abbrev EndsWord : List TextUnit → Type 0

@@ -32,7 +32,7 @@ empty : quoted ([]) ≡ []
 unfolding quoted
 empty = refl
 
--- ---- what a shell makes of a text
+-- ---- a text as a shell reads it
 
 word_in_quotes : shell_word (codes "a'b c'd") ≡ Some (codes "ab cd")
 word_in_quotes = refl

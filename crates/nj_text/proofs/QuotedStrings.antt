@@ -1,4 +1,4 @@
--- Strings in quotes, run by run, and what a shell makes of them.
+-- Strings in quotes, run by run, and how a shell reads them.
 use Rattle.std.proofs.Common.{◌≡◌, ◌≢◌, ℕ, suc, ◌+◌, ◌<◌, Bool, true, false, Option, Some, None, List, [], ◌∷◌, ◌++◌, length, take, drop, get_or, eqb, refl, sym, ap, ◌∙◌, arith, add-one, append_assoc}
 use Rattle.std.specs.Prelude.{◌&&◌}
 use Rattle.std.specs.List.{list_all, flat_map}
@@ -29,7 +29,7 @@ plain-other b e = (by_test (is_quote b) refl, by_slash (eqb b 92) refl)
     by_slash true q = absurd (grind (arith, nat_tests, q, e))
     by_slash false q = refl
 
--- plain bytes stay as they are
+-- plain bytes stay unchanged
 pub within-plain : (xs : List ℕ) → list_all is_plain_byte xs ≡ true → flat_map within_quotes xs ≡ xs
 within-plain [] h = refl
 within-plain (b ∷ xs) h =
@@ -45,7 +45,7 @@ run-quote text i h front e =
     ap (flat_map within_quotes) (cut ∙ ap (λ b. take i text ++ b ∷ drop (suc i) text) e) ∙ flat_map-append within_quotes (take i text) (39 ∷ drop (suc i) text)
     ∙ ap (λ xs. xs ++ 39 ∷ 92 ∷ 39 ∷ 39 ∷ flat_map within_quotes (drop (suc i) text)) front ∙ rw add-one refl
 
--- ---- what a shell makes of it
+-- ---- how a shell reads it
 
 unquoted-plain : (b : ℕ) (bs : List ℕ) → is_plain_byte b ≡ true → word_from Unquoted (b ∷ bs) ≡ joined_words (Some (b ∷ [])) (word_from Unquoted bs)
 unquoted-plain b bs e =

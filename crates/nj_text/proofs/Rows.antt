@@ -187,7 +187,7 @@ abbrev run : List Call → State → List Expected
 run [] s = []
 run (call ∷ calls) s = (call s).0 ∷ run calls (call s).1
 
--- what the calls return, one after another, from the front of a text on
+-- the results of the calls, one after another, from the front of a text on
 outcomes : List ℕ → List Call → List Expected
 unfolding cut
 outcomes text calls = run calls (at_front text)

@@ -1,4 +1,4 @@
--- The components of a path as they are written, one component more at a time.
+-- The components of a path as they are written, one more component at a time.
 use Rattle.std.proofs.Common.{◌≡◌, ℕ, zero, suc, ◌+◌, ◌≤◌, ◌<◌, Bool, true, false, ltb, Option, Some, List, [], ◌∷◌, ◌++◌, length, replicate, refl, sym, ap, ◌∙◌, arith, length-append, append_assoc}
 use Rattle.std.specs.List.{slice_split, join_with_byte, list_any, AllByRecursion}
 use Rattle.std.proofs.lemmas.Bool.Decides.{nat_tests}
@@ -65,7 +65,7 @@ push-text base (q ∷ ps) p h =
     text_with_component-next (length base) (base ++ text_of (q ∷ ps)) p (omega (arith, long, length-append base (text_of (q ∷ ps))))
     ∙ append_assoc base (text_of (q ∷ ps)) (47 ∷ p) ∙ ap (λ xs. base ++ xs) (sym (text-push q ps p))
 
--- ---- what each component means
+-- ---- the meaning of each component
 
 pub name-from_component : (p : List ℕ) → list_any is_slash p ≡ false → component_of p ≡ Name → IsName p
 name-from_component p w e = by_tests (leads_nowhere p) (is_up p) refl refl
@@ -83,7 +83,7 @@ up-from_component p e = by_tests (leads_nowhere p) (is_up p) refl refl
     by_tests false true a b = up_is p b
     by_tests false false a b = let x : component_of p ≡ Name = rw (a, b) refl in absurd (cc)
 
--- ---- one component more
+-- ---- one more component
 
 -- nothing is written yet
 pub written-none : (absolute : Bool) (out : List ℕ) → IsWritten absolute out (record { ups = 0; names = [] }) (length out) (length out) out
@@ -167,7 +167,7 @@ written-down absolute base kept front floor out p new w e l d = rw e (by_names k
       are_names = h.1;
     }
 
--- the same, by what the code knows
+-- the same, from the facts that the code has
 pub written-root : (absolute : Bool) → absolute ≡ true → (base : List ℕ) (kept : Kept) (front floor : ℕ) (out p : List ℕ) → IsWritten absolute base kept front floor out → component_of p ≡ Up → length out ≤ floor
     → IsWritten absolute base (with_component (component_of p) p kept) front floor out
 written-root true e = written-up_at_root

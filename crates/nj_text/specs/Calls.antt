@@ -1,4 +1,4 @@
--- What each call of the lexer returns, and where it leaves the lexer.
+-- The results of the lexer's calls, and where each leaves the lexer.
 use Rattle.std.specs.Prelude.{◌≡◌, ℕ, Bool, true, false, ◌&&◌, not, if◌then◌else◌, Option, Some, None, Result, Ok, Err, List, [], ◌∷◌, drop}
 use Rattle.std.specs.List.{take_while, flat_map}
 use Rattle.std.specs.Option.{option_map_or}
@@ -18,14 +18,14 @@ use Rattle.nj_text.specs.Units.{TextUnit, first_spot}
 use Rattle.nj_text.specs.Lines.{Line, text_lines, line_spot, with_units, lines_after, Kind, CommentLine, TabLine, BlankLine, IndentedLine, PlainLine, kind_of, is_space_unit}
 use Rattle.nj_text.specs.Words.{is_blank, after_opening, in_identifier, opens_word, in_word, begins_with_byte, next_fault, first_fault, parts_of, WordModel, plain_model}
 
--- Where a lexer is: between lines, before those that are left; inside a line, before what is left of it and the lines
--- after it; or at a fault, for good.
+-- Where a lexer is: between lines, before those that are left; inside a line, before the rest of it and the lines after
+-- it; or at a fault, permanently.
 pub data State : Type 0 where
   Between : (lines : List Line) → State
   Inside : (line : Line) (lines : List Line) → State
   Failed : (fault : UnitFault) → State
 
--- what a call returns, and the lexer after it; or the fault at which the lexer fails, for good
+-- the result of a call, and the lexer after it; or the fault at which the lexer fails, permanently
 abbrev pub Reply : Type 0 → Type 0
 Reply A = Result (A × State) UnitFault
 
@@ -85,7 +85,7 @@ abbrev pub skip_blanks_of : State → State
 skip_blanks_of (Inside l ls) = Inside (after_blanks l) ls
 skip_blanks_of s = s
 
--- the bytes of the units, as they are in the text
+-- the bytes of the units, verbatim
 abbrev pub bytes_of : List TextUnit → List ℕ
 bytes_of us = flat_map (λ u. u.bytes) us
 
@@ -167,7 +167,7 @@ value_of (Between ls) = Ok (record { spot = first_line_spot ls; parts = [] }, Be
 value_of (Inside l ls) = value_at (after_blanks (with_units (after_opening l.units) l)) ls
 value_of (Failed f) = Err f
 
--- ---- what a call of the program does
+-- ---- the calls of the program
 
 -- the bad unit that a fault reports; out of memory reports none
 abbrev pub unit_of : LexFault → Option UnitFault
@@ -176,12 +176,12 @@ unit_of (lex.Tab spot) = Some (fault.Tab spot)
 unit_of (lex.BadEscape spot) = Some (fault.BadEscape spot)
 unit_of lex.OutOfMemory = None
 
--- It fails with the fault of the definition, for good; never out of memory.
+-- It fails with the fault of the definition, permanently; never out of memory.
 abbrev pub Fails : {Y : Type 0} → Option UnitFault → (after : State) → Reply Y → Type 0
 Fails (Some f) after expected = (expected ≡ Err f) × (after ≡ Failed f)
 Fails None after expected = ⊥
 
--- It returns what the definition gives, and leaves the lexer where the definition does.
+-- It returns the result of the definition, and leaves the lexer where the definition does.
 abbrev pub Answers : {X Y : Type 0} → (X → Y) → Result X LexFault → (after : State) → Reply Y → Type 0
 Answers view (Ok x) after expected = expected ≡ Ok (view x, after)
 Answers view (Err f) after expected = Fails (unit_of f) after expected
@@ -194,14 +194,14 @@ abbrev pub FailsOrLacksMemory : {Y : Type 0} → Option UnitFault → (before af
 FailsOrLacksMemory (Some f) before after expected = (expected ≡ Err f) × (after ≡ Failed f)
 FailsOrLacksMemory None before after expected = (is_inside before ≡ true) × (after ≡ before)
 
--- The same of a call that takes memory, which it does inside a line only: out of memory leaves the lexer as it was.
+-- The same of a call that takes memory, which it does inside a line only: out of memory leaves the lexer unchanged.
 abbrev pub ReturnsOrLacksMemory : {X Y : Type 0} → (X → Y) → Result X LexFault → (before after : State) → Reply Y → Type 0
 ReturnsOrLacksMemory view (Ok x) before after expected = expected ≡ Ok (view x, after)
 ReturnsOrLacksMemory view (Err f) before after expected = FailsOrLacksMemory (unit_of f) before after expected
 
--- ---- what is taken at once
+-- ---- words and bindings taken at once
 
--- It takes what `path_word` takes, or nothing.
+-- It takes the word that `path_word` takes, or nothing.
 abbrev pub TakesPlainWord : PlainWord → (before after : State) → Type 0
 TakesPlainWord (plain.Word spot bytes) before after = path_word_of before ≡ Ok (Some (plain_model spot bytes.now), after)
 TakesPlainWord plain.NoWord before after = path_word_of before ≡ Ok (None, after)

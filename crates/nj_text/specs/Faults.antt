@@ -13,7 +13,7 @@ use Rattle.nj_text.specs.Calls.{fault_spot, unit_of}
 abbrev pub spot_text : Spot → List ℕ
 spot_text spot = decimal spot.line ++ codes ":" ++ decimal spot.column
 
--- `LINE:COLUMN: TEXT`, or `TEXT` where no place is to blame
+-- `LINE:COLUMN: TEXT`, or `TEXT` where the fault has no place
 abbrev pub placed_text : Option Spot → (text : List ℕ) → List ℕ
 placed_text (Some spot) text = spot_text spot ++ codes ": " ++ text
 placed_text None text = text

@@ -41,7 +41,7 @@ marks_of l = map InLine l.units ++ AtEnd l.end l.is_last ∷ []
 abbrev pub LinesAreTheUnits : Type 0
 LinesAreTheUnits = (text : List ℕ) → flat_map marks_of (text_lines text) ≡ map mark_of (units text)
 
--- the bytes of a part as they are in the text: a run of ordinary bytes, the byte of an escape, or a name
+-- the bytes of a part, verbatim: a run of ordinary bytes, the byte of an escape, or a name
 abbrev pub part_bytes : PartModel → List ℕ
 part_bytes (Text bytes) = bytes
 part_bytes (Name name) = name

@@ -1,4 +1,4 @@
--- what must be believed, in the order in which to read it
+-- the definitions to believe, in the order in which to read them
 pub mod Bytes
 pub mod Units
 pub mod Lines

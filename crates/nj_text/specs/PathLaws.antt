@@ -15,7 +15,7 @@ pub data IsCleanPath (path : List ℕ) : Type 0 where
 abbrev pub CleanedPathsAreClean : Type 0
 CleanedPathsAreClean = (path : List ℕ) → IsCleanPath (clean_path_of path)
 
--- cleaning leaves a clean path as it is
+-- cleaning leaves a clean path unchanged
 abbrev pub CleanPathsStay : Type 0
 CleanPathsStay = (path : List ℕ) → IsCleanPath path → clean_path_of path ≡ path
 

@@ -7,7 +7,7 @@ use Rattle.nj_text.specs.Bytes.{drop_while}
 abbrev pub is_slash : ℕ → Bool
 is_slash b = b == 47
 
--- `..`, the folder above
+-- `..`, the parent directory
 abbrev pub is_up : List ℕ → Bool
 is_up (a ∷ b ∷ []) = a == 46 && b == 46
 is_up component = false
@@ -18,13 +18,13 @@ leads_nowhere [] = true
 leads_nowhere (b ∷ []) = b == 46
 leads_nowhere component = false
 
--- a component that leads into a folder or to a file: neither empty nor `.` nor `..`, and without a slash
+-- a component that leads into a directory or to a file: neither empty nor `.` nor `..`, and without a slash
 pub record IsName (component : List ℕ) : Type 0 where
   pub leads_somewhere : leads_nowhere component ≡ false
   pub leads_down : is_up component ≡ false
   pub has_no_slash : list_any is_slash component ≡ false
 
--- what comes between the slashes of a path, without empty and `.` components
+-- the components between the slashes of a path, without empty ones and `.`
 abbrev pub components_of_path : List ℕ → List (List ℕ)
 components_of_path path = filter (λ component. not (leads_nowhere component)) (slice_split is_slash path)
 

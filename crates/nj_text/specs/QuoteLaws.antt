@@ -1,4 +1,4 @@
--- What a POSIX shell makes of a quoted path.
+-- How a POSIX shell reads a quoted path.
 use Rattle.std.specs.Prelude.{◌≡◌, ◌≢◌, ℕ, ◌==◌, if◌then◌else◌, Option, Some, None, List, [], ◌∷◌, ◌++◌}
 use Rattle.nj_text.specs.Quotes.{is_plain_byte, is_quote, quoted}
 
@@ -8,8 +8,8 @@ pub data ShellState : Type 0 where
   InQuotes : ShellState
   AfterBackslash : ShellState
 
--- what a byte adds to the word, where it has a meaning here: outside quotes plain bytes, `'` and `\`; after a `\` a `'`;
--- in quotes every byte
+-- the bytes that a byte adds to the word, where it has a meaning here: outside quotes plain bytes, `'` and `\`; after a
+-- `\` a `'`; in quotes every byte
 abbrev pub added : ShellState → ℕ → Option (List ℕ)
 added Unquoted b = if is_quote b then Some [] else if b == 92 then Some [] else if is_plain_byte b then Some (b ∷ []) else None
 added InQuotes b = if is_quote b then Some [] else Some (b ∷ [])

@@ -65,7 +65,7 @@ named (b ∷ bs) true = (Reference (b ∷ bs), length (b ∷ bs) + 2)
 abbrev pub in_braces : List ℕ → Found
 in_braces bytes = named (take_while is_identifier_byte bytes) (begins_with 125 (drop_while is_identifier_byte bytes))
 
--- the unit of a `$` and what follows it
+-- the unit of a `$` and the bytes after it
 abbrev pub after_dollar : List ℕ → Found
 after_dollar [] = (BadEscape, 0)
 after_dollar (b ∷ bs) =

@@ -8,14 +8,14 @@ ghost use Rattle.nj_text.specs.Inside.Cleaning.{component_of, components_left, a
 
 use crate::path_lanes::are_names;
 
-/// What a component between two slashes means.
+/// The meaning of a component between two slashes.
 #[derive(Clone, Copy)]
 pub enum Component {
     /// Nothing, or `.`: stay where you are.
     Nowhere,
-    /// `..`: the folder above.
+    /// `..`: the parent directory.
     Up,
-    /// The name of a folder or a file.
+    /// The name of a directory or a file.
     Name,
 }
 
@@ -29,8 +29,8 @@ pub fn component_of(component: &[u8]) -> Component
     }
 }
 
-/// The component before the first slash, and what is after that slash; the whole text and `None` if
-/// it has no slash.
+/// The component before the first slash, and the text after that slash; the whole text and `None`
+/// if it has no slash.
 pub fn first_component(text: &[u8]) -> (&[u8], Option<&[u8]>)
     ensures components { slice_split is_slash text.now
         ≡ result.0.now ∷ components_left (option_copied result.1) }
@@ -68,15 +68,15 @@ pub fn after_ups(text: &[u8]) -> &[u8]
     left
 }
 
-/// Whether each component of the text is in its clean path as it is; `named` tells whether a
-/// name came before.
+/// Whether each component of the text is in its clean path unchanged; `named` tells whether a name
+/// came before.
 pub fn all_stay(text: &[u8], named: bool) -> bool
     ensures { result ≡ all_stay named (slice_split is_slash text.now) }
 {
     are_names(text) || each_stays(text, named)
 }
 
-/// Whether each component of the text stays as it is, by a look at one after another.
+/// Whether each component of the text stays unchanged, by a look at one after another.
 fn each_stays(text: &[u8], mut named: bool) -> bool
     ensures { result ≡ all_stay named (slice_split is_slash text.now) }
 {

@@ -33,7 +33,7 @@ impl<'a> Cursor<'a> {
         }
     }
 
-    /// The cursor after `count` bytes, none of which is a line feed.
+    /// The cursor after `count` bytes without a line feed.
     pub fn advance(self, count: usize) -> Cursor<'a>
         requires { count ≤ length self.rest.now }
         ensures rest { result.rest.now ≡ drop count self.entry.rest.now }

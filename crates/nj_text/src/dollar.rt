@@ -1,4 +1,4 @@
-//! What a `$` and the bytes after it are: a join, an escape or a reference.
+//! The kinds of units that begin with `$`: a join, an escape or a reference.
 
 ghost use Rattle.std.specs.Prelude.{◌≡◌, ◌≤◌, ◌+◌, ℕ, false, ◌∷◌, length};
 ghost use Rattle.nj_text.specs.Bytes.{is_line_feed};
@@ -7,7 +7,7 @@ ghost use Rattle.nj_text.specs.Inside.Scans.{line_end_length, dollar_found, Land
 
 use crate::runs::{Run, first_byte, run_length, split_run};
 
-/// What the bytes after a `$` make of it.
+/// The unit that a `$` and the bytes after it make.
 #[derive(Clone, Copy)]
 pub enum Dollar<'a> {
     /// A join: how many bytes of its line end, and how many spaces after that.
@@ -45,7 +45,7 @@ fn in_braces(bytes: &[u8]) -> Dollar<'_>
     }
 }
 
-/// What the bytes after a `$` make of it.
+/// The unit that a `$` and the bytes after it make.
 pub fn after_dollar(bytes: &[u8]) -> Dollar<'_>
     ensures found { dollar_found result ≡ after_dollar bytes.now }
     ensures lands { LandsIn result bytes.now }

@@ -49,7 +49,7 @@ impl LexFault {
         }
     }
 
-    /// What is wrong, without the place.
+    /// The text of the fault, without its place.
     pub fn text(self) -> &'static str
         ensures { result.now ≡ lex_text self }
     {

@@ -26,7 +26,7 @@ use std::marker::Model;
 /// Each line is begun by [`Lexer::start_line`], and ended by [`Lexer::sign`] with [`Sign::LineEnd`]
 /// or by [`Lexer::plain_binding`]. A bad unit is reported by the call that meets it, and by every
 /// call but [`Lexer::spot`] from then on. Only [`Lexer::path_word`] and [`Lexer::value`] allocate,
-/// inside a line: out of memory leaves the lexer as it was.
+/// inside a line: out of memory leaves the lexer unchanged.
 #[derive(Drop)]
 pub struct Lexer<'a> {
     cursor: Cursor<'a>,
@@ -87,7 +87,7 @@ impl<'a> Lexer<'a> {
         fault.reported()
     }
 
-    /// Skips blanks, so that [`Lexer::spot`] is the place of what follows them. Skips nothing
+    /// Skips blanks, so that [`Lexer::spot`] is the place of the text after them. Skips nothing
     /// between lines.
     #[inline(always)]
     pub fn skip_blanks(&mut self)
@@ -178,7 +178,8 @@ impl<'a> Lexer<'a> {
         }
     }
 
-    /// Takes what [`Lexer::path_word`] takes, if it is a plain word or none; else nothing.
+    /// Takes the word that [`Lexer::path_word`] takes, if it is plain or there is none; else
+    /// nothing.
     #[inline(always)]
     pub fn plain_word(&mut self) -> PlainWord<'a>
         ensures { TakesPlainWord result self.old self.new }
@@ -199,7 +200,7 @@ impl<'a> Lexer<'a> {
     ///
     /// # Errors
     /// The fault of a bad unit that comes next, or of the one at which the word stops;
-    /// [`LexFault::OutOfMemory`], which leaves the lexer as it was.
+    /// [`LexFault::OutOfMemory`], which leaves the lexer unchanged.
     pub fn path_word(&mut self, alloc: Global) -> Result<Option<Word<'a>>, LexFault>
         ensures { ReturnsOrLacksMemory (option_map word_model) result self.old self.new
             (path_word_of self.old) }
@@ -225,7 +226,7 @@ impl<'a> Lexer<'a> {
     ///
     /// # Errors
     /// The fault of the first bad unit of the line; [`LexFault::OutOfMemory`], which leaves the
-    /// lexer as it was.
+    /// lexer unchanged.
     #[inline(always)]
     pub fn value(&mut self, alloc: Global) -> Result<Word<'a>, LexFault>
         ensures { ReturnsOrLacksMemory word_model result self.old self.new (value_of self.old) }
@@ -244,7 +245,7 @@ impl<'a> Lexer<'a> {
     }
 
     /// Moves to the end of a value that was read, or to its fault; out of memory leaves the lexer
-    /// as it was.
+    /// unchanged.
     #[inline(always)]
     fn finish_value(
         &mut self,

@@ -1,4 +1,4 @@
-//! What is at a line's start, and how lines begin.
+//! The kinds of line starts, and how lines begin.
 
 ghost use Rattle.std.specs.Prelude.{◌≡◌, ◌<◌, false, length, MatchOption, IfSome};
 ghost use Rattle.nj_text.specs.Units.{opens_comment};
@@ -12,7 +12,7 @@ use crate::runs::{Run, first_byte};
 use crate::state::State;
 use crate::unit::{NextUnit, next_unit};
 
-/// What is where a line begins ("Lexical syntax" in the Ninja manual).
+/// The start of a line ("Lexical syntax" in the Ninja manual).
 #[derive(Clone, Copy, Debug, PartialEq, Eq)]
 pub enum LineStart {
     /// The end of the text.

@@ -21,8 +21,8 @@ pub fn leading_number(text: &[u8]) -> Option<u64>
 }
 
 /// The major and the minor number of a version, as `ninja_required_version` states it ("Version
-/// requirements" in the Ninja manual): the numbers at the front of what comes before the first `.`
-/// and after it, each 0 if there are no digits. For `1.8.2` that is `(1, 8)`.
+/// requirements" in the Ninja manual): the numbers at the front of the texts before and after the
+/// first `.`, each 0 if there are no digits. For `1.8.2` that is `(1, 8)`.
 pub fn version_of(text: &[u8]) -> (u64, u64)
     ensures { result ≡ version_pair_of text.now }
 {
@@ -47,7 +47,7 @@ fn with_digit(number: u64, digit: u8) -> u64
         .saturating_add(u64::from(digit - b'0'))
 }
 
-/// What follows the first `.`; nothing if there is none.
+/// The text after the first `.`; empty if there is none.
 fn after_dot(text: &[u8]) -> &[u8]
     ensures { result.now ≡ after_first (λ b. b == 46) text.now }
 {

@@ -27,7 +27,7 @@ pub enum TextKind {
     Value,
 }
 
-/// What comes next in a text.
+/// The next part of a text.
 #[derive(Clone, Copy)]
 pub enum NextPart<'a> {
     /// A part of it, and where that ends.
@@ -51,7 +51,7 @@ impl TextKind {
     }
 }
 
-/// What comes next in a text, where that is not an ordinary byte of it.
+/// The next part of a text, where that is not an ordinary byte of it.
 #[inline(always)]
 fn next_part(kind: TextKind, cursor: Cursor<'_>) -> NextPart<'_>
     requires { NoneInRun (in_run (run_of kind)) cursor.rest.now }

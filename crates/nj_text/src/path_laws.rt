@@ -8,7 +8,7 @@ pub fn cleaned_paths_are_clean()
     ensures { CleanedPathsAreClean }
 {}
 
-/// Cleaning leaves a clean path as it is.
+/// Cleaning leaves a clean path unchanged.
 pub fn clean_paths_stay()
     ensures { CleanPathsStay }
 {}

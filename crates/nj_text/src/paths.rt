@@ -58,7 +58,7 @@ pub fn is_clean(path: &[u8]) -> bool
     stays_clean(path)
 }
 
-/// Whether each component of the path is in its clean path as it is.
+/// Whether each component of the path is in its clean path unchanged.
 fn stays_clean(path: &[u8]) -> bool
     ensures { result ≡ stays_clean path.now }
 {

@@ -23,7 +23,7 @@ pub fn plain_front(path: &[u8]) -> usize
     }
 }
 
-/// Whether a shell takes the byte as it is.
+/// Whether a shell takes the byte literally.
 #[inline(always)]
 fn is_plain_byte(byte: u8) -> bool
     ensures { result ≡ is_plain_byte byte }

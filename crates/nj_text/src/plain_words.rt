@@ -12,7 +12,7 @@ use crate::cursor::Cursor;
 use crate::runs::{Run, first_byte};
 use crate::spot::Spot;
 
-/// What [`Lexer::plain_word`] takes.
+/// The result of [`Lexer::plain_word`].
 ///
 /// [`Lexer::plain_word`]: crate::lexer::Lexer::plain_word
 #[derive(Clone, Copy, Debug)]

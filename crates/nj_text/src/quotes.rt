@@ -11,7 +11,7 @@ use crate::plain_bytes::plain_front;
 use std::alloc::AllocError;
 
 /// Appends the shell quote of a path: a path of letters, digits and `_`, `+`, `-`, `.`, `/` alone
-/// as it is, any other in single quotes, with each `'` written `'\''`, as `$in` and `$out` are in
+/// verbatim, any other in single quotes, with each `'` written `'\''`, as `$in` and `$out` are in
 /// commands ("Rule variables" in the Ninja manual).
 ///
 /// # Errors

@@ -18,7 +18,7 @@ pub enum Part<'a> {
 }
 
 impl Default for Part<'_> {
-    /// No bytes: what an unused place for a part has.
+    /// No bytes, which fill an unused place for a part.
     fn default() -> Self {
         Part::Bytes(b"")
     }

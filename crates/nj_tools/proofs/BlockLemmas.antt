@@ -1,4 +1,4 @@
--- How a text goes to a sink part by part, of which some are pending.
+-- How a text goes to a sink part by part, where some parts are pending.
 use Rattle.std.proofs.Common.{◌≡◌, ℕ, List, [], ◌∷◌, ◌++◌, Result, Ok, Err, refl, sym, ap, subst, ◌∙◌, append_assoc, append-nil}
 use Rattle.std.proofs.lemmas.Result.{err_from_is_err_and}
 use Rattle.std.specs.Result.{IsErrAnd}
@@ -19,7 +19,7 @@ IsUnderway-more old before after text unjoined part rest (front, parts, taken) (
   Takes-trans _ _ _ _ _ taken more_taken,
 )
 
--- the sink failed within what is pending and a part more
+-- the sink failed within the pending text and one more part
 pub FailsWithin-more : (old before after : SinkState) (text unjoined part : List ℕ)
     → IsUnderway old before text unjoined → FailsWithin before after (unjoined ++ part) → FailsWithin old after (text ++ part)
 FailsWithin-more old before after text unjoined part (front, parts, taken) (more, (rest, joined, some), failed) = (
@@ -28,7 +28,7 @@ FailsWithin-more old before after text unjoined part (front, parts, taken) (more
   FailsAfter-trans _ _ _ _ _ taken failed,
 )
 
--- the sink failed within what is pending
+-- the sink failed within the pending text
 pub FailsWithin-unjoined : (old before after : SinkState) (text unjoined sent : List ℕ)
     → IsUnderway old before text unjoined → FailsWithin before after sent → sent ≡ unjoined → FailsWithin old after text
 FailsWithin-unjoined old before after text unjoined sent (front, parts, taken) (more, (rest, joined, some), failed) is = (
@@ -37,13 +37,13 @@ FailsWithin-unjoined old before after text unjoined sent (front, parts, taken) (
   FailsAfter-trans _ _ _ _ _ taken failed,
 )
 
--- what was pending was taken
+-- the pending text was taken
 pub Takes-unjoined : (old before after : SinkState) (text unjoined sent : List ℕ)
     → IsUnderway old before text unjoined → Takes before after sent → sent ≡ unjoined → Takes old after text
 Takes-unjoined old before after text unjoined sent (front, parts, taken) rest is =
     subst (Takes old after) (ap (λ t. front ++ t) is ∙ sym parts) (Takes-trans _ _ _ _ _ taken rest)
 
--- what is a failure within a front of a text is one within the text
+-- a failure within a front of a text is one within the text
 pub FailsWithin-whole : (old new : SinkState) (text whole : List ℕ) → IsPrefix text whole → FailsWithin old new text → FailsWithin old new whole
 FailsWithin-whole old new text whole (others, is) (front, (rest, joined, some), failed) = (
   front,
@@ -71,7 +71,7 @@ TakesFront-longer old new text whole (others, is) (front, (rest, joined), taken)
   taken,
 )
 
--- a front of what was pending and a part more was taken
+-- a front of the pending text and one more part was taken
 pub TakesFront-more : (old before after : SinkState) (text unjoined part : List ℕ)
     → IsUnderway old before text unjoined → TakesFront before after (unjoined ++ part) → TakesFront old after (text ++ part)
 TakesFront-more old before after text unjoined part (front, parts, taken) (more, (rest, joined), more_taken) = (
@@ -80,7 +80,7 @@ TakesFront-more old before after text unjoined part (front, parts, taken) (more,
   Takes-trans _ _ _ _ _ taken more_taken,
 )
 
--- ---- what is answered
+-- ---- results
 
 -- the fault that is answered
 pub stops-with : {X : Type 0} (old new : SinkState) (whole : List ℕ) (fault : ToolFault) (result : Result X ToolFault)
@@ -88,14 +88,14 @@ pub stops-with : {X : Type 0} (old new : SinkState) (whole : List ℕ) (fault : 
 stops-with old new whole fault result err stops =
     let (e, is, same) = err_from_is_err_and result err in rw (is, same) stops
 
--- what stops within a text stops within any that it begins
+-- a stop within a text is one within any that it begins
 pub StopsWithin-whole : (old new : SinkState) (text whole : List ℕ) (fault : ToolFault) → IsPrefix text whole
     → StopsWithin old new text fault → StopsWithin old new whole fault
 StopsWithin-whole old new text whole Write front stops = FailsWithin-whole old new text whole front stops
 StopsWithin-whole old new text whole OutOfMemory front stops = TakesFront-longer old new text whole front stops
 StopsWithin-whole old new text whole (TextNotUtf8 edge) front stops = stops
 
--- what stops within what is pending and a part more
+-- a stop within the pending text and one more part
 pub StopsWithin-more : (old before after : SinkState) (text unjoined part : List ℕ) (fault : ToolFault)
     → IsUnderway old before text unjoined → StopsWithin before after (unjoined ++ part) fault → StopsWithin old after (text ++ part) fault
 StopsWithin-more old before after text unjoined part Write so_far stops = FailsWithin-more old before after text unjoined part so_far stops
@@ -125,7 +125,7 @@ puts-then old between new before unjoined after text more (Ok done) first second
 puts-then old between new before unjoined after text more (Err fault) first second =
     subst (λ t. StopsWithin old new t fault) (append_assoc before text more) (StopsWithin-more old between new (before ++ text) unjoined more fault first second)
 
--- what stops within one text stops within that and what comes after it
+-- a stop within one text is one within that and the text after it
 pub puts-stop : (old new : SinkState) (before text more : List ℕ) (fault : ToolFault)
     → StopsWithin old new (before ++ text) fault → StopsWithin old new (before ++ (text ++ more)) fault
 puts-stop old new before text more fault stops =

@@ -1,4 +1,4 @@
--- How the rules that are asked for are looked up by name.
+-- How the requested rules are looked up by name.
 use Rattle.std.proofs.Common.{◌≡◌, ◌≢◌, ℕ, zero, suc, ◌<◌, ◌≤◌, Bool, true, false, not, ◌||◌, List, [], ◌∷◌, map, length, get_or, Result, Ok, Err, refl, sym, ap, ◌∙◌, ⊎_elim, bytes_eq, arith}
 use Rattle.std.specs.Prelude.{is_ok}
 use Rattle.std.specs.List.Sorted.{IsPermutation, IsSortedBy, IsBinarySearchResult, IsSearchInRange}
@@ -41,7 +41,7 @@ module _ {X : Type 0} (bytes : X → List ℕ) where
   apart rule name Equal other is = absurd (other refl)
   apart rule name Greater other is = texts_ties rule name ∙ ap is_eq (nat_list_cmp_total.antisymm rule name ∙ ap ordering_reverse is)
 
-  -- what a binary search returns, in names by their bytes
+  -- the result of a binary search, in names by their bytes
   pub search-is : (xs : List X) (rule : List ℕ) (result : Result ℕ ℕ) → IsSortedBy (λ x y. is_before (bytes x) (bytes y)) xs → IsSearchInRange result (length xs)
       → IsBinarySearchResult (λ x. slice_cmp nat_cmp (bytes x) rule) xs result → is_ok result ≡ is_among (map bytes xs) rule
   search-is xs rule (Ok i) up below found = sym (among-at rule xs i below (λ d. tie rule (bytes (get_or xs i d)) (found d)))

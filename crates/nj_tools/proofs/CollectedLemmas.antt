@@ -1,4 +1,4 @@
--- Files that are collected, each once, by their paths.
+-- Files that are collected, without duplicates, by their paths.
 use Rattle.std.proofs.Common.{◌≡◌, ℕ, ◌<◌, Bool, true, false, not, ◌&&◌, ◌||◌, cond, if◌then◌else◌, List, [], ◌∷◌, ◌++◌, map, length, All, bytes_eq, refl, sym, ap, subst, ◌∙◌, append_assoc, append-nil, true≢false}
 use Rattle.std.specs.Prelude.{filter}
 use Rattle.std.specs.List.{IsDistinct}
@@ -16,7 +16,7 @@ use Rattle.nj_edges.specs.Repeats.{each_once}
 
 -- ---- lists without their repeats
 
--- what differs from an element is among the others
+-- an element that differs from one is among the others
 among-others : (y x : List ℕ) (zs : List (List ℕ)) → bytes_eq y x ≡ false → is_among (filter (λ o. not (bytes_eq o x)) zs) y ≡ is_among zs y
 among-others y x [] h = refl
 among-others y x (z ∷ zs) h = by (bytes_eq z x) refl (among-others y x zs h)
@@ -47,7 +47,7 @@ pub with_files-push : (more files : List FileNo) (file : FileNo) → with_files 
 with_files-push [] files file = refl
 with_files-push (f ∷ more) files file = with_files-push more (with_file files f) file
 
--- what all of them have
+-- a property of all of them
 pub All-with_files : (P : FileNo → Type 0) (more files : List FileNo) → All P more → All P files → All P (with_files files more)
 All-with_files P [] files new all = all
 All-with_files P (file ∷ more) files new all = All-with_files P more (with_file files file) (All-tail P file more new) (by (is_collected files file))
@@ -62,7 +62,7 @@ module _ (paths : List (List ℕ)) where
   AreOf-none = record { paths_are = refl; known = All-nil (λ (f : FileNo). f.0 < length paths) }
 
   module _ (distinct : IsDistinct bytes_eq paths) where
-    -- one file more
+    -- one more file
     pub AreOf-file : (files : List FileNo) (listed : List (List ℕ)) (file : FileNo) → file.0 < length paths → AreOf paths files listed → AreOf paths (with_file files file) (listed ++ path_at paths file ∷ [])
     AreOf-file files listed file below are = by (is_collected files file) refl
       where

@@ -76,7 +76,7 @@ object-is directory c = refl
 
 -- ---- objects
 
--- what comes before an object after these
+-- the text before an object after these
 abbrev pub separator_after : {X : Type 0} → List X → List ℕ
 separator_after [] = 10 ∷ []
 separator_after (x ∷ xs) = 44 ∷ 10 ∷ []
@@ -134,7 +134,7 @@ from-more n test (x ∷ xs) (suc i) b below is =
     by true rest = ap (λ ns. n ∷ ns) rest
     by false rest = rest
 
--- ---- what is reported of an edge, as strings
+-- ---- the strings of an edge
 
 module _ (c : Compilation) where
   held-some : (json : Compilation) → Some json ≡ held_compilation c → (is_text c ≡ true) × (json ≡ in_json c)
@@ -196,7 +196,7 @@ module _ (entries : List ReadStatement) (rules : List (List ℕ)) (expand : Bool
       by true rest h = absurd cc
       by false rest h = rest h
 
-  -- what was written for the first edges, and what comes before the next object
+  -- the text written for the first edges, and the separator before the next object
   pub record HasWritten (directory : List ℕ) (old new : SinkState) (before unjoined separator : List ℕ) (i : ℕ) : Type 0 where
     pub held : find unheld (first_listed i) ≡ None
     pub separator_is : separator ≡ separator_after (first_listed i)
@@ -322,7 +322,7 @@ module _ (entries : List ReadStatement) (rules : List (List ℕ)) (expand : Bool
 
 -- ---- the whole list
 
--- what stops within the text
+-- a stop within the text
 stops-in_compdb : (old new : SinkState) (text : List ℕ) (unheld : Option ℕ) (fault : ToolFault) → StopsWithin old new text fault → WritesCompdb old new text unheld (Err fault)
 stops-in_compdb old new text unheld Write stops = stops
 stops-in_compdb old new text unheld OutOfMemory stops = stops
@@ -398,7 +398,7 @@ module _ (entries : List ReadStatement) (directory : List ℕ) (chosen rules : L
 
 -- ---- the edge of a fault
 
--- what stops within a text names no edge
+-- a stop within a text names no edge
 pub stops-names : (count : ℕ) (old new : SinkState) (text : List ℕ) (fault : ToolFault) → StopsWithin old new text fault → NamesEdge count fault
 stops-names count old new text (TextNotUtf8 edge) stops = absurd stops
 stops-names count old new text Write stops = tt

@@ -56,7 +56,7 @@ two_objects : objects_text directory (echo ∷ echo ∷ []) ≡ 10 ∷ (echo_tex
 unfolding objects_text object_text serde_json_on_literals
 two_objects = refl
 
--- ---- what JSON can contain
+-- ---- strings that JSON can contain
 
 letters_are_text : is_text echo ≡ true
 unfolding chars is_utf8 encode_utf8

@@ -136,7 +136,7 @@ module _ (entries : List ReadStatement) where
   count-numbers : length (edge_numbers entries) ≡ length (edges_read entries)
   count-numbers = length-range_with_len 0 (length (edges_read entries))
 
-  -- the lines of the first edges were written, all of which JSON can contain
+  -- the lines of the first edges were written, and JSON can contain them
   pub record HasLines (old new : SinkState) (before unjoined : List ℕ) (i : ℕ) : Type 0 where
     pub passed : find (λ edge. not (strings_are_utf8 (edge_object entries edge))) (take i (edge_numbers entries)) ≡ None
     pub underway : IsUnderway old new (before ++ flat_map line_of (take i (edge_numbers entries))) unjoined

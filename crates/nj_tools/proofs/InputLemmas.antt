@@ -1,4 +1,5 @@
--- How inputs are written in the order in which they are needed: what is new of each edge, and so all of them once.
+-- How inputs are written in the order in which they are needed: the new ones of each edge, and so
+-- all of them once.
 use Rattle.std.proofs.Common.{◌≡◌, ℕ, ◌+◌, ◌<◌, Bool, true, false, if◌then◌else◌, List, [], ◌∷◌, ◌++◌, length, get_or, take, drop, All, bytes_eq, Result, Ok, Err, refl, sym, ap, subst, ◌∙◌, append_assoc, append-nil, take-append-drop}
 use Rattle.std.specs.List.{flat_map, IsDistinct}
 use Rattle.std.specs.Result.{IsErrAnd}
@@ -18,7 +19,7 @@ use Rattle.nj_statements.proofs.OnceLemmas.{once-front}
 use Rattle.nj_tools.proofs.ItemLemmas.{flat_map-map}
 use Rattle.nj_tools.proofs.ListingLemmas.{AreOf-row}
 
--- ---- what is new
+-- ---- new files
 
 with_file-new : (files : List FileNo) (file : FileNo) → with_file files file ≡ files ++ new_file files file
 with_file-new files file = by (is_collected files file)
@@ -47,7 +48,7 @@ new_files-append (file ∷ more) others files =
 -- ---- the files of an edge, one after another
 
 module _ (files : List FileNo) (i : ℕ) (d : FileNo) (below : i < length files) (earlier : List FileNo) where
-  -- one file more
+  -- one more file
   pub with-next : with_file (with_files earlier (take i files)) (get_or files i d) ≡ with_files earlier (take (i + 1) files)
   with-next =
       sym (with_files-append (take i files) (get_or files i d ∷ []) earlier) ∙ ap (with_files earlier) (sym (take_more files i d below))
@@ -80,7 +81,7 @@ module _ (files : List FileNo) (i : ℕ) (d : FileNo) (below : i < length files)
         (puts-then {X = Unit} old between new before unjoined after (flat_map text_of (new_files earlier (take i files)))
         (flat_map text_of (new_file (with_files earlier (take i files)) (get_or files i d))) (Ok tt) first second)
 
-    -- what stops within it stops within all of them
+    -- a stop within it is one within all of them
     pub file-stops : {R : Type 0} (old between new : SinkState) (before unjoined after : List ℕ) (fault : ToolFault) (result : Result R ToolFault)
         → IsErrAnd result (λ e. e ≡ fault)
         → IsUnderway old between (before ++ flat_map text_of (new_files earlier (take i files))) unjoined
@@ -107,7 +108,7 @@ module _ (print : List ℕ → List ℕ) (paths : List (List ℕ)) where
   row-text : (row files : List FileNo) → flat_map file_text files ++ flat_map file_text (new_files files row) ≡ flat_map file_text (with_files files row)
   row-text row files = sym (flat_map-append file_text files (new_files files row)) ∙ ap (flat_map file_text) (sym (with_files-new row files))
 
-  -- the files of one edge more
+  -- the files of one more edge
   pub row-puts : (row files : List FileNo) (old between new : SinkState) (before unjoined after : List ℕ)
       → IsUnderway old between (before ++ flat_map file_text files) unjoined → IsUnderway between new (unjoined ++ flat_map file_text (new_files files row)) after
       → IsUnderway old new (before ++ flat_map file_text (with_files files row)) after
@@ -131,7 +132,7 @@ module _ (print : List ℕ → List ℕ) (paths : List (List ℕ)) where
               ∙ ap (λ t. t ++ flat_map print front.0) (sym so_far),
         )
 
-    -- what stops within its files stops within the files of all edges
+    -- a stop within its files is one within the files of all edges
     pub row-stops : {R : Type 0} (all left : List ℕ) → all ≡ edges ++ e ∷ left
         → (old between new : SinkState) (before unjoined after : List ℕ) (fault : ToolFault) (result : Result R ToolFault)
         → IsErrAnd result (λ e. e ≡ fault) → IsUnderway old between (before ++ flat_map file_text files) unjoined

@@ -15,7 +15,7 @@ pub flat_map-map : {X Y Z : Type 0} (f : Y → List Z) (h : X → Y) (xs : List 
 flat_map-map f h [] = refl
 flat_map-map f h (x ∷ xs) = ap (λ t. f (h x) ++ t) (flat_map-map f h xs)
 
--- one element more
+-- one more element
 pub flat_map-next : {X Y : Type 0} (f : X → List Y) (xs : List X) (i : ℕ) (d : X) → i < length xs
     → flat_map f (take (i + 1) xs) ≡ flat_map f (take i xs) ++ f (get_or xs i d)
 flat_map-next f xs i d below =
@@ -27,7 +27,7 @@ module _ {X : Type 0} (f : X → List ℕ) (xs : List X) (i : ℕ) (d : X) (belo
       ap (flat_map f) (sym (take-append-drop (i + 1) xs)) ∙ flat_map-append f (take (i + 1) xs) (drop (i + 1) xs)
       ∙ ap (λ t. t ++ flat_map f (drop (i + 1) xs)) (flat_map-next f xs i d below)
 
-  -- the text of one element more
+  -- the text of one more element
   pub item-puts : (old between new : SinkState) (before unjoined after text : List ℕ) → text ≡ f (get_or xs i d)
       → IsUnderway old between (before ++ flat_map f (take i xs)) unjoined → IsUnderway between new (unjoined ++ text) after
       → IsUnderway old new (before ++ flat_map f (take (i + 1) xs)) after
@@ -35,7 +35,7 @@ module _ {X : Type 0} (f : X → List ℕ) (xs : List X) (i : ℕ) (d : X) (belo
       subst (λ t. IsUnderway old new (before ++ t) after) (ap (λ t. flat_map f (take i xs) ++ t) is ∙ sym (flat_map-next f xs i d below))
       (puts-then {X = Unit} old between new before unjoined after (flat_map f (take i xs)) text (Ok tt) first second)
 
-  -- what stops within that string stops within all of them
+  -- a stop within that string is one within all of them
   pub item-stops : {R : Type 0} (whole : List ℕ) → whole ≡ flat_map f xs → (old between new : SinkState) (before unjoined after text : List ℕ) (fault : ToolFault) (result : Result R ToolFault)
       → IsErrAnd result (λ e. e ≡ fault) → text ≡ f (get_or xs i d)
       → IsUnderway old between (before ++ flat_map f (take i xs)) unjoined → StopsWithin between new (unjoined ++ text) fault

@@ -1,4 +1,4 @@
--- What `compdb` writes, read by the grammar of JSON.
+-- The output of `compdb`, read by the grammar of JSON.
 use Rattle.std.proofs.Common.{◌≡◌, ℕ, ◌≤◌, Some, option_and_then, List, [], ◌∷◌, ◌++◌, refl, sym, ap, ap₂, ◌∙◌, append_assoc, append-nil, codes, flat_map, map, arith}
 use Rattle.std.specs.Prelude.{take_while}
 use Rattle.json.specs.Json.{Json, array, if_last, max_depth, value, document}

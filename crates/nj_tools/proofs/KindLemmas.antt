@@ -76,7 +76,7 @@ input_lines-more e paths i below =
     ∙ ap (λ n. input_lines e 0 (take i paths) ++ (input_line e n (get_or paths i []) ++ [])) count
     ∙ ap (λ t. input_lines e 0 (take i paths) ++ t) (append-nil (input_line e i (get_or paths i [])))
 
--- and what comes after it
+-- and the paths after it
 pub input_lines-split : (e : EdgePaths) (paths : List (List ℕ)) (i : ℕ) → i < length paths
     → input_lines e 0 paths ≡ (input_lines e 0 (take i paths) ++ input_line e i (get_or paths i [])) ++ input_lines e (length (take (i + 1) paths)) (drop (i + 1) paths)
 input_lines-split e paths i below =

@@ -22,7 +22,7 @@ use Rattle.nj_edges.specs.Repeats.{each_once}
 use Rattle.nj_tools.proofs.CollectedLemmas.{AreOf-files}
 use Rattle.nj_tools.proofs.ItemLemmas.{flat_map-map}
 
--- ---- the files of one edge more
+-- ---- the files of one more edge
 
 map-filter : {X Y : Type 0} (p : Y → Bool) (h : X → Y) (xs : List X) → map h (filter (λ x. p (h x)) xs) ≡ filter p (map h xs)
 map-filter p h [] = refl
@@ -78,7 +78,7 @@ module _ (g : GraphModel) (entries : List ReadStatement) (is : IsGraphOf g entri
     pub rule-stated : (rule : List ℕ) → rule ≡ rule_name_at entries n → rule ≡ rule_name_of entries stated
     rule-stated rule h = h ∙ ap (λ o. unwrap_or (option_map (rule_name_of entries) o) []) (there g entries is n below).1
 
-    -- what is written of its outputs
+    -- the written outputs of an edge
     pub made-stated : (row : List FileNo) (rule : List ℕ) → AreFiles (files_of g) row (outputs_of (edge_at (edges_of g) n)) → rule ≡ rule_name_at entries n
         → flat_map (λ path. made_line path rule) (map (path_at (files_of g)) row)
         ≡ flat_map (λ path. made_line path (rule_name_of entries (get_or (edges_read entries) n stated))) (outputs_of (get_or (edges_read entries) n stated).paths)
@@ -96,7 +96,7 @@ module _ (g : GraphModel) (entries : List ReadStatement) (is : IsGraphOf g entri
         ∙ ap (λ (e : EdgeModel). filter p (take n (edges_read entries)) ++ cond (p e) (e ∷ []) []) stated-is
         ∙ ap (λ c. filter p (take n (edges_read entries)) ++ cond c (stated ∷ []) []) (ap (λ r. bytes_eq r rule) (sym (rule-stated (rule_name_at entries n) refl)) ∙ sym is_b)
 
-    -- the outputs of one edge more, if its rule has the name
+    -- the outputs of one more edge, if its rule has the name
     pub outputs-more : (rule : List ℕ) (distinct : IsDistinct bytes_eq (files_of g)) (row files new : List FileNo) → AreFiles (files_of g) row (outputs_of (edge_at (edges_of g) n))
         → All (λ file. file.0 < length (files_of g)) row
         → AreOf (files_of g) files (flat_map (λ e. outputs_of e.paths) (filter (λ e. bytes_eq (rule_name_of entries e) rule) (take n (edges_read entries))))
@@ -116,9 +116,9 @@ module _ (g : GraphModel) (entries : List ReadStatement) (is : IsGraphOf g entri
         subst (λ es. AreOf (files_of g) new (flat_map (λ e. outputs_of e.paths) es)) (sym (more rule false (sym passes) ∙ append-nil (filter (λ e. bytes_eq (rule_name_of entries e) rule) (take n (edges_read entries)))))
         (subst (λ fs. AreOf (files_of g) fs (flat_map (λ e. outputs_of e.paths) (filter (λ e. bytes_eq (rule_name_of entries e) rule) (take n (edges_read entries))))) (sym is) so_far)
 
--- ---- what `inputs` writes
+-- ---- the output of `inputs`
 
--- paths that are not quoted are printed as they are
+-- paths that are not quoted are printed verbatim
 pub printed-as_they_are : (style : InputsStyle) → style.shell_escape ≡ false → (paths : List (List ℕ)) → map (printed style) paths ≡ paths
 printed-as_they_are style unquoted [] = refl
 printed-as_they_are style unquoted (path ∷ paths) =
@@ -159,7 +159,7 @@ none-is (Some x) false h = refl
 pub no_maker : {X : Type 0} (h : X → ℕ) (o : Option X) (maker : Option ℕ) (none : Bool) → option_map h o ≡ maker → is_some o ≡ not none → none ≡ is_none maker
 no_maker h o maker none is tells = sym (none-is o none tells) ∙ sym (is_none-map h o) ∙ ap is_none is
 
--- ---- what `targets all` writes
+-- ---- the output of `targets all`
 
 pub outputs-are : (entries : List ReadStatement) → outputs_text entries ≡ flat_map (λ e. flat_map (λ path. made_line path (rule_name_of entries e)) (outputs_of e.paths)) (edges_read entries)
 unfolding outputs_text

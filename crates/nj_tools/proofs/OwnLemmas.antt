@@ -35,7 +35,8 @@ without-cons x xs es =
     filter-filter (λ y. not (nat_eq y x)) (λ y. not (list_any (nat_eq y) xs)) es
     ∙ sym (filter_agree (λ y. not (nat_eq y x || list_any (nat_eq y) xs)) (λ y. not (list_any (nat_eq y) xs) && not (nat_eq y x)) (λ y. not_or (nat_eq y x) (list_any (nat_eq y) xs)) es)
 
--- of two lists after each other, the first without its repeats, and then what is new in the second
+-- of two lists after each other, the first without its repeats, and then the new elements of the
+-- second
 first-append : (xs ys : List ℕ) → each_once nat_eq (xs ++ ys) ≡ each_once nat_eq xs ++ without xs (each_once nat_eq ys)
 first-append [] ys = sym (without-none (each_once nat_eq ys))
 first-append (x ∷ xs) ys =
@@ -66,12 +67,12 @@ first-single g file = by_maker (maker_of g.edges (path_at g.files file))
     by_maker None = refl
     by_maker (Some e) = refl
 
--- one target more
+-- one more target
 pub own-next : (g : EdgeGraph) (files : List FileNo) (file : FileNo)
     → own_commands g (files ++ file ∷ []) ≡ own_commands g files ++ new_commands g (own_makers g files) (own_makers g (file ∷ []))
 own-next g files file = own-append g files (file ∷ []) ∙ ap (λ es. own_commands g files ++ new_commands g (own_makers g files) es) (first-single g file)
 
--- one target more, whose maker is written or not
+-- one more target, whose maker is written or not
 pub own-more : (g : EdgeGraph) (targets : List FileNo) (i : ℕ) (d : FileNo) (edges : List ℕ) → i < length targets
     → edges ≡ new_commands g (own_makers g (take i targets)) (own_makers g (get_or targets i d ∷ []))
     → own_commands g (take (i + 1) targets) ≡ own_commands g (take i targets) ++ edges
@@ -86,7 +87,7 @@ own-front entries g targets i =
 
 -- ---- flags
 
--- one target more
+-- one more target
 pub AreSeen-more : (g : EdgeGraph) (targets : List FileNo) (i : ℕ) (d : FileNo) (flags : List Bool) → i < length targets
     → AreSeen g flags (own_makers g (take i targets) ++ own_makers g (get_or targets i d ∷ [])) → AreSeen g flags (own_makers g (take (i + 1) targets))
 AreSeen-more g targets i d flags lt seen =

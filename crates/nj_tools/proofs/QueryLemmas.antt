@@ -44,7 +44,7 @@ output_lines-are edges (edge ∷ numbers) =
     ap (λ t. output_lines edges edge ++ t) (output_lines-are edges numbers)
     ∙ sym (flat_map-append (λ path. line (codes "    " ++ path)) (outputs_of (edge_at edges edge.0)) (outputs_of_all edges (map (λ edge. edge.0) numbers)))
 
--- what is written of a file
+-- the text for a file
 abbrev pub file_text : List ReadStatement → GraphModel → FileNo → List ℕ
 file_text entries g file = query_in entries (edges_of g) (path_at (files_of g) file)
 

@@ -28,7 +28,7 @@ apart x y h k = let before = precedes x y h k in (before, (by_text (λ text. tex
 pub two-parts : (texts : List (List ℕ)) → sorted (filter precedes_plain texts) ++ sorted (filter (λ text. not (precedes_plain text)) texts) ≡ sorted texts
 two-parts texts = sorted-parts precedes_plain is_before apart texts
 
--- what begins with a byte after `'` is not in quotes
+-- a text that begins with a byte after `'` is not in quotes
 pub plain-quote : (path : List ℕ) → precedes_plain (quoted path) ≡ false → path ≡ quoted path
 unfolding quoted
 plain-quote path = by (list_all is_plain_byte path)
@@ -37,7 +37,7 @@ plain-quote path = by (list_all is_plain_byte path)
     by true h = refl
     by false h = absurd (true≢false h)
 
--- ---- one path more
+-- ---- one more path
 
 module _ {X : Type 0} (path : X → List ℕ) (xs : List X) (i : ℕ) (d : X) (below : i < length xs) (quote : List ℕ) (is : quote ≡ quoted (path (get_or xs i d))) where
   more : map quoted (map path (take (i + 1) xs)) ≡ map quoted (map path (take i xs)) ++ quote ∷ []

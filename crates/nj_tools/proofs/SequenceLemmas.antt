@@ -23,7 +23,7 @@ puts-next old between new before unjoined after so_far part next is first second
     subst (λ t. IsUnderway old new t after) (append_assoc before so_far part ∙ sym (ap (λ t. before ++ t) is))
     (IsUnderway-more old between new (before ++ so_far) unjoined part after first second)
 
--- what stops within a part more stops within the whole
+-- a stop within one more part is one within the whole
 pub stops-next : (old between new : SinkState) (before unjoined so_far part rest whole : List ℕ) (fault : ToolFault) → whole ≡ (so_far ++ part) ++ rest
     → IsUnderway old between (before ++ so_far) unjoined → StopsWithin between new (unjoined ++ part) fault → StopsWithin old new (before ++ whole) fault
 stops-next old between new before unjoined so_far part rest whole fault is first stops =
@@ -48,7 +48,7 @@ items-split f items i d below =
     ∙ flat_map-append f (take (i + 1) items) (drop (i + 1) items)
     ∙ ap (λ t. t ++ flat_map f (drop (i + 1) items)) (items-more f items i d below)
 
--- the text of one item more was added
+-- the text of one more item was added
 pub puts-item : {X : Type 0} (f : X → List ℕ) (items : List X) (i : ℕ) (d : X) (old between new : SinkState) (before unjoined after part : List ℕ)
     → i < length items → part ≡ f (get_or items i d)
     → IsUnderway old between (before ++ flat_map f (take i items)) unjoined → IsUnderway between new (unjoined ++ part) after
@@ -57,7 +57,7 @@ puts-item f items i d old between new before unjoined after part below is first 
     puts-next old between new before unjoined after (flat_map f (take i items)) part (flat_map f (take (i + 1) items))
     (items-more f items i d below ∙ sym (ap (λ t. flat_map f (take i items) ++ t) is)) first second
 
--- what stops within the string of one item stops within the strings of all
+-- a stop within the string of one item is one within the strings of all
 pub stops-item : {X : Type 0} (f : X → List ℕ) (items : List X) (i : ℕ) (d : X) (old between new : SinkState) (before unjoined part whole : List ℕ) (fault : ToolFault)
     → i < length items → part ≡ f (get_or items i d) → flat_map f items ≡ whole
     → IsUnderway old between (before ++ flat_map f (take i items)) unjoined → StopsWithin between new (unjoined ++ part) fault

@@ -1,4 +1,4 @@
--- What a sort by strings leaves, and lists that are sorted in two parts.
+-- The result of a sort by strings, and lists that are sorted in two parts.
 use Rattle.std.proofs.Common.{◌≡◌, ℕ, Bool, true, false, not, cond, if◌then◌else◌, true≢false, List, [], ◌∷◌, ◌++◌, map, refl, sym, ap, ◌∙◌}
 use Rattle.std.specs.Prelude.{filter}
 use Rattle.std.specs.List.{AllByRecursion}

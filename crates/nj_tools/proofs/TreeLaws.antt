@@ -8,7 +8,7 @@ use Rattle.nj_needs.proofs.Bridges.{AreWithin-paths}
 use Rattle.nj_tools.specs.Laws.{DepthZeroShowsAll}
 use Rattle.nj_tools.specs.Listings.{file_line, indent, inputs_of_maker, tree_text}
 
--- what is true of the makers in a row is true of the maker of each file
+-- a property of the makers in a row is one of the maker of each file
 each-made : {X : Type 0} (maker : X → Option ℕ) (P : ℕ → Type 0) (xs : List X) → ((e : ℕ) → Contains (map maker xs) (Some e) → P e)
     → AllByRecursion (λ x. (e : ℕ) → maker x ≡ Some e → P e) xs
 each-made maker P [] all = tt
@@ -17,7 +17,7 @@ each-made maker P (x ∷ xs) all = (
   each-made maker P xs (λ e c. all e (suc c.0, omega (arith, c.1), c.2)),
 )
 
--- what is the same at each file is the same at a row
+-- a function that is the same at each file is the same at a row
 flat-same : {X : Type 0} (f g : X → List ℕ) (Q : X → Type 0) (xs : List X) → ((x : X) → Q x → f x ≡ g x) → AllByRecursion Q xs → flat_map f xs ≡ flat_map g xs
 flat-same f g Q [] same all = refl
 flat-same f g Q (x ∷ xs) same all = ap (λ t. t ++ flat_map f xs) (same x all.0) ∙ ap (λ t. g x ++ t) (flat-same f g Q xs same all.1)

@@ -21,11 +21,11 @@ use Rattle.nj_tools.specs.Inside.Trees.{rows_text, tree_lines, rows_lines, rows_
 abbrev pub line_at : List ReadStatement → (depth : ℕ) → (path : List ℕ) → List ℕ
 line_at entries depth path = indent depth ++ file_line entries (maker_of (paths_of_edges (edges_read entries)) path) path
 
--- what a file of these statements is made of
+-- the inputs of a file's maker among these statements
 abbrev pub made_of : List ReadStatement → (path : List ℕ) → List (List ℕ)
 made_of entries path = inputs_of_maker (paths_of_edges (edges_read entries)) (maker_of (paths_of_edges (edges_read entries)) path)
 
--- what is left is first of the deepest row
+-- the rest is first of the deepest row
 pub rows-last : (entries : List ReadStatement) (levels depth : ℕ) (rows : List (List (List ℕ))) (row : List (List ℕ))
     → rows_text entries levels depth (rows ++ row ∷ [])
     ≡ flat_map (tree_text entries (levels - (depth + length rows)) (depth + length rows)) row ++ rows_text entries levels depth rows
@@ -56,7 +56,7 @@ unfolding tree_text
 no-levels entries depth [] = refl
 no-levels entries depth (path ∷ paths) = no-levels entries depth paths
 
--- a file, what it is made of, what is left of its row, and the rows above
+-- a file, the inputs of its maker, the rest of its row, and the rows above
 pub turn : (entries : List ReadStatement) (levels : ℕ) (rows : List (List (List ℕ))) (path : List ℕ) (paths : List (List ℕ)) → length rows < levels
     → rows_text entries levels 0 (rows ++ (path ∷ paths) ∷ [])
     ≡ line_at entries (length rows) path
@@ -239,7 +239,7 @@ few-rows edges levels rows path paths below = few (nat_lt (length rows + 1) leve
         let new = length-append rows (paths ∷ []) in
         omega (arith, new, below)
 
--- ---- the rows as they are held
+-- ---- the rows in memory
 
 -- the rows when the deepest was taken
 pub rows-popped : (files : List (List ℕ)) (items rest : List (Bor (List FileNo))) (row : Bor (List FileNo)) (numbers : List FileNo)
@@ -270,7 +270,7 @@ first-rows entries edges files levels depth items roots stated asked is are =
     ∙ ap (flat_map (tree_text entries (levels - 0) 0)) (sym (paths-are files roots.now (roots_of edges) are))
     ∙ ap (λ rows. rows_text entries levels 0 (rows_of files rows)) (sym is)
 
--- a turn, in what is still to be written
+-- a turn, in the text that is still to be written
 pub written-turn : (entries : List ReadStatement) (edges : List EdgePaths) (files : List (List ℕ)) (levels depth : ℕ) (items rest : List (Bor (List FileNo))) (row : Bor (List FileNo)) (file : FileNo) (others : List FileNo) (whole done : List ℕ)
     → edges ≡ paths_of_edges (edges_read entries) → depth ≡ length rest → length rest < levels → items ≡ rest ++ row ∷ [] → row.now ≡ file ∷ others
     → whole ≡ done ++ rows_text entries levels 0 (rows_of files items)
@@ -316,7 +316,7 @@ smaller-after edges files levels items rest after row file others below is row_i
     let rows = ap length popped in
     omega (arith, held, before, fewer, after_lines, after_count, lines, rows)
 
--- an empty row, in what is still to be written
+-- an empty row, in the text that is still to be written
 pub written-empty : (entries : List ReadStatement) (files : List (List ℕ)) (levels : ℕ) (items rest : List (Bor (List FileNo))) (row : Bor (List FileNo)) (whole done : List ℕ)
     → items ≡ rest ++ row ∷ [] → row.now ≡ [] → whole ≡ done ++ rows_text entries levels 0 (rows_of files items)
     → whole ≡ done ++ rows_text entries levels 0 (rows_of files rest)

@@ -40,7 +40,7 @@ row-all_levels = refl
 pub row-three_levels : levels_of (paths_of_edges (edges_read two)) 3 ≡ 3
 row-three_levels = refl
 
--- a file with one level more
+-- a file with one more level
 pub row-tree : tree_text two 2 0 (codes "b") ≡ codes "b: phony" ++ 10 ∷ codes "  a: phony" ++ 10 ∷ codes "  c" ++ 10 ∷ []
 unfolding clean_path_of without_leftmost_pair edges_read bounds file_line tree_text
 row-tree = refl

@@ -1,4 +1,4 @@
--- What `commands` writes: for each edge its command, as a line.
+-- The output of `commands`: for each edge its command, as a line.
 use Rattle.std.specs.Prelude.{ℕ, not, List, [], ◌∷◌, map, filter, codes}
 use Rattle.std.specs.Prelude.{nat_eq}
 use Rattle.std.specs.List.{flat_map}
@@ -27,7 +27,8 @@ single e = e ∷ []
 abbrev pub own_makers_in : List EdgePaths → (paths : List (List ℕ)) → List ℕ
 own_makers_in edges paths = flat_map (made_by single) (row_of_paths edges paths)
 
--- the makers of the targets, each once, where it comes first, except the phony ones, which have no command
+-- the makers of the targets, without duplicates, each where it comes first, except the phony ones, which have no
+-- command
 abbrev pub own_commands_in : List EdgePaths → (targets : List (List ℕ)) → List ℕ
 own_commands_in edges targets = filter (λ e. not (is_phony_in edges e)) (each_once nat_eq (own_makers_in edges targets))
 

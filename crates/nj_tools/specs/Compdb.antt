@@ -1,4 +1,4 @@
--- What `compdb` writes: a compilation database, which is a list of objects in JSON.
+-- The output of `compdb`: a compilation database, which is a list of objects in JSON.
 use Rattle.std.specs.Prelude.{◌≡◌, ℕ, ◌<◌, Bool, ◌&&◌, ◌||◌, not, if◌then◌else◌, Option, Some, None, unwrap_or, List, [], ◌∷◌, ◌++◌}
 use Rattle.std.specs.Prelude.{map, find, take_while, flat_map, slice_get, codes, Result, Ok, Err}
 use Rattle.std.specs.Str.{is_utf8}
@@ -30,7 +30,7 @@ has_object entries rules e = not e.paths.is_phony && not (is_empty (inputs_of e.
 unfoldable pub listed_edges : List ReadStatement → (rules : List (List ℕ)) → List ℕ
 listed_edges entries rules = edges_from 0 (has_object entries rules) (edges_read entries)
 
--- ---- what is written of an edge
+-- ---- the written strings of an edge
 
 -- the command of an edge, and its first input and output of any kind
 pub record Compilation : Type 0 where
@@ -38,7 +38,7 @@ pub record Compilation : Type 0 where
   pub file : List ℕ
   pub output : List ℕ
 
--- the command, or what it is without its response file
+-- the command, or with `expand` the command with the contents of its response file in place of the name
 abbrev pub command_text : List ReadStatement → (expand : Bool) → (edge : ℕ) → List ℕ
 command_text entries expand edge = if expand then command_with_rsp_of entries edge else late_text_of entries edge (codes "command")
 
@@ -80,7 +80,7 @@ objects_text directory [] = []
 objects_text directory (c ∷ others) =
     10 ∷ (object_text directory c ++ flat_map (λ other. 44 ∷ 10 ∷ object_text directory other) others)
 
--- what is written of the edges before the first one that JSON cannot contain
+-- the written strings of the edges before the first one that JSON cannot contain
 abbrev pub held_before : List ReadStatement → (rules : List (List ℕ)) → (expand : Bool) → List Compilation
 held_before entries rules expand = take_while is_text (map (compilation_of entries expand) (listed_edges entries rules))
 
@@ -97,7 +97,7 @@ unfoldable pub compdb_text : List ReadStatement → (directory : List ℕ) → (
 compdb_text entries directory rules expand =
     codes "[" ++ objects_text (json_string directory) (held_before entries rules expand) ++ end_text (unheld_edge entries rules expand)
 
--- ---- what the tool does to its sink
+-- ---- the tool and its sink
 
 -- The sink took the whole text; or JSON cannot contain a string of an edge, and the sink took all before that edge; or it failed within the
 -- text; or memory ran out after a prefix of it.

@@ -1,4 +1,4 @@
--- What a compilation database is, by the grammar of JSON.
+-- A compilation database by the grammar of JSON.
 use Rattle.std.specs.Prelude.{◌≡◌, ℕ, Bool, Some, None, List, [], ◌∷◌, map, codes}
 use Rattle.json.specs.Json.{Json, string, array, object, Items, no_items, item, no_members, member, document}
 use Rattle.nj_scope.specs.ReadingList.{ReadStatement}
@@ -16,7 +16,7 @@ abbrev pub objects_of : (directory : List ℕ) → List Compilation → Items
 objects_of directory [] = no_items
 objects_of directory (c ∷ others) = item (object_of directory c) (objects_of directory others)
 
--- Where JSON can contain the strings of all listed edges, what is written reads as one array: the objects of these edges, in their order.
+-- Where JSON can contain the strings of all listed edges, the output reads as one array: the objects of these edges, in their order.
 abbrev pub CompdbIsJson : Type 0
 CompdbIsJson = (entries : List ReadStatement) (directory : List ℕ) (rules : List (List ℕ)) (expand : Bool) → unheld_edge entries rules expand ≡ None
     → document (compdb_text entries directory rules expand)

@@ -1,4 +1,4 @@
--- What a client of this crate gets in place of what it asked for.
+-- The errors that a client of this crate gets in place of results.
 use Rattle.std.specs.Prelude.{◌≡◌, ℕ, List, codes}
 use Rattle.nj_text.specs.Faults.{out_of_memory_text}
 use Rattle.nj_faults.specs.declared.fault.GraphFault.{GraphFault}
@@ -19,7 +19,7 @@ fault_text (tool.TextNotUtf8 edge) = codes "text is not UTF-8"
 fault_text tool.Write = codes "the output could not be written"
 fault_text tool.OutOfMemory = out_of_memory_text
 
--- an error of `nj_graph` stays what it is
+-- an error of `nj_graph` stays the same
 abbrev pub error_of_graph : graph.Error → Error
 error_of_graph (graph_error.Graph fault) = Graph fault
 error_of_graph graph_error.EmptyPath = EmptyPath

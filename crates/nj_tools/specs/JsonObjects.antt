@@ -6,7 +6,7 @@ use Rattle.json.specs.Print.{print}
 use Rattle.json.specs.Tree.{json_tokens}
 use Rattle.nj_tools.specs.Lines.{line}
 
--- all strings of a value are UTF-8, so that JSON can contain it; this is asked of no key
+-- all strings of a value are UTF-8, so that JSON can contain it; no key has to be
 abbrev mutual
   pub strings_are_utf8 : Json → Bool
   strings_are_utf8 null = true

@@ -1,4 +1,4 @@
--- What the trees show.
+-- Laws of the trees.
 use Rattle.std.specs.Prelude.{◌≡◌, ℕ, ◌≤◌, List, length}
 use Rattle.nj_scope.specs.ReadingList.{ReadStatement}
 use Rattle.nj_cycles.specs.Cycles.{IsAcyclic}

@@ -1,4 +1,4 @@
--- what must be believed
+-- the definitions to believe
 pub mod Sinks
 pub mod Texts
 pub mod Lines

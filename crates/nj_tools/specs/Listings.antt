@@ -1,4 +1,4 @@
--- What `inputs` and `targets` write.
+-- The output of `inputs` and `targets`.
 use Rattle.std.specs.Prelude.{◌≡◌, ◌↔◌, ℕ, zero, suc, ◌+◌, ◌==◌, true, false, not, if◌then◌else◌, Option, Some, None, is_none}
 use Rattle.std.specs.Prelude.{List, [], ◌∷◌, ◌++◌}
 use Rattle.std.specs.Prelude.{map, filter, flat_map, length, bytes_eq, codes}
@@ -38,7 +38,7 @@ needed_inputs edges targets =
 abbrev pub plain_style : InputsStyle
 plain_style = record { dependency_order = false; shell_escape = true; zero = false }
 
--- a path as it is printed: quoted for a shell, or as it is
+-- a path as it is printed: quoted for a shell, or verbatim
 abbrev pub printed : InputsStyle → (path : List ℕ) → List ℕ
 printed style path = if style.shell_escape then quoted path else path
 
@@ -50,11 +50,11 @@ arranged style strings = if style.dependency_order then strings else sorted stri
 abbrev pub printed_strings : InputsStyle → (paths : List (List ℕ)) → List (List ℕ)
 printed_strings style paths = arranged style (map (printed style) (each_once bytes_eq paths))
 
--- a text and what ends it: the byte 0, or a line end
+-- a text and its terminator: the byte 0, or a line end
 abbrev pub terminated : InputsStyle → (text : List ℕ) → List ℕ
 terminated style text = text ++ (if style.zero then 0 else 10) ∷ []
 
--- the inputs, each once, as they are printed
+-- the inputs, without duplicates, as they are printed
 unfoldable pub inputs_text : InputsStyle → List EdgePaths → (targets : List (List ℕ)) → List ℕ
 inputs_text style edges targets = flat_map (terminated style) (printed_strings style (needed_inputs edges targets))
 
@@ -88,7 +88,7 @@ unfoldable pub file_line : List ReadStatement → (maker : Option ℕ) → (path
 file_line entries (Some edge) path = made_line path (rule_name_at entries edge)
 file_line entries None path = line path
 
--- what a file is made of
+-- the inputs of a file's maker
 abbrev pub inputs_of_maker : List EdgePaths → (maker : Option ℕ) → List (List ℕ)
 inputs_of_maker edges (Some edge) = inputs_of (edge_at edges edge)
 inputs_of_maker edges None = []
@@ -98,7 +98,7 @@ abbrev pub indent : (depth : ℕ) → List ℕ
 indent zero = []
 indent (suc depth) = codes "  " ++ indent depth
 
--- A file at a depth, then what it is made of, one level deeper, and so on, for this many levels.
+-- A file at a depth, then the inputs of its maker, one level deeper, and so on, for this many levels.
 unfoldable pub tree_text : List ReadStatement → (levels depth : ℕ) → (path : List ℕ) → List ℕ
 tree_text entries zero depth path = []
 tree_text entries (suc levels) depth path =
@@ -106,8 +106,8 @@ tree_text entries (suc levels) depth path =
     indent depth ++ file_line entries (maker_of edges path) path
     ++ flat_map (tree_text entries levels (depth + 1)) (inputs_of_maker edges (maker_of edges path))
 
--- How many levels are asked for; 0 is all levels. Where no edge needs itself by a chain, a chain of files, each made of the next, has at
--- most one file for each edge and a source.
+-- The number of requested levels; 0 is all levels. Where no edge needs itself by a chain, a chain of files, each made of the next, has
+-- at most one file for each edge and a source.
 abbrev pub levels_of : List EdgePaths → (depth : ℕ) → ℕ
 levels_of edges depth = if depth == 0 then length edges + 1 else depth
 

@@ -1,4 +1,4 @@
--- What is known of a sink in memory.
+-- The known state of a sink in memory.
 use Rattle.std.specs.Prelude.{ℕ, ◌-◌, Bool, List, length, take, Option, Some, None}
 use Rattle.nj_tools.specs.Sinks.{SinkState}
 
@@ -13,6 +13,6 @@ pub record Memory : Type 0 where
   pub failures : ℕ
   pub took_since_failure : Bool
 
--- what is known of it as a sink
+-- its known state as a sink
 abbrev pub state_of : Memory → SinkState
 state_of m = record { taken = Some m.bytes; failures = m.failures; took_since_failure = m.took_since_failure }

@@ -1,4 +1,4 @@
--- What `query` writes of a file: what it is made of, and what is made of it.
+-- The output of `query` for a file: its maker with the inputs, and the outputs made from it.
 use Rattle.std.specs.Prelude.{ℕ, if◌then◌else◌, Option, Some, None, List, [], ◌++◌, flat_map, codes}
 use Rattle.nj_text.specs.Calls.{is_empty}
 use Rattle.nj_scope.specs.ReadingList.{ReadStatement}

@@ -1,10 +1,10 @@
--- What is known of a sink, and what a sink and a whole write do to it.
+-- The known state of a sink, and its changes by a sink and by a whole write.
 use Rattle.std.specs.Prelude.{◌≡◌, ◌≢◌, ℕ, zero, suc, ◌+◌, ◌-◌, ◌^◌, ◌≤◌, min, Bool, false, not, ◌||◌, List, [], ◌∷◌, ◌++◌, length, take, Option, Result, Ok, Err}
 use Rattle.std.specs.Io.KnownBytes.{Appends}
 use Rattle.nj_text.specs.Calls.{is_empty}
 use Rattle.nj_tools.specs.declared.sinks.SinkFault.{SinkFault}
 
--- what is known of a sink
+-- the known state of a sink
 pub record SinkState : Type 0 where
   -- the bytes that it took so far; `None` for a sink that does not report them
   pub taken : Option (List ℕ)
@@ -29,7 +29,7 @@ pub record FailsAfter (old new : SinkState) (bytes : List ℕ) : Type 0 where
   pub failures : new.failures ≡ one_more old.failures
   pub took_since_failure : new.took_since_failure ≡ false
 
--- what a result of `put` means: an error, or 0 for a text that is not empty, is a failure
+-- the meaning of a result of `put`: an error, or 0 for a text that is not empty, is a failure
 abbrev pub Puts : SinkState → SinkState → List ℕ → Result ℕ SinkFault → Type 0
 Puts old new [] (Ok count) = (count ≡ 0) × Takes old new []
 Puts old new (byte ∷ bytes) (Ok zero) = FailsAfter old new []
@@ -41,7 +41,7 @@ Puts old new bytes (Err fault) = FailsAfter old new []
 abbrev pub IsCutShort : List ℕ → List ℕ → Type 0
 IsCutShort front text = (rest : List ℕ) × (front ++ rest ≡ text) × (rest ≢ [])
 
--- what the result of a whole write means: the sink took the text, or failed once after a proper prefix of it
+-- the meaning of the result of a whole write: the sink took the text, or failed once after a proper prefix of it
 abbrev pub Writes : SinkState → SinkState → List ℕ → Result Unit SinkFault → Type 0
 Writes old new text (Ok done) = Takes old new text
 Writes old new text (Err fault) = (front : List ℕ) × IsCutShort front text × FailsAfter old new front

@@ -1,4 +1,4 @@
--- What a tool does to its sink.
+-- A tool and its sink.
 use Rattle.std.specs.Prelude.{ℕ, List, Result, Ok, Err}
 use Rattle.nj_scope.specs.Readings.{IsPrefix}
 use Rattle.nj_tools.specs.Sinks.{SinkState, Takes, FailsAfter, IsCutShort}
@@ -13,7 +13,8 @@ FailsWithin old new text = (front : List ℕ) × IsCutShort front text × FailsA
 abbrev pub TakesFront : (old new : SinkState) → (text : List ℕ) → Type 0
 TakesFront old new text = (front : List ℕ) × IsPrefix front text × Takes old new front
 
--- What a fault means: the sink failed within the text, or memory ran out after a prefix of it. The output of these tools need not be UTF-8.
+-- The meaning of a fault: the sink failed within the text, or memory ran out after a prefix of it. The output of these tools need not be
+-- UTF-8.
 abbrev pub StopsWithin : (old new : SinkState) → (text : List ℕ) → ToolFault → Type 0
 StopsWithin old new text Write = FailsWithin old new text
 StopsWithin old new text OutOfMemory = TakesFront old new text

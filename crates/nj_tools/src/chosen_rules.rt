@@ -1,4 +1,4 @@
-//! The rules that are asked for by name.
+//! The rules that are requested by name.
 
 ghost use Rattle.std.specs.Prelude.{◌≡◌, ℕ, List, map, string_bytes, IfOk};
 ghost use Rattle.nj_tools.specs.Compdb.{is_chosen};

@@ -52,7 +52,7 @@ pub fn write_commands<S: Sink>(
     Ok(needs.mark_after_page(alloc, room)?)
 }
 
-/// Writes the commands of the edges that make these targets, a line each, and each once.
+/// Writes the commands of the edges that make these targets, a line each, without duplicates.
 ///
 /// # Errors
 ///

@@ -31,9 +31,9 @@ use std::alloc::{AllocError, Global};
 use std::marker::Model;
 
 /// Writes a compilation database: a list in JSON with an object for each edge that has a command
-/// and an input and whose rule is named, or for all of them where no rule is named. With `expand`
-/// a command is written as it is without its response file ("Extra tools" in the Ninja manual,
-/// `compdb`).
+/// and an input and whose rule is named, or for all of them where no rule is named. With `expand` a
+/// command has the contents of its response file in place of the file's name ("Extra tools" in the
+/// Ninja manual, `compdb`).
 ///
 /// # Errors
 ///
@@ -117,7 +117,7 @@ fn has_object(graph: &Graph, edge: EdgeNo, chosen: &ChosenRules<'_>) -> bool
         && chosen.includes(graph.rule_name(edge))
 }
 
-// What is written of an edge, as strings in JSON.
+// The written strings of an edge, as in JSON.
 #[derive(Drop)]
 struct Strings {
     command: Vec<u8>,
@@ -165,7 +165,8 @@ fn strings_of(
     }))
 }
 
-// The command of an edge, or what it is without its response file.
+// The command of an edge, with the contents of its response file in place of the name if `expand`
+// is set.
 fn command_text(
     alloc: Global,
     graph: &Graph,
@@ -230,7 +231,7 @@ fn append_object(
     text.extend_from_slice(b"  }")
 }
 
-// Appends a name, its string, and what follows it.
+// Appends a name, its string, and the text after it.
 fn append_member(
     text: &mut Vec<u8>,
     name: &[u8],

@@ -29,8 +29,8 @@ use std::alloc::{AllocError, Global};
 
 /// Writes each edge as an object of JSON, a line each, by number. The keys are always the same and
 /// in one order: the number, the place of the build statement, the rule, whether it is phony, the
-/// files by kind, and the values of the variables of rules, each of which is empty where it has
-/// none ("Rule variables" in the Ninja manual).
+/// files by kind, and the values of the variables of rules, empty where an edge has none ("Rule
+/// variables" in the Ninja manual).
 ///
 /// # Errors
 ///

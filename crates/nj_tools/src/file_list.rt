@@ -1,4 +1,4 @@
-//! Files, each once.
+//! Files without duplicates.
 
 ghost use Rattle.std.specs.Prelude.{◌≡◌, ◌<◌, All, [], length, IfOk, OnOk};
 ghost use Rattle.nj_tools.specs.Inside.Collections.{with_file, with_files};
@@ -7,7 +7,7 @@ use nj_graph::FileNo;
 use std::alloc::{AllocError, Global};
 use std::marker::Model;
 
-/// Files in the order in which they were added first, each once.
+/// Files without duplicates, in the order in which they were added first.
 #[derive(Drop)]
 pub(crate) struct Collected {
     // A flag for each file of the graph: whether it was added.

@@ -31,9 +31,9 @@ use nj_requests::InputsStyle;
 use nj_text::quote_into;
 use std::alloc::{AllocError, Global};
 
-/// Writes the inputs of the edges whose commands these targets need, each once, in this style
-/// ("Extra tools" in the Ninja manual, `inputs`). In the order of dependencies it keeps no list of
-/// them.
+/// Writes the inputs of the edges whose commands these targets need, without duplicates, in this
+/// style ("Extra tools" in the Ninja manual, `inputs`). In the order of dependencies it keeps no
+/// list of them.
 ///
 /// # Errors
 ///
@@ -103,7 +103,7 @@ fn write_as_needed<S: Sink>(
     Ok(())
 }
 
-// Writes those files that are not flagged as written, each once, and flags them.
+// Writes those files that are not flagged as written, without duplicates, and flags them.
 fn write_new_files<S: Sink>(
     graph: &Graph,
     files: &[FileNo],
@@ -152,8 +152,8 @@ fn write_new_file<S: Sink>(
     write_path(graph.path(file), style, text, out)
 }
 
-// Appends a path as it is printed, with what ends it, to the pending text, and writes that if it
-// fills a block.
+// Appends a printed path with its terminator to the pending text, and writes that if it fills a
+// block.
 fn write_path<S: Sink>(
     path: &[u8],
     style: InputsStyle,
@@ -168,7 +168,7 @@ fn write_path<S: Sink>(
     Ok(())
 }
 
-// Appends a path as it is printed, with what ends it.
+// Appends a printed path with its terminator.
 fn append_path(path: &[u8], style: InputsStyle, text: &mut Vec<u8>) -> Result<(), AllocError>
     ensures { OnOk result
         (text.new.items ≡ text.old.items ++ terminated style (printed style path.now)) }
@@ -202,7 +202,7 @@ fn needed_inputs(
     Ok(inputs.into_files())
 }
 
-// Writes the paths of files as they are printed, in byte order of what is printed.
+// Writes the printed paths of files, in their byte order.
 fn write_sorted<S: Sink>(
     alloc: Global,
     graph: &Graph,
@@ -226,7 +226,7 @@ fn write_sorted<S: Sink>(
     }
 }
 
-// Writes quotes, each with what ends it.
+// Writes quotes, each with its terminator.
 fn write_quotes<S: Sink>(
     quotes: &[Vec<u8>],
     style: InputsStyle,
@@ -242,7 +242,7 @@ fn write_quotes<S: Sink>(
     Ok(())
 }
 
-// Writes paths as they are, each with what ends it.
+// Writes paths verbatim, each with its terminator.
 fn write_paths<S: Sink>(
     paths: &[&[u8]],
     style: InputsStyle,
@@ -258,7 +258,7 @@ fn write_paths<S: Sink>(
     Ok(())
 }
 
-// Appends a text with what ends it to the pending text, and writes that if it fills a block.
+// Appends a text with its terminator to the pending text, and writes that if it fills a block.
 fn write_terminated<S: Sink>(
     bytes: &[u8],
     style: InputsStyle,
@@ -273,7 +273,7 @@ fn write_terminated<S: Sink>(
     Ok(())
 }
 
-// Appends a text with what ends it.
+// Appends a text with its terminator.
 fn append_terminated(bytes: &[u8], style: InputsStyle, text: &mut Vec<u8>) -> Result<(), AllocError>
     ensures { OnOk result (text.new.items ≡ text.old.items ++ terminated style bytes.now) }
 {

@@ -1,4 +1,4 @@
-//! Laws of what the tools write. A law is a theorem, stated as a function with an empty body.
+//! Laws of the tools' output. A law is a theorem, stated as a function with an empty body.
 
 ghost use Rattle.nj_tools.specs.CompdbJson.{CompdbIsJson};
 ghost use Rattle.nj_tools.specs.Laws.{DepthZeroShowsAll};
@@ -23,9 +23,9 @@ pub fn list_law()
     ensures listed { ListedHaveLines }
 {}
 
-/// What `inputs` writes is the printed form of exactly the inputs, in each style one for each, and
-/// no two the same. Unless it is in the order of dependencies, the lines are in strictly ascending
-/// byte order. Without options they are the quotes of the inputs, a line each.
+/// The output of `inputs` is the printed form of exactly the inputs, in each style one for each,
+/// and no two the same. Unless it is in the order of dependencies, the lines are in strictly
+/// ascending byte order. Without options they are the quotes of the inputs, a line each.
 pub fn input_lines_law()
     ensures rise { SortedInputsRise }
     ensures differ { PrintedStringsDiffer }
@@ -33,7 +33,7 @@ pub fn input_lines_law()
     ensures plain { PlainInputsAreSortedQuotes }
 {}
 
-/// What `compdb` writes is one array of JSON, where all strings of the listed edges are UTF-8: an
+/// The output of `compdb` is one array of JSON, where all strings of the listed edges are UTF-8: an
 /// object for each of these edges, in their order, with exactly the keys `directory`, `command`,
 /// `file` and `output`, in this order, with the strings of the edge.
 pub fn compdb_law()

@@ -1,4 +1,4 @@
-//! What the tools write, and the sinks that take it.
+//! The output of the tools, and the sinks that take it.
 #![tactic(auto)]
 
 mod chosen_rules;

@@ -1,4 +1,4 @@
-//! A sink that keeps what it takes.
+//! A sink that keeps the bytes that it takes.
 
 ghost use Rattle.std.specs.Prelude.{◌≡◌, ◌≢◌, ◌<◌, ◌≤◌, ◌+◌, ◌⊎◌, [], length, IsErr, IsOk, IfOk, OnErr, None, false};
 ghost use Rattle.std.specs.Option.{ForSome};
@@ -7,7 +7,8 @@ use crate::sinks::{Sink, SinkFault};
 use std::alloc::Global;
 use std::marker::Model;
 
-/// Keeps what it takes in memory, up to a limit. A failed allocation is a failure like any other.
+/// Keeps the bytes that it takes in memory, up to a limit. A failed allocation is a failure like
+/// any other.
 #[derive(Drop)]
 pub struct MemorySink {
     bytes: Vec<u8>,
@@ -55,7 +56,7 @@ impl MemorySink {
         }
     }
 
-    /// What the sink took so far.
+    /// The bytes that the sink took so far.
     pub fn bytes(&self) -> &[u8]
         ensures taken { result.now ≡ self.now.bytes }
         ensures within_limit { ForSome self.now.limit (λ limit. length result.now ≤ limit) }

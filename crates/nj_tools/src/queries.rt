@@ -1,4 +1,4 @@
-//! What files are made of, and what is made of them.
+//! The files from which files are made, and those made from them.
 
 ghost use Rattle.std.specs.Prelude.{◌≡◌, ◌<◌, List, All, IfSome, length, map, option_map, codes};
 ghost use Rattle.nj_scope.specs.ReadingList.{ReadStatement};
@@ -29,8 +29,8 @@ use crate::whole_text::write_whole;
 use nj_graph::{EdgeNo, FileNo, Graph, Kind};
 use std::alloc::Global;
 
-/// Writes what each of these files is made of, by the edge that makes it, and what is made of it
-/// ("Extra tools" in the Ninja manual, `query`).
+/// Writes for each of these files the edge that makes it, with its inputs, and the outputs made
+/// from the file ("Extra tools" in the Ninja manual, `query`).
 ///
 /// # Errors
 ///
@@ -55,7 +55,7 @@ pub fn write_query<S: Sink>(
     Ok(())
 }
 
-// Writes what a file is made of, and what is made of it.
+// Writes the edge that makes a file, with its inputs, and the outputs made from the file.
 fn write_file<S: Sink>(
     graph: &Graph,
     file: FileNo,
@@ -112,7 +112,7 @@ fn write_by_kind<S: Sink>(
     Ok(())
 }
 
-// What comes before an input of a kind.
+// The text before an input of a kind.
 fn sign_of(kind: Kind) -> &'static [u8]
     ensures { result.now ≡ sign_of kind }
 {

@@ -39,7 +39,7 @@ pub fn write_rules<S: Sink>(
     Ok(())
 }
 
-// Writes the name of a rule, and its description if it is asked for and there is one.
+// Writes the name of a rule, and its description if it is requested and there is one.
 fn write_rule<S: Sink>(
     alloc: Global,
     graph: &Graph,

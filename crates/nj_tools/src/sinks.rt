@@ -1,4 +1,4 @@
-//! What takes bytes.
+//! Destinations of bytes.
 
 ghost use Rattle.std.specs.Prelude.{Some, codes};
 
@@ -23,7 +23,7 @@ impl Error for SinkFault {}
 pub trait Sink {
     ghost use Rattle.nj_tools.specs.Sinks.{SinkState, Puts};
 
-    // What is known of the sink.
+    // The known state of the sink.
     ghost state: { Self → SinkState };
 
     /// Takes bytes from the front, and returns how many. An error, or 0 if there are bytes, is a

@@ -1,4 +1,4 @@
-//! Paths of files in byte order, as they are and quoted for a shell.
+//! Paths of files in byte order, verbatim and quoted for a shell.
 
 ghost use Rattle.std.specs.Prelude.{◌≡◌, ◌<◌, not, All, length, map, filter, IfOk, OnOk};
 ghost use Rattle.nj_text.specs.Quotes.{quoted};

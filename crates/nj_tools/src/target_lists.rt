@@ -51,7 +51,7 @@ pub fn write_targets<S: Sink>(
     Ok(())
 }
 
-// Writes what is listed.
+// Writes the list.
 fn write_view<S: Sink>(
     alloc: Global,
     graph: &Graph,

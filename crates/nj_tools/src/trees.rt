@@ -1,4 +1,4 @@
-//! Trees of what targets are made of.
+//! Trees of targets' inputs.
 
 ghost use Rattle.std.specs.Prelude.{◌≡◌, ◌<◌, ◌+◌, ◌++◌, List, [], ◌∷◌, All, length, map, OnOk};
 ghost use Rattle.nj_scope.specs.ReadingList.{ReadStatement};
@@ -21,8 +21,8 @@ use crate::tool_fault::ToolFault;
 use nj_graph::{FileNo, Graph};
 use std::alloc::{AllocError, Global};
 
-/// Writes the trees of the roots: each file, then what it is made of, one level deeper, and so on,
-/// for this many levels; 0 is all levels.
+/// Writes the trees of the roots: each file, then the inputs of its maker, one level deeper, and so
+/// on, for this many levels; 0 is all levels.
 pub(crate) fn write_trees<S: Sink>(
     alloc: Global,
     graph: &Graph,
@@ -35,7 +35,7 @@ pub(crate) fn write_trees<S: Sink>(
         (trees_text entries depth) result }
 {
     let below = levels_below(graph, depth);
-    // What is left of each row of files: the roots at the bottom, the deepest row on top.
+    // The rest of each row of files: the roots at the bottom, the deepest row on top.
     let mut rows = Vec::new(alloc);
     rows.push(graph.roots())?;
     'files: while let Some(row) = rows.pop() {
@@ -48,7 +48,7 @@ pub(crate) fn write_trees<S: Sink>(
     Ok(())
 }
 
-// How many of the levels that are asked for are below the roots.
+// How many of the requested levels are below the roots.
 fn levels_below(graph: &Graph, depth: u32) -> usize
     ensures { result + 1 ≡ levels_of (edges_of graph.now) depth }
 {
@@ -58,7 +58,7 @@ fn levels_below(graph: &Graph, depth: u32) -> usize
     }
 }
 
-// Pushes what is left of a file's row back, and then what the file is made of, unless the file is
+// Pushes the rest of a file's row back, and then the inputs of the file's maker, unless the file is
 // on the last level.
 fn push_rows<'a>(
     graph: &'a Graph,
@@ -82,7 +82,7 @@ fn push_rows<'a>(
     Ok(())
 }
 
-// What a file is made of.
+// The inputs of a file's maker.
 fn inputs_of_maker(graph: &Graph, file: FileNo) -> &[FileNo]
     requires { file.0 < length (files_of graph.now) }
     ensures paths { map (path_at (files_of graph.now)) result.now

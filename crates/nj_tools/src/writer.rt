@@ -6,8 +6,7 @@ use crate::sinks::{Sink, SinkFault};
 use std::io::Write;
 use std::marker::Model;
 
-/// Writes what it is given to a writer, in one call. An interrupted write is a failure like any
-/// other.
+/// Passes each text to a writer, in one call. An interrupted write is a failure like any other.
 #[derive(Drop)]
 pub struct WriteSink<W: Write> {
     writer: W,

@@ -1,4 +1,4 @@
-//! What a change reaches.
+//! The edges that a change affects.
 
 ghost use Rattle.std.specs.Prelude.{◌<◌, length, All};
 ghost use Rattle.nj_graph.specs.Graph.{edges_of, files_of};
@@ -7,7 +7,7 @@ use crate::tour::lines::append_line;
 use nj_graph::{EdgeNo, Error, FileNo, Graph, clean_path};
 use std::alloc::{AllocError, Global};
 
-/// Appends what is made anew when the file at a path changes.
+/// Appends the outputs that are made anew when the file at a path changes.
 pub fn append_affected(
     alloc: Global,
     text: &mut Vec<u8>,

@@ -1,4 +1,4 @@
-//! What files declare: rules, pools and variables.
+//! The declarations of files: rules, pools and variables.
 
 use crate::tour::lines::append_line;
 use nj_graph::{Graph, Rule};
@@ -32,7 +32,7 @@ pub fn append_pools(text: &mut Vec<u8>, graph: &Graph) -> Result<(), AllocError>
     Ok(())
 }
 
-/// Appends what `builddir` is at the end of each scope that binds it, or one around it.
+/// Appends the value of `builddir` at the end of each scope that binds it, or one around it.
 pub fn append_build_folders(text: &mut Vec<u8>, graph: &Graph) -> Result<(), AllocError> {
     for scope in 0..graph.scope_count() {
         if let Some(folder) = graph.scope_value(scope, b"builddir") {

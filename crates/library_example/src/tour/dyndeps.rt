@@ -1,9 +1,9 @@
-//! What dyndep files discover.
+//! The discoveries of dyndep files.
 
 use nj_graph::{Error, FileSource, Loaded, join_dyndeps, load};
 use std::alloc::Global;
 
-/// A main file with all that it includes, and what its dyndep files discover.
+/// A main file with all that it includes, and the discoveries of its dyndep files.
 pub fn load_joined<S: FileSource>(
     alloc: Global,
     files: &mut S,

@@ -4,8 +4,8 @@ use nj_graph::Cause;
 use nj_tools::Error;
 use std::alloc::{AllocError, Global};
 
-/// The line of an error for the log of a program `indexer`. Names are in it as they are, whether
-/// they are UTF-8 or not.
+/// The line of an error for the log of a program `indexer`. Names are in it verbatim, whether they
+/// are UTF-8 or not.
 pub fn log_line(alloc: Global, error: &Error) -> Result<Vec<u8>, AllocError> {
     match error {
         Error::Graph(fault) => fault.line_for(alloc, "indexer"),
@@ -13,7 +13,8 @@ pub fn log_line(alloc: Global, error: &Error) -> Result<Vec<u8>, AllocError> {
     }
 }
 
-/// Whether a word of the user is to blame, and not a file: it names no target, or is not a mark.
+/// Whether the error is of an argument of the user, and not of a file: it names no target, or is
+/// not a mark.
 pub fn is_of_words(error: &Error) -> bool {
     match error {
         Error::Graph(fault) => matches!(

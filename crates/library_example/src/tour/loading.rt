@@ -4,7 +4,7 @@ use nj_disk::DiskFiles;
 use nj_graph::{Error, Loaded, MemoryFiles, load};
 use std::alloc::Global;
 
-/// `build.ninja` of the working folder, with all that it includes.
+/// `build.ninja` of the working directory, with all that it includes.
 pub fn load_folder(rt: HostRuntime) -> Result<Loaded, Error> {
     let mut files = DiskFiles::new(rt, rt.alloc(), None)?;
     let loaded = load(rt.alloc(), &mut files, "build.ninja")?;

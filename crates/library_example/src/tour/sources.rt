@@ -5,8 +5,8 @@ ghost use Rattle.std.specs.Prelude.{None};
 use nj_graph::{FileSource, HashKeys, SourceFault};
 use std::alloc::Global;
 
-/// The files of a source that are in the working folder or below it, by their paths alone: at any
-/// other path there is no file.
+/// The files of a source that are in the working directory or below it, by their paths alone: at
+/// any other path there is no file.
 #[derive(Drop)]
 pub struct FolderFiles<S: FileSource + Drop> {
     pub source: S,

@@ -1,12 +1,12 @@
-//! Targets, as words of a user name them.
+//! Targets, as arguments of a user name them.
 
 use crate::tour::edges::append_inputs;
 use crate::tour::lines::append_line;
 use nj_graph::{Error, Graph, pick_target};
 use std::alloc::{AllocError, Global};
 
-/// Appends the inputs of the edge that makes what a word means: a path, or `PATH^` for the first
-/// output that is made of it.
+/// Appends the inputs of the edge that makes the file of an argument: a path, or `PATH^` for the
+/// first output that is made from it.
 pub fn append_target(
     alloc: Global,
     text: &mut Vec<u8>,
@@ -21,7 +21,7 @@ pub fn append_target(
     Ok(())
 }
 
-/// Appends the targets of a run without words: those of the `default` lines, or the roots.
+/// Appends the targets of a run without arguments: those of the `default` lines, or the roots.
 pub fn append_defaults(text: &mut Vec<u8>, graph: &Graph) -> Result<(), AllocError> {
     for target in graph.defaults() {
         append_line(text, &[b"default ", graph.path(*target)])?;

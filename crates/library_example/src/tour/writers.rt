@@ -1,4 +1,4 @@
-//! What the tools write.
+//! The output of the tools.
 
 ghost use Rattle.std.specs.Prelude.{◌<◌, length};
 ghost use Rattle.nj_graph.specs.Graph.{files_of};

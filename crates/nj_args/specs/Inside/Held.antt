@@ -1,4 +1,4 @@
--- How the code represents what the words give. Nothing here has to be believed.
+-- How the code represents the rows of the arguments. Nothing here has to be believed.
 use Rattle.std.specs.Prelude.{ℕ, ◌==◌, Bool, true, false, if◌then◌else◌, List, [], ◌∷◌, map, Option, Some, option_map, unwrap_or, codes, Result, Ok}
 use Rattle.std.specs.Borrow.{Bor}
 use Rattle.std.specs.List.{list_any}
@@ -22,7 +22,7 @@ use Rattle.nj_args.specs.declared.usage_fault.UsageFault.TheVariants.{Unparsed, 
 abbrev pub word_strings : Option (Bor (List (Bor (List ℕ)))) → List (List ℕ)
 word_strings words = unwrap_or (option_map (λ strings. map (λ text. text.now) strings.now) words) []
 
--- what was given, under the texts of options
+-- the given values, under the texts of options
 abbrev pub rows_in : ArgMatches → List Row
 rows_in matches = rows_of (found_of matches)
 
@@ -46,7 +46,7 @@ abbrev pub is_memory : ErrorKind → Bool
 is_memory kind.OutOfMemory = true
 is_memory _ = false
 
--- what an error of `clap` is reported as
+-- the fault that reports an error of `clap`
 abbrev pub refusal : ErrorKind → UsageFault
 refusal kind = if is_memory kind then OutOfMemory else Unparsed
 
@@ -54,7 +54,7 @@ refusal kind = if is_memory kind then OutOfMemory else Unparsed
 abbrev pub goes_with : Tool → (is_single : Bool) → ToolOption → Bool
 goes_with tool is_single option = list_any (λ one. bytes_eq (option_text one) (option_text option)) (options_of tool is_single)
 
--- what `inputs`, `targets` and `compdb` are asked for
+-- the actions of `inputs`, `targets` and `compdb`
 abbrev pub inputs_of : List Row → Result ActionModel UsageFault
 inputs_of rows = Ok (inputs (words_in rows) (is_on (codes "--validations") rows) (style_of rows))
 

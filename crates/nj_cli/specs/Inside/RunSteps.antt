@@ -1,4 +1,4 @@
--- What the steps of a run do, on the way to its end.
+-- The steps of a run, on the way to its end.
 use Rattle.std.specs.Prelude.{◌≡◌, ◌⊎◌, ℕ, Bool, Option, Some, None, Result, Ok, Err, List, []}
 use Rattle.nj_scope.specs.Readings.{Reading}
 use Rattle.nj_scope.specs.Sources.{SourceState}
@@ -32,7 +32,7 @@ use Rattle.std.specs.Global.{Vec}
 use Rattle.nj_names.specs.declared.files.FileNo.{FileNo}
 use Rattle.nj_names.specs.Files.{AreFiles}
 
--- the graph of the statements of the files, or what is wrong with these
+-- the graph of the statements of the files, or their fault
 abbrev pub GraphOr : RequestModel → (before after : SourceState) → List Reading → Result LoadedModel GraphFault → Type 0
 GraphOr request before after files (Ok loaded) =
     (entries : List ReadStatement) × AreStatements request.file request.dyndep before after files entries × IsGraphOf loaded.graph entries
@@ -58,7 +58,7 @@ abbrev pub RunEnds : (entries : List ReadStatement) (action : ActionModel) (old 
 RunEnds entries action old new status =
     IsReported entries action old new status ⊎ (OutputFails entries action old new status ⊎ MemoryFails entries action old new status)
 
--- what was output, and how the run ends accordingly
+-- the output so far, and how the run ends accordingly
 abbrev pub ReturnsFor : List ReadStatement → ActionModel → (old new : SinkState) → Result (Option (List ℕ)) RunFault → Type 0
 ReturnsFor entries action old new (Ok None) = EndsWith entries action finished × Takes old new (output_of entries action)
 ReturnsFor entries action old new (Ok (Some mark)) = EndsWith entries action (stopped mark) × Takes old new (output_of entries action)
@@ -73,14 +73,14 @@ ReturnsFor entries action old new (Err fault.OutOfMemory) = TakesFront old new (
 abbrev pub ReportsLine : (old new : SinkState) → (text : List ℕ) → Type 0
 ReportsLine old new text = Reported old new text ⊎ Reported old new (line out_of_memory)
 
--- the mark was reported; or the error output failed; or its line could not be made
+-- the mark was reported; or standard error failed; or its line could not be made
 abbrev pub ReportsMark : (validations : Bool) → (old new : SinkState) → (mark : List ℕ) → Status → Type 0
 ReportsMark validations old new mark Stopped = Takes old new (mark_line validations mark)
 ReportsMark validations old new mark OutputFailed = FailsWithin old new (mark_line validations mark)
 ReportsMark validations old new mark Fault = Reported old new (line out_of_memory)
 ReportsMark validations old new mark other = ⊥
 
--- what is reported of an outcome
+-- the report of an outcome
 abbrev pub Concludes : (validations : Bool) → (old new : SinkState) → Result (Option (List ℕ)) RunFault → Status → Type 0
 Concludes validations old new (Ok None) status = (new ≡ old) × (status ≡ Done)
 Concludes validations old new (Ok (Some mark)) status = ReportsMark validations old new mark status
@@ -89,7 +89,7 @@ Concludes validations old new (Err fault.MarkOutOfRange) status = Reported old n
 Concludes validations old new (Err fault.Write) status = (new ≡ old) × (status ≡ OutputFailed)
 Concludes validations old new (Err fault.OutOfMemory) status = Reported old new (line out_of_memory) × (status ≡ Fault)
 
--- what is reported of words that are not a valid request
+-- the report of arguments that are not a valid request
 abbrev pub ReportsMisuse : (old new : SinkState) → UsageFault → Status → Type 0
 ReportsMisuse old new usage.OutOfMemory status = Reported old new (line out_of_memory) × (status ≡ Fault)
 ReportsMisuse old new fault status =

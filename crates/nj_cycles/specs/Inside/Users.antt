@@ -10,7 +10,7 @@ lists_of users = map (λ list. list.items) users
 abbrev pub users_of : List (Vec ℕ) → (edge : ℕ) → List ℕ
 users_of users edge = slice_index_or (lists_of users) edge []
 
--- with a user of what makes an input; a source has none
+-- with a user added to an input's maker; a source has none
 abbrev pub with_user : List (List ℕ) → (maker : Option ℕ) → (user : ℕ) → List (List ℕ)
 with_user lists None user = lists
 with_user lists (Some edge) user = slice_set lists edge (slice_index_or lists edge [] ++ user ∷ [])

@@ -1,5 +1,5 @@
--- The depth-first walk over the edges, inside the check: what is true between two turns. No reader of the public
--- contracts needs this file.
+-- The depth-first walk over the edges, inside the check: its state between two turns. No reader of the public contracts
+-- needs this file.
 use Rattle.std.specs.Prelude.{◌≡◌, ◌≢◌, ◌⊎◌, ℕ, ◌+◌, ◌*◌, ◌<◌, ◌≤◌, Bool, false, List, [], ◌∷◌, ◌++◌, Option, None, Some, length, take, slice_get, slice_index, slice_index_or, sum_by, Contains}
 use Rattle.nj_cycles.specs.declared.finishing_order.Stage.{Stage}
 use Rattle.nj_cycles.specs.declared.finishing_order.Stage.TheVariants.{Unseen, Open, Done}
@@ -19,7 +19,7 @@ IsSeen stages e = stage_of stages e ≢ Unseen
 abbrev pub IsDone : List Stage → ℕ → Type 0
 IsDone stages e = stage_of stages e ≡ Done
 
--- the stage of what makes an input; there is nothing to do for a source
+-- the stage of an input's maker; there is nothing to do for a source
 abbrev pub stage_of_maker : List Stage → Option ℕ → Stage
 stage_of_maker stages None = Done
 stage_of_maker stages (Some e) = stage_of stages e
@@ -34,8 +34,8 @@ turns_of Unseen = 2
 turns_of Open = 1
 turns_of Done = 0
 
--- The order in which edges are finished. At each place b, what the edges up to there need is finished before b,
--- or it reaches the edge at b, since it is open then.
+-- The order in which edges are finished. At each place b, each edge that the edges up to there need is finished before
+-- b, or reaches the edge at b, since it is open then.
 abbrev pub IsSettled : (makers : ℕ → List (Option ℕ)) → List ℕ → Type 0
 IsSettled makers order = (a b f : ℕ) → a ≤ b → b < length order → Needs makers (slice_index order a) f
     → Contains (take b order) f ⊎ Reaches makers f (slice_index order b)
@@ -65,7 +65,7 @@ pub record Sound (makers : ℕ → List (Option ℕ)) (count : ℕ) (stages : Li
   pub done_in_order : (e : ℕ) → IsDone stages e → Contains order e
   pub done_passed : (e : ℕ) → IsDone stages e → length (makers e) ≤ slice_index next e
   pub order_once : HasNoRepeat order
-  -- what an edge has passed is seen, and done if no open edge was met
+  -- the makers that an edge has passed are seen, and done if no open edge was met
   pub passed_seen : (e : ℕ) → e < count → MakersBefore makers e (slice_index next e) (IsSeen stages)
   pub passed_done : meets_open ≡ false → (e : ℕ) → e < count → MakersBefore makers e (slice_index next e) (IsDone stages)
   pub settled : IsSettled makers order
@@ -86,13 +86,13 @@ EndsAt makers edge w None = length (makers edge) ≤ slice_index w.next.items ed
 EndsAt makers edge w (Some maker) =
     (slice_get (makers edge) (slice_index w.next.items edge) ≡ Some (Some maker)) × (stage_of w.stages.items maker ≡ Unseen)
 
--- what a turn leaves
+-- the walk after a turn
 pub record TakesTurn (makers : ℕ → List (Option ℕ)) (count : ℕ) (old new : Walk) : Type 0 where
   pub sound : WalkIsSound makers count new
   pub fewer : sum_by turns_of new.stages.items < sum_by turns_of old.stages.items
   pub kept : (e : ℕ) → IsSeen old.stages.items e → IsSeen new.stages.items e
 
--- what the whole walk leaves: every edge once, in an order that is settled
+-- the end of the whole walk: every edge once, in a settled order
 pub record Walked (makers : ℕ → List (Option ℕ)) (count : ℕ) (order : List ℕ) : Type 0 where
   pub known : AreEdges makers count
   pub all : (e : ℕ) → e < count → Contains order e

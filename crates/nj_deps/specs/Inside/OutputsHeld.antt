@@ -59,8 +59,7 @@ pub record AreOutputsHeld (inputs : List ℕ) (outputs : List HeldOutput) (place
   pub are_places : ArePlaces outputs places
   pub of_paths : AllByRecursion (IsOfPaths (length places)) (all_logged inputs outputs)
 
--- What an output depends on is kept, if the numbers are of paths. The bytes are those of the
--- inputs.
+-- The dependencies of an output are kept, if the numbers are of paths. The bytes are those of the inputs.
 abbrev pub Keeps : (output time : ℕ) → (bytes : List ℕ) → (old new : OutputsModel) → Bool → Type 0
 Keeps output time bytes old new true = (inputs : List ℕ) × (bytes ≡ words inputs)
     × (output < old.count) × AllByRecursion (λ n. n < old.count) inputs

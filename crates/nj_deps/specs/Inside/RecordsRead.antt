@@ -38,7 +38,7 @@ pub record IsTimed (content : List ℕ) (output time : ℕ) (bytes : List ℕ) :
   pub is_time : time ≡ low + 2 ^ 32 * high
   pub cut : content ≡ word output ++ (word low ++ (word high ++ bytes))
 
--- what records say
+-- the paths and outputs of records
 pub record TableModel : Type 0 where
   pub paths : List (List ℕ)
   pub outputs : List OutputModel

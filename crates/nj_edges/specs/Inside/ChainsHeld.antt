@@ -59,14 +59,14 @@ pub record IsShortestFrom (g : EdgeGraph) (with_validations : Bool) (first : ℕ
   pub leads : LeadFrom g with_validations first steps to
   pub shortest : (n e : ℕ) → IsReachedFrom g with_validations first n e → HasInput g with_validations to e → length steps ≤ suc n
 
--- a shortest chain from what an edge makes to a file
+-- a shortest chain from an edge's outputs to a file
 abbrev pub ChainIs : EdgeGraph → (with_validations : Bool) → (first : ℕ) → (to : List ℕ) → Option (List Step) → Type 0
 ChainIs g with_validations first to None = (n e : ℕ) → IsReachedFrom g with_validations first n e → ¬ HasInput g with_validations to e
 ChainIs g with_validations first to (Some steps) = IsShortestFrom g with_validations first to steps
 
 -- ---- how the search came to edges
 
--- what came to the edge at a place is a step from an edge at an earlier one
+-- the arrival at the edge at a place is a step from an edge at an earlier one
 pub record IsArrival (g : EdgeGraph) (with_validations : Bool) (numbers : List ℕ) (place : ℕ) (arrival : Arrival) : Type 0 where
   pub earlier : arrival.place < place
   pub from : arrival.step.edge.0 ≡ slice_index numbers arrival.place
@@ -90,7 +90,7 @@ pub data Traces (arrivals : List (Option Arrival)) : (place : ℕ) → (steps wh
   back : {place : ℕ} {steps whole : List Step} (arrival : Arrival) → slice_index_or arrivals place None ≡ Some arrival
       → Traces arrivals arrival.place (arrival.step ∷ steps) whole → Traces arrivals place steps whole
 
--- what came to edges, with what came to one more unless that was known
+-- the arrivals at edges, with that at one more edge unless it was known
 abbrev pub with_arrival : List (Option Arrival) → (known : Bool) → Option Arrival → List (Option Arrival)
 with_arrival arrivals known arrival = if known then arrivals else arrivals ++ arrival ∷ []
 

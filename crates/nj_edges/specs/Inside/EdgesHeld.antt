@@ -39,7 +39,7 @@ row_between starts ends kinds is_phony = record {
   is_phony = is_phony;
 }
 
--- the table, of what is held
+-- the table that the fields hold
 abbrev pub table_of : (files : List (List ℕ)) → (outputs inputs validations : List FileNo) → List EdgeRow → OpenStarts → EdgeTable
 table_of files outputs inputs validations rows starts = record {
   files = files;

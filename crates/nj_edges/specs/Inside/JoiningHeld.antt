@@ -11,7 +11,7 @@ use Rattle.nj_edges.specs.Inside.EdgesHeld.{EdgesAreHeld, AreNumbers, HaveMakers
 use Rattle.nj_edges.specs.Inside.GraphHeld.{ends_of}
 use Rattle.nj_edges.specs.Joining.{AddedFiles, JoinTable, with_added}
 
--- ---- what was added, by numbers
+-- ---- the additions, by numbers
 
 abbrev pub added_outputs_of : (added_outputs : List FileNo) → Option AddedSpans → List FileNo
 added_outputs_of added_outputs (Some spans) = within added_outputs spans.outputs
@@ -27,18 +27,18 @@ added_at files added_outputs added_inputs spans = record {
   inputs = paths_at files (within added_inputs spans.inputs);
 }
 
--- an edge with what was added to it
+-- an edge with its additions
 abbrev pub with_found : (files : List (List ℕ)) → (added_outputs added_inputs : List FileNo) → Option AddedSpans → EdgePaths → EdgePaths
 with_found files added_outputs added_inputs (Some spans) e = with_added (added_at files added_outputs added_inputs spans) e
 with_found files added_outputs added_inputs None e = e
 
--- the edges with what was added to each
+-- the edges with the additions to each
 abbrev pub joined_by : (join : Option AddedSpans → EdgePaths → EdgePaths) → List EdgePaths → List (Option AddedSpans) → List EdgePaths
 joined_by join [] added = []
 joined_by join (e ∷ edges) [] = e ∷ edges
 joined_by join (e ∷ edges) (found ∷ added) = join found e ∷ joined_by join edges added
 
--- the table, of what is held
+-- the table that the fields hold
 abbrev pub join_held : (files : List (List ℕ)) → (outputs inputs validations : List FileNo) → List EdgeRow
     → (added_outputs added_inputs : List FileNo) → List (Option AddedSpans) → (open_outputs open_inputs : ℕ) → JoinTable
 join_held files outputs inputs validations rows added_outputs added_inputs added open_outputs open_inputs = record {
@@ -82,7 +82,7 @@ AreApart stated added = (n e : ℕ) → first_edge (has_number n) added ≡ Some
 abbrev pub NextAreNew : (added : List (List FileNo)) → (next : List FileNo) → Type 0
 NextAreNew added next = (n : ℕ) → has_number n next ≡ true → first_edge (has_number n) added ≡ None
 
--- the graph, or what was added to it, names each file
+-- the graph, or an addition to it, names each file
 abbrev pub AreNamedOrAdded : (count : ℕ) → (outputs inputs validations : List FileNo)
     → (added_outputs added_inputs : List (List FileNo)) → Type 0
 AreNamedOrAdded count outputs inputs validations added_outputs added_inputs =

@@ -12,7 +12,7 @@ kept_key keys edge = unwrap_or (unwrap_or (slice_get keys edge) None) []
 abbrev pub IsKept : List (Option (List ℕ)) → (edge : ℕ) → Type 0
 IsKept keys edge = (key : List ℕ) × (slice_get keys edge ≡ Some (Some key))
 
--- what is kept of an edge is its key
+-- the entry kept for an edge is its key
 abbrev pub KeepsKeys : (folders : List (List ℕ)) → List EdgePaths → List ReadStatement → (keys : List (Option (List ℕ))) → Type 0
 KeepsKeys folders edges entries keys = (e : ℕ) (key : List ℕ) → slice_get keys e ≡ Some (Some key) → IsKey folders edges entries e key
 

@@ -35,7 +35,7 @@ build_head s = do
 abbrev pub as_head : {A : Type 0} → (A → HeadModel) → Step A → Step HeadModel
 as_head head step = step >>= λ x. Ok (head x.0, x.1)
 
--- what follows the identifier with which a statement begins
+-- the rest of a first line, after the identifier with which a statement begins
 unfoldable pub head_after : (word : List ℕ) → State → Step HeadModel
 head_after word s =
     if bytes_eq word (codes "build") then build_head s

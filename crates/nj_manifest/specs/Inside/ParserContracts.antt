@@ -1,4 +1,4 @@
--- What the private functions of a parser return, and where they leave its lexer.
+-- The results of the private functions of a parser, and where they leave its lexer.
 use Rattle.std.specs.Prelude.{◌≡◌, Bool, true, false, Option, Some, None, Result, Ok, Err, List}
 use Rattle.nj_text.specs.Lines as lines
 use Rattle.nj_text.specs.Calls.{State, Between, Inside, Failed, is_inside}
@@ -34,7 +34,7 @@ name_model n = record { spot = n.spot; name = n.name.now }
 abbrev pub outs_model : (explicit implicit : List Word) → OutputsModel
 outs_model explicit implicit = record { explicit = words_model explicit; implicit = words_model implicit }
 
--- what a statement gives on its first line
+-- the contents of a statement's first line
 abbrev pub head_model : Statement → HeadModel
 head_model (statement.Rule r) = RuleHead (record { spot = r.name_spot; name = r.name.now })
 head_model (statement.Pool p) = PoolHead (record { spot = p.name_spot; name = p.name.now })
@@ -43,12 +43,12 @@ head_model alone = Alone (statement_model alone)
 
 -- ---- along a line
 
--- It reads what is expected, as the view shows it, and leaves the lexer there; or it fails.
+-- It reads the expected value, as the view shows it, and leaves the lexer there; or it fails.
 abbrev pub TakesStep : {X Y : Type 0} → (X → Y) → Result X ParseFault → (after : State) → Step Y → Type 0
 TakesStep view (Ok x) after expected = expected ≡ Ok (view x, after)
 TakesStep view (Err f) after expected = Fails f expected
 
--- the same of what only leads on
+-- the same of a step without a value
 abbrev pub LeadsTo : Result (Unit {0}) ParseFault → (after : State) → Result State Fault → Type 0
 LeadsTo (Ok done) after expected = expected ≡ Ok after
 LeadsTo (Err f) after expected = Fails f expected
@@ -66,7 +66,7 @@ abbrev pub ReadsVersion : (before after : State) → Result (Unit {0}) ParseFaul
 ReadsVersion before after (Ok done) = (version_next (lines_from before) ≡ Ok (lines_from after)) × IsBetweenStatements after
 ReadsVersion before after (Err f) = Fails f (version_next (lines_from before))
 
--- what is read of the lines before which the lexer is, with the lexer before the lines after it
+-- the result read from the lines before which the lexer is, with the lexer before the lines after it
 abbrev pub ParsesFrom : {X Y : Type 0} → (X → Y) → (before after : State) → (List lines.Line → Parse Y) → Result X ParseFault → Type 0
 ParsesFrom view (Between ls) after parse (Ok x) = (parse ls ≡ Ok (view x, lines_from after)) × IsBetweenStatements after
 ParsesFrom view (Between ls) after parse (Err f) = Fails f (parse ls)
@@ -94,7 +94,7 @@ FindsOpening before after (Ok found) =
     (opening (lines_from before) ≡ Ok (opening_at after)) × IsBetweenStatements after × (is_inside after ≡ found)
 FindsOpening before after (Err f) = Fails f (opening (lines_from before))
 
--- what is read of the lines that are left, with the lexer before the lines after it
+-- the result read from the rest of the lines, with the lexer before the lines after it
 abbrev pub ParsesNext : {X Y : Type 0} → (X → Y) → (before after : State) → (List lines.Line → Parse Y) → Result X ParseFault → Type 0
 ParsesNext view before after parse (Ok x) = (parse (lines_from before) ≡ Ok (view x, lines_from after)) × IsBetweenStatements after
 ParsesNext view before after parse (Err f) = Fails f (parse (lines_from before))

@@ -11,7 +11,7 @@ has_plain_front (digit ∷ next ∷ digits) = not (digit == 43) && not (digit ==
 abbrev pub is_dot : ℕ → Bool
 is_dot b = b == 46
 
--- the parts of what is left of a text
+-- the parts of the rest of a text
 abbrev pub parts_left : Option (List ℕ) → List (List ℕ)
 parts_left None = []
 parts_left (Some text) = slice_split is_dot text

@@ -1,5 +1,5 @@
 -- Where a walk is: the path of open edges, the first that was opened first, and the next place in the inputs of the last
--- of them, or in the target list where none is open. What is done then, and how many turns are left, follow from it.
+-- of them, or in the target list where none is open. The edges done then, and the number of turns left, follow from it.
 use Rattle.std.specs.Prelude.{◌≡◌, ℕ, ◌+◌, ◌-◌, ◌<◌, ◌≤◌, Bool, true, false, if◌then◌else◌, Option, Some, List, [], ◌∷◌, ◌++◌, length, map}
 use Rattle.std.specs.Prelude.{take, nat_eq, slice_get, slice_index_or}
 use Rattle.std.specs.List.{list_any}
@@ -17,7 +17,7 @@ abbrev pub IsLinked : (makers : ℕ → List (Option ℕ)) → (row : List (Opti
 IsLinked makers row [] = Unit {0}
 IsLinked makers row (f ∷ path) = (slice_get row f.at ≡ Some (Some f.edge)) × IsLinked makers (makers f.edge) path
 
--- what is done: in each row the unfolded order of the places before the one where the walk is
+-- the edges done: in each row the unfolded order of the places before the one where the walk is
 abbrev pub done_at : (makers : ℕ → List (Option ℕ)) → (count : ℕ) → (row : List (Option ℕ)) → List Frame → (place : ℕ) → List ℕ
 done_at makers count row [] place = unfolded_row makers count (take place row)
 done_at makers count row (f ∷ path) place = unfolded_row makers count (take f.at row) ++ done_at makers count (makers f.edge) path place
@@ -50,7 +50,7 @@ abbrev pub left_at : (makers : ℕ → List (Option ℕ)) → (count : ℕ) → 
     → List Frame → (place : ℕ) → List ℕ
 left_at makers count phony row path place = without (done_at makers count row path place) (needed_commands makers count phony row)
 
--- what is true where a walk is: no open edge is done, and the flags tell what is done
+-- the state where a walk is: no open edge is done, and the flags tell which edges are
 pub record IsStanding (makers : ℕ → List (Option ℕ)) (count : ℕ) (row : List (Option ℕ))
     (path : List Frame) (place : ℕ) (flags : List Bool) : Type 0 where
   pub linked : IsLinked makers row path

@@ -1,4 +1,4 @@
--- What is true inside a walk, and what one turn does.
+-- The state inside a walk, and one turn.
 use Rattle.std.specs.Prelude.{◌≡◌, ◌<◌, ◌≤◌, ◌⊎◌, ℕ, ◌+◌, Bool, true, if◌then◌else◌, Option, Some, None, List, [], ◌∷◌, ◌++◌, length}
 use Rattle.std.specs.Prelude.{nat_eq, slice_get, vec_capacity}
 use Rattle.std.specs.List.{list_any}
@@ -42,7 +42,7 @@ pub record IsWalkAt (g : EdgeGraph) (targets : List FileNo) (turns : ℕ)
 abbrev pub IsWalk : Walk → Type 0
 IsWalk w = IsWalkAt w.turns.graph.now w.turns.targets.now w.turns.taken w.path w.place w.flags.items w.begun
 
--- a look: the place is passed, and what is there is done or a source, or an edge is opened
+-- a look: the place is passed, whose edge is done or which is a source, or an edge is opened
 pub record HasLooked (g : EdgeGraph) (targets : List FileNo) (path : List Frame) (place : ℕ) (after : List Frame) (next : ℕ) : Type 0 where
   pub left : left_of g targets after next ≡ left_of g targets path place
   pub turn : turns_left_of g targets path place ≡ turns_left_of g targets after next + 1

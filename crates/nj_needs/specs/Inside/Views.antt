@@ -1,4 +1,4 @@
--- What a caller sees of a walk, and what is true inside.
+-- A walk as a caller sees it, and its state inside.
 use Rattle.std.specs.Prelude.{◌≡◌, ◌≤◌, ◌+◌, ◌-◌, vec_capacity}
 use Rattle.nj_needs.specs.Graphs.{count_of}
 use Rattle.nj_needs.specs.Walks.{WalkState, rest_of, bound_of}

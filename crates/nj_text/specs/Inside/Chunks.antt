@@ -1,4 +1,4 @@
--- What replaces the bytes that are not UTF-8.
+-- The replacement of bytes that are not UTF-8.
 use Rattle.std.specs.Prelude.{ℕ, List, [], ◌∷◌}
 use Rattle.std.specs.Str.Lossy.{replacement_bytes}
 

@@ -7,11 +7,11 @@ use Rattle.nj_text.specs.declared.components.Component.{Component}
 use Rattle.nj_text.specs.declared.components.Component.TheVariants.{Nowhere, Up, Name}
 use Rattle.nj_text.specs.Paths.{is_slash, is_up, leads_nowhere, is_absolute, IsName}
 
--- what a component between two slashes means
+-- the meaning of a component between two slashes
 abbrev pub component_of : List ℕ → Component
 component_of component = if leads_nowhere component then Nowhere else if is_up component then Up else Name
 
--- the components of what is left of a path
+-- the components of the rest of a path
 abbrev pub components_left : Option (List ℕ) → List (List ℕ)
 components_left None = []
 components_left (Some text) = slice_split is_slash text
@@ -28,7 +28,7 @@ abbrev pub one_up : ℕ → List (List ℕ) → Kept
 one_up ups [] = record { ups = suc ups; names = [] }
 one_up ups (name ∷ names) = record { ups = ups; names = names }
 
--- one component more
+-- the path's names so far, with one more component
 abbrev pub with_component : Component → List ℕ → Kept → Kept
 with_component Nowhere component kept = kept
 with_component Up component kept = one_up kept.ups kept.names
@@ -73,7 +73,7 @@ DropsName floor old new =
 
 -- ---- a path that is clean already
 
--- whether a component is in the clean path as it is, where a name comes before it or not
+-- whether a component is in the clean path unchanged, where a name comes before it or not
 abbrev pub stays : Bool → Component → Bool
 stays named Nowhere = false
 stays named Up = not named
@@ -100,7 +100,7 @@ stays_clean path =
 
 -- ---- names that are seen sixteen bytes at a time
 
--- a slash before a slash or a dot: what begins after it may be no name
+-- a slash before a slash or a dot: the component after it may be no name
 abbrev pub is_suspect : ℕ → ℕ → Bool
 is_suspect byte next = is_slash byte && (is_slash next || next == 46)
 

@@ -1,4 +1,4 @@
--- What the lexer gathers of a word or a value.
+-- The parts of a word or a value, as the lexer gathers them.
 use Rattle.std.specs.Prelude.{◌≡◌, ℕ, ◌<◌, ◌≤◌, Bool, true, false, Option, Some, None, Result, Ok, Err, List, [], ◌∷◌, ◌++◌, length, map}
 use Rattle.std.specs.List.{take_while}
 use Rattle.smallvec.specs.SmallVec.{SmallVec}
@@ -23,7 +23,7 @@ abbrev pub run_of : TextKind → Run
 run_of kind.Word = run.Word
 run_of kind.Value = run.Value
 
--- what may occur in a value: all but bad units and the ends of lines
+-- the units that may occur in a value: all but bad units and the ends of lines
 abbrev pub in_value_meaning : Meaning → Bool
 in_value_meaning LineEnd = false
 in_value_meaning TextEnd = false
@@ -46,7 +46,7 @@ gathered kind us = parts_of (take_while (in_text kind) us)
 abbrev pub after_text : TextKind → List TextUnit → List TextUnit
 after_text kind us = drop_while (in_text kind) us
 
--- what comes next in a text
+-- the next part of a text
 abbrev pub NextPartIs : TextKind → List TextUnit → NextPart → Type 0
 NextPartIs kind us (next.Part p after) =
     (gathered kind us ≡ part_model p ∷ gathered kind (units_at after)) × (after_text kind us ≡ after_text kind (units_at after))
@@ -55,7 +55,7 @@ NextPartIs kind us (next.Join after) =
 NextPartIs kind us next.End = (gathered kind us ≡ []) × (after_text kind us ≡ us) × (next_fault us ≡ None)
 NextPartIs kind us (next.Bad f) = next_fault (after_text kind us) ≡ Some f
 
--- what was skipped had bytes
+-- bytes were skipped
 abbrev pub IsShorter : ℕ → NextPart → Type 0
 IsShorter n (next.Part p after) = length after.rest.now < n
 IsShorter n (next.Join after) = length after.rest.now < n

@@ -1,4 +1,4 @@
--- What the lexer's scans of bytes return, in the words of the units.
+-- The results of the lexer's scans of bytes, in terms of units.
 use Rattle.std.specs.Prelude.{◌≡◌, ℕ, ◌+◌, ◌<◌, Bool, true, false, not, ◌&&◌, if◌then◌else◌, List, [], ◌∷◌, take, drop}
 use Rattle.nj_text.specs.declared.spot.Spot.{Spot}
 use Rattle.nj_text.specs.declared.dollar.Dollar.{Dollar}
@@ -54,7 +54,7 @@ Begins spot bytes m n after = units_within spot bytes ≡ record { spot = spot; 
 abbrev pub BeginsBadly : Spot → List ℕ → Meaning → Type 0
 BeginsBadly spot bytes m = (n : ℕ) × (after : List TextUnit) × Begins spot bytes m n after
 
--- what is at the front of the bytes, within a line, at any place
+-- the next unit of the bytes, within a line, at any place
 abbrev pub NextUnitIs : NextUnit → List ℕ → Type 0
 NextUnitIs unit.End bytes = bytes ≡ []
 NextUnitIs (unit.Ordinary b) bytes =

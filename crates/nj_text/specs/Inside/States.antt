@@ -28,7 +28,7 @@ reply x after = Ok (x, after)
 abbrev pub failing : {A : Type 0} → UnitFault → Reply A
 failing f = Err f
 
--- what a call within a line gives, where a bad unit may come next
+-- the result of a call within a line, where a bad unit may come next
 abbrev pub unless_bad : {A : Type 0} → (Line → List Line → Reply A) → Line → List Line → Reply A
 unless_bad call l ls = unless_fault (next_fault l.units) (call l ls)
 
@@ -73,7 +73,7 @@ abbrev pub space_units : Spot → List ℕ → List TextUnit
 space_units spot [] = []
 space_units spot (b ∷ bs) = record { spot = spot; bytes = b ∷ []; means = Ordinary b } ∷ space_units (advance 1 spot) bs
 
--- how the first line begins, of which the leading spaces were skipped
+-- how the first line begins, after its leading spaces were skipped
 abbrev pub BegunAfterSpaces : Cursor → Begun → Type 0
 BegunAfterSpaces c begun =
     (spot : Spot) (b : ℕ) (bs : List ℕ)
@@ -93,7 +93,7 @@ EndsLine c (Some after) =
     × (lines_after (first_line (lines_within c.spot c.rest.now)) (other_lines (lines_within c.spot c.rest.now))
     ≡ lines_from after.spot after.rest.now)
 
--- what a call within a line returns, and where it leaves the lexer
+-- the result of a call within a line, and where it leaves the lexer
 abbrev pub Steps : {X Y : Type 0} → (X → Y) → Reply Y → Result (X × Cursor) UnitFault → Type 0
 Steps view expected (Ok step) = expected ≡ reply (view step.0) (inside (lines_within step.1.spot step.1.rest.now))
 Steps view expected (Err f) = expected ≡ failing f
@@ -126,7 +126,7 @@ abbrev pub Reports : Result Word LexFault → Option UnitFault → Type 0
 Reports (Ok found) unit = ⊥
 Reports (Err f) unit = unit_of f ≡ unit
 
--- what a value that was read in a line makes of the lexer
+-- the lexer after the reading of a value in a line
 abbrev pub FinishesAtFault : WordFault → (old new : State) → Result Word LexFault → Type 0
 FinishesAtFault word_fault.OutOfMemory old new result = Reports result None × (new ≡ old)
 FinishesAtFault (word_fault.Unit f) old new result = Reports result (Some f) × (new ≡ Failed f)

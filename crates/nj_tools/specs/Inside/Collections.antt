@@ -1,4 +1,4 @@
--- How files are collected, each once.
+-- How files are collected, without duplicates.
 use Rattle.std.specs.Prelude.{◌≡◌, ℕ, ◌<◌, Bool, false, if◌then◌else◌, List, [], ◌∷◌, ◌++◌, All, map, length, slice_index_or}
 use Rattle.std.specs.Prelude.{bytes_eq}
 use Rattle.nj_names.specs.declared.files.FileNo.{FileNo}
@@ -38,12 +38,12 @@ with_files files (file ∷ more) = with_files (with_file files file) more
 abbrev pub new_file : List FileNo → FileNo → List FileNo
 new_file files file = if is_collected files file then [] else file ∷ []
 
--- of more files those that are new, each once
+-- of more files those that are new, without duplicates
 abbrev pub new_files : List FileNo → List FileNo → List FileNo
 new_files files [] = []
 new_files files (file ∷ more) = new_file files file ++ new_files (with_file files file) more
 
--- these are the files of a list of paths, each once
+-- these are the files of a list of paths, without duplicates
 pub record AreOf (paths : List (List ℕ)) (files : List FileNo) (listed : List (List ℕ)) : Type 0 where
   pub paths_are : map (path_at paths) files ≡ each_once bytes_eq listed
   pub known : All (λ file. file.0 < length paths) files

@@ -8,7 +8,7 @@ use Rattle.nj_tools.specs.Compdb.{Compilation, is_text, json_string}
 abbrev pub held_string : (text : List ℕ) → Option (List ℕ)
 held_string text = if is_utf8 text then Some (json_string text) else None
 
--- what is written of an edge, each text as a string in JSON
+-- the written strings of an edge, each as a string in JSON
 abbrev pub in_json : Compilation → Compilation
 in_json c = record { command = json_string c.command; file = json_string c.file; output = json_string c.output }
 

@@ -7,7 +7,7 @@ use Rattle.nj_edges.specs.Edges.{EdgePaths, kind_at}
 use Rattle.nj_tools.specs.Lines.{line}
 use Rattle.nj_tools.specs.Queries.{section, outputs_of_all}
 
--- what comes before an input of a kind
+-- the text before an input of a kind
 abbrev pub sign_of : Kind → List ℕ
 sign_of Explicit = codes "    "
 sign_of Implicit = codes "    | "

@@ -7,13 +7,14 @@ use Rattle.nj_names.specs.Files.{path_at}
 use Rattle.nj_names.specs.declared.files.FileNo.{FileNo}
 use Rattle.nj_tools.specs.Listings.{inputs_of_maker, tree_text}
 
--- what is left of rows of files, the deepest row last, where this many levels are written
+-- the trees of the rest of rows of files, the deepest row last, where this many levels are written
 unfoldable pub rows_text : List ReadStatement → (levels depth : ℕ) → (rows : List (List (List ℕ))) → List ℕ
 rows_text entries levels depth [] = []
 rows_text entries levels depth (row ∷ deeper) =
     rows_text entries levels (depth + 1) deeper ++ flat_map (tree_text entries (levels - depth) depth) row
 
--- the rows after a file was written: what is left of its row, and then what it is made of, unless it is on the last level
+-- the rows after a file was written: the rest of its row, and then the inputs of its maker, unless it is on the last
+-- level
 abbrev pub rows_after : List EdgePaths → (levels : ℕ) → (rows : List (List (List ℕ))) → (path : List ℕ) → (others : List (List ℕ))
     → List (List (List ℕ))
 rows_after edges levels rows path others =

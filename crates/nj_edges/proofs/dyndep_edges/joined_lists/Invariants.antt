@@ -2,7 +2,7 @@ use Rattle.std.proofs.Common.{◌≡◌, ◌++◌, drop, length}
 use Rattle.nj_edges.specs.Inside.JoiningHeld.{flat, joined_inputs, joined_outputs, joined_rows, joined_with}
 use Rattle.nj_edges.proofs.dyndep_edges.joined_lists.Given as goal
 
--- what was made so far, and what the rest makes, are the whole
+-- the lists so far, and those of the rest, are the whole
 abbrev pub invariant-rows : goal.invariant-rows
 invariant-rows l = record {
   outputs : l.lists.outputs.items ++ flat (joined_with (joined_outputs l.stated.outputs.now l.added.outputs.now) (drop l.edge l.stated.rows.now) (drop l.edge l.added.edges.now))

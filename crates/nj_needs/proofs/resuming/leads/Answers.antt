@@ -28,7 +28,7 @@ row_within : (g : EdgeGraph) (targets : List FileNo) → IsAcyclic (makers_of g)
 row_within g targets acyclic inside None m a = inside m (Contains-from_Among (row_of g targets) m a)
 row_within g targets acyclic inside (Some e) m a = acyclic.1.within e m (Contains-from_Among (makers_of g e) m a)
 
--- what a look found, in the row as it was at first
+-- the result of a look, in the first row
 found_in : (l m : Turns) (graph : l.graph ≡ m.graph) (targets : l.targets ≡ m.targets) (edge : Option ℕ) (p : ℕ) (o : Option (Option ℕ))
     → o ≡ slice_get (row_in l.graph.now l.targets.now edge) p → slice_get (row_in m.graph.now m.targets.now edge) p ≡ o
 found_in l m graph targets edge p o is = rw (← graph, ← targets) (sym is)

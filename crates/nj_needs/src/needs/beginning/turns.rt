@@ -38,7 +38,7 @@ impl<'g> Turns<'g> {
         }
     }
 
-    /// How many edges there are.
+    /// The number of edges.
     pub fn edge_count(&self) -> usize
         ensures count { result ≡ count_of self.now.graph.now }
         ensures acyclic { IsAcyclic (makers_of self.now.graph.now) (count_of self.now.graph.now) }

@@ -5,7 +5,7 @@ use Rattle.nj_deps.proofs.RecordLemmas.{shorter}
 use Rattle.nj_deps.proofs.TableLemmas.{log-read, one-taken, rest-within}
 use Rattle.nj_deps.proofs.log.DepsLog.read_with_keys.Goals as goal
 
--- what reading a record gave
+-- the result of reading a record
 Gave : (rest : List ℕ) (old new : TableModel) → Option (Bor (List ℕ)) → Type 0
 Gave rest old new found = MatchOption found (TakesNone rest old new) (λ after. TakesRecord rest after.now old new)
 

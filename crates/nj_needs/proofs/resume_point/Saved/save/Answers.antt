@@ -4,7 +4,7 @@ use Rattle.nj_needs.specs.Inside.Paths.{places}
 use Rattle.nj_needs.specs.declared.frame.Frame.{Frame}
 use Rattle.nj_needs.proofs.resume_point.Saved.save.Goals as goal
 
--- one number more is the number of the next frame
+-- one more number is the number of the next frame
 next : (path : List Frame) (n : ℕ) (f : Frame) (numbers : List ℕ) → n < length path → f ≡ get_or path n f → numbers ≡ take n (places path) → numbers ++ f.at ∷ [] ≡ take (n + 1) (places path)
 next path n f numbers lt at is =
     ap (λ (ns : List ℕ). ns ++ f.at ∷ []) is

@@ -12,7 +12,7 @@ use Rattle.nj_needs.proofs.Members.{In}
 use Rattle.nj_needs.proofs.TurnLemmas.{walk-pass, turn-pass, walk-open, turn-open, capacity-open, row-top, top-is_edge, top-edge_within}
 use Rattle.nj_needs.proofs.walk.Walk.take_turn.Goals as goal
 
--- what was found is in the row on top
+-- the place found is in the row on top
 comes : (w : Walk) (path : List Frame) (edge : Option ℕ) (found : Option (Option ℕ)) → path ≡ w.path.items → IsTop path edge
     → found ≡ slice_get (row_in w.turns.graph.now w.turns.targets.now edge) w.place → slice_get (top_of w.turns.graph.now w.turns.targets.now w.path.items) w.place ≡ found
 comes w path edge found same top is =

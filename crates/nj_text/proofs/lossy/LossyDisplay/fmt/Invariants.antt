@@ -1,4 +1,4 @@
--- What was written, with the text of the bytes that are left, is the text of all the bytes.
+-- The written text, with that of the bytes that are left, is the text of all the bytes.
 use Rattle.std.proofs.Common.{◌≡◌, ℕ, List, ◌++◌}
 use Rattle.std.specs.Fmt.{HasWritten, IsPlainFormatter}
 use Rattle.std.specs.Str.Chunks.{utf8_chunks_rest}
