@@ -100,7 +100,7 @@ _ninja_explain_offer_value() {
     esac
 }
 
-# What is offered is in COMPREPLY, or else it is what `compgen` makes of the words in `offer`.
+# The offers are in COMPREPLY, or else they are those of `compgen` for the words in `offer`.
 _ninja_explain() {
     local tools='commands inputs targets query rules compdb'
     local tool='' file=build.ninja words=() ended='' wanted=''

@@ -1,6 +1,6 @@
 # Completion of ninja-explain in fish.
 
-# Prints the tools, each with what it writes.
+# Prints the tools, each with a description.
 function __ninja_explain_tools
     printf '%s\t%s\n' \
         commands 'The commands that build the targets' \
@@ -62,7 +62,7 @@ function __ninja_explain_directories
     __fish_complete_directories (commandline -ct | string replace -- --directory= '')
 end
 
-# Prints what a tool writes about the main file.
+# Prints the output of a tool for the main file.
 function __ninja_explain_ask
     set -l file (__ninja_explain_value -f)
     test -n "$file"; or set file build.ninja

@@ -15,13 +15,13 @@ _ninja_graph_options() {
     esac
 }
 
-# The rules in the scope of the main file in the folder. Their names have only letters, digits and
+# The rules in the scope of the main file in the directory. Their names have only letters, digits and
 # `_.-`.
 _ninja_graph_rules() {
     (cd "$folder" 2>/dev/null && ninja-explain -f "$file" -t rules 2>/dev/null)
 }
 
-# The outputs of all edges of the main file in the folder.
+# The outputs of all edges of the main file in the directory.
 _ninja_graph_targets() {
     (cd "$folder" 2>/dev/null && ninja-explain -f "$file" -t targets all 2>/dev/null) | sed 's/: [^:]*$//'
 }
@@ -31,14 +31,14 @@ _ninja_graph_kinds() {
     ninja-graph audit --list 2>/dev/null | sed 's/,.*//'
 }
 
-# What the word of an option is without quotes, with the home folder for `~`.
+# The value of an option without quotes, with the home directory for `~`.
 _ninja_graph_plain() {
     local text=${1//[\\\"\']/}
     echo "${text/#'~/'/$HOME/}"
 }
 
-# Reads the words before the cursor into variables of the caller: the subcommand, the folder, the main
-# file, whether `--` ended the options, and the option whose value is at the cursor.
+# Reads the words before the cursor into variables of the caller: the subcommand, the directory, the
+# main file, whether `--` ended the options, and the option whose value is at the cursor.
 _ninja_graph_words() {
     local index option
     for ((index = 1; index < COMP_CWORD; index++)); do
@@ -88,7 +88,7 @@ _ninja_graph_offer_targets() {
     offer=(-f)
 }
 
-# What is offered is in COMPREPLY, or else it is what `compgen` makes of the words in `offer`.
+# The offers are in COMPREPLY, or else they are those of `compgen` for the words in `offer`.
 _ninja_graph() {
     local subcommand='' folder=. file=build.ninja ended='' wanted=''
     local current=${COMP_WORDS[COMP_CWORD]} offer=()

@@ -1,11 +1,11 @@
 # Completion of ninja-graph in fish. Rules and targets come from ninja-explain.
 
-# Prints the subcommands, each with what it writes.
+# Prints the subcommands, each with a description.
 function __ninja_graph_subcommands
     printf '%s\t%s\n' \
         affected 'The outputs that a change of files affects' \
-        audit 'What is probably a mistake, or of no use' \
-        draw 'A drawing of what targets need' \
+        audit 'Probable mistakes, and statements of no use' \
+        draw 'A drawing of the edges that targets need' \
         json 'Each edge as an object of JSON' \
         keys 'A key for each command that targets need' \
         why 'A chain of inputs by which a file needs another'
@@ -43,7 +43,7 @@ function __ninja_graph_value
     end
 end
 
-# Prints what a tool writes about the main file in the folder. The folder of the shell stays.
+# Prints the output of a tool for the main file in the directory. The shell's own directory stays.
 function __ninja_graph_ask
     set -l file (__ninja_graph_value -f)
     set -l folder (__ninja_graph_value -C)
@@ -74,22 +74,22 @@ complete -c ninja-graph -f
 complete -c ninja-graph -n __ninja_graph_is -a '(__ninja_graph_subcommands)'
 complete -c ninja-graph -s h -l help -d 'Write a help'
 complete -c ninja-graph -n __ninja_graph_is -s V -l version -d 'Write the version'
-complete -c ninja-graph -n __ninja_graph_has_subcommand -s C -x -d 'Change to this folder first' \
+complete -c ninja-graph -n __ninja_graph_has_subcommand -s C -x -d 'Change to this directory first' \
     -a '(__fish_complete_directories)'
 complete -c ninja-graph -n __ninja_graph_has_subcommand -s f -r -F -d 'The main file (default: build.ninja)'
-complete -c ninja-graph -n __ninja_graph_has_subcommand -l dyndep -d 'Join what dyndep files add'
-complete -c ninja-graph -n __ninja_graph_has_subcommand -l deps-log -d 'Join what the deps log has of headers'
+complete -c ninja-graph -n __ninja_graph_has_subcommand -l dyndep -d 'Join the discoveries of dyndep files'
+complete -c ninja-graph -n __ninja_graph_has_subcommand -l deps-log -d 'Join the headers of the deps log'
 complete -c ninja-graph -n __ninja_graph_has_subcommand -l deps-log-file -r -F -d 'Join this deps log'
 
 complete -c ninja-graph -n '__ninja_graph_is affected' -l source-dir -x \
-    -d 'The folder of the changed paths' -a '(__fish_complete_directories)'
+    -d 'The directory of the changed paths' -a '(__fish_complete_directories)'
 complete -c ninja-graph -n '__ninja_graph_is affected' -l rule -x -d 'Only edges with this rule' \
     -a '(__ninja_graph_ask rules)'
 complete -c ninja-graph -n '__ninja_graph_is affected' -l prefix -x -d 'Only paths that begin so'
 complete -c ninja-graph -n '__ninja_graph_is affected' -l no-phony -d 'No outputs of phony edges'
 
 complete -c ninja-graph -n '__ninja_graph_is draw keys why' -a '(__ninja_graph_targets)'
-complete -c ninja-graph -n '__ninja_graph_is draw' -l affected -d 'Draw what a change of the files affects'
+complete -c ninja-graph -n '__ninja_graph_is draw' -l affected -d 'Draw the edges that a change of the files affects'
 complete -c ninja-graph -n '__ninja_graph_is draw' -l fold -d 'Draw each phony edge as a point'
 complete -c ninja-graph -n '__ninja_graph_is draw' -l limit -x -d 'How many nodes at most'
 complete -c ninja-graph -n '__ninja_graph_is draw' -l inputs -x -d 'How many inputs of an edge at most'
@@ -102,7 +102,7 @@ complete -c ninja-graph -n '__ninja_graph_is audit' -l except -x -d 'Do not find
 complete -c ninja-graph -n '__ninja_graph_is audit' -l json -d 'An object of JSON for each finding'
 complete -c ninja-graph -n '__ninja_graph_is audit' -l list -d 'List the kinds'
 
-complete -c ninja-graph -n '__ninja_graph_is keys' -l base -x -d 'Let a number stand for this folder' \
+complete -c ninja-graph -n '__ninja_graph_is keys' -l base -x -d 'Let a number stand for this directory' \
     -a '(__fish_complete_directories)'
 complete -c ninja-graph -n '__ninja_graph_is keys' -l take -x -d 'Stop after so many commands'
-complete -c ninja-graph -n '__ninja_graph_is keys' -l resume -x -d 'Write what is left after this mark'
+complete -c ninja-graph -n '__ninja_graph_is keys' -l resume -x -d 'Write the rest after this mark'

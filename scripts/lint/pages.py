@@ -53,15 +53,15 @@ def links_lead_somewhere():
 @cache
 def declared():
     """The words of the sources, and the names of their files."""
-    kinds = "crates/**/*.rt", "crates/**/*.antt", "crates/**/*.edit", "scripts/**/*.py", "bench/*.py"
-    kinds += "include/*", "Makefile", "crates/*/data/*", "examples/**/*.ninja", "python/**/*.py"
+    kinds = "crates/*/src/**/*.rt", "crates/*/specs/**/*.antt", "crates/*/proofs/**/*.antt"
+    kinds += "crates/*/must-fail/*.edit", "crates/*/data/*", "scripts/**/*.py", "bench/*.py"
+    kinds += "include/*", "Makefile", "examples/**/*.ninja", "python/**/*.py"
     files = {file for kind in kinds for file in ROOT.glob(kind) if file.is_file()}
     files.discard(Path(__file__))
     words = {name for file in files for name in (file.name, file.stem)}
     words |= {part for file in files for part in file.parent.parts}
     for file in files:
-        if "/out/" not in str(file):
-            words.update(re.findall(r"\w+", file.read_text(errors="replace")))
+        words.update(re.findall(r"\w+", file.read_text(errors="replace")))
     return words
 
 
@@ -180,3 +180,24 @@ def headline_is_one():
     """README.md has the headline whose words docs/HEADLINE.md explains."""
     bold = re.search(r"^\*\*(For every accepted .*?)\*\*$", README.read_text(), re.M | re.S)
     yield from expect("the headline", " ".join(bold[1].split()), " ".join(headline.PHRASES))
+
+
+# ---- man pages
+
+MACROS = set("B BI BR EE EX I IB IP IR PP RB RE RI RS SH SS TH TP TQ UE UR br".split())
+
+
+def hidden(text):
+    """The lines of a man page that `man` does not show, since they begin as a macro and name none."""
+    for number, line in enumerate(text.splitlines(), 1):
+        macro = re.match(r"[.'](\S*)", line)
+        if macro and macro[1] not in MACROS:
+            yield f"{number}: `man` takes {line} for a macro; \\& before it shows it"
+
+
+@check
+def man_pages_show_each_line():
+    for page in sorted((ROOT / "man").glob("*.1")):
+        for line in hidden(page.read_text()):
+            yield f"{page.relative_to(ROOT)}:{line}"
+    yield from expect("a line `.import a b`", len(list(hidden(".EX\n.import a b\n\\&.import a b\n.EE\n"))), 1)

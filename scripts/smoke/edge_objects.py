@@ -181,7 +181,9 @@ def wrong_words(graph):
 
 def recipes():
     """The recipes of the page that use a program on what `json` writes."""
-    text = PAGE.read_text().replace("\\-", "-").replace("\\(aq", "'").replace("\\en", "\\n").replace("\\e", "\\")
+    text = PAGE.read_text()
+    for written, shown in ("\\&", ""), ("\\-", "-"), ("\\(aq", "'"), ("\\en", "\\n"), ("\\e", "\\"):
+        text = text.replace(written, shown)
     return [it for it in re.findall(r"^\.EX\n(.*?)^\.EE$", text, re.M | re.S) if "ninja-graph json" in it]
 
 
