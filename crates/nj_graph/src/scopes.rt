@@ -41,7 +41,7 @@ impl Graph {
         ensures main { (entries : List ReadStatement) → IsGraphOf self.now entries → scope ≡ 0
             → option_copied result ≡ value_if_bound entries (0 ∷ []) name.now }
         ensures stated { (entries : List ReadStatement) (e : ReadStatement)
-            → IsGraphOf self.now entries → Contains entries e → e.number ≡ scope
+            → IsGraphOf self.now entries → Contains entries e → e.scope ≡ scope
             → option_copied result ≡ value_if_bound entries (scope_of e) name.now }
         ensures within { (entries : List ReadStatement) (around : List ℕ)
             → IsGraphOf self.now entries
