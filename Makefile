@@ -17,7 +17,7 @@ FILES := $(shell cd $(PROJECT) && find * -type f)
 # run at once.
 JOBS ?= $(shell nproc)
 
-# What `make install` installs, from which folder, and where it puts things, with DESTDIR in front of
+# The files that `make install` installs, from which directory, and where it puts things, with DESTDIR in front of
 # every path.
 NAMES := ninja-explain ninja-graph
 BIN := bin
@@ -89,8 +89,8 @@ endif
 test:
 	@python3 scripts/run_tests.py --jobs $(JOBS)
 
-# What a change of one crate needs before a commit, with CRATE=nj_text: its check, its edits, the tests
-# and rows on it, and the layout of its files. What else the change reaches is named.
+# The checks of one crate before a commit, with CRATE=nj_text: its check, its edits, the tests
+# and rows on it, and the layout of its files. It names the crates above.
 check:
 	@python3 scripts/check_crate.py $(CRATE)
 
@@ -103,7 +103,7 @@ gate:
 pages:
 	@python3 scripts/map.py && python3 scripts/reference.py && python3 scripts/headline.py
 
-# Checks what is read from files alone: docs/GATE.md lists it. It takes seconds, and needs no program.
+# Runs the checks that read files alone: docs/GATE.md lists them. It takes seconds, and needs no program.
 lint:
 	@python3 scripts/lint --jobs $(JOBS) $(CHECKS)
 
@@ -112,7 +112,7 @@ lint:
 smoke: $(BUILT) $(GRAPH) $(CALL_ROWS)
 	@python3 scripts/smoke --jobs $(JOBS) $(CHECKS)
 
-# Runs the library for C and the examples on it beside the program, and on what it must refuse.
+# Runs the library for C and the examples on it beside the program, and on inputs that it must refuse.
 c-test: $(BUILT) $(GRAPH) $(LIBRARY).so
 	python3 scripts/c_test.py --jobs $(JOBS) $(BUILT) $(GRAPH)
 
@@ -139,7 +139,7 @@ $(RUN_ROWS) $(CALL_ROWS): $(wildcard crates/*/src/*.rt)
 	cd $(dir $@).. && rt run > /dev/null
 
 # Installs the programs that `make` built, their man pages, and completions for three shells; and the
-# library for C where `make c` built it. Refuses what names no logic in which it was proved.
+# library for C where `make c` built it. Refuses files that name no logic in which they were proved.
 install:
 	@for name in $(NAMES); do test -x "$(BIN)/$$name" || \
 	{ echo "there is no $(BIN)/$$name to install: prove and build it first, with 'make'" >&2; exit 1; }; done
@@ -162,7 +162,7 @@ install-c:
 	mkdir -p "$(dir $(INSTALLED_PC))"
 	sed 's|@PREFIX@|$(PREFIX)|' include/ninja_explain.pc.in > "$(INSTALLED_PC)"
 
-# Removes what `make install` with the same PREFIX and DESTDIR installed, except folders.
+# Removes what `make install` with the same PREFIX and DESTDIR installed, except directories.
 uninstall:
 	for name in $(NAMES); do rm -f "$(INSTALLED_PROGRAMS)/$$name" "$(INSTALLED_PAGES)/$$name.1" \
 	"$(INSTALLED_BASH)/$$name" "$(INSTALLED_ZSH)/_$$name" "$(INSTALLED_FISH)/$$name.fish"; done
@@ -171,7 +171,7 @@ uninstall:
 	"$(INSTALLED_LIBRARY).so" "$(INSTALLED_PC)"
 
 # Packs the program and the library for C, which are proved first if they were not, in dist/: an
-# archive, Debian packages, what they were made from, and checksums. With LOG=FILE the verdicts come
+# archive, Debian packages, their provenance, and checksums. With LOG=FILE the verdicts come
 # from a log of the gate; else they are those that `make` and `make c` kept.
 dist: $(BUILT) $(GRAPH) $(LIBRARY).so
 	@python3 scripts/dist $(if $(LOG),--log "$(LOG)")

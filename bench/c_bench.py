@@ -4,7 +4,7 @@
 On a manifest of manifest.py it compares a process that loads by the library with the program's
 `-t rules`, which loads as well, and one that runs `-t commands` by the library with the program's:
 the median of the CPU times of five rounds, in turn, and the greatest memory. Then it prints
-what calls take, from C (c_bench.c) and from Python (python): the least of five rounds,
+the time of calls, from C (c_bench.c) and from Python (python): the least of five rounds,
 divided by the calls. The tables are as in docs/BENCHMARKS.md.
 """
 

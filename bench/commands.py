@@ -36,7 +36,7 @@ MEMORY_AIM = 0.9
 
 
 def programs_of(program, folder):
-    """The words of what is run. Ninja is left out if it runs out of stack."""
+    """The arguments of the programs. Ninja is left out if it runs out of stack."""
     programs = {"program": [program, "-t", "commands"]}
     if shutil.which("ninja"):
         try:

@@ -1,5 +1,5 @@
 #!/usr/bin/env python3
-"""Measures what deps logs cost:
+"""Measures the cost of deps logs:
 
     deps.py PROGRAM [--objects N] [--rounds N]
 

@@ -1,5 +1,5 @@
 #!/usr/bin/env python3
-"""Measures what docs/BENCHMARKS.md shows, and writes its tables and pictures:
+"""Measures the figures of docs/BENCHMARKS.md, and writes its tables and pictures:
 
     figures.py PROGRAM [--only runs,tools,..] [--rounds N]
     figures.py PROGRAM --again [--only runs,tools,..] [--rounds N]
@@ -85,7 +85,7 @@ def manifests_in(folder):
 
 
 def limits(words):
-    """How far a run is from reading the bytes alone, and what a million edges take."""
+    """How far a run is from reading the bytes alone, and the cost of a million edges."""
     with tempfile.TemporaryDirectory() as room:
         floor, listed = compiled_floor(room), os.path.join(room, "list")
         for shape, write in ratios.SHAPES.items():

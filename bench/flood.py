@@ -39,7 +39,7 @@ def colliding_names(folder, count, bits=12):
 
 
 def chosen_names(folder, count, bits=12):
-    """The same, and paths of which pairs collide more often than others."""
+    """The same, and paths whose pairs collide more often than others."""
     return {**colliding_names(folder, count, bits), PAIRS: near_names(count)}
 
 

@@ -1,8 +1,8 @@
 #!/usr/bin/env python3
 """Writes a large Ninja file with N build statements to standard output: manifest.py N [SHAPE]
 
-    cmake     what CMake writes, with long values (the default)
-    dense     what generators write that list the includes of each file: long lists of short inputs,
+    cmake     as CMake writes it, with long values (the default)
+    dense     as by generators that list the includes of each file: long lists of short inputs,
               paths of about 34 bytes, and in each block five references and a joined line
     headings  `cmake` with the long comments that CMake writes above a target and its statements
 

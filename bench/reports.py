@@ -1,4 +1,4 @@
-"""What the measuring scripts share: how they read their arguments and print their results."""
+"""The common parts of the measuring scripts: how they read their arguments and print their results."""
 
 import contextlib
 import os

@@ -2,7 +2,7 @@
 """Writes a Ninja file that is hard for a careless reader to standard output: shapes.py SHAPE N
 
     inputs      one edge with N inputs
-    chain       N edges, each of which needs the next one: a walk from the first goes N deep
+    chain       N edges, each needing the next one: a walk from the first goes N deep
     shared      N edges that all use one file
     wide        N edges with 30 inputs each, as programs of many objects have: the first needs 30
                 others, each of these 30 more, and so on

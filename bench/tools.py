@@ -13,9 +13,9 @@ program is measured alone.
 
 The manifests are the shapes of manifest.py with the numbers of edges in --sizes, without their
 `default` line and with a response file for each link. They are in a temporary directory. `query many`
-asks for 10,000 files, or fewer if the manifest has fewer. `compdb many rules` names 1,000 rules, of
-which only the last exists. At the end are listed: what missed its aim (0.40 of Ninja's time, 0.90
-of its memory), what wrote something else, and what grew by more than the manifest did.
+queries 10,000 files, or fewer if the manifest has fewer. `compdb many rules` names 1,000 rules;
+only the last exists. At the end are listed: figures that missed their aim (0.40 of Ninja's time, 0.90
+of its memory), runs with another output, and figures that grew by more than the manifest did.
 """
 
 import argparse

@@ -6,13 +6,13 @@
 `PROGRAM -t commands --validations` is compared with `PROGRAM -t commands` on the same files, and so
 is `inputs`. The files are in a temporary directory:
 
-    chain   N edges, each of which is the validation of the one before. Each round of validations
+    chain   N edges, each the validation of the one before. Each round of validations
             adds one edge, so code that looks at the whole list in each round takes time in N^2
     tests   N edges: libraries of 18 sources, each with a test that validates it and needs it
 
 The target of the chain is its first edge. In the tests a `default` line names all libraries. What
 the runs write is checked. Each is run three times, or N times, in turn. The best wall-clock and CPU
-times count, and the greatest memory. At the end is listed what grew by more than the manifest did.
+times count, and the greatest memory. The end lists the figures that grew by more than the manifest did.
 """
 
 import argparse

@@ -44,7 +44,7 @@ class Definition:
 
 
 class Module:
-    """A file: what it defines, the names that it imports, and its names for other modules."""
+    """A file: its definitions, the names that it imports, and its names for other modules."""
 
     def __init__(self, file):
         self.file, self.defined, self.names, self.modules = file, {}, {}, {}
@@ -57,7 +57,7 @@ class Module:
             self.names[item.split(" as ")[-1]] = module, item.split(" as ")[0]
 
     def use(self, line):
-        """Imports what a `use` of definitions names."""
+        """Imports the names of a `use` of definitions."""
         if found := re.match(r"(?:pub )?use (\S+?)\.\{(.*)\}", line, re.S):
             self.import_names(found[1], found[2])
         elif found := re.match(r"(?:pub )?use (\S+)(?: as (\S+))?", line):
@@ -68,7 +68,7 @@ class Module:
 
 
 def add_to(of, chunk, name):
-    """Adds a part of a file to what the file defines: a new definition, several that cite each other, or
+    """Adds a part of a file to the file's definitions: a new definition, several that cite each other, or
     an equation of the last one, which is called `name`. Returns the name of the definition."""
     words = chunk.split()
     head = [word for word in words if word not in KEYWORDS]

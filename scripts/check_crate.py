@@ -1,5 +1,5 @@
 #!/usr/bin/env python3
-"""Does for one crate what a change of it needs before a commit: check_crate.py CRATE
+"""Runs the checks that a change of one crate needs before a commit: check_crate.py CRATE
 
 Its check, its tests and stored run without proof, the tests that name it in crates.txt, the rows if
 they stand on it, its must-fail edits, and the layout of its files, which is only compared. Then the

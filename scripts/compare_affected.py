@@ -1,5 +1,5 @@
 #!/usr/bin/env python3
-"""Compares the targets that a change affects with what follows from Ninja's `query`:
+"""Compares the targets that a change affects with those that follow from Ninja's `query`:
 
     compare_affected.py [--edges N] [--changes N] [--seed N] -- PROGRAM [WORD..]
 
@@ -7,7 +7,7 @@ PROGRAM, with its words, reads changed paths from standard input. It has to prin
 build.ninja in its working directory that they affect, one per line. It runs on manifests like the ones
 of CMake and LLVM with N edges, and on each for N changes, which are random files. The outputs that
 Ninja's `query` lists for a file belong to the edges that have it as an input. So the affected
-targets are these, what `query` lists for these, and so on. Each difference is printed. The last
+targets are these, those that `query` lists for them, and so on. Each difference is printed. The last
 line has the counts.
 """
 

@@ -1,5 +1,5 @@
 #!/usr/bin/env python3
-"""Compares with Ninja what dyndep files discover, on generated files.
+"""Compares the discoveries of dyndep files with Ninja's, on generated files.
 
 Ninja's `query` loads the dyndep file of the edge that makes the file in question, and lists the
 inputs of that edge. They are compared with those that `query --dyndep` lists. If Ninja refuses the

@@ -1,4 +1,4 @@
-"""Follows the processes that `rt ci` starts, by /proc, and sums what each took.
+"""Follows the processes that `rt ci` starts, by /proc, and sums the time and memory of each.
 
 A `Meter` looks a few times a second. What a process used after the last look at it is in what its
 parent took over from ended children, so it is not lost: it goes to the processes that ended since.
@@ -30,7 +30,7 @@ PROOF, TESTS, BESIDE, EDIT, BUILD, RUN, LAYOUT = PHASES = (
 EDITED, SEEDS = re.compile(r"/rt-edit-\d+-[^/]*$"), re.compile(r"/rt-edits-\d+-[^/]*/(\w+)$")
 STARTED = re.compile(r"/rt-run-\d+-[^/]*/bin/(\w+?)(_tests)?$")
 IN_CRATE = re.compile(r"/crates/(\w+)(/|$)")
-# What `rt ci` prints after each run.
+# The line that `rt ci` prints after each run.
 RAN = re.compile(
     rb"^rt: (\w+)(?: \(built by[^)]*\))?"
     rb"(?: ran|: (?:what )?the program|: its (tests) (?:passed|FAILED))",
@@ -47,7 +47,7 @@ class Label(NamedTuple):
 
 
 class Stat(NamedTuple):
-    """What /proc has of a process: times in seconds, and memory in bytes."""
+    """The state of a process by /proc: times in seconds, and memory in bytes."""
 
     parent: int
     own: float
@@ -125,7 +125,7 @@ def read_label(pid, root):
 
 
 def stat_of(pid):
-    """What /proc has of a process, or `None` where it is gone."""
+    """The state of a process by /proc, or `None` where it is gone."""
     try:
         with open(f"/proc/{pid}/stat", "rb") as file:
             text = file.read()
@@ -177,7 +177,7 @@ class Meter:
         self.own = self.settled = self.unseen = 0.0
 
     def look(self, printed=b""):
-        """Takes what /proc has now, and `printed`, what the process has just printed."""
+        """Takes the state of /proc, and `printed`, the latest output of the process."""
         for _ in range(TRIES):
             first, found = stat_of(self.pid), self.family.look()
             again = stat_of(self.pid)
@@ -210,7 +210,7 @@ class Meter:
         part.end = clock
 
     def settle(self, total, found, clock, printed):
-        """Gives what children took after the last look at them to those that ended since."""
+        """Adds the time of children after the last look at them to those that ended since."""
         gone = [self.running.pop(pid) for pid in [*self.running] if pid not in found]
         rest = max(total - self.settled - sum(part.used for part in gone), 0.0)
         self.settled = total
@@ -225,7 +225,7 @@ class Meter:
         self.ended += gone
 
     def finish(self, whole):
-        """Closes the books: `whole` is what the process took with all of its children."""
+        """Closes the books: `whole` is the time of the process with all of its children."""
         self.settle(max(whole - self.own, self.settled), {}, now(), b"")
 
     def attributed(self):

@@ -1,4 +1,4 @@
-"""Writes what `gate_processes` measured as tables, with the machine and its load."""
+"""Writes the measurements of `gate_processes` as tables, with the machine and its load."""
 
 import os
 import re
@@ -126,7 +126,7 @@ def row(*cells):
 
 
 class Table:
-    """What each step of each crate took, and the whole."""
+    """The time of each step of each crate, and of the whole."""
 
     def __init__(self, meter, usage, before, top):
         self.before, self.after, self.top, self.usage = before, Machine(), top, usage
@@ -193,7 +193,7 @@ class Table:
             yield row(name, text)
 
     def facts(self):
-        """What is said of the whole, as names and texts."""
+        """The figures of the whole, as names and texts."""
         clock = self.after.clock - self.before.clock
         others = self.after.busy - self.before.busy - self.took
         stolen = self.after.stolen - self.before.stolen

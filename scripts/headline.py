@@ -1,8 +1,8 @@
 #!/usr/bin/env python3
-"""Writes docs/HEADLINE.md: the definition of each word of what is proved of `commands`.
+"""Writes docs/HEADLINE.md: the definition of each word of the theorem on `commands`.
 
     headline.py            writes the page
-    headline.py --check    ends with status 1 if it is not what it would write
+    headline.py --check    ends with status 1 if the page is out of date
 
 The definitions are shown as they stand in the specs, each with the comment above it.
 """

@@ -1,11 +1,11 @@
 #!/usr/bin/env python3
-"""Writes the generated parts of docs/ARCHITECTURE.md: which crates there are, what each stands on,
-how long it is, and what each of its files has.
+"""Writes the generated parts of docs/ARCHITECTURE.md: which crates there are, on what each stands,
+how long it is, and the subject of each of its files.
 
     map.py            writes them, between the marks that name them
-    map.py --check    ends with status 1 if they are not what it would write
+    map.py --check    ends with status 1 if they are out of date
 
-What a crate or a file has is the first sentence of its comment: of `//!` in `src/`, and of the
+The subject of a crate or a file is the first sentence of its comment: of `//!` in `src/`, and of the
 comment at the top of a definition file. So a crate, a module or a definition file that is added,
 renamed or removed is in the page once this has run.
 """
@@ -22,7 +22,7 @@ NAMING = {"Lib.antt", "Inside.antt"}
 
 
 def crates():
-    """The crates of crates.txt from the top down, each with what it stands on."""
+    """The crates of crates.txt from the top down, each with those on which it stands."""
     rows = {}
     for line in (ROOT / "crates.txt").read_text().splitlines():
         head, _, uses = line.partition(":")
@@ -48,7 +48,7 @@ def root_of(crate):
 
 
 def code_of(crate):
-    """The text of its modules without what is only there for contracts."""
+    """The text of its modules without the parts that are only there for contracts."""
     text = "\n".join(file.read_text() for file in sorted((CRATES / crate).glob("src/**/*.rt")))
     return re.sub(r"ghost use [^;]*;|//.*", "", text)
 
@@ -123,7 +123,7 @@ def of_layers():
 
 
 def spec_rows(crate):
-    """Its definition files: what must be believed, and then the plumbing in italics."""
+    """Its definition files: those to believe, and then the plumbing in italics."""
     specs = CRATES / crate / "specs"
     for folder, mark in (specs, ""), (specs / "Inside", "*"):
         for file in sorted(folder.glob("*.antt")):

@@ -2,7 +2,7 @@
 """Runs the gate and measures it: measure_gate.py [--table FILE] [--print] [WORD..]
 
 Runs `rt ci` with these words, as `--anew`, at the top of the repository, and follows the processes
-that it starts. What it prints passes through, and the status is its own. A failure of the measuring
+that it starts. Its output passes through, and the status is its own. A failure of the measuring
 changes neither; it is reported on standard error.
 
 --table writes to FILE, in Markdown, the CPU and wall-clock time of each step of each crate, the sums
@@ -40,7 +40,7 @@ def write_all(text):
 
 
 def guarded(call, *given):
-    """Calls what measures, and tells of what it raises: that must not end the gate."""
+    """Calls a measuring function, and reports its exception: that must not end the gate."""
     try:
         return call(*given)
     except Exception:
@@ -50,7 +50,7 @@ def guarded(call, *given):
 
 
 class Gate:
-    """`rt ci`, what it printed, and the meter that follows it."""
+    """`rt ci`, its output, and the meter that follows it."""
 
     def __init__(self, words, holds_last):
         self.meter = self.usage = None
@@ -65,7 +65,7 @@ class Gate:
             self.meter = guarded(self.meter.look, printed)
 
     def pass_on(self, text):
-        """Writes what was printed, but for the last line where that is held back."""
+        """Writes the output, but for the last line where that is held back."""
         if self.holds_last:
             text = self.last + text
             at = text.rfind(b"\n", 0, -1) + 1
@@ -80,7 +80,7 @@ class Gate:
         return os.waitid(os.P_PID, self.run.pid, os.WEXITED | os.WNOHANG | os.WNOWAIT) is not None
 
     def follow(self):
-        """Passes on what `rt ci` prints until it has ended, measures it, and returns its status."""
+        """Passes on the output of `rt ci` until it has ended, measures it, and returns its status."""
         is_open, ended = True, False
         while True:
             ready = []

@@ -1,5 +1,5 @@
 #!/usr/bin/env python3
-"""Packs what checks kept, or unpacks it in another clone: proofs.py save FILE, proofs.py load FILE
+"""Packs the kept results of checks, or unpacks them in another clone: proofs.py save FILE, proofs.py load FILE
 
 FILE is an archive of `tar` and `zstd` with out/incremental of each crate, and the line of `rt
 version`, which has to be the same where it is unpacked. A crate that has kept something already
@@ -17,7 +17,7 @@ from pathlib import Path
 
 TOP = Path(__file__).resolve().parent.parent
 KIT = "kit"
-# What an archive may hold.
+# The paths that an archive may hold.
 MEMBER = re.compile(r"kit|crates/\w+/out/incremental(/[\w.+-]+)*/?")
 
 
@@ -34,7 +34,7 @@ def kit():
 
 
 def kept(top):
-    """What the crates below a directory have kept."""
+    """The kept results of the crates below a directory."""
     return sorted(top.glob("crates/*/out/incremental"))
 
 

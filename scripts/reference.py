@@ -3,7 +3,7 @@
 what is proved of it, and what shows that the proof says something.
 
     reference.py            writes the page
-    reference.py --check    ends with status 1 if it is not what it would write
+    reference.py --check    ends with status 1 if the page is out of date
 
 A call is a public function of a library, or a method of a public type. Of its contract the names of
 the clauses are shown, each with the definitions of ours that it cites. The must-fail edits of a call
@@ -21,7 +21,7 @@ from lib.programs import CRATES, ROOT
 from map import crates, first_sentence, root_of
 
 PAGE = ROOT / "docs/REFERENCE.md"
-# What makes calls to show or test them.
+# The crates that make calls to show or test them.
 CALLERS = "nj_rows", "nj_call_rows", "nj_run_rows", "library_example"
 HEAD = re.compile(r'^( *)pub (?:extern "C" |unsafe |const )*fn (\w+)', re.M)
 IMPL = re.compile(r"^impl\b(?:<[^{]*?>)? (?:[\w:<>, ']+ for )?(\w+)[^{]*\{", re.M)
@@ -73,7 +73,7 @@ def cited(clause, names):
 
 
 def contract(text, names):
-    """The clauses of a contract: what kind each is, its name, and what it cites."""
+    """The clauses of a contract: the kind of each, its name, and the definitions that it cites."""
     starts = list(CLAUSE.finditer(text))
     ends = [found.start() for found in starts[1:]] + [len(text)]
     for found, end in zip(starts, ends):

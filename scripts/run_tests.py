@@ -29,7 +29,7 @@ from gate_table import crates_below
 
 TOP = Path(__file__).resolve().parent.parent
 CRATES = TOP / "crates"
-# What reads files alone, and how it says how much passed.
+# The script that reads files alone, and how it reports how much passed.
 LINT = "lint"
 LINTED = re.compile(r"^(\d+) checks passed, (\d+) failed")
 # They take longest, so they begin first.
@@ -49,7 +49,7 @@ HINT = b"\0no function\0"
 
 @dataclass
 class Outcome:
-    """What came of a run: how much passed, and what failed."""
+    """The result of a run: how much passed, and the failures."""
 
     name: str
     passed: int = 0
@@ -65,7 +65,7 @@ class Outcome:
 
 
 def last_lines(text):
-    """The end of what a run wrote, indented."""
+    """The end of a run's output, indented."""
     return "\n".join(f"    {line}" for line in text.rstrip("\n").split("\n")[-MOST_LINES:])
 
 
@@ -96,7 +96,7 @@ def run_tests(crate):
 
 
 def bytes_of(file):
-    """What a file holds, or nothing where there is none."""
+    """The contents of a file, or nothing where there is none."""
     return file.read_bytes() if file.is_file() else b""
 
 
@@ -152,7 +152,7 @@ def run_lint(name):
 
 
 def timed(call, name):
-    """What a run came to, also where it could not be started."""
+    """The result of a run, also where it could not be started."""
     start = time.monotonic()
     try:
         outcome = call(name)
@@ -182,14 +182,14 @@ def has_tests(crate):
 
 
 def work_for(names):
-    """What is to be run, as calls and names, the longest first."""
+    """The runs, as calls and names, the longest first."""
     work = [(run_tests, name) for name in names if has_tests(name)]
     work += [(run_program, name) for name in names if (CRATES / name / "src/main.rt").is_file()]
     return sorted(work, key=lambda it: it[1] not in LONGEST)
 
 
 def run_all(work, jobs):
-    """Runs all, prints what came of each, and returns how much passed and failed."""
+    """Runs all, prints the result of each, and returns how much passed and failed."""
     passed = failed = 0
     with ThreadPoolExecutor(jobs) as pool:
         runs = [pool.submit(timed, *it) for it in work]

@@ -18,7 +18,7 @@ from itertools import groupby
 from pathlib import Path
 
 PROGRAM = Path(__file__).resolve().parent.parent / "crates/ninja_explain"
-# Parts of the messages with which `rt try` refuses a run, and what they mean.
+# Parts of the messages with which `rt try` refuses a run, and their meaning.
 LIMITS = {
     "did not end within the time limit": "takes more than a minute",
     "the program wrote more than 1048576 bytes": "writes more than 1 MiB",

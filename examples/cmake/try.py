@@ -9,7 +9,7 @@ same as `ninja -t compdb` writes, and to have the commands that CMake itself wri
 Then clang-tidy reads it: it has to find the project's header, for which a command is all it has to
 go by, and not to find it where the command lacks the include path.
 
-Prints what is wrong, or that all is well. The status is 1 if anything is wrong.
+Prints the problems, or that all is well. The status is 1 if anything is wrong.
 """
 
 import json
@@ -34,7 +34,7 @@ and all(.[]; keys == ["command", "directory", "file", "output"] and all(.[]; typ
 
 
 def output_of(words, folder):
-    """What a program writes, which has to end well."""
+    """The output of a program, which has to succeed."""
     ran = subprocess.run(words, cwd=folder, capture_output=True, text=True)
     if ran.returncode:
         said = ran.stdout + ran.stderr
@@ -74,7 +74,7 @@ def commands_of_sources(entries):
 
 
 def finds_header(entries, folder):
-    """Whether clang-tidy can read the sources by a database of these entries, and what it says."""
+    """Whether clang-tidy can read the sources by a database of these entries, and its output."""
     (folder / "compile_commands.json").write_text(json.dumps(entries))
     words = ["clang-tidy", "--quiet", "--checks=-*,bugprone-*", "-p", str(folder)]
     ran = subprocess.run([*words, *sorted(SOURCES)], cwd=folder, capture_output=True, text=True)
@@ -82,7 +82,7 @@ def finds_header(entries, folder):
 
 
 def check(build, folder):
-    """What is wrong with the database of the build directory."""
+    """The problems of the database of the build directory."""
     text = output_of([PROGRAM, "-t", "compdb", "--directory", str(build)], build)
     written = folder / "written.json"
     written.write_text(text)

@@ -1,8 +1,8 @@
-"""Packs what is proved: python3 scripts/dist [--crates FOLDER] [--library FOLDER] [--log FILE] [OUT]
+"""Packs the proved binaries: python3 scripts/dist [--crates FOLDER] [--library FOLDER] [--log FILE] [OUT]
 
 Writes to OUT, an empty directory or by default dist/, an archive and two Debian packages of the programs that were built
 below FOLDER, by default crates/, and of the library for C, by default in lib/; a wheel of the Python
-package, which carries that library; PROVENANCE, which says what they were made from; and SHA256SUMS. The same programs and commit give the same bytes.
+package, which carries that library; PROVENANCE, which names their origins; and SHA256SUMS. The same programs and commit give the same bytes.
 
 The verdicts on the crates are those that `make` and `make c` kept, or that a log of `rt` has. A
 binary that names no logic in which it was proved, or another one than that of `rt version`, is
@@ -27,7 +27,7 @@ OUT = ROOT / "dist"
 
 
 class Release:
-    """What is packed, and what it was made from."""
+    """The packed files and their origins."""
 
     def __init__(self, crates, library):
         self.crates, self.library = crates, library

@@ -1,4 +1,4 @@
-"""What a program or a shared library needs of the system."""
+"""The system libraries that a program or a shared library needs."""
 
 import re
 import subprocess

@@ -1,4 +1,4 @@
-"""What is packed: the files of each program and of the library for C, as below a PREFIX.
+"""The packed files: those of each program and of the library for C, as below a PREFIX.
 
 A further program is a line of PROGRAMS; it has a man page and completions as the others have.
 """
@@ -39,7 +39,7 @@ def copy(source, path, is_program=False):
 
 
 def of_program(name, crates):
-    """The files of a program that was built below this folder of crates."""
+    """The files of a program that was built below this directory of crates."""
     crate = PROGRAMS[name]
     yield copy(crates / crate / "out" / crate, f"bin/{name}", is_program=True)
     yield copy(ROOT / "man" / f"{name}.1", f"share/man/man1/{name}.1")
@@ -52,7 +52,7 @@ def of_programs(crates):
 
 
 def of_library(folder, prefix, libraries="lib"):
-    """The files of the library for C that was built in a folder."""
+    """The files of the library for C that was built in a directory."""
     text = (ROOT / "include/ninja_explain.pc.in").read_text().replace("@PREFIX@", prefix)
     text = text.replace("${prefix}/lib", f"${{prefix}}/{libraries}")
     return [

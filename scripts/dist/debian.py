@@ -1,4 +1,4 @@
-"""What the Debian packages hold beside the files of `make install`."""
+"""The files of the Debian packages beside those of `make install`."""
 
 import re
 import textwrap

@@ -1,4 +1,4 @@
-"""What a release was made from, in words: the commit, the toolchain, what each binary says of its
+"""The origins of a release, as text: the commit, the toolchain, what each binary says of its
 proof, and the verdict on each crate."""
 
 import re
@@ -28,13 +28,13 @@ def commit():
 
 
 def packed_crates():
-    """The crates of which the programs and the library are made, in the order of crates.txt."""
+    """The crates of the programs and the library, in the order of crates.txt."""
     return verdicts.with_those_below([*PROGRAMS.values(), LIBRARY_CRATE])
 
 
 def text(version, commit, toolchain, logics, sums, log):
-    """The file PROVENANCE. `logics` has what each binary says of its proof, `sums` the lines of
-    their checksums, and `log`, if any, what `rt` printed."""
+    """The file PROVENANCE. `logics` has the logic that each binary names, `sums` the lines of
+    their checksums, and `log`, if any, the output of `rt`."""
     told = verdicts.kept(packed_crates()) | (verdicts.read(log) if log else {})
     width = max(map(len, logics))
     lines = [f"ninja-explain {version}", "", f"commit {commit}", f"toolchain {toolchain}", ""]

@@ -1,10 +1,10 @@
-"""Checks what `make dist` packs: python3 scripts/dist_check [--crates FOLDER] [--library FOLDER]
+"""Checks the packages of `make dist`: python3 scripts/dist_check [--crates FOLDER] [--library FOLDER]
 [--jobs N] [NAME..]
 
 Packs the programs that were built below FOLDER, by default crates/, and the library for C, by
-default in lib/, unpacks them into empty directories, and runs there what a user would.
+default in lib/, unpacks them into empty directories, and runs there the commands of a user.
 
-Prints what is wrong, and last how many checks passed. The exit status is 1 if one failed.
+Prints the problems, and last how many checks passed. The exit status is 1 if one failed.
 """
 
 import sys

@@ -1,4 +1,4 @@
-"""What Debian's own programs say of the packages, and a Debian into which they are installed."""
+"""The verdicts of Debian's own programs on the packages, and a Debian into which they are installed."""
 
 import os
 import shutil

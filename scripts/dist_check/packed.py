@@ -1,4 +1,4 @@
-"""What was packed, and how it is unpacked."""
+"""The packages, and how they are unpacked."""
 
 import subprocess
 import sys
@@ -12,7 +12,7 @@ from dist.debian import LIBRARIES, LIBRARY_PACKAGE, PROGRAM_PACKAGE
 from lib.programs import ROOT
 from lint.version import version
 
-# The directories with what was built, as `scripts/dist` takes them.
+# The directories with the built files, as `scripts/dist` takes them.
 Built = namedtuple("Built", "crates library")
 # A directory that holds what a package has below its PREFIX, its libraries, and what pkg-config is told.
 Prefix = namedtuple("Prefix", "name folder libraries environment")
@@ -35,7 +35,7 @@ def pack(built, out):
 
 
 def wheel_of(built):
-    """The name of the wheel, which says what its library needs."""
+    """The name of the wheel, which has the requirements of its library."""
     return wheel.name(version(), libc_needed(built.library / f"{LIBRARY}.so.1"))
 
 
@@ -71,5 +71,5 @@ def unpack_debs(packed, folder):
 
 
 def prefixes(packed, folder):
-    """What a user has after unpacking: the archive, and the Debian packages."""
+    """The files of a user after unpacking: the archive, and the Debian packages."""
     return [unpack_archive(packed, folder / "archive"), unpack_debs(packed, folder / "debian")]

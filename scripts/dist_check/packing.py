@@ -1,4 +1,4 @@
-"""The bytes of what is packed, and the pieces that make them."""
+"""The bytes of packages, and the pieces that make them."""
 
 import io
 import subprocess

@@ -1,4 +1,4 @@
-"""What must be refused: changed bytes, and programs that nobody proved."""
+"""Inputs that must be refused: changed bytes, and programs that nobody proved."""
 
 import re
 import shutil
@@ -12,7 +12,7 @@ UNPROVED = "int main(void) { return 0; }\n"
 
 
 def copy_of(built, folder):
-    """A copy of what was built, to be changed."""
+    """A copy of the built files, to be changed."""
     copy = Built(folder / "crates", folder / "library")
     for crate in PROGRAMS.values():
         (copy.crates / crate / "out").mkdir(parents=True)
@@ -33,7 +33,7 @@ def unproved(folder):
 
 
 def is_refused(built, folder, name, said):
-    """What is wrong if a packing is not refused with these words, or leaves a file."""
+    """The problems if a packing is not refused with these words, or leaves a file."""
     ran = pack(built, folder / "out")
     if ran.returncode != 1 or said not in ran.stderr:
         yield f"{name}: the status is {ran.returncode}, and it says {ran.stderr!r}"

@@ -1,6 +1,6 @@
-"""Runs what is packed in empty directories, as a user of the archive and of the Debian packages would.
+"""Runs the packed programs in empty directories, as a user of the archive and of the Debian packages would.
 
-What is expected is in examples/hello and examples/project for everyone to read.
+The expected results are in examples/hello and examples/project for everyone to read.
 """
 
 import gzip
@@ -67,7 +67,7 @@ def man_page(packed, folder):
 
 
 def offered(shell, prefix, words, folder):
-    """What a shell offers in place of the last word, by the packed completion and program."""
+    """The words that a shell offers in place of the last one, by the packed completion and program."""
     file, programs = prefix.folder / COMPLETIONS[shell], str(prefix.folder / "bin")
     words = ["ninja-explain", *words]
     command = {
@@ -132,7 +132,7 @@ def compiled(name, folder, *words):
 
 
 def differences(prefix, kind, program):
-    """What is wrong with a run of the program in C in examples/hello."""
+    """The problems of a run of the program in C in examples/hello."""
     how = {"LD_LIBRARY_PATH": str(prefix.libraries)} if kind == "shared" else {}
     found = program.run([], EXAMPLES / "hello", **how)
     yield from expect(f"{prefix.name}, {kind}", found, Ending(DONE, HELLO, b""))
@@ -140,7 +140,7 @@ def differences(prefix, kind, program):
 
 @check(needs=["cc", "pkg-config"])
 def program_in_c(packed, folder):
-    """The example in C, compiled with nothing but what is packed."""
+    """The example in C, compiled with nothing but the packed files."""
     for prefix in prefixes(packed, folder):
         room = prefix.folder.parent
         shared = compiled("shared", room, *flags_of(prefix, "--cflags", "--libs"))

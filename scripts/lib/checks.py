@@ -44,7 +44,7 @@ class Check:
         return set(inspect.signature(self.function).parameters)
 
     def problems(self, given):
-        """What is wrong, and why the check was skipped, or `None`."""
+        """The problems, and why the check was skipped, or `None`."""
         try:
             for program in self.needs:
                 if not shutil.which(program):
@@ -79,7 +79,7 @@ def load(*names):
 
 
 def expect(name, found, wanted):
-    """What is wrong if a value is not the wanted one."""
+    """The problem if a value is not the wanted one."""
     if found != wanted:
         yield f"{name}: {short(found)} is not {short(wanted)}"
 
@@ -94,7 +94,7 @@ def problems_at(given, index):
 
 
 def results(words, given, jobs):
-    """The checks that the words name, with what each found: first several at once, and then each
+    """The checks that the arguments name, with the problems that each found: first several at once, and then each
     that has to run alone."""
     meant = [index for index, each in enumerate(CHECKS) if each.is_meant(words, given)]
     together = [index for index in meant if not CHECKS[index].alone]
@@ -107,7 +107,7 @@ def results(words, given, jobs):
 
 
 def run(words, given, jobs):
-    """Runs the checks that the words name, or all. Prints what is wrong, and last how many passed,
+    """Runs the checks that the arguments name, or all. Prints the problems, and last how many passed,
     failed and were skipped, and why. Returns the exit status: 1 if one failed, or there was none. A
     word that names no check counts as one that failed."""
     unknown = [word for word in words if not any(each.is_meant([word], given) for each in CHECKS)]

@@ -1,4 +1,4 @@
-"""What a run may report: the text of each fault, and what is at its place."""
+"""The faults that a run may report: the text of each, and the element at its place."""
 
 import re
 
@@ -9,7 +9,7 @@ LINE_START = rb"(?<![^\n])"
 WORD = rb"[^ :|\n]"
 ANYTHING = rb""
 NAMED = None
-# The text of each fault with a place, and what has to be at that place: a pattern, or the name that
+# The text of each fault with a place, and the element that has to be at that place: a pattern, or the name that
 # the fault quotes.
 PLACED_FAULTS = [
     (rb"unexpected byte", rb"\0|\r(?!\n)"),
@@ -88,7 +88,7 @@ def matches_at(text, line, column, pattern):
 
 
 def placed_fault_is_wrong(name, place, files):
-    """What is wrong, if anything, with the part of a fault line after the name of the file."""
+    """The problem, if any, of the part of a fault line after the name of the file."""
     parts = re.fullmatch(rb":(\d+):(\d+): (.*)", place, re.S)
     if not parts:
         return "it has no line and column"
@@ -102,7 +102,7 @@ def placed_fault_is_wrong(name, place, files):
 
 
 def fault_is_wrong(error, files):
-    """What is wrong, if anything, with the standard error of a run on these files that ended in a
+    """The problem, if any, of the standard error of a run on these files that ended in a
     fault. A main file that does not exist counts as empty."""
     if not error.endswith(b"\n"):
         return "the last line has no line feed"
@@ -118,7 +118,7 @@ def fault_is_wrong(error, files):
 
 
 def ending_is_wrong(ending, files):
-    """What is wrong, if anything, with how a run on these files ended. Its output did not fail."""
+    """The problem, if any, with how a run on these files ended. Standard output did not fail."""
     status, output, error = ending
     if status == DONE:
         return "something is on the error output" if error else None

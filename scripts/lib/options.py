@@ -30,7 +30,7 @@ def options_of(tool):
 
 
 def compare(where, what, found, wanted):
-    """What is wrong if a place has other words than it should."""
+    """The problem if a place has other words than it should."""
     for word in sorted(found - wanted):
         yield f"{where}: the program does not have {what} {word}"
     for word in sorted(wanted - found):
@@ -55,7 +55,7 @@ FISH_SCRIPT = 'source $argv[1]; complete -C "$argv[2]"'
 
 
 def ask(shell, folder, programs):
-    """What a shell prints; `programs` is a folder in which it finds programs first."""
+    """The output of a shell; `programs` is a directory in which it finds programs first."""
     path = os.pathsep.join(filter(None, [programs, os.environ["PATH"]]))
     environment = {**os.environ, "PATH": path}
     how = {"cwd": folder, "env": environment, "stdin": subprocess.DEVNULL, "timeout": SECONDS}
@@ -66,7 +66,7 @@ def ask(shell, folder, programs):
 
 
 def offered_by_bash(words, folder, programs=None, name="ninja-explain"):
-    """What bash offers in place of the last of the words."""
+    """The words that bash offers in place of the last one."""
     file = ROOT / f"completions/{name}.bash"
     return ask(["bash", "-c", BASH_SCRIPT, "bash", file, name, *words], folder, programs)
 

@@ -257,7 +257,7 @@ def runs_of(table):
 
 
 def targets_differ(program, folder):
-    """What is wrong if the program does not list the targets of a project. What only compares runs of
+    """The problem if the program does not list the targets of a project. What only compares runs of
     a program with one another would not see that it does nothing."""
     PROJECTS["diamond"].write_to(folder)
     wanted = (DONE, b"a: mk\nb1: mk\nb2: mk\nd: mk\n", b"")
@@ -265,6 +265,6 @@ def targets_differ(program, folder):
 
 
 def write_cmake(folder):
-    """Writes what CMake does for examples/cmake into a directory."""
+    """Writes the build files of CMake for examples/cmake into a directory."""
     words = ["cmake", "-G", "Ninja", "-S", str(EXAMPLES / "cmake"), "-B", str(folder)]
     subprocess.run(words, stdout=subprocess.DEVNULL, check=True)

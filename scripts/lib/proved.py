@@ -15,7 +15,7 @@ class Unproved(Exception):
 
 
 def comment(file):
-    """What readelf writes of the section .comment, of each object if the file is an archive."""
+    """The output of readelf for the section .comment, of each object if the file is an archive."""
     words = ["readelf", "--wide", "--string-dump=.comment", str(file)]
     return subprocess.run(words, capture_output=True, text=True, errors="replace").stdout
 

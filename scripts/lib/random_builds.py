@@ -126,7 +126,7 @@ def number(value):
 
 
 def deps_log(outputs):
-    """A deps log that says of each of these outputs what it depends on."""
+    """A deps log with the inputs of each of these outputs."""
     paths = list(dict.fromkeys(path for output, inputs in outputs.items() for path in [output, *inputs]))
     log = OPENING
     for index, path in enumerate(paths):

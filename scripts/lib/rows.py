@@ -6,7 +6,7 @@ from lib.programs import FAULT, Ending
 
 FILE = "run.rows"
 LINE_FEED = b"\n"
-# What is printed of a row that wants nothing.
+# The output for a row that wants nothing.
 CAME = re.compile(rf'{FILE}:\d+: wanted "", came "(.*)"\n')
 # The output of a run, its status, and its standard error.
 PARTS = re.compile(r"(.*)\[(\d)\](?: (.*)|\n)", re.S)

@@ -54,7 +54,7 @@ rule mk
 x = $x$x$x
 ninja_required_version = 1.9.9
 ninja_dyndep_version = 1""".encode().split(b"\n")
-# Parts that are repeated to make long lines, and what surrounds them.
+# Parts that are repeated to make long lines, and the text around them.
 LONG = [b"a", b"/", b"../", b"a/../", b"$x", b"$ ", b"$$", b"a ", b"$\n", b"'"]
 AROUND_LONG = [
     b"build o: phony %s",

@@ -1,11 +1,11 @@
-"""What sweeps share. A sweep tries one thing on many cases, several at once."""
+"""The common parts of sweeps. A sweep tries one thing on many cases, several at once."""
 
 import collections
 import multiprocessing
 
 
 class Sweep:
-    """What a sweep tried, by kind, and which cases are wrong."""
+    """The cases that a sweep tried, by kind, and those that are wrong."""
 
     def __init__(self, name):
         self.name, self.counts, self.wrong = name, collections.Counter(), []
@@ -25,7 +25,7 @@ class Sweep:
                 self.take(counts, wrong)
 
     def problems(self):
-        """Prints what was tried, and returns what is wrong. A sweep that tried nothing shows
+        """Prints how much was tried, and returns the problems. A sweep that tried nothing shows
         nothing."""
         counts = ", ".join(f"{count:,} {what}" for what, count in self.counts.items())
         print(f"{self.name}: {counts or 'nothing was tried'}", flush=True)

@@ -13,7 +13,7 @@ KEPT = ROOT / "bin/verdicts"
 
 
 class Reader:
-    """Reads what `rt all check` or `rt ci` prints."""
+    """Reads the output of `rt all check` or `rt ci`."""
 
     def __init__(self, crate=None):
         self.crate = crate
@@ -35,7 +35,7 @@ def read(log):
 
 
 def state_of(crate):
-    """What git names the files of a crate, or nothing if they are not as they were committed."""
+    """Git's name for the files of a crate, or nothing if they differ from the commit."""
     folder = f"crates/{crate}"
     changed = subprocess.run(["git", "status", "--porcelain", folder], cwd=ROOT, capture_output=True)
     named = subprocess.run(["git", "rev-parse", f"HEAD:{folder}"], cwd=ROOT, capture_output=True)

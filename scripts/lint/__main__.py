@@ -1,6 +1,6 @@
-"""Checks what is read from files alone: python3 scripts/lint [--jobs N] [NAME..]
+"""Runs the checks that read files alone: python3 scripts/lint [--jobs N] [NAME..]
 
-Prints what is wrong, and last how many checks passed. The exit status is 1 if one failed.
+Prints the problems, and last how many checks passed. The exit status is 1 if one failed.
 """
 
 import sys

@@ -69,7 +69,7 @@ NAMED = "Ends ended = all ended"
 TWO_LINES = "\nabbrev pub planted : Bool → Type 0\nplanted ended = ended\n"
 MODEL = "    ghost Value = { Bool };\n"
 
-# What is planted: the file, what is replaced there, by what, and how many more lines are reached.
+# The plants: the file, the text replaced there, its replacement, and how many more lines are reached.
 PLANTED = [
     ("nothing", RUNS, "", "", 0),
     ("a definition that nothing names", RUNS, "$", TWO_LINES, 0),

@@ -1,4 +1,4 @@
-"""Checks that the generated parts of pages are what the sources say."""
+"""Checks that the generated parts of pages match the sources."""
 
 import re
 
@@ -9,7 +9,7 @@ from lib.checks import check, expect
 
 
 def is_old(script, text):
-    """Whether a page with this text is not what its script would write."""
+    """Whether a page with this text differs from its script's output."""
     return text != (script.with_parts(text) if script is map else script.page())
 
 
@@ -31,7 +31,7 @@ def calls_are_listed_once():
         yield from expect(f"{part.split()[0]}, calls that are listed twice", repeated, [])
 
 
-# What is planted: the script of the page, what is replaced there, and by what.
+# The plants: the script of the page, the text replaced there, and its replacement.
 PLANTED = [
     (map, "`nj_text`", "`nj_texts`"),
     (map, "nj_manifest nj_names", "nj_manifest nj_edges"),

@@ -1,7 +1,7 @@
 """Compares the subcommands and options of ninja-graph with its man page and its completions.
 
-They are read off the modules that name them to `clap`; smoke/graph.py compares its table with what
-`--help` writes. The bash completion is run, if bash is installed; the other two are read.
+They are read off the modules that name them to `clap`; smoke/graph.py compares its table with the
+output of `--help`. The bash completion is run, if bash is installed; the other two are read.
 """
 
 import re
@@ -41,7 +41,7 @@ def table_of_subcommands():
 
 
 def tagged(section):
-    """The tags of a section's paragraphs, without fonts and escapes, and what follows each."""
+    """The tags of a section's paragraphs, without fonts and escapes, and the line after each."""
     text = re.search(rf"^\.SH {section}\n(.*?)^\.SH ", PAGE.read_text(), re.M | re.S)[1]
     tags = re.findall(r"^\.TP\n\.B[IR]* (.*)\n(.*)$", text, re.M)
     return [(re.sub(r"\\f.", "", tag.replace("\\-", "-")), after) for tag, after in tags]

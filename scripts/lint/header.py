@@ -21,7 +21,7 @@ OPENING = SOURCES / "sessions.rt"
 
 EXPORT = re.compile(r'^pub extern "C" fn (\w+)\((.*?)\)(?: -> (\w+))?$', re.M | re.S)
 DECLARATION = re.compile(r"^(\w+) (\w+)\(([^)]*)\);", re.M)
-# What is passed to C for a parameter, one type for each argument.
+# The types that are passed to C for a parameter, one for each argument.
 ARGUMENTS = {
     "Global": [],
     "&mut Session": ["nx_session *"],

@@ -14,7 +14,7 @@ from lib.programs import CRATES, ROOT
 
 PAGE = ROOT / "docs/LIBRARY.md"
 SOURCES = CRATES / "library_example/src"
-# what a client may name in its own crates.txt
+# the libraries that a client may name in its own crates.txt
 NAMED = ["nj_graph", "nj_needs", "nj_tools", "nj_disk"]
 HIDDEN = "// not in README.md"
 

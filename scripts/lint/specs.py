@@ -1,4 +1,4 @@
-"""Checks that each library keeps what must be believed apart from plumbing.
+"""Checks that each library keeps definitions to believe apart from plumbing.
 
 A definition must be believed if it is named in the contract of a public function, in the value of a
 public type, in what a type provides for a trait, or in another definition that must be believed. In

@@ -26,7 +26,7 @@ FAULT_STRINGS = {
 
 
 def compare_options(where, found):
-    """`found` has a set of options for each tool, which may include what every tool has."""
+    """`found` has a set of options for each tool, which may include those of every tool."""
     for tool in sorted(found.keys() - TOOLS):
         yield f"{where}: the program does not have the tool {tool}"
     for tool in TOOLS:
@@ -44,7 +44,7 @@ def table_of_options():
 
 
 def tagged(section):
-    """The tags of a section's paragraphs, without fonts and escapes, and what follows each."""
+    """The tags of a section's paragraphs, without fonts and escapes, and the line after each."""
     text = re.search(rf"^\.SH {section}\n(.*?)^\.SH ", PAGE.read_text(), re.M | re.S)[1]
     tags = re.findall(r'^\.TP\n\.B[IR]? (.*)\n((?:\.RB .*\n)?(?:(?:not with|and)\n.*\n|,\n)*)', text, re.M)
     return [(re.sub(r"\\f.", "", tag.replace("\\-", "-")), about) for tag, about in tags]

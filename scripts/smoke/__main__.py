@@ -4,7 +4,7 @@ PROGRAM is ninja-explain, by default as the gate leaves it; ninja-graph and the 
 where the gate leaves them too. The sweeps of memory, calls, bytes and sizes are
 run as well.
 
-Prints what is wrong, and last how many checks passed. The exit status is 1 if one failed.
+Prints the problems, and last how many checks passed. The exit status is 1 if one failed.
 """
 
 import sys

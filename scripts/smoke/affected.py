@@ -1,7 +1,7 @@
 """Runs ninja-graph's `affected` after changes, among them such from which the manifest itself is made.
 
-What is wanted was worked out by hand from the manifests below, in which each way to make a manifest
-stands once, from that of examples/project, and from what CMake writes for examples/cmake, where it is
+The wanted outputs were worked out by hand from the manifests below, in which each way to make a manifest
+stands once, from that of examples/project, and from the one that CMake writes for examples/cmake, where it is
 installed.
 """
 
@@ -124,7 +124,7 @@ def of_rules(graph, folder):
 
 @check
 def dyndep_files(graph, folder):
-    """With `--dyndep` what such a file adds is an input too."""
+    """With `--dyndep` the discoveries of such a file are inputs too."""
     files = {**FILES, "dd": b"ninja_dyndep_version = 1\nbuild app: dyndep | plain.in\n"}
     write_files(folder, files)
     ran = run(graph, folder, ["--dyndep"], ["plain.in"])
@@ -200,7 +200,7 @@ LOG = deps_log({"a.o": ["a.c", "./a.h", "/usr/a.h"], "b.o": ["b.h"], "gone.o": [
 
 @check
 def headers_of_a_log(graph, folder):
-    """What the log has of an edge with `deps` counts, by its clean path; in `builddir` as it is last."""
+    """The log's inputs of an edge with `deps` count, by their clean paths; in the last `builddir`."""
     write_files(folder, {"build.ninja": LOGGED.encode(), "out/.ninja_deps": LOG, "copy": LOG})
     paths = ["a.h", "/usr/a.h", "b.h", "gone.h"]
     known, others = lines(["a.o", "a"]), lines(paths[2:])
@@ -226,7 +226,7 @@ def logs_without_builddir(graph, folder):
 
 @check
 def logs_after_dyndep_files(graph, folder):
-    """What a dyndep file adds is there before the log, which may name it too."""
+    """The discoveries of a dyndep file are there before the log, which may name them too."""
     dyndep = b"ninja_dyndep_version = 1\nbuild a.o: dyndep | a.h d.h\n"
     text = LOGGED.replace("cc a.c", "cc a.c || dd\n  dyndep = dd")
     write_files(folder, {"build.ninja": text.encode(), "dd": dyndep, "out/.ninja_deps": LOG})
@@ -262,17 +262,17 @@ def faults_of_logs(graph, folder):
 
 
 def with_log(build, log):
-    """The inputs of edges, with what the log has for the first output of an edge with `deps`."""
+    """The inputs of edges, with the log's for the first output of an edge with `deps`."""
     for edge in build.edges:
         if build.value(edge, "deps"):
             edge.inputs += [("|", path) for path in log.get(edge.outputs[0], [])]
 
 
 def wanted_of(build, paths):
-    """What is written of a change of these paths."""
+    """The output for a change of these paths."""
     named = {it for edge in build.edges for it in [*edge.outputs, *edge.paths(), *edge.validations]}
     reached, affected = set(paths) & named, []
-    # outputs come before what is made of them, but for inputs that only a log names
+    # outputs come before those made from them, but for inputs that only a log names
     for _ in build.edges:
         affected = [edge for edge in build.edges if reached & set(edge.paths())]
         reached |= {path for edge in affected for path in edge.outputs}

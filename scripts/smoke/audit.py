@@ -1,8 +1,8 @@
 """Runs ninja-graph's `audit` on real projects.
 
 The projects are examples/project, some with findings of some kinds, one with many of each kind and,
-where CMake is installed, what it writes for examples/cmake. What is wanted follows from what
-`ninja-explain -t targets`, `query`, `commands` and `rules` write of them, and from the lines of
+where CMake is installed, its manifest for examples/cmake. The wanted findings follow from the
+output of `ninja-explain -t targets`, `query`, `commands` and `rules` for them, and from the lines of
 their manifests; of undeclared inputs, which commands name, from how Python's `shlex` cuts words.
 """
 
@@ -27,7 +27,7 @@ KINDS = {
     "unused-variable": False, "repeated-command": True, "depfile-without-deps": True,
     "repeated-input": False, "undeclared-input": True,
 }
-# What is asked for: the words of `--only`, and those of `--except`.
+# The requested kinds: the values of `--only`, and those of `--except`.
 ASKED = [
     ([], []),
     *(([kind], []) for kind in KINDS),
@@ -56,7 +56,7 @@ def explain(program, folder, *words):
 
 
 def queried(program, folder, files):
-    """What `query` writes of files: the lines of each section."""
+    """The output of `query` for files: the lines of each section."""
     sections, lines = {}, None
     for line in explain(program, folder, "query", *files):
         if not line.startswith(" "):
@@ -143,7 +143,7 @@ def wanted_of(program, folder, defaults):
 
 
 def as_object(line):
-    """What a line is in JSON, where kinds have their names."""
+    """A line in JSON, where kinds have their names."""
     file, number, column, words, name = LINE.fullmatch(line).groups()
     place = {"file": file, "line": int(number), "column": int(column)}
     return {**place, "kind": words.replace(" ", "-"), "name": name}
@@ -154,7 +154,7 @@ def options(only, without):
 
 
 def asked_differs(graph, folder, whole, only, without):
-    """What is written for some kinds, plain and in JSON: their lines among those of all kinds."""
+    """The output for some kinds, plain and in JSON: their lines among those of all kinds."""
     words, name = options(only, without), f"only {only}, except {without}"
     taken = set(only or (kind for kind, is_default in KINDS.items() if is_default)) - set(without)
     lines = [line for line in whole if as_object(line)["kind"] in taken]
@@ -217,7 +217,7 @@ NO_DEFAULTS = b"rule r\n  command = r\nbuild a\"\\\xc3\xa9: r b\nbuild c: r b\n"
 
 @check
 def uses(graph, program, folder):
-    """What counts as a use: an order-only input, a validation and a default."""
+    """An order-only input, a validation and a default count as uses."""
     write_files(folder, {"build.ninja": USES})
     wanted = Counter({("unused output", "f"): 1, ("unused output", "g"): 1})
     yield from audit_differs(graph, folder, wanted)
@@ -261,7 +261,7 @@ def many_of_each_kind(graph, folder):
 
 @check
 def listed(graph, folder):
-    """`--list` reads no file: the folder is empty."""
+    """`--list` reads no file: the directory is empty."""
     words_of_all = ["-C", "none", "-f", "none.ninja", "--json", "--list", "--only", "nothing"]
     for words in ["--list"], words_of_all:
         status, output, error = run(graph, folder, words)

@@ -1,7 +1,7 @@
 """Runs the program on real files.
 
 The projects are those of examples/, one with validations, one with edges of each kind, and one of
-22 files, on which the tools write what Ninja's write, where that is installed. Outputs are full or
+22 files, on which the tools write the same as Ninja's, where that is installed. Outputs are full or
 closed, or their reader closes them.
 """
 
@@ -42,7 +42,7 @@ def chain():
 
 
 def tools_of_chain():
-    """What some tools write for the chain, by their words."""
+    """The output of some tools for the chain, by their arguments."""
     outputs = [f"e{i}" for i in range(EDGES)]
     last = [f"{'  ' * level}e{EDGES - 1 - level}: r\n" for level in range(3)]
     return {
@@ -87,7 +87,7 @@ def pages_of(output, size):
 
 
 def run_to_full(program, folder, words, which):
-    """How a run ends whose output or error output is full."""
+    """How a run ends whose standard output or standard error is full."""
     with open("/dev/full", "wb") as full:
         return program.run(words, folder, **{which: full})
 
@@ -176,7 +176,7 @@ def other_names(program, folder):
 
 @check
 def every_tool(program, folder):
-    """What each tool writes, also to a full device."""
+    """The output of each tool, also to a full device."""
     write_files(folder, {"build.ninja": outputs.KINDS.encode()})
     for place, table in (PROJECT, outputs.OUTPUTS), (folder, outputs.KINDS_OUTPUTS):
         for words, output in table.items():
@@ -227,7 +227,7 @@ def validations_in_pages(program, folder):
 
 @check
 def styles_of_inputs(program, folder):
-    """The inputs are the words of the commands, each once, since each command is its inputs."""
+    """The inputs are the words of the commands, without duplicates, since each command is its inputs."""
     write_files(folder, {"build.ninja": validations.PLAIN.encode()})
     ran = program.run(COMMANDS, folder)
     yield from expect("commands", ran, (DONE, validations.PLAIN_COMMANDS.encode(), b""))

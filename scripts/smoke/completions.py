@@ -17,7 +17,7 @@ TARGETS = f"{LIBRARY} out/main.o out/count {WORDS_TEST} test"
 SOURCES = "main.c text/lines.c text/words.c text/words_test.c"
 FILES = "build.ninja rules.ninja text"
 
-# The words before the cursor and the one at it, and what is offered in its place.
+# The words before the cursor and the one at it, and the offers in its place.
 LINES = [
     (["-t", ""], TOOLS),
     (["-t", "co"], "commands compdb"),
@@ -43,7 +43,7 @@ LINES = [
     (["-t", "commands", "bu"], "build.ninja"),
     (["-f", "nothing", "-t", "inputs", ""], FILES),
 ]
-# Paths with a space, and with what a shell would run.
+# Paths with a space, and with text that a shell would run.
 HOSTILE = "rule r\n  command = c\nbuild a$ b: r\nbuild $$(touch$ run): r\nbuild `touch$ run`: r\n"
 
 
@@ -80,7 +80,7 @@ def graph_lines():
 
 
 def links(folder, programs):
-    """A folder in which a shell finds these programs by their names."""
+    """A directory in which a shell finds these programs by their names."""
     found_first = folder / "bin"
     found_first.mkdir()
     for name, program in programs.items():
@@ -97,7 +97,7 @@ def lines_differ(offered, programs, lines, name):
 
 
 def explain_differs(offered, program, folder, hostile):
-    """What a shell offers that it should not, or does not offer."""
+    """The words that a shell offers and should not, or does not offer."""
     programs, project = links(folder, {"ninja-explain": program}), folder / "project"
     project.mkdir()
     (project / "build.ninja").write_text(HOSTILE)

@@ -1,9 +1,9 @@
-"""Compares what deps logs say with what Ninja says of them.
+"""Compares the contents of deps logs with Ninja's reading of them.
 
 A small project in C is built by `ninja` and `cc`. Its deps log after a build, after another one
 with other includes and after `ninja -t recompact`, and the second of these cut off at every byte,
-are rows of crates/nj_call_rows. What is wanted of each is what `ninja -t deps` writes of a copy, and
-up to which byte Ninja keeps the copy.
+are rows of crates/nj_call_rows. The wanted text of each is the output of `ninja -t deps` for a copy,
+and up to which byte Ninja keeps the copy.
 """
 
 import re
@@ -40,7 +40,7 @@ SOURCES = {
     "sub/b.h": '#include "../a.h"\n#define B A\n',
 }
 CHANGED = {"a.c": '#include "c.h"\n#include "gen/count.h"\nint a = C + COUNT;\n'}
-# What the outputs depend on, by hand; and after the change.
+# The inputs of the outputs, by hand; and after the change.
 BEFORE = {
     "a.o": {"a.c", "a.h", "gen/count.h"},
     "b c.o": {"b c.c", "a.h", "sub/b.h"},
@@ -48,7 +48,7 @@ BEFORE = {
     "stamp": set(),
 }
 AFTER = {**BEFORE, "a.o": {"a.c", "c.h", "gen/count.h"}}
-# How `ninja -t deps` begins what it writes of an output, and how it warns of a log.
+# How `ninja -t deps` begins the lines of an output, and how it warns of a log.
 OUTPUT = re.compile(r"(.*): #deps \d+, deps mtime (\d+) \(\w+\)")
 NOT_FOUND = ": deps not found"
 NO_LOG, CUT_OFF = "starting over", "recovering"
@@ -68,7 +68,7 @@ def log_after(words, folder):
 
 
 def listed(text):
-    """The outputs that `ninja -t deps` lists, each with its time and what it depends on."""
+    """The outputs that `ninja -t deps` lists, each with its time and its inputs."""
     outputs = []
     for line in filter(None, text.splitlines()):
         if found := OUTPUT.fullmatch(line):
@@ -96,7 +96,7 @@ def row_of(log, lines):
 
 
 def said(outputs, size, is_whole):
-    """What a log says with these outputs, of which so many bytes are read."""
+    """The contents of a log with these outputs, if so many bytes of it are read."""
     lines = []
     for path, time, inputs in outputs:
         lines += [f"{path} at {time}:", *(f"  {it}" for it in inputs)]

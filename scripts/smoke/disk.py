@@ -1,6 +1,6 @@
-"""Reads files of the system: of several sizes, such as state no size, and what is no file.
+"""Reads files of the system: of several sizes, such as state no size, and paths that are no files.
 
-No contract can state what a disk has.
+No contract can state the contents of a disk.
 """
 
 from lib.checks import check, expect
@@ -10,7 +10,7 @@ from lib.projects import write_files
 HEAD, TAIL = b"rule r\n  command = ", b"\nbuild o: r\n"
 # The program reads at most 131,072 bytes at once.
 SIZES = (131_071, 131_072, 131_073, 300_001)
-# What is in a file whose size cannot be known before it is read: "Linux version ..".
+# The contents of a file whose size cannot be known before it is read: "Linux version ..".
 VERSION = "/proc/version"
 
 
@@ -44,7 +44,7 @@ def files_that_state_no_size(program, folder):
 
 @check
 def what_is_no_file(program, folder):
-    """What is not there is one fault, and a folder, or a path through a file, another one."""
+    """A missing file is one fault, and a directory, or a path through a file, another one."""
     for path, verb in ("no/such/file", "find"), (".", "read"), ("/dev/null/file", "read"):
         fault = (FAULT, b"", f"{path}:1:1: cannot {verb} '{path}'\n".encode())
         yield from expect(path, run_on(program, folder, path), fault)

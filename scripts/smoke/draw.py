@@ -1,7 +1,7 @@
 """Runs ninja-graph's `draw`.
 
 The projects are examples/project, a manifest of many edges with many inputs and, where CMake is
-installed, what it writes for examples/cmake. What is wanted of them was worked out by hand from their
+installed, its manifest for examples/cmake. The wanted drawings were worked out by hand from their
 manifests, which are small, or follows from how the large one is made. Where Graphviz is installed, it
 has to take each drawing without a word.
 """
@@ -18,7 +18,7 @@ from smoke.graph import DONE, FAULT, USAGE
 
 PROJECT, CMAKE = EXAMPLES / "project", EXAMPLES / "cmake"
 NODE = re.compile(r'  (\w+) \[(?:shape=(\w+), )?(?:label|tooltip)="(.*)"\];')
-# What CMake appends to the names of its rules depends on its version.
+# The end that CMake appends to the names of its rules depends on its version.
 TARGET_OF_RULE = re.compile(r"(C_\w+?_(?:COMPILER|LINKER)|C_COMPILER)__\w+")
 ARROW = re.compile(r"  (\w+) -> (\w+)( \[style=dashed\])?;")
 # A drawing of 30 nodes of a manifest of this kind has to fit on a screen, or two.
@@ -90,7 +90,7 @@ def project_drawn(graph):
 
 @check
 def limits(graph):
-    """The nearest edges come first; what is drawn anyway has its arrows."""
+    """The nearest edges come first; files that are drawn anyway have their arrows."""
     wanted = {"out/words_test.o out/libtext.a > link > out/words_test"}
     words = ["--limit", "4", "out/words_test.o^"]
     yield from drawing_differs("four nodes", graph, PROJECT, words, wanted)

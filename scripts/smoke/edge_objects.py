@@ -1,6 +1,6 @@
 """Runs ninja-graph's `json`.
 
-What is wanted of one manifest was worked out by hand. Of others the objects have to say what
+The wanted objects of one manifest were worked out by hand. Of others the objects have to say what
 `ninja-explain -t query`, `commands` and `targets` write.
 """
 
@@ -113,7 +113,7 @@ def queried(program, folder, output):
 
 
 def explained_differs(graph, program, folder, *words):
-    """Compares the objects with what ninja-explain writes of the same edges."""
+    """Compares the objects with the output of ninja-explain for the same edges."""
     found = objects(graph, folder, *words)
     explain = [*words, "-f", "build.ninja", "-t"]
     listed = program.run([*explain, "targets", "all"], folder).output.decode().splitlines()
@@ -180,7 +180,7 @@ def wrong_words(graph):
 
 
 def recipes():
-    """The recipes of the page that use a program on what `json` writes."""
+    """The recipes of the page that use a program on the output of `json`."""
     text = PAGE.read_text()
     for written, shown in ("\\&", ""), ("\\-", "-"), ("\\(aq", "'"), ("\\en", "\\n"), ("\\e", "\\"):
         text = text.replace(written, shown)

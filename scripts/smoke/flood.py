@@ -3,7 +3,7 @@
 The program has to draw the number from which the hashes of a run start; no contract can state this.
 For each table of names the program reads two manifests (from bench/flood.py): one whose names
 collide if the number is 0, as in `HashKeys::default`, and one of other names. It reads two more for
-near paths, of which pairs collide more often than others. The least processor time of several runs
+near paths, whose pairs collide more often than others. The least CPU time of several runs
 counts. The first manifest may take at most four times as long as the second.
 """
 

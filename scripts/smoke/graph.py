@@ -1,5 +1,5 @@
-"""Runs ninja-graph with words and outputs of all kinds; what each subcommand writes is checked beside
-this file.
+"""Runs ninja-graph with arguments and outputs of all kinds; the output of each subcommand is checked
+beside this file.
 """
 
 import re
@@ -38,7 +38,7 @@ def named_options(text):
 
 @check
 def help_and_version(graph, folder):
-    """They read no file: the folder is empty."""
+    """They read no file: the directory is empty."""
     for word in "-h", "--help":
         status, output, error = run(graph, folder, [word])
         yield from expect(word, (status, error), (DONE, ""))
@@ -87,7 +87,7 @@ def faults(graph, folder):
 
 @check
 def folders(graph, folder):
-    """What `-C` does is what a run in that folder does, and `-f` is taken from there."""
+    """A run with `-C` is one in that directory, and `-f` is taken from there."""
     for name, (_, words) in SUBCOMMANDS.items():
         wanted = run(graph, PROJECT, [name, *words])
         status = LOOK if name in LOOKS else DONE

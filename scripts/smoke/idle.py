@@ -1,4 +1,4 @@
-"""Runs the checks of this folder with a program that does nothing: none of them may pass."""
+"""Runs the checks of this directory with a program that does nothing: none of them may pass."""
 
 from lib.checks import CHECKS, check, results
 from lib.programs import Program

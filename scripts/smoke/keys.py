@@ -1,6 +1,6 @@
-"""Compares what ninja-graph's `keys` writes with keys computed here.
+"""Compares the output of ninja-graph's `keys` with keys computed here.
 
-The edges of examples/project are read from what `ninja-explain -t query` and `-t commands` write;
+The edges of examples/project are read from the output of `ninja-explain -t query` and `-t commands`;
 those of another project, which has a response file, phony edges and a generated source, are listed
 below as its manifest has them; and random builds are known as they are made.
 """
@@ -140,7 +140,7 @@ def explain(program, words, folder=PROJECT):
 
 
 def read_edge(program, output):
-    """The edge of the project that makes a file, by what ninja-explain writes of it."""
+    """The edge of the project that makes a file, by the output of ninja-explain for it."""
     query = explain(program, ["-t", "query", output]).output.splitlines()
     start = next(at for at, line in enumerate(query) if line.startswith("  input: "))
     end = query.index("  outputs:")
@@ -150,7 +150,7 @@ def read_edge(program, output):
 
 
 def read_edges(program):
-    """The edges of the project, each of which has one output."""
+    """The edges of the project, each with one output."""
     listed = outputs.OUTPUTS["-t targets all"].splitlines()
     return [read_edge(program, line.rsplit(": ", 1)[0]) for line in listed]
 
@@ -227,7 +227,7 @@ def name_files(chance, outputs):
 
 
 def listed_by(program, folder, build):
-    """The first outputs of edges in the order of `ninja -t commands`, by what ninja-explain writes."""
+    """The first outputs of edges in the order of `ninja -t commands`, by the output of ninja-explain."""
     marked = re.sub(r"(?m)^(  command = )", r"\1$out: ", build.text())
     (folder / "marked.ninja").write_text(marked)
     ran = explain(program, ["-f", "marked.ninja", "-t", "commands"], folder)
@@ -247,9 +247,9 @@ def keys_of_random_builds(program, graph, folder):
     yield from expect("there are keys", lines > 100, True)
 
 
-# ---- builds in other folders
+# ---- builds in other directories
 
-# Where the folder counts, and where another one that ends or begins like it does not.
+# Where the directory counts, and where another one that ends or begins like it does not.
 BASED = """\
 rule cc
   command = cc {0}/x '-I{0}' --a={0},{0}:{0} \\"{0}\\";{0})
@@ -261,7 +261,7 @@ build {0}/o: cc {0}/s | /mnt/home/a/s
 
 @check
 def bases(graph, folder):
-    """A folder counts in the same places wherever it is, and nowhere else."""
+    """A directory counts in the same places wherever it is, and nowhere else."""
 
     def key(name, *bases):
         words = ["-f", name, *(f"--base={base}" for base in bases)]
@@ -282,7 +282,7 @@ def bases(graph, folder):
 
 
 def keys_at(graph, folder, configure):
-    """The keys of a project that is configured below a folder, by output."""
+    """The keys of a project that is configured below a directory, by output."""
     source, build = folder / "source", folder / "build"
     shutil.copytree(EXAMPLES / "cmake", source)
     (source / "meson.build").write_text(MESON)

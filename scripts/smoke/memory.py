@@ -18,7 +18,7 @@ NEVER = str(1 << 40)
 
 
 def chain(edges):
-    """A manifest of phony edges, each of which needs the one before it. The last one is the root."""
+    """A manifest of phony edges, each needing the one before it. The last one is the root."""
     return "build e0: phony s\n" + "".join(f"build e{i}: phony e{i - 1}\n" for i in range(1, edges))
 
 

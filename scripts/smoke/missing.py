@@ -3,11 +3,11 @@
 A small project in C is built by `ninja` and `cc`: by rules that are written by hand, and by those of
 CMake. The manifest with each deps log, after a build, after another one with other includes, after
 `ninja -t recompact`, and the second of these cut off at every byte, is a row of crates/nj_call_rows.
-Its lines are compared, as a set of pairs, with what Ninja reports of a copy for all outputs; and what
-the log says with what `ninja -t deps` writes, as in deps.py.
+Its lines are compared, as a set of pairs, with Ninja's report of a copy for all outputs; and the
+contents of the log with the output of `ninja -t deps`, as in deps.py.
 
-A log with each of its bytes in turn replaced has to be read up to some byte, or to be refused; what
-it says is joined or refused. And where each allocation in turn is refused, a log is read, joined and
+A log with each of its bytes in turn replaced has to be read up to some byte, or to be refused; its
+contents are joined or refused. And where each allocation in turn is refused, a log is read, joined and
 looked through as usual, or memory ran out.
 """
 
@@ -23,7 +23,7 @@ from smoke.deps import LOG, read_by_ninja, row_of, rows_of_cuts, run_ninja, said
 NINJA = Program("ninja")
 ROWS, LOG_ROWS = "missing.rows", "deps.rows"
 HEADERS = {"plain.h": b"#define PLAIN 1\n", "sub/kind.h": b'#include "gen/kind.h"\n'}
-# What the objects include is ordered through a phony edge, through another edge, and not at all.
+# The headers of the objects are ordered through a phony edge, through another edge, and not at all.
 BY_HAND = {
     MAIN: b"""\
 rule cc
@@ -110,7 +110,7 @@ def rows_of(files, logs, kinds):
 
 
 def came_of(runner, files, logs, kinds, folder):
-    """What comes of rows of these kinds for each log."""
+    """The outcomes of rows of these kinds for each log."""
     text, rows = rows_of(files, logs, kinds)
     (folder / ROWS).write_text(text)
     ran = runner.run([ROWS], folder).as_text()
@@ -126,14 +126,14 @@ def undeclared_by_rows(runner, files, logs, folder):
     return [{tuple(line.split(USE)) for line in text.splitlines() if USE in line} for text in came]
 
 
-# What is replaced by these bytes: the numbers of a record, its size, and its kind.
+# The parts replaced by these bytes: the numbers of a record, its size, and its kind.
 DAMAGE = 0, 1, 127, 128, 255
 READ = re.compile(r"(?:.* at \d+:\n(?:  .*\n)*)*\d+ bytes, (?:whole|not whole)\n")
 NO_LOG = re.compile(r"not a deps log\n|deps log of version \d+\n")
 JOINED = re.compile(r"(?:\w+ \d+:.*\n)+|build\.ninja:\d+:1: dependency cycle through '.*'\n")
 USES = re.compile(r"(?:.* uses .*\n)*")
 KINDS = ("deps-log", READ), ("join-deps log", JOINED), ("undeclared log", USES)
-# How the program ends without memory for the rows, and what a row is without memory.
+# How the program ends without memory for the rows, and the outcome of a row without memory.
 NO_MEMORY_FOR_ROWS = "Error: Kind(OutOfMemory)\n"
 # Of a log, and of a graph.
 NO_MEMORY = "out of memory\n", "ninja-explain: out of memory\n"
@@ -159,7 +159,7 @@ def logs_of(made, build):
 
 
 def compare(runner, folder, files, logs, wanted):
-    """Compares what the logs say, and what edges do not declare by them, with what Ninja says."""
+    """Compares the contents of logs, and the inputs that edges do not declare by them, with Ninja's."""
     copy = folder / "copy"
     write_files(copy, files)
     outputs = outputs_of(copy)

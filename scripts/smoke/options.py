@@ -10,7 +10,7 @@ UNREAD = b"ninja-explain: cannot read the arguments\n"
 
 
 def problem_of(program, folder, tool, option):
-    """What is wrong with an option beside a tool, if anything."""
+    """The problem of an option beside a tool, if any."""
     value = [VALUES[option]] if option in VALUES else []
     ran = program.run([option, *value, "-t", tool, *TOOLS[tool][1]], folder)
     if option in EVERY_TOOL | options_of(tool):

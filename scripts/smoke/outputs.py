@@ -1,4 +1,4 @@
-"""What each tool writes for examples/project, written by hand, and each usage fault."""
+"""The output of each tool for examples/project, written by hand, and each usage fault."""
 
 import re
 
@@ -162,7 +162,7 @@ phony
 """,
 }
 
-# Edges with what the project lacks: inputs of each kind, validations, quotes, a response file.
+# Edges that the project lacks: inputs of each kind, validations, quotes, a response file.
 KINDS = """\
 rule cc
   command = cc @$out.rsp -c $in

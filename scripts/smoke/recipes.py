@@ -1,4 +1,4 @@
-"""Runs the README's recipe for a compilation database in build folders of CMake, of Meson, and of
+"""Runs the README's recipe for a compilation database in build directories of CMake, of Meson, and of
 neither.
 """
 
@@ -21,7 +21,7 @@ NONE = b"no rule has _COMPILER in its name; ninja-explain -t rules lists them\n"
 
 
 def follow(program, folder, build):
-    """Follows the recipe in a build folder."""
+    """Follows the recipe in a build directory."""
     programs = folder / "bin"
     programs.mkdir()
     (programs / "ninja-explain").symlink_to(program.path)
@@ -31,7 +31,7 @@ def follow(program, folder, build):
 
 
 def sources(build):
-    """The sources that the database of a build folder names, which commands have as words."""
+    """The sources that the database of a build directory names, which are words of its commands."""
     entries = json.loads((build / DATABASE).read_text())
     return sorted((build / it["file"]).resolve() for it in entries if it["file"] in it["command"])
 

@@ -1,4 +1,4 @@
-"""Watches what runs ask of the system.
+"""Watches the system calls of runs.
 
 Where there is `strace`, runs of every tool are traced, which no contract can state: a run opens
 files for reading alone, writes to its two outputs alone, and starts no program. Other runs get 128
@@ -118,7 +118,7 @@ NESTED_RUNS = [
 
 
 def nested(count):
-    """Files of which each includes the next one, or has it as a file of its own scope."""
+    """Files that each include the next one, or have it as a file of its own scope."""
     files = {MAIN: "include f1\n", "dd": DD}
     for number in range(1, count - 1):
         kind = "subninja" if number % 2 else "include"
@@ -129,7 +129,7 @@ def nested(count):
 
 @check
 def stack_of_32_files(program, folder):
-    """Every tool does with little stack what it does with much."""
+    """Every tool has the same output with little stack as with much."""
     project = nested(MOST_OPEN)
     project.write_to(folder)
     for line in [*NESTED_RUNS, *(f"--dyndep {line}" for line in NESTED_RUNS)]:

@@ -1,5 +1,7 @@
-"""A project like those that CMake and Meson write, and what the tools write for it. A linter checks
-each source; its stamp file is a validation of the source's object."""
+"""A project like those that CMake and Meson write, and the output of the tools for it.
+
+A linter checks each source; its stamp file is a validation of the source's object.
+"""
 
 SOURCES = 7
 

@@ -1,7 +1,7 @@
 """Runs ninja-graph's `why`.
 
-What is wanted of examples/project was worked out by hand; of random graphs it is what a search in this
-file finds.
+The wanted chains of examples/project were worked out by hand; those of random graphs are found by a
+search in this file.
 """
 
 import random

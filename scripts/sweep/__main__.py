@@ -2,7 +2,7 @@
 
     python3 scripts/sweep [--program PROGRAM] [--rows PROGRAM] [--seed S] [--cases N] [NAME..]
 
-docs/RELIABILITY.md describes the sweeps. Prints what each tried, what is wrong, and last how many
+docs/RELIABILITY.md describes the sweeps. Prints the cases of each, the problems, and last how many
 checks passed. The exit status is 1 if one failed.
 """
 

@@ -39,7 +39,7 @@ BAD_ESCAPE = b"build.ninja:1:5: bad $-escape (literal $ must be written as $$)\n
 
 
 def changed(text):
-    """Each change of a text: what was done, and the new text."""
+    """Each change of a text: its description, and the new text."""
     for size in range(len(text)):
         yield f"its first {size} bytes", text[:size]
     for name, byte in BYTES.items():
@@ -48,7 +48,7 @@ def changed(text):
 
 
 def try_file(program, task):
-    """Runs the program on each change of a file. Returns the counts, and what is wrong."""
+    """Runs the program on each change of a file. Returns the counts, and the problems."""
     name, changed_file = task
     files, tried, wrong = dict(PROJECTS[name].files), 0, []
     with tempfile.TemporaryDirectory() as folder:

@@ -1,7 +1,7 @@
 """Makes each system call of the program fail once.
 
 In runs of every tool, each `open`, `read`, `statx`, `close`, `getentropy` and `write` in turn fails
-with one of several errors, or transfers fewer bytes than asked for. In some runs every call
+with one of several errors, or transfers fewer bytes than requested. In some runs every call
 transfers fewer bytes. (This is done by fail_calls.c, which is compiled with `cc`.) How such a run
 may differ from a normal one is in `wanted_open` and the functions after it.
 
@@ -161,7 +161,7 @@ class Runs:
 
 
 def try_run(program, library, task):
-    """Makes each call of a run fail in each way. Returns the counts, and what is wrong."""
+    """Makes each call of a run fail in each way. Returns the counts, and the problems."""
     name, words = task
     counts, wrong = dict.fromkeys(ERRORS, 0), []
     with tempfile.TemporaryDirectory() as folder:

@@ -89,7 +89,7 @@ class RowRuns(Runs):
 
 
 def try_allocations(program, library, task):
-    """Refuses allocations to a run of the program. Returns the counts, and what is wrong."""
+    """Refuses allocations to a run of the program. Returns the counts, and the problems."""
     name, words, times = task
     number, wrong = 0, []
     with tempfile.TemporaryDirectory() as folder:
@@ -134,7 +134,7 @@ def failed_sink(ran, ample, times):
 
 
 def try_row(program, rows, library, task):
-    """Refuses allocations to a run over sinks in memory. Returns the counts, and what is wrong."""
+    """Refuses allocations to a run over sinks in memory. Returns the counts, and the problems."""
     name, words, times = task
     counts, wrong = Counter(), []
     with tempfile.TemporaryDirectory() as folder:

@@ -62,7 +62,7 @@ def sorted_paths(numbers, end="\n"):
 
 
 def database(commands, directory):
-    """What `compdb` writes for these commands, which are given by the numbers of their edges."""
+    """The output of `compdb` for these commands, which are given by the numbers of their edges."""
     entries = (
         '\n  {\n    "directory": %s,\n    "command": %s,\n    "file": %s,\n    "output": %s\n  }'
         % tuple(json.dumps(text) for text in (directory, text, f"e{number - 1}", f"e{number}"))
@@ -190,7 +190,7 @@ MANIFESTS = {"a chain": of_chain, "validations": of_validations, "a dyndep file"
 
 
 def try_run(program, folders, task):
-    """Runs the program with the words. Returns the count, and what is wrong."""
+    """Runs the program with the arguments. Returns the count, and the problems."""
     name, words, (status, output, error) = task
     text = CHAIN.encode() if not words or "--stdin" in words else b""
     ran = program.run(words, folders[name], text)

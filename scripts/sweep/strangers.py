@@ -29,7 +29,7 @@ TASK = 250
 
 
 def try_case(program, case, folder, is_full):
-    """Runs the program on a case. Returns how it ended, and what is wrong with that."""
+    """Runs the program on a case. Returns how it ended, and the problem of that."""
     files, words, may_take_any_time = case
     write_files(folder, files)
     with open("/dev/full", "wb") as full:
@@ -43,7 +43,7 @@ def try_case(program, case, folder, is_full):
 
 
 def try_cases(program, maker, seeds):
-    """Runs the program on some cases. Returns the counts, and what is wrong."""
+    """Runs the program on some cases. Returns the counts, and the problems."""
     resource.setrlimit(resource.RLIMIT_AS, (MOST_MEMORY, resource.RLIM_INFINITY))
     resource.setrlimit(resource.RLIMIT_FSIZE, (MOST_OUTPUT, resource.RLIM_INFINITY))
     counts, wrong = collections.Counter(), []
