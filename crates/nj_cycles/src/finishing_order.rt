@@ -27,7 +27,7 @@ struct Walk {
 
 /// The edges in the order in which the walk finished them.
 #[derive(Drop)]
-pub(crate) struct Finished {
+pub(crate) struct FinishedWalk {
     pub(crate) order: Vec<usize>,
     pub(crate) meets_open: bool,
 }
@@ -152,7 +152,10 @@ impl Walk {
 }
 
 /// Walks over all edges, which takes each edge's inputs once.
-pub(crate) fn finish_all<I: EdgeInputs>(alloc: Global, inputs: &I) -> Result<Finished, AllocError>
+pub(crate) fn finish_all<I: EdgeInputs>(
+    alloc: Global,
+    inputs: &I,
+) -> Result<FinishedWalk, AllocError>
     ensures walked { IfOk result (λ finished.
         Walked (I.makers inputs.now) (I.count inputs.now) finished.order.items) }
     ensures falling { IfOk result (λ finished. finished.meets_open ≡ false
@@ -164,7 +167,7 @@ pub(crate) fn finish_all<I: EdgeInputs>(alloc: Global, inputs: &I) -> Result<Fin
             walk.visit(inputs, edge)?;
         }
     }
-    Ok(Finished {
+    Ok(FinishedWalk {
         order: walk.order,
         meets_open: walk.meets_open,
     })
