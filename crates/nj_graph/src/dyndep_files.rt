@@ -40,21 +40,15 @@ pub fn join_dyndeps<S: FileSource>(
     ensures origins { IfOk result (λ joined. joined.graph.origins ≡ loaded.graph.origins) }
 {
     let Loaded { mut files, graph } = loaded;
+    if !graph.built.has_pending() {
+        return Ok(Loaded { files, graph });
+    }
     let Graph {
         declarations,
         built,
         origins,
         main_rules,
     } = graph;
-    if !built.has_pending() {
-        let graph = Graph {
-            declarations,
-            built,
-            origins,
-            main_rules,
-        };
-        return Ok(Loaded { files, graph });
-    }
     let mut joining = built.join(alloc)?;
     join_files(alloc, source, &mut files, &mut joining)?;
     let built = joining.finish(alloc)?;

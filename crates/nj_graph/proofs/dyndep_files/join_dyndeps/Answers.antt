@@ -1,6 +1,7 @@
-use Rattle.std.proofs.Common.{◌≡◌, Ok, Err, refl, sym, ap, subst, ◌∙◌}
+use Rattle.std.proofs.Common.{◌≡◌, false, Ok, Err, refl, sym, ap, subst, ◌∙◌}
 use Rattle.nj_faults.specs.Faults.{no_memory}
 use Rattle.nj_scope.specs.Readings.{EachPathOnce}
+use Rattle.nj_statements.specs.JoiningHeld.{has_pending}
 use Rattle.nj_graph.specs.Graph.{GraphModel, IsGraphOf}
 use Rattle.nj_graph.specs.Joining.{Joins}
 use Rattle.nj_manifest.proofs.Handed.{handed, handed-as}
@@ -10,12 +11,12 @@ use Rattle.nj_graph.proofs.dyndep_files.join_dyndeps.Goals as goal
 pub returns-then-not-has_pending-clause-joins : goal.returns-then-not-has_pending-clause-joins
 returns-then-not-has_pending-clause-joins g c = λ stated is.
     let reported = g.S.FileSource.state c.args.source.now in
-    let graph : GraphModel = record { declarations = c.graph.inside.declarations; built = c.graph.inside.built; origins = c.graph.inside.origins } in
-    let at : c.args.loaded.graph ≡ graph = ap (λ l. l.graph) (sym c.loaded.view_is) ∙ sym c.graph.view_is in
+    let graph : GraphModel = c.loaded.inside.graph in
+    let at : c.args.loaded.graph ≡ graph = ap (λ l. l.graph) (sym c.loaded.view_is) in
     let files : c.loaded.inside.files ≡ c.args.loaded.files = ap (λ l. l.files) c.loaded.view_is in
     subst (λ fs. Joins stated fs reported reported (Ok (record { files = c.loaded.inside.files; graph = graph }))) files
     (joins-nothing stated reported c.loaded.inside.files c.loaded.invariant.0 (record { files = c.loaded.inside.files; graph = graph }) graph refl (subst (λ x. IsGraphOf x stated) at is)
-    (sym c.has_pending.ensures ∙ c.if-not-has_pending.true))
+    (subst (λ (x : GraphModel). has_pending x.built.pending ≡ false) c.graph.view_is (sym c.has_pending.ensures ∙ c.if-not-has_pending.true)))
 
 pub returns-in_err-joining-clause-joins : goal.returns-in_err-joining-clause-joins
 returns-in_err-joining-clause-joins g c = λ stated is.
@@ -58,8 +59,8 @@ returns-in_err-built-clause-joins g c = λ stated is.
     (subst (λ fs. Joins stated fs before after (Err fault)) files
     (joins-fault stated before after old table held f fault (c.in_err-built.ensures stated f.now f.has (none-pending-then stated before after old table held f))))
 
-pub invariant_of-graph-2 : goal.invariant_of-graph-2
-invariant_of-graph-2 g c =
+pub invariant_of-graph : goal.invariant_of-graph
+invariant_of-graph g c =
     let before = g.S.FileSource.state c.args.source.now in
     let after = g.S.FileSource.state c.join_files.new.source in
     let graph : GraphModel = record { declarations = c.graph.inside.declarations; built = c.graph.inside.built; origins = c.graph.inside.origins } in
