@@ -13,7 +13,7 @@ use Rattle.ninja_graph.specs.Inside.Flags.{AreFlags}
 set-one : (flags : List Bool) (b : Bool) (m n : ℕ) → m < length flags → get_or flags n false ≡ b → get_or (set flags m true) n false ≡ (b || (n == m || false))
 set-one flags b m n below is = grind (arith, common_steps, is)
 
--- one number more
+-- one more number
 pub flags-more : (count : ℕ) (numbers : List ℕ) (flags : List Bool) (m : ℕ) → m < count → AreFlags count numbers flags → AreFlags count (numbers ++ m ∷ []) (set flags m true)
 flags-more count numbers flags m below held = record {
   count_is = length-set flags m true ∙ held.count_is;
@@ -22,7 +22,7 @@ flags-more count numbers flags m below held = record {
       set-one flags (is_one_of numbers n) m n (omega (arith, counted)) (held.are n within) ∙ sym (list_any-append (λ other. n == other) numbers (m ∷ []));
 }
 
--- a test of what items have
+-- a test of the values of items
 pub any-map : {X Y : Type 0} (p : Y → Bool) (f : X → Y) (xs : List X) → list_any (λ x. p (f x)) xs ≡ list_any p (map f xs)
 any-map p f [] = refl
 any-map p f (x ∷ xs) = ap (λ b. p (f x) || b) (any-map p f xs)

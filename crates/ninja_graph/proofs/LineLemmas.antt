@@ -6,7 +6,7 @@ use Rattle.std.proofs.lemmas.List.Elements.{filter_map-append}
 use Rattle.nj_graph.specs.declared.FileNo.{FileNo}
 use Rattle.ninja_graph.specs.Affected.{changed_file}
 
--- the text of one item more
+-- the text of one more item
 pub flat-more : {X : Type 0} (f : X → List ℕ) (before text after : List ℕ) (items : List X) (i : ℕ) (d : X) → i < length items
     → text ≡ before ++ flat_map f (take i items) → after ≡ text ++ f (get_or items i d) → after ≡ before ++ flat_map f (take (i + 1) items)
 flat-more f before text after items i d below is more =
@@ -18,12 +18,12 @@ pub flat-all : {X : Type 0} (f : X → List ℕ) (before text : List ℕ) (items
     → text ≡ before ++ flat_map f (take i items) → text ≡ before ++ flat_map f items
 flat-all f before text items i past is = is ∙ ap (λ xs. before ++ flat_map f xs) (take_all i items past)
 
--- what is found of one item more
+-- the values found of one more item
 pub filter-more : {X Y : Type 0} (h : X → Option Y) (items : List X) (i : ℕ) (d : X) → i < length items
     → filter_map h (take (i + 1) items) ≡ filter_map h (take i items) ++ cons_option (h (get_or items i d)) []
 filter-more h items i d below = ap (filter_map h) (take_more items i d below) ∙ filter_map-append h (take i items) (get_or items i d ∷ [])
 
--- what one item more gives
+-- the values of one more item
 pub mapped-more : {X Y : Type 0} (f : X → Y) (items : List X) (i : ℕ) (d : X) → i < length items
     → map f (take i items) ++ f (get_or items i d) ∷ [] ≡ map f (take (i + 1) items)
 mapped-more f items i d below = sym (ap (map f) (take_more items i d below) ∙ map_push f (take i items) (get_or items i d))

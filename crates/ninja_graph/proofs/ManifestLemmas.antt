@@ -22,7 +22,7 @@ or-none : (b : Bool) → (b || false) ≡ b
 or-none true = refl
 or-none false = refl
 
--- what a file affects more files affect
+-- an edge that a file affects is affected by more files
 pub affects-more : (edges : List EdgePaths) (path : List ℕ) (files : List (List ℕ)) → Contains files path → (e : ℕ) → IsAffected edges (path ∷ []) e → IsAffected edges files e
 affects-more edges path files has _ (by_file {e = e} input) =
     let inputs = is_among (inputs_of (edge_at edges e)) in
@@ -60,7 +60,7 @@ module _ (g : GraphModel) (entries : List ReadStatement) (m : Manifest) where
   abbrev flag : ℕ → Bool
   flag edge = slice_index_or m.makers.items edge false
 
-  -- what is kept of the edges that all changed files affect tells it of each of them
+  -- the record of the edges that all changed files affect tells it of each of them
   pub can-tell : (edges changed : List ℕ) → IsReached g entries edges m
       → ((edge : ℕ) → Contains edges edge ↔ IsAffected (edges_of g) (map (path_of g) changed) edge)
       → (file : ℕ) → file < length (files_of g) → Contains changed file → CanTell g entries file m

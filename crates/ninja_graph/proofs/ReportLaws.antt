@@ -1,4 +1,4 @@
--- What it means that there is no warning, that paths have one text of warnings, and which files are at paths.
+-- The meaning of no warning; paths have one text of warnings; and which files are at paths.
 use Rattle.std.proofs.Common.{◌≡◌, ◌<◌, ℕ, ◌⊎◌, inl, inr, Option, Some, None, Result, Ok, Err, List, [], ◌∷◌, ◌++◌, map, length, get_or, zero, suc, reverse, refl, sym, ap, subst, ◌∙◌, arith}
 use Rattle.std.specs.Prelude.{Contains, codes, position, bytes_eq}
 use Rattle.std.specs.List.{All, cons_option, filter_map}
@@ -33,7 +33,7 @@ last-same xs ys x y is =
     let front : reverse xs ≡ reverse ys = cc in
     (sym (reverse-reverse xs) ∙ ap reverse front ∙ reverse-reverse ys, cc)
 
--- what is after a text makes it longer
+-- a text after a text makes it longer
 both-empty : (text more : List ℕ) → [] ≡ text ++ more → ([] ≡ text) × ([] ≡ more)
 both-empty [] more is = (refl, is)
 both-empty (b ∷ text) more is = absurd cc
@@ -56,7 +56,7 @@ module _ (g : GraphModel) (entries : List ReadStatement) (folder : Option (List 
     unmade = λ edge affected. false_from_ne_true (makes_manifest g entries edge) (λ holds. not (by_maker affected holds));
   }
 
-  -- where a list has one path more, what it has is that or was there before
+  -- where a list has one more path, each of its paths is that one or was there before
   was-at : (paths : List (List ℕ)) (next path : List ℕ) (k : ℕ) → k < length (paths ++ next ∷ []) → get_or (paths ++ next ∷ []) k path ≡ path → (path ≡ next) ⊎ Contains paths path
   was-at [] next path zero below is = inl (sym is)
   was-at [] next path (suc k) below is = absurd (omega arith)
@@ -140,7 +140,7 @@ number-below : (files : List (List ℕ)) (path : List ℕ) (n : ℕ) → number_
 number-below files [] n is = absurd cc
 number-below files (b ∷ path) n is = (position-Some (bytes_eq (clean_path_of (b ∷ path))) files n [] is).0
 
--- what is found is a file
+-- a number that is found is that of a file
 pub changed-below : (files : List (List ℕ)) (folder : Option (List ℕ)) (paths : List (List ℕ)) → All (λ n. n < length files) (filter_map (changed_file files folder) paths)
 changed-below files folder [] = All-nil (λ n. n < length files)
 changed-below files folder (p ∷ ps) = by (changed_file files folder p) refl (changed-below files folder ps)

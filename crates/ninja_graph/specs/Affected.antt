@@ -21,7 +21,7 @@ texts words = map (λ word. word.now) words
 
 -- ---- changed paths
 
--- a path in a folder, if one is given
+-- a path in a directory, if one is given
 abbrev pub path_in : (folder : Option (List ℕ)) → (path : List ℕ) → List ℕ
 path_in (Some folder) path = folder ++ 47 ∷ path
 path_in None path = path
@@ -37,7 +37,7 @@ changed_file files folder path = number_at files (path_in folder path)
 
 -- ---- the outputs that are listed
 
--- Which outputs are asked for: those of edges with one of these rules, or with any if there are none, whose paths begin in this way; and
+-- The requested outputs: those of edges with one of these rules, or with any if there are none, whose paths begin in this way; and
 -- whether those of phony edges are left out.
 pub record Asked : Type 0 where
   pub rules : List (List ℕ)
@@ -52,7 +52,7 @@ asked_of listed = record { rules = texts listed.rules.now; prefix = listed.prefi
 abbrev pub is_of_rules : (rules : List (List ℕ)) → (rule : List ℕ) → Bool
 is_of_rules rules rule = length rules == 0 || is_among rules rule
 
--- outputs of an edge are asked for
+-- outputs of an edge are requested
 abbrev pub is_asked_for : GraphModel → Asked → (edge : ℕ) → Bool
 is_asked_for g asked edge =
     is_of_rules asked.rules (rule_name g.declarations.rules (detail_at g.built.details edge).rule)
@@ -62,12 +62,12 @@ is_asked_for g asked edge =
 abbrev pub line_of_output : (prefix : List ℕ) → (path : List ℕ) → List ℕ
 line_of_output prefix path = if starts_with nat_eq path prefix then line path else []
 
--- the outputs of an edge that are asked for
+-- the requested outputs of an edge
 abbrev pub lines_of_outputs : GraphModel → Asked → (edge : ℕ) → List ℕ
 lines_of_outputs g asked edge =
     if is_asked_for g asked edge then flat_map (line_of_output asked.prefix) (outputs_of (edge_at (edges_of g) edge)) else []
 
--- The text lists the outputs that a change of these files affects: exactly the affected edges' outputs that are asked for, by number.
+-- The text lists the outputs that a change of these files affects: exactly the requested outputs of the affected edges, by number.
 pub record ListsOutputs (g : GraphModel) (asked : Asked) (changed : List (List ℕ)) (text : List ℕ) : Type 0 where
   pub edges : List ℕ
   pub affected : (edge : ℕ) → Contains edges edge ↔ IsAffected (edges_of g) changed edge

@@ -1,4 +1,4 @@
--- What is written of a chain of inputs by which a file needs another.
+-- The lines of a chain of inputs by which a file needs another.
 use Rattle.std.specs.Prelude.{◌≡◌, ℕ, Option, Some, None, List, [], ◌∷◌, ◌++◌, codes, Result, Ok, Err}
 use Rattle.std.specs.Fmt.{decimal}
 use Rattle.nj_graph.specs.declared.FileNo.{FileNo}
@@ -41,7 +41,7 @@ abbrev pub chain_lines : GraphModel → (from : FileNo) → List Step → List �
 chain_lines g from [] = []
 chain_lines g from (step ∷ steps) = chain_line g from step ++ chain_lines g step.file steps
 
--- The output took the lines of the chain that is asked for; or there is none, and it took nothing; or it failed within them, or memory ran out
+-- Standard output took the lines of the requested chain; or there is none, and it took nothing; or it failed within them, or memory ran out
 -- before the first.
 abbrev pub WritesChain : (IsPath : Option (List Step) → Type 0) → (lines : List Step → List ℕ) → (out new : SinkState) → Result Status Error → Type 0
 WritesChain IsPath lines out new (Ok Done) = (steps : List Step) × IsPath (Some steps) × Takes out new (lines steps)

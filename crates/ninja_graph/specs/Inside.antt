@@ -1,3 +1,3 @@
--- How the code meets the definitions beside this folder.
+-- How the code meets the definitions beside this directory.
 pub mod Flags
 pub mod Reached

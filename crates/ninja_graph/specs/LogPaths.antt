@@ -1,7 +1,7 @@
 -- Where Ninja has its deps log.
 use Rattle.std.specs.Prelude.{ℕ, Option, Some, None, List, [], ◌∷◌, ◌++◌, codes}
 
--- a folder with a slash after it; nothing where there is none
+-- a directory with a slash after it; nothing where there is none
 abbrev pub folder_text : List ℕ → List ℕ
 folder_text [] = []
 folder_text (byte ∷ folder) = (byte ∷ folder) ++ codes "/"

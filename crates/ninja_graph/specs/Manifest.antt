@@ -15,7 +15,8 @@ is_one_of numbers number = list_any (λ other. number == other) numbers
 abbrev pub path_of : GraphModel → (file : ℕ) → List ℕ
 path_of g file = unwrap_or (slice_get (files_of g) file) []
 
--- the files that were opened, of those that edges name: the main file, and what `include` and `subninja` statements open
+-- the files that were opened, of those that edges name: the main file, and those that `include` and `subninja`
+-- statements open
 abbrev pub opened_files : GraphModel → List ℕ
 opened_files g = filter_map (λ opening. number_at (files_of g) opening.path) g.origins.openings
 

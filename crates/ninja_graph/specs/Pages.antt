@@ -1,8 +1,8 @@
--- What is written of a page besides its lines.
+-- The text of a page besides its lines.
 use Rattle.std.specs.Prelude.{ℕ, Option, Some, None, List, [], ◌∷◌, ◌++◌, codes}
 use Rattle.nj_needs.specs.MarkTexts.{mark_text}
 
--- the line that names the mark of what is left; empty where nothing is
+-- the line that names the mark of the rest; empty where nothing is left
 abbrev pub mark_line : Option (List ℕ) → List ℕ
 mark_line None = []
 mark_line (Some mark) = codes "mark " ++ mark_text mark ++ 10 ∷ []

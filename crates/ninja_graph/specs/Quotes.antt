@@ -6,7 +6,7 @@ use Rattle.std.specs.Str.Lossy.{utf8_lossy}
 abbrev pub escaped : ℕ → List ℕ
 escaped byte = if byte == 38 then codes "&amp;" else (if byte == 34 || byte == 92 then 92 ∷ byte ∷ [] else byte ∷ [])
 
--- a text between quotes; U+FFFD replaces what is not UTF-8
+-- a text between quotes; U+FFFD replaces invalid UTF-8
 abbrev pub escapes : List ℕ → List ℕ
 escapes text = flat_map escaped (utf8_lossy text)
 

@@ -1,4 +1,4 @@
--- What is written about a change of files.
+-- Reports about a change of files.
 use Rattle.std.specs.Prelude.{◌≡◌, ◌≢◌, ℕ, false, Option, Some, None, List, [], ◌∷◌, ◌++◌, codes, map, Contains, Result, Ok, Err}
 use Rattle.std.specs.List.{filter_map}
 use Rattle.nj_graph.specs.ReadingList.{ReadStatement}
@@ -17,7 +17,7 @@ use Rattle.ninja_graph.specs.declared.status.Status.TheVariants.{Done, Look}
 abbrev pub changed_files : GraphModel → (folder : Option (List ℕ)) → (paths : List (List ℕ)) → List ℕ
 changed_files g folder paths = filter_map (changed_file (files_of g) folder) paths
 
--- a changed path as a line that says what is made from it
+-- a changed path as a line that says that the manifest is made from it
 abbrev pub made_from_line : (path : List ℕ) → List ℕ
 made_from_line path = line (path ++ codes ": the manifest is made from it")
 
@@ -43,7 +43,7 @@ pub record IsReport (g : GraphModel) (entries : List ReadStatement) (folder : Op
   pub lists : ListsOutputs g asked (map (path_of g) (changed_files g folder paths)) outputs
   pub warns : HasWarnings g entries folder paths warnings
 
--- How the two texts that are the report go to the output and to the error output, and with which status or error that ends.
+-- How the two texts of a report go to standard output and to standard error, and with which status or error that ends.
 pub data Reports (IsIt : (outputs warnings : List ℕ) → Type 0) (out new_out err new_err : SinkState) :
     Result Status Error → Type 0 where
   quiet : {outputs : List ℕ} → IsIt outputs [] → Takes out new_out outputs → new_err ≡ err
@@ -65,7 +65,8 @@ pub record KeepsManifest (g : GraphModel) (entries : List ReadStatement) (folder
   pub unopened : is_one_of (opened_files g) file ≡ false
   pub unmade : (edge : ℕ) → IsAffected (edges_of g) (path_of g file ∷ []) edge → makes_manifest g entries edge ≡ false
 
--- No changed path changes the manifest, each names a file, and the output took exactly the affected outputs that are asked for.
+-- No changed path changes the manifest, each names a file, and standard output took exactly the requested ones of the affected
+-- outputs.
 pub record MissesNothing (g : GraphModel) (entries : List ReadStatement) (folder : Option (List ℕ)) (asked : Asked)
     (paths : List (List ℕ)) (out new_out : SinkState) : Type 0 where
   pub keeps : (path : List ℕ) → Contains paths path → KeepsManifest g entries folder path

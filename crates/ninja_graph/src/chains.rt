@@ -1,4 +1,4 @@
-//! What is written of chains of inputs.
+//! The lines of chains of inputs.
 
 ghost use Rattle.std.specs.Prelude.{◌≡◌, ◌++◌, ◌<◌, All, IfOk, OnOk, length};
 ghost use Rattle.nj_graph.specs.Chains.{PathIs};

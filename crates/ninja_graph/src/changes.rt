@@ -32,7 +32,8 @@ pub fn known_files(
     Ok(files)
 }
 
-/// The file at a path, which is in the source folder if one is given; `None` if no edge names it.
+/// The file at a path, which is in the source directory if one is given; `None` if no edge names
+/// it.
 pub fn find_file(
     alloc: Global,
     graph: &Graph,

@@ -1,4 +1,4 @@
-//! The deps log that the options ask for.
+//! The deps log that the options request.
 
 ghost use Rattle.std.specs.Prelude.{◌≡◌, List, [], ◌∷◌, codes, option_copied, IfOk};
 ghost use Rattle.nj_graph.specs.Graph.{IsGraphOf};
@@ -11,8 +11,8 @@ use nj_deps::DepsLog;
 use nj_graph::{FileSource, Graph, MAIN_SCOPE};
 use std::alloc::{AllocError, Global};
 
-/// The deps log that the options ask for; `None` if they ask for none. Where Ninja's own log is asked
-/// for and is not there, it is empty, as for Ninja.
+/// The deps log that the options request; `None` if they request none. Where Ninja's own log is
+/// requested and is not there, it is empty, as for Ninja.
 pub fn read_log<S: FileSource>(
     alloc: Global,
     files: &mut S,
@@ -51,8 +51,8 @@ fn read_log_at<S: FileSource>(
     }
 }
 
-/// Where Ninja has its deps log: `.ninja_deps`, in the folder that the main scope's `builddir` names
-/// after all statements ("Deps" in the Ninja manual).
+/// Where Ninja has its deps log: `.ninja_deps`, in the directory that the main scope's `builddir`
+/// names after all statements ("Deps" in the Ninja manual).
 fn log_path(alloc: Global, graph: &Graph) -> Result<Vec<u8>, AllocError>
     ensures { (entries : List ReadStatement) → IsGraphOf graph.now entries
         → IfOk result (λ path. path.items

@@ -76,7 +76,7 @@ impl fmt::Display for Node {
     }
 }
 
-/// What is drawn so far.
+/// The drawing so far.
 #[derive(Drop)]
 struct Drawing {
     extent: Extent,
@@ -297,7 +297,7 @@ fn set(flags: &mut [bool], index: usize) {
     }
 }
 
-/// Appends a text in quotes, with U+FFFD for what is not UTF-8.
+/// Appends a text in quotes, with U+FFFD for invalid UTF-8.
 fn push_quoted(out: &mut Vec<u8>, text: &[u8]) -> Result<(), AllocError>
     ensures { OnOk result (out.new.items ≡ out.old.items ++ quoted text.now) }
 {
@@ -307,7 +307,7 @@ fn push_quoted(out: &mut Vec<u8>, text: &[u8]) -> Result<(), AllocError>
     Ok(())
 }
 
-/// Appends a text as it is written in quotes, with U+FFFD for what is not UTF-8.
+/// Appends a text as it is written in quotes, with U+FFFD for invalid UTF-8.
 fn push_escapes(out: &mut Vec<u8>, text: &[u8]) -> Result<(), AllocError>
     ensures { OnOk result (out.new.items ≡ out.old.items ++ escapes text.now) }
 {

@@ -10,11 +10,11 @@ use std::{fmt, io};
 /// Why a run does not reach its end.
 #[derive(Drop)]
 pub enum Failure {
-    /// The files are not a graph, what was asked of it cannot be given, or it was not written.
+    /// The files are not a graph, a request has no answer, or the answer was not written.
     Graph(Error),
-    /// The words are not UTF-8.
+    /// The arguments are not UTF-8.
     Words,
-    /// The folder of `-C` cannot be entered.
+    /// The directory of `-C` cannot be entered.
     Folder(io::Error),
     /// Standard input cannot be read.
     Input(io::Error),

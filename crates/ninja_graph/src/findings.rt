@@ -21,7 +21,7 @@ pub fn finding_lines(
     Ok(lines)
 }
 
-/// A line for each kind: its name, whether it is on by default, and what it means.
+/// A line for each kind: its name, whether it is on by default, and its meaning.
 pub fn kind_lines(alloc: Global) -> Result<Vec<u8>, AllocError> {
     let mut lines = Vec::new(alloc);
     'kinds: for kind in Kind::ALL {
@@ -71,7 +71,7 @@ fn push_kind(lines: &mut Vec<u8>, kind: Kind) -> Result<(), AllocError> {
     lines.extend_from_slice(line.as_bytes())
 }
 
-/// Appends a text as a string in JSON, with U+FFFD for what is not UTF-8.
+/// Appends a text as a string in JSON, with U+FFFD for invalid UTF-8.
 fn push_string(lines: &mut Vec<u8>, text: &[u8]) -> Result<(), AllocError> {
     let alloc = *lines.allocator();
     let text = String::from_utf8_lossy(alloc, text)?;

@@ -1,4 +1,4 @@
-//! The outputs of edges that are asked for.
+//! The requested outputs of edges.
 
 ghost use Rattle.std.specs.Prelude.{◌≡◌, ◌++◌, ◌<◌, All, IfOk, OnOk, length, map};
 ghost use Rattle.std.specs.List.{flat_map};
@@ -20,7 +20,7 @@ pub struct Listed<'a> {
     pub no_phony: bool,
 }
 
-/// The outputs of these edges that are asked for, a line each, in the order of the edges.
+/// The requested outputs of these edges, a line each, in the order of the edges.
 pub fn list_outputs(
     alloc: Global,
     graph: &Graph,
@@ -38,7 +38,7 @@ pub fn list_outputs(
     Ok(lines)
 }
 
-/// Appends the outputs of an edge that are asked for.
+/// Appends the requested outputs of an edge.
 fn push_outputs(
     lines: &mut Vec<u8>,
     graph: &Graph,
@@ -83,7 +83,7 @@ fn push_path(lines: &mut Vec<u8>, path: &[u8], prefix: &str) -> Result<(), Alloc
     Ok(())
 }
 
-/// Whether outputs of an edge are asked for.
+/// Whether outputs of an edge are requested.
 fn is_asked_for(graph: &Graph, edge: EdgeNo, listed: Listed<'_>) -> bool
     requires { edge.0 < length (edges_of graph.now) }
     ensures { result ≡ is_asked_for graph.now (asked_of listed.entry) edge.0 }

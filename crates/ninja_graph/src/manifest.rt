@@ -29,7 +29,7 @@ pub struct Manifest {
 impl Manifest {
     ghost use Rattle.ninja_graph.specs.Inside.Reached.{CanTell, IsReached};
 
-    /// The manifest of a graph, of which these edges are affected.
+    /// The manifest of a graph whose affected edges are these.
     pub fn new(alloc: Global, graph: &Graph, edges: &[EdgeNo]) -> Result<Manifest, AllocError>
         requires { All (λ edge. edge.0 < length (edges_of graph.now)) edges.now }
         ensures { (entries : List ReadStatement) → IsGraphOf graph.now entries
@@ -48,8 +48,8 @@ impl Manifest {
     }
 
     /// Whether the manifest is made from a changed file. Most changes affect no edge that makes
-    /// the manifest, which is known once for all of them; only where one is affected it is asked
-    /// again of each file alone.
+    /// the manifest, which is known once for all of them; only where one is affected is each file
+    /// looked at alone.
     pub fn is_made_from(
         &self,
         alloc: Global,

@@ -1,4 +1,4 @@
-//! What is written about a change of files.
+//! A report about a change of files.
 
 ghost use Rattle.std.specs.Prelude.{◌≡◌, ◌<◌, ◌++◌, List, All, IfOk, OnOk, length, map, option_copied};
 ghost use Rattle.nj_graph.specs.ReadingList.{ReadStatement};
@@ -16,19 +16,19 @@ use nj_graph::{EdgeNo, Graph};
 use nj_tools::{Error, Sink};
 use std::alloc::{AllocError, Global};
 
-/// What is written about a change of files.
+/// A report about a change of files.
 #[derive(Drop)]
 struct Report {
     /// The affected outputs, a line each.
     outputs: Vec<u8>,
-    /// Why these may not be all, a line for each changed path of which that is so: no edge names
-    /// it, or the manifest itself is made from it.
+    /// Why these may not be all, a line for each such changed path: no edge names it, or the
+    /// manifest itself is made from it.
     warnings: Vec<u8>,
 }
 
-/// Writes what is to be said about a change of the files at these paths: to the output those of the
-/// outputs of exactly the affected edges that are asked for, in reading order, and to the error
-/// output the warnings in the order of the paths. With warnings there is something to look at.
+/// Writes the report about a change of the files at these paths: to standard output the requested
+/// ones of the outputs of exactly the affected edges, in reading order, and to standard error the
+/// warnings in the order of the paths. With warnings there is something to look at.
 ///
 /// # Errors
 ///
@@ -71,7 +71,7 @@ fn report_of(
     Ok(Report { outputs, warnings })
 }
 
-/// The warnings about the changed paths, of which exactly these edges are affected.
+/// The warnings about the changed paths, which affect exactly these edges.
 fn warnings_of(
     alloc: Global,
     graph: &Graph,
@@ -90,8 +90,7 @@ fn warnings_of(
     warnings_about(alloc, graph, source_dir, paths, &manifest)
 }
 
-/// The warnings about the changed paths, of which it can be told whether the manifest is made from
-/// them.
+/// The warnings about the changed paths, by whether the manifest is made from them.
 fn warnings_about(
     alloc: Global,
     graph: &Graph,

@@ -6,15 +6,15 @@ ghost use Rattle.ninja_graph.specs.Statuses.{exit_code};
 /// How a run ends.
 #[derive(Clone, Copy)]
 pub enum Status {
-    /// What was asked for was written.
+    /// The requested output was written.
     Done,
-    /// A fault was found, which the error output names.
+    /// A fault was found, which standard error names.
     Fault,
     /// The words are not a valid request.
     Usage,
-    /// What was asked for was written, and there is something to look at.
+    /// The requested output was written, and there is something to look at.
     Look,
-    /// The output could not be written.
+    /// Standard output could not be written.
     OutputFailed,
 }
 

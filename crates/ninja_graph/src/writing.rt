@@ -1,4 +1,4 @@
-//! What goes to the output, and what to the error output.
+//! The texts for standard output and for standard error.
 
 ghost use Rattle.std.specs.Prelude.{◌≡◌};
 ghost use Rattle.ninja_graph.specs.Reports.{Reports};
@@ -6,8 +6,7 @@ ghost use Rattle.ninja_graph.specs.Reports.{Reports};
 use crate::status::Status;
 use nj_tools::{Error, Sink, write_whole};
 
-/// Writes an answer to the output, and what there is to look at, if it is not empty, to the error
-/// output.
+/// Writes an answer to standard output, and the warnings, if there are any, to standard error.
 ///
 /// # Errors
 ///

@@ -1,4 +1,4 @@
--- What small command lines ask for, worked out on the definitions.
+-- The kinds that small command lines select, worked out on the definitions.
 use Rattle.std.proofs.Common.{◌≡◌, ℕ, true, false, Some, None, List, [], ◌∷◌, codes, refl}
 use Rattle.std.specs.List.{filter}
 use Rattle.nj_faults.specs.declared.fault.Place.{Place}
@@ -9,7 +9,7 @@ use Rattle.nj_audit.specs.Audit.{findings_asked_for}
 use Rattle.nj_audit.specs.Findings.{FindingModel}
 use Rattle.nj_audit.specs.Kinds.{all_kinds, first_unknown, is_asked_for}
 
--- the kinds that these words ask for
+-- the kinds that these values select
 abbrev asked : (only except : List (List ℕ)) → List Kind
 asked only except = filter (is_asked_for only except) all_kinds
 
@@ -30,7 +30,7 @@ only_except_itself = refl
 except_one : asked [] (codes "repeated-command" ∷ []) ≡ MissingSource ∷ DepfileWithoutDeps ∷ UndeclaredInput ∷ []
 except_one = refl
 
--- what is not taken need not be excepted
+-- a kind that is not taken need not be excepted
 except_others : asked [] (codes "unused-pool" ∷ codes "unused-variable" ∷ []) ≡ asked [] []
 except_others = refl
 

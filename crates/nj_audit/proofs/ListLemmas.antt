@@ -6,7 +6,7 @@ use Rattle.std.proofs.lemmas.List.Elements.{filter-append}
 use Rattle.std.proofs.lemmas.Option.{get_or_from_slice_get, slice_get-map, slice_get_cases, slice_get_within}
 use Rattle.std.proofs.lemmas.List.FromFn.{map-range_with_len_more}
 
--- a list of items after another one gives what the two give
+-- a list of items after another one has the values of the two
 abbrev pub IsPiecewise : {X Y : Type 0} → (List X → List Y) → Type 0
 IsPiecewise {X} {Y} all = (xs ys : List X) → all (xs ++ ys) ≡ all xs ++ all ys
 
@@ -24,14 +24,14 @@ map-same : (xs : List ℕ) → map (λ x. x) xs ≡ xs
 map-same [] = refl
 map-same (x ∷ xs) = ap (λ ys. x ∷ ys) (map-same xs)
 
--- one number more
+-- one more number
 pub numbers-more : (n : ℕ) → range_with_len 0 (n + 1) ≡ range_with_len 0 n ++ n ∷ []
 numbers-more n =
     sym (map-same (range_with_len 0 (n + 1))) ∙ map-range_with_len_more (λ x. x) 0 n n (omega arith)
     ∙ ap (λ xs. xs ++ n ∷ []) (map-same (range_with_len 0 n))
 
 module _ {X Y : Type 0} (all : List X → List Y) (whole : IsPiecewise all) (before text after : List Y) where
-  -- what one item more gives
+  -- the values of one more item
   pub more : (xs : List X) (x : X) → text ≡ before ++ all xs → after ≡ text ++ all (x ∷ []) → after ≡ before ++ all (xs ++ x ∷ [])
   more xs x is next =
       next ∙ ap (λ t. t ++ all (x ∷ [])) is ∙ append_assoc before (all xs) (all (x ∷ []))
@@ -80,7 +80,7 @@ module _ {X Y : Type 0} (all : List X → List Y) (whole : IsPiecewise all) (bef
   pub all-items : (items : List X) (i : ℕ) → length items ≤ i → text ≡ before ++ all (take i items) → text ≡ before ++ all items
   all-items items i past is = is ∙ ap (λ xs. before ++ all xs) (take_all i items past)
 
--- ---- what one item gives
+-- ---- the values of one item
 
 pub one-picked : {X Y : Type 0} (f : X → Y) (p : X → Bool) (x : X) → p x ≡ true → map f (filter p (x ∷ [])) ≡ f x ∷ []
 one-picked f p x is = ap (λ b. map f (cond b (x ∷ []) [])) is

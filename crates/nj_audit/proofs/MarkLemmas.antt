@@ -9,7 +9,7 @@ use Rattle.nj_audit.proofs.ListLemmas.{numbers-more}
 pub none-marked : (used : List Bool) (f : ℕ → ℕ) (k : ℕ) → get_or used k false ≡ false → get_or used k false ≡ list_any (λ n. f n == k) (range_with_len 0 0)
 none-marked used f k is = is
 
--- the flag of one number more
+-- the flag of one more number
 mark-one : (used : List Bool) (f : ℕ → ℕ) (n k : ℕ) → f n < length used
     → get_or used k false ≡ list_any (λ m. f m == k) (range_with_len 0 n)
     → get_or (set used (f n) true) k false ≡ (list_any (λ m. f m == k) (range_with_len 0 n) || (f n == k || false))

@@ -65,7 +65,7 @@ or-turned true false = refl
 or-turned false true = refl
 or-turned false false = refl
 
--- one name more
+-- one more name
 pub one-more : (old new list : List (List ℕ)) (name : List ℕ)
     → ((other : List ℕ) → is_among new other ≡ (bytes_eq other name || is_among old other)) → AreNames old list → AreNames new (list ++ name ∷ [])
 one-more old new list name adds are other =

@@ -12,7 +12,7 @@ operators : words_of (codes "(./gen<in>out)&&mv out a;:|tee") ≡ codes "./gen" 
 unfolding words_of read_text words_after
 operators = refl
 
--- quotes are taken off, and what is between them is of one word
+-- quotes are taken off, and the text between them is of one word
 quotes : words_of (codes "'a b'c \"d;e\"'f' '' \"\"") ≡ codes "a bc" ∷ codes "d;ef" ∷ []
 unfolding words_of read_text words_after
 quotes = refl

@@ -225,6 +225,6 @@ all_findings g entries missing serving undeclared =
     ++ unused_variables g entries ++ repeated_commands g entries ++ depfiles_without_deps g entries
     ++ repeated_inputs g ++ undeclared
 
--- those of the kinds that are asked for
+-- those of the requested kinds
 abbrev pub findings_asked_for : Kinds → List FindingModel → List FindingModel
 findings_asked_for kinds found = filter (λ f. contains kinds f.kind) found

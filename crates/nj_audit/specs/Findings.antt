@@ -1,4 +1,4 @@
--- What is found, and where.
+-- Findings and their places.
 use Rattle.std.specs.Prelude.{ℕ, List}
 use Rattle.nj_faults.specs.declared.fault.Place.{Place}
 use Rattle.nj_graph.specs.Built.{EdgeDetail, detail_at}
@@ -7,7 +7,7 @@ use Rattle.nj_graph.specs.Origins.{place_text}
 use Rattle.nj_audit.specs.declared.findings.Finding.{Finding}
 use Rattle.nj_audit.specs.declared.kinds.Kind.{Kind}
 
--- what is found at the statement of a place, and which name it is about
+-- a finding at the statement of a place, and the name that it is about
 pub record FindingModel : Type 0 where
   pub place : Place
   pub kind : Kind

@@ -1,4 +1,4 @@
--- The kinds of findings, and which of them the words of `--only` and of `--except` ask for.
+-- The kinds of findings, and which of them the values of `--only` and of `--except` select.
 use Rattle.std.specs.Prelude.{◌≡◌, ℕ, ◌==◌, ◌&&◌, Bool, true, false, not, if◌then◌else◌}
 use Rattle.std.specs.Prelude.{Option, List, [], ◌∷◌, ◌++◌, codes, find, length, map}
 use Rattle.std.specs.Borrow.{Bor}
@@ -33,7 +33,7 @@ abbrev pub is_taken : (only : List (List ℕ)) → Kind → Bool
 is_taken only kind =
     if length only == 0 then is_on_by_default kind else is_among only (name_of kind)
 
--- a kind is asked for if it is taken and `--except` does not name it
+-- a kind is selected if it is taken and `--except` does not name it
 abbrev pub is_asked_for : (only except : List (List ℕ)) → Kind → Bool
 is_asked_for only except kind = is_taken only kind && not (is_among except (name_of kind))
 
@@ -67,6 +67,6 @@ contains kinds DepfileWithoutDeps = kinds.depfile_without_deps
 contains kinds RepeatedInput = kinds.repeated_input
 contains kinds UndeclaredInput = kinds.undeclared_input
 
--- the kinds are those that the words ask for
+-- the kinds are those that the values select
 abbrev pub AskFor : Kinds → (only except : List (List ℕ)) → Type 0
 AskFor kinds only except = (kind : Kind) → contains kinds kind ≡ is_asked_for only except kind

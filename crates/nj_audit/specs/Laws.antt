@@ -1,4 +1,4 @@
--- What the words of a command mean.
+-- The meaning of a command's words.
 use Rattle.std.specs.Prelude.{◌≡◌, ◌≢◌, ℕ, List, [], map}
 use Rattle.std.specs.List.{AllByRecursion, join_with_byte}
 use Rattle.nj_text.specs.Quotes.{quoted}

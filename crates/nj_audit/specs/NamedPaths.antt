@@ -4,30 +4,30 @@ use Rattle.std.specs.List.{cons_option, filter_map, flat_map, starts_with}
 use Rattle.nj_text.specs.Paths.{clean_path_of}
 use Rattle.nj_audit.specs.ShellWords.{words_of}
 
--- what follows the first `=` of a word
+-- the text after the first `=` of a word
 abbrev pub after_sign : (word : List ℕ) → Option (List ℕ)
 after_sign word = option_map (λ index. drop (index + 1) word) (position (λ b. b == 61) word)
 
--- what follows the second byte of a word that begins with `-`
+-- the text after the second byte of a word that begins with `-`
 abbrev pub after_letter : (word : List ℕ) → Option (List ℕ)
 after_letter word = if starts_with nat_eq word (codes "-") then Some (drop 2 word) else None
 
--- what a word may name: itself, and what follows in it as these say
+-- the names in a word: itself, and the texts after these signs
 abbrev pub names_in : (word : List ℕ) → List (List ℕ)
 names_in word = word ∷ cons_option (after_sign word) (cons_option (after_letter word) [])
 
--- what follows the slash with which a text begins
+-- the text after the slash with which a text begins
 abbrev pub after_slash : (text : List ℕ) → Option (List ℕ)
 after_slash [] = None
 after_slash (b ∷ text) = if b == 47 then Some text else None
 
--- a path without the folder that it begins with, if that is given
+-- a path without the directory that it begins with, if that is given
 abbrev pub without_folder : (folder path : List ℕ) → List ℕ
 without_folder folder path =
     if length folder == 0 || not (starts_with nat_eq path folder) then path
     else unwrap_or (after_slash (drop (length folder) path)) path
 
--- the path that a name is, as seen from the folder; an empty name is none
+-- the path of a name, as seen from the directory; an empty name has none
 abbrev pub path_named : (folder name : List ℕ) → Option (List ℕ)
 path_named folder [] = None
 path_named folder (b ∷ name) = Some (without_folder folder (clean_path_of (b ∷ name)))

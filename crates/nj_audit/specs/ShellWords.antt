@@ -6,7 +6,7 @@ use Rattle.nj_audit.specs.declared.shell_words.Quoting.TheVariants.{Bare, Escape
 
 -- ---- a byte, by how it is read
 
--- what ends a word outside quotes: a blank, a tab, the end of a line, and `&`, `(`, `)`, `;`, `<`, `>` and `|`
+-- the bytes that end a word outside quotes: a blank, a tab, the end of a line, and `&`, `(`, `)`, `;`, `<`, `>` and `|`
 abbrev pub is_cut : ℕ → Bool
 is_cut b = b == 32 || b == 9 || b == 10 || b == 38 || b == 40 || b == 41 || b == 59 || b == 60 || b == 62 || b == 124
 
@@ -36,7 +36,7 @@ abbrev pub keeps_backslash : Quoting → ℕ → Bool
 keeps_backslash DoubleEscaped b = not (b == 36 || b == 96 || b == 34 || b == 92)
 keeps_backslash quoting b = false
 
--- what a word keeps of a byte
+-- the bytes that a word keeps of a byte
 abbrev pub kept : Quoting → ℕ → List ℕ
 kept quoting b = if is_dropped quoting b then [] else (if keeps_backslash quoting b then 92 ∷ b ∷ [] else b ∷ [])
 
@@ -55,7 +55,7 @@ abbrev pub with_word : (word : List ℕ) → List (List ℕ) → List (List ℕ)
 with_word [] words = words
 with_word (b ∷ word) words = (b ∷ word) ∷ words
 
--- the words, of which the first begins with what was read of it
+-- the words; the first begins with the bytes that were read of it
 unfoldable pub words_after : (word : List ℕ) → (read : List (Option ℕ)) → List (List ℕ)
 words_after word [] = with_word word []
 words_after word (None ∷ read) = with_word word (words_after [] read)

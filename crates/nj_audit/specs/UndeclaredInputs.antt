@@ -10,14 +10,14 @@ use Rattle.nj_audit.specs.Findings.{FindingModel, edge_finding}
 use Rattle.nj_audit.specs.NamedPaths.{number_at, paths_named}
 use Rattle.nj_audit.specs.declared.kinds.Kind.TheVariants.{UndeclaredInput}
 
--- ---- what an edge names
+-- ---- files that an edge names
 
--- what the response file of an edge contains, if it has a name
+-- the contents of an edge's response file, if it has a name
 abbrev pub response_of : List ReadStatement → (edge : ℕ) → List ℕ
 response_of entries edge =
     if length (late_text_of entries edge (codes "rspfile")) == 0 then [] else late_text_of entries edge (codes "rspfile_content")
 
--- the files that the command of an edge and its response file may name, as seen from the folder
+-- the files that the command of an edge and its response file may name, as seen from the directory
 abbrev pub files_named : GraphModel → List ReadStatement → (folder : List ℕ) → (edge : ℕ) → List ℕ
 files_named g entries folder edge =
     if has_command g edge
@@ -45,7 +45,7 @@ pub record MayComeLate (g : GraphModel) (edge : ℕ) (path : List ℕ) : Type 0 
   pub is_unneeded : ¬ IsOrNeeds (edges_of g) edge maker
   pub is_no_user : ¬ IsOrNeeds (edges_of g) maker edge
 
--- Of these files, the paths of those that may come too late, each once, in their order.
+-- Of these files, the paths of those that may come too late, without duplicates, in their order.
 pub data AreLate (g : GraphModel) (edge : ℕ) : (files : List ℕ) → (paths : List (List ℕ)) → Type 0 where
   none : AreLate g edge [] []
   late : {files : List ℕ} {paths : List (List ℕ)} (file : ℕ) → AreLate g edge files paths
@@ -64,7 +64,7 @@ pub data AreUndeclared (g : GraphModel) (entries : List ReadStatement) (folder :
       → AreLate g edge (files_named g entries folder edge) paths
       → AreUndeclared g entries folder (edges ++ edge ∷ []) (found ++ map (edge_finding g edge UndeclaredInput) paths)
 
--- They are looked for only if they are asked for.
+-- They are looked for only if they are requested.
 abbrev pub AreUndeclaredIf : (asked : Bool) → GraphModel → List ReadStatement → (folder : List ℕ) → List FindingModel → Type 0
 AreUndeclaredIf true g entries folder found = AreUndeclared g entries folder (edge_numbers g) found
 AreUndeclaredIf false g entries folder found = found ≡ []

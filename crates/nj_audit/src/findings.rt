@@ -1,4 +1,4 @@
-//! What is found, and where.
+//! Findings and their places.
 
 ghost use Rattle.std.specs.Prelude.{◌≡◌, [], ◌∷◌, ◌++◌, ◌<◌, OnOk, length, map};
 ghost use Rattle.nj_graph.specs.Graph.{edges_of};
@@ -10,7 +10,7 @@ use nj_graph::{EdgeNo, Graph, PlaceRef};
 use std::alloc::{AllocError, Global};
 use std::marker::Model;
 
-/// What is found at the statement of a place, and which name it is about.
+/// A finding at the statement of a place, and the name that it is about.
 #[derive(Clone, Copy)]
 pub struct Finding<'a> {
     pub place: PlaceRef<'a>,

@@ -1,4 +1,4 @@
-//! What the words of a command mean.
+//! The meaning of a command's words.
 
 ghost use Rattle.nj_audit.specs.Laws.{QuotedPathsAreWords};
 

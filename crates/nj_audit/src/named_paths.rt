@@ -6,7 +6,7 @@ ghost use Rattle.nj_audit.specs.NamedPaths.{after_letter, after_sign, after_slas
 use nj_text::{TextFault, clean_into};
 use std::alloc::AllocError;
 
-/// What follows the first `=` of a word.
+/// The text after the first `=` of a word.
 pub fn after_sign(word: &[u8]) -> Option<&[u8]>
     ensures { option_copied result ≡ after_sign word.now }
 {
@@ -24,7 +24,7 @@ fn sign_position(word: &[u8]) -> Option<usize>
     word.iter().position(|byte| *byte == b'=')
 }
 
-/// What follows the second byte of a word that begins with `-`.
+/// The text after the second byte of a word that begins with `-`.
 pub fn after_letter(word: &[u8]) -> Option<&[u8]>
     ensures { option_copied result ≡ after_letter word.now }
 {
@@ -35,8 +35,8 @@ pub fn after_letter(word: &[u8]) -> Option<&[u8]>
     }
 }
 
-/// Puts the path that a name is, as seen from the folder, into the buffer, and returns it; `None` for
-/// an empty name. Where no folder is given, absolute paths stay.
+/// Puts the path of a name, as seen from the directory, into the buffer, and returns it; `None` for
+/// an empty name. Where no directory is given, absolute paths stay.
 pub fn path_named<'a>(
     buffer: &'a mut Vec<u8>,
     folder: &[u8],
@@ -52,7 +52,7 @@ pub fn path_named<'a>(
     }
 }
 
-/// A path without the folder that it begins with, if that is given.
+/// A path without the directory that it begins with, if that is given.
 fn without_folder<'a>(folder: &[u8], path: &'a [u8]) -> &'a [u8]
     ensures { result.now ≡ without_folder folder.now path.now }
 {
@@ -65,7 +65,7 @@ fn without_folder<'a>(folder: &[u8], path: &'a [u8]) -> &'a [u8]
     }
 }
 
-/// What follows the slash with which a text begins.
+/// The text after the slash with which a text begins.
 fn after_slash(text: &[u8]) -> Option<&[u8]>
     ensures { option_copied result ≡ after_slash text.now }
 {

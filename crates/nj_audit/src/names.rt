@@ -7,7 +7,7 @@ use std::alloc::{AllocError, Global};
 use std::collections::BTreeSet;
 use std::marker::Model;
 
-/// Names, each once.
+/// Names without duplicates.
 #[derive(Drop)]
 pub struct Names {
     alloc: Global,

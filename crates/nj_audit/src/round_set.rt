@@ -6,8 +6,8 @@ ghost use Rattle.nj_names.specs.NumberSets.{has, with_number};
 use std::alloc::{AllocError, Global};
 use std::marker::Model;
 
-/// Numbers below a limit, each once, in the order in which they were added since the set was
-/// emptied last. A number is in the set if its mark is that of the round, so that the set is
+/// Numbers below a limit, without duplicates, in the order in which they were added since the set
+/// was emptied last. A number is in the set if its mark is that of the round, so that the set is
 /// emptied without a pass over the marks.
 #[derive(Drop)]
 pub(crate) struct RoundSet {

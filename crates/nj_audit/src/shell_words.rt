@@ -20,7 +20,7 @@ pub enum Quoting {
     DoubleEscaped,
 }
 
-/// Puts the first word of a command, without its quotes, in place of `word`, and returns what comes
+/// Puts the first word of a command, without its quotes, in place of `word`, and returns the text
 /// after it; `None` if there is no word.
 pub fn take_word<'a>(word: &mut Vec<u8>, text: &'a [u8]) -> Result<Option<&'a [u8]>, AllocError>
     ensures { IfOk result (λ rest. MatchOption rest (words_of text.now ≡ [])
@@ -91,7 +91,7 @@ fn is_cut(byte: u8) -> bool
     )
 }
 
-/// Appends what a word keeps of a byte.
+/// Appends the bytes that a word keeps of a byte.
 fn push_kept(word: &mut Vec<u8>, quoting: Quoting, byte: u8) -> Result<(), AllocError>
     ensures { OnOk result (word.new.items ≡ word.old.items ++ kept quoting byte) }
 {

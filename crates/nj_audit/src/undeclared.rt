@@ -20,8 +20,8 @@ use nj_graph::{EdgeGraph, EdgeNo, FileNo, Graph};
 use std::alloc::{AllocError, Global};
 
 /// The files that the commands of edges and their response files name, and that another edge makes,
-/// where neither edge needs the other. Names are taken as seen from the folder, which is absolute;
-/// without one, absolute names stay as they are.
+/// where neither edge needs the other. Names are taken as seen from the directory, which is
+/// absolute; without one, absolute names stay.
 pub fn undeclared_inputs<'a>(
     alloc: Global,
     graph: &'a Graph,
@@ -73,7 +73,7 @@ fn named_files(
     Ok(files)
 }
 
-/// What the response file of an edge contains, if it has a name.
+/// The contents of an edge's response file, if it has a name.
 fn response(alloc: Global, graph: &Graph, edge: EdgeNo) -> Result<Vec<u8>, AllocError>
     requires { edge.0 < length (edges_of graph.now) }
     ensures { (entries : List ReadStatement) → IsGraphOf graph.now entries

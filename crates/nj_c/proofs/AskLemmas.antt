@@ -1,4 +1,4 @@
--- What a call that changes an open session does to it.
+-- The effect of a call that changes an open session.
 use Rattle.std.proofs.Common.{◌≡◌, ℤ, Option, Some, subst}
 use Rattle.nj_c.specs.declared.session_state.Kept.{Kept}
 use Rattle.nj_c.specs.declared.status.Status.{Status}

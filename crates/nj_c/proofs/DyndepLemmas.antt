@@ -55,7 +55,7 @@ module _ (h : Handed) where
   abbrev pub lacking : List AssignedModel → List (List ℕ)
   lacking assigned = each_once bytes_eq (filter (is_lacking h) (filter_map (λ a. a.dyndep) assigned))
 
-  -- with what is bound to one edge more
+  -- with the file bound to one more edge
   more : (assigned : List AssignedModel) (a : AssignedModel) (bound : Option (List ℕ)) → a.dyndep ≡ bound
       → lacking (assigned ++ a ∷ []) ≡ each_once bytes_eq (filter (is_lacking h) (filter_map (λ a. a.dyndep) assigned) ++ filter (is_lacking h) (cons_option bound []))
   more assigned a bound is =

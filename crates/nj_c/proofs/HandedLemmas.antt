@@ -1,4 +1,4 @@
--- What was handed in for a path.
+-- The file supplied for a path.
 use Rattle.std.proofs.Common.{◌≡◌, ◌<◌, ◌||◌, ℕ, zero, suc, Bool, true, false, cond, Option, Some, None, Result, Ok, Err, OnOk, is_some, option_map, option_and_then, List, [], ◌∷◌, ◌++◌, length, set, slice_get, unwrap_or, position, bytes_eq, refl, sym, ap, ◌∙◌, arith, true≢false}
 use Rattle.std.specs.List.{list_any}
 use Rattle.std.proofs.lemmas.Grind.{common_steps}

@@ -7,7 +7,7 @@ use Rattle.nj_c.specs.Asking.{GivesFile}
 use Rattle.nj_c.specs.Statuses.{code_of}
 use Rattle.std.proofs.lemmas.Option.{slice_get-map}
 
--- what is at an index, by the numbers and by the paths
+-- the item at an index, by the numbers and by the paths
 at-index : (files : List (List ℕ)) (list : List FileNo) (paths : List (List ℕ)) (index : ℕ) → AreFiles files list paths
     → option_map (λ f. slice_get files f.0) (slice_get list index) ≡ option_map Some (slice_get paths index)
 at-index files list paths index are =

@@ -55,14 +55,14 @@ once-nil : (xs : List (List ℕ)) → each_once bytes_eq xs ≡ [] → xs ≡ []
 once-nil [] is = refl
 once-nil (x ∷ xs) is = absurd (not-nil x (filter (λ y. not (bytes_eq y x)) (each_once bytes_eq xs)) is)
 
--- ---- what is asked for
+-- ---- the files that are read
 
 module _ (h : Handed) where
-  -- something was handed in for a path
+  -- something was supplied for a path
   abbrev Has : List ℕ → Type 0
   Has path = is_some (handed_in h path) ≡ true
 
-  -- or it is never asked for
+  -- or it is never read
   abbrev IsGiven : List ℕ → Type 0
   IsGiven path = is_lacking h path ≡ false
 
@@ -100,7 +100,7 @@ module _ (h : Handed) where
   asked-all files stated given =
       asked-files files stated (dyndep_files (pending_read stated)) stated (all-once (λ p. IsGiven p.file) (λ q p. bytes_eq q.file p.file) (pending_read stated) given)
 
-  -- ---- by what edges are bound to
+  -- ---- by the files to which edges are bound
 
   given-at : (edge : ℕ) (was_joined : Bool) (file : Option (List ℕ)) → GivenIfBound file → AllByRecursion (λ p. IsGiven p.file) (pending_at edge was_joined file)
   given-at edge true file given = tt
@@ -148,7 +148,7 @@ module _ (h : Handed) where
       by None nothing rest = (tt, rest nothing)
       by (Some path) nothing rest = by_test path (is_lacking h path) refl nothing rest
 
-  -- ---- so what a joining reads was handed in
+  -- ---- so the files that a joining reads were supplied
 
   module _ (old : List Reading) (stated : List ReadStatement) (given : AllByRecursion (λ p. IsGiven p.file) (pending_read stated)) where
     abbrev news : (files : List Reading) → List (List ℕ)
@@ -190,7 +190,7 @@ module _ (h : Handed) where
 
 -- ---- of readings
 
--- each reading is of a path for which something was handed in, and found that
+-- each reading is of a path for which something was supplied, and found that
 abbrev AreHandedIn : Handed → List Reading → Type 0
 AreHandedIn h read = AllByRecursion (λ r. is_some (handed_in h r.path) ≡ true) read
 
@@ -235,7 +235,7 @@ module _ (between after : Handed) (same : (path : List ℕ) → handed_in after 
       by None some is = absurd (true≢false (sym some))
       by (Some meant) some is = is
 
--- After a joining of files of which none was lacking, as before it, all that was read was handed in.
+-- After a joining of files without lacking ones, as before it, all files read were supplied.
 module _ (between after : Handed) (loaded : LoadedModel) (stated : List ReadStatement) (is : IsGraphOf loaded.graph stated) where
   module _ (none : wanted_paths between ≡ []) (lacking : each_once bytes_eq (filter (is_lacking between) (dyndeps_of loaded.graph)) ≡ []) (found : ReadsAsHanded between)
       (joined : Result LoadedModel GraphFault) (joins : Joins stated loaded.files (handed_state between) (handed_state after) joined) where

@@ -1,4 +1,5 @@
--- What loads leave, worked out on the definitions: which files are wanted, and that none is after any other status.
+-- The results of loads, worked out on the definitions: which files are wanted, and that none is
+-- after any other status.
 use Rattle.std.proofs.Common.{◌≡◌, ◌≢◌, ◌⊎◌, inl, inr, ℕ, Bool, true, false, cond, Option, Some, None, is_some, unwrap_or, Result, Ok, Err, List, [], ◌∷◌, ◌++◌, map, bytes_eq, refl, sym, ap, subst, ◌∙◌, arith, true≢false}
 use Rattle.std.specs.Prelude.{codes}
 use Rattle.std.specs.List.{AllByRecursion, cons_option, filter_map}
@@ -32,7 +33,7 @@ none-after-a-fault before after main joins (same, lists, run, (fault, unloaded, 
 nothing-without-memory : (before after : Kept) (main : List ℕ) (joins : Bool) → LoadsKept before after main joins OutOfMemory → KeepsNothing after × ListsNothing after
 nothing-without-memory before after main joins (same, lists, run, nothing) = (nothing, lists)
 
--- ---- `m` was handed in, which includes `a`, and nothing else was
+-- ---- `m` was supplied, which includes `a`, and nothing else was
 
 abbrev m : List ℕ
 m = codes "m"
@@ -43,7 +44,7 @@ a = codes "a"
 abbrev begun : Handed
 begun = record { paths = m ∷ []; files = Some (codes "include a\n") ∷ []; read = [] }
 
--- what a reading of a path finds
+-- the reading of a path
 abbrev given : List ℕ → Reading
 given path = record { path = path; bytes = reads_as begun path }
 
@@ -75,7 +76,7 @@ found-or-not (r ∷ rs) path are = by_test (bytes_eq path r.path) refl (found-or
     by_test true same later = inr (ap Some (is-given r path are.0 same))
     by_test false same later = later
 
--- ---- what is read of such files
+-- ---- the readings of such files
 
 abbrev at : ℕ → Spot
 at column = record { line = 1; column = column }
@@ -98,11 +99,11 @@ whole = record { entries = the_include ∷ []; end = Whole }
 abbrev up_to_the_end : List ReadStatement → ReadingModel
 up_to_the_end entries = record { entries = entries; end = Whole }
 
--- by what was found at `m`
+-- by the reading at `m`
 abbrev by_main : List Reading → Option Reading → ReadingModel
 by_main files found = outcome_read m (main_place m) [] (λ text. text_read (opened_in files most_within) (main_site m) text []) found
 
--- by what was found at `a`
+-- by the reading at `a`
 abbrev by_other : List Reading → Option Reading → ReadingModel
 by_other files found = and_then
     (outcome_read a (place_at the_include (at 9)) []
@@ -135,7 +136,7 @@ come-to : (reached_from m whole).paths ≡ m ∷ a ∷ []
 unfolding on_files
 come-to = refl
 
--- ---- what such a load reads
+-- ---- the files that such a load reads
 
 abbrev is-whole : End → Bool
 is-whole Whole = true
@@ -181,7 +182,7 @@ first-paths after files (Err fault) are (inl (inr ends)) =
     absurd (never-ends after files fault ends.reached ends.reached.read.end are refl ends.answered (ends.read (with-both files) (given m ∷ given a ∷ [], refl)))
 first-paths after files (Err fault) are (inr cycle) = both-first files (whole-paths files are (ap (λ r. r.end) cycle.whole.read) cycle.whole.came_to)
 
--- ---- what it wants
+-- ---- the files that it wants
 
 abbrev wanted_of : List (List ℕ) → List (List ℕ)
 wanted_of paths = filter_map (λ path. cond (is_some (handed_in begun path)) None (Some path)) paths
@@ -232,7 +233,7 @@ module _ (before after : Kept) (is : unread before.files ≡ begun) (same : (pat
       let these : files ≡ after.files.read = read.added ∙ sym (ap (λ o. unwrap_or o []) read.read.reported) in
       first-paths after.files after.files.read loaded are (subst (λ fs. LoadedOr (handed_state begun) (handed_state after.files) fs (main_reached m) loaded) these or)
 
--- without dyndep files those that were read and not handed in are wanted
+-- without dyndep files those that were read and not supplied are wanted
 paths_or-none : (paths : List (List ℕ)) → paths_or paths [] ≡ paths
 paths_or-none [] = refl
 paths_or-none (path ∷ paths) = refl
@@ -270,8 +271,8 @@ with_bound g files = record g { built = record g.built { assigned = map bound_to
 abbrev with_d : Handed
 with_d = record { paths = m ∷ codes "d" ∷ []; files = Some [] ∷ None ∷ []; read = given m ∷ [] }
 
--- Both that are not there are wanted, each once, in the order of their first edges; `d` is known to be absent, and one path is not
--- UTF-8.
+-- Both that are not there are wanted, without duplicates, in the order of their first edges; `d` is
+-- known to be absent, and one path is not UTF-8.
 all-at-once : (g : GraphModel) → lacking_dyndeps with_d true (with_bound g (Some (codes "b") ∷ Some (codes "d") ∷ None ∷ Some (255 ∷ []) ∷ Some a ∷ Some (codes "b") ∷ []))
     ≡ codes "b" ∷ a ∷ []
 unfolding on_files
@@ -280,7 +281,7 @@ all-at-once g = refl
 none-unless-joined : (g : GraphModel) → lacking_dyndeps with_d false (with_bound g (Some a ∷ [])) ≡ []
 none-unless-joined g = refl
 
--- Before them come the files that were read and not handed in.
+-- Before them come the files that were read and not supplied.
 read-files-first : (file : LoadedModel) → paths_to_load (record with_d { read = given m ∷ given a ∷ [] }) true (Ok (record file { graph = with_bound file.graph (Some (codes "b") ∷ []) })) ≡ a ∷ []
 unfolding on_files
 read-files-first file = refl

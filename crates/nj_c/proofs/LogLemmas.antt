@@ -1,4 +1,4 @@
--- What joining a deps log leaves.
+-- The session after joining a deps log.
 use Rattle.std.proofs.Common.{◌≡◌, ◌≢◌, ℕ, List, Some, None, is_some, Result, Ok, Err, sym, ap, subst, ◌∙◌, true≢false, Option}
 use Rattle.nj_deps.specs.Logs.{LogModel, IsLogOf}
 use Rattle.nj_scope.specs.ReadingList.{ReadStatement}

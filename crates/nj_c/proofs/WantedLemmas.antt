@@ -1,4 +1,4 @@
--- The paths that were read and not handed in.
+-- The paths that were read and not supplied.
 use Rattle.std.proofs.Common.{◌≡◌, ◌<◌, ◌+◌, ℕ, Bool, true, false, cond, Option, Some, None, is_some, List, [], ◌∷◌, ◌++◌, map, length, take, get_or, slice_get, unwrap_or, option_and_then, position, bytes_eq, true≢false, refl, sym, ap, ◌∙◌}
 use Rattle.std.specs.Global.{Vec}
 use Rattle.std.specs.List.{AllByRecursion, cons_option, filter_map, flat_map}
@@ -17,7 +17,7 @@ wanted-more old new items i d below is more =
     more ∙ ap (λ t. t ++ wanted_of (get_or items i d)) is ∙ flat_map_more wanted_of [] (take i items) (get_or items i d)
     ∙ ap (flat_map wanted_of) (sym (take_more items i d below))
 
--- one more path, of a reading that was not handed in
+-- one more path, of a reading that was not supplied
 pub wanted-push : (old new : List (Vec ℕ)) (path : Vec ℕ) (r : HandedReading) → is_some r.number ≡ false → path.items ≡ r.path.items
     → new ≡ old ++ path ∷ [] → map bytes_of new ≡ map bytes_of old ++ wanted_of r
 wanted-push old new path r none same more =
@@ -28,7 +28,7 @@ wanted-push old new path r none same more =
 pub wanted-same : (old : List (List ℕ)) (r : HandedReading) → is_some r.number ≡ true → old ≡ old ++ wanted_of r
 wanted-same old r some = sym (append-nil old) ∙ ap (λ b. old ++ cond b [] (r.path.items ∷ [])) (sym some)
 
--- what is wanted of the readings as they are held is what is wanted of the readings
+-- the wanted paths of the readings in memory are those of the readings
 wanted-one : (path : List ℕ) (others : List (List ℕ)) (b : Bool) → cond b [] (path ∷ []) ++ others ≡ cons_option (cond b None (Some path)) others
 wanted-one path others true = refl
 wanted-one path others false = refl
@@ -46,7 +46,7 @@ wanted-held paths files (r ∷ rs) same are =
     ∙ ap (λ b. cond b [] (r.path.items ∷ []) ++ others) (ap is_some are.0 ∙ sym (is-known paths files r.path.items same))
     ∙ wanted-one r.path.items others (is_some (option_and_then (slice_get files) (position (bytes_eq r.path.items) paths)))
 
--- each reading, as it is held, found what was handed in or an empty file
+-- each reading in memory found the supplied file or an empty one
 found-one : (files : List (Option (List ℕ))) (at : Option ℕ) → is_some (option_and_then (slice_get files) at) ≡ is_some at
     → read_bytes files at ≡ unwrap_or (option_and_then (slice_get files) at) (Some [])
 found-one files None known = refl

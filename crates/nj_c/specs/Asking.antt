@@ -1,4 +1,4 @@
--- What calls do to a session, and what they return.
+-- The effects of calls on a session, and their results.
 use Rattle.std.specs.Prelude.{◌≡◌, ◌≢◌, ◌⊎◌, ◌<◌, ◌≤◌, ℕ, ℤ, pos, Bool, List, [], ◌∷◌, ◌++◌, Option, Some, None, option_and_then, length, drop, slice_get, MatchOption, if◌then◌else◌}
 use Rattle.nj_edges.specs.declared.edges.Kind.{Kind}
 use Rattle.nj_edges.specs.declared.edges.Kind.TheVariants.{Explicit, Implicit, OrderOnly}
@@ -10,7 +10,7 @@ use Rattle.nj_c.specs.declared.session_state.Kept.{Kept}
 use Rattle.nj_c.specs.declared.status.Status.TheVariants.{Done, Nothing, Short, NotLoaded, BadNumber, NotOpen, OutOfMemory}
 use Rattle.nj_c.specs.Statuses.{code_of}
 
--- a session that is not open returns that, and an open one does this with what it keeps
+-- a session that is not open returns that, and an open one does this with its contents
 abbrev pub IfOpen : Option Kept → ℤ → (Kept → Type 0) → Type 0
 IfOpen session result does = MatchOption session (result ≡ code_of NotOpen) does
 
@@ -35,21 +35,21 @@ OfEdge session edge result does = OfGraph session result (λ g. IfNumber edge (l
 abbrev pub OfFile : Option Kept → ℕ → ℤ → (GraphModel → Type 0) → Type 0
 OfFile session file result does = OfGraph session result (λ g. IfNumber file (length (files_of g)) result (does g))
 
--- the item of a list at an index was given out, or there is none
+-- the item of a list at an index was returned, or there is none
 abbrev pub GivesItem : {A : Type 0} → Option A → ℤ → (A → Type 0) → Type 0
 GivesItem item result gives = MatchOption item (result ≡ code_of Nothing) (λ x. (result ≡ code_of Done) × gives x)
 
--- the number of the file of this path was given out, if there is one
+-- the number of the file of this path was returned, if there is one
 abbrev pub GivesFile : (files : List (List ℕ)) → Option (List ℕ) → ℤ → ℕ → Type 0
 GivesFile files path result file = GivesItem path result (λ p. slice_get files file ≡ Some p)
 
--- a text was copied to the front of the buffer if it fits in, and its length was given out
+-- a text was copied to the front of the buffer if it fits in, and its length was returned
 pub record GivesText (text before after : List ℕ) (needed : ℕ) (result : ℤ) : Type 0 where
   pub length_is : needed ≡ length text
   pub fits : length text ≤ length before → (result ≡ code_of Done) × (after ≡ text ++ drop (length text) before)
   pub short : length before < length text → (result ≡ code_of Short) × (after ≡ before)
 
--- a buffer is written only by a call that did what was asked
+-- a buffer is written only by a call that succeeded
 abbrev pub KeptUnlessDone : (before after : List ℕ) → ℤ → Type 0
 KeptUnlessDone before after result = result ≢ code_of Done → after ≡ before
 
@@ -67,17 +67,17 @@ step_kind_code None = pos 3
 abbrev pub bool_code : Bool → ℤ
 bool_code is = if is then pos 1 else pos 0
 
--- a text was given out; or an allocation failed, and its length was not given out
+-- a text was returned; or an allocation failed, and its length was not returned
 abbrev pub GivesTextOrNot : (text before after : List ℕ) → (needed_before needed_after : ℕ) → ℤ → Type 0
 GivesTextOrNot text before after needed_before needed_after result = GivesText text before after needed_after result
     ⊎ ((result ≡ code_of OutOfMemory) × (needed_after ≡ needed_before))
 
--- The value of a variable for an edge was given out. The graph is that of statements which were read.
+-- The value of a variable for an edge was returned. The graph is that of statements which were read.
 abbrev pub GivesValue : GraphModel → (edge : ℕ) → (name before after : List ℕ) → (needed_before needed_after : ℕ) → ℤ → Type 0
 GivesValue g edge name before after needed_before needed_after result = (entries : List ReadStatement) → IsGraphOf g entries
     → GivesTextOrNot (late_text_of entries edge name) before after needed_before needed_after result
 
--- the text of a list at an index was given out, or there is none
+-- the text of a list at an index was returned, or there is none
 abbrev pub GivesTextAt : List (List ℕ) → (index : ℕ) → (before after : List ℕ) → (needed : ℕ) → ℤ → Type 0
 GivesTextAt texts index before after needed result =
     MatchOption (slice_get texts index) (result ≡ code_of Nothing) (λ text. GivesText text before after needed result)
@@ -93,7 +93,7 @@ IfPlace fault result does = MatchOption (option_and_then (λ f. f.place) fault) 
 abbrev pub OfPlace : Option Kept → ℤ → (Place → Type 0) → Type 0
 OfPlace session result does = IfOpen session result (λ kept. IfPlace kept.fault result does)
 
--- the text of a mark was given out; the empty text is none
+-- the text of a mark was returned; the empty text is none
 abbrev pub GivesMark : (text before after : List ℕ) → (needed : ℕ) → ℤ → Type 0
 GivesMark [] before after needed result = result ≡ code_of Nothing
 GivesMark (b ∷ bs) before after needed result = GivesText (b ∷ bs) before after needed result

@@ -1,4 +1,4 @@
--- Lists that are given out many items at a time, from an index on.
+-- Lists that are returned many items at a time, from an index on.
 use Rattle.std.specs.Prelude.{◌≡◌, ℕ, ℤ, List, ◌++◌, length, map, take, drop}
 use Rattle.std.specs.List.{range_with_len}
 use Rattle.nj_names.specs.declared.files.FileNo.{FileNo}
@@ -8,11 +8,12 @@ use Rattle.nj_c.specs.declared.status.Status.TheVariants.{Done}
 use Rattle.nj_c.specs.Asking.{kind_code}
 use Rattle.nj_c.specs.Statuses.{code_of}
 
--- a buffer with as many of these items at its front as it has room for, and as it was before after them
+-- a buffer with as many of these items at its front as it has room for, and unchanged after them
 abbrev pub filled : {A : Type 0} → (items before : List A) → List A
 filled items before = take (length before) items ++ drop (length items) before
 
--- what fits of a list of numbers from an index on was written to a buffer, and the length of the whole list was given out
+-- as many numbers of a list as fit, from an index on, were written to a buffer, and the length of the whole list was
+-- returned
 abbrev pub GivesNumbers : (numbers : List ℕ) → (from : ℕ) → (before after : List ℕ) → (count : ℕ) → ℤ → Type 0
 GivesNumbers numbers from before after count result =
     (result ≡ code_of Done) × (count ≡ length numbers) × (after ≡ filled (drop from numbers) before)

@@ -1,4 +1,4 @@
--- The numbers of what can be wrong.
+-- The numbers of the kinds of faults.
 use Rattle.std.specs.Prelude.{ℤ, pos}
 use Rattle.nj_manifest.specs.declared.cause.SyntaxCause.{SyntaxCause}
 use Rattle.nj_manifest.specs.declared.cause.SyntaxCause.TheVariants.{BadByte, Tab, BadEscape, Expected, UnexpectedIndent, MissingCommand, RspPair, UnknownKey, MissingDepth, DyndepVersion, DyndepShape}

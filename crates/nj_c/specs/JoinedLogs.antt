@@ -15,12 +15,12 @@ use Rattle.nj_c.specs.declared.status.Status.TheVariants.{Done, Fault, NotLoaded
 abbrev pub IsNoLog : (bytes : List ℕ) → Type 0
 IsNoLog bytes = IsLogFault bytes NoDepsLog ⊎ ((version : ℕ) × IsLogFault bytes (OtherVersion version))
 
--- what these bytes say was joined to a graph: this is the graph of all, or the fault
+-- the log of these bytes was joined to a graph: this is the graph of all, or the fault
 abbrev pub JoinsBytes : GraphModel → (bytes : List ℕ) → Result GraphModel GraphFault → Type 0
 JoinsBytes g bytes result =
     (log : LogModel) × IsLogOf bytes log × ((stated : List ReadStatement) → IsGraphOf g stated → JoinsLog log stated result)
 
--- What joining leaves, by its status. After a fault, and where an allocation failed, no graph is left.
+-- The session after joining, by its status. After a fault, and where an allocation failed, no graph is left.
 abbrev pub JoinsDeps : (before after : Kept) → (bytes : List ℕ) → Status → Type 0
 JoinsDeps before after bytes Done =
     (g : GraphModel) × (before.graph ≡ Some g)

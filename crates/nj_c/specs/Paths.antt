@@ -13,7 +13,7 @@ use Rattle.nj_c.specs.Statuses.{code_of}
 abbrev pub numbered_step : Step → PathStep
 numbered_step s = record { edge = s.edge.0; file = s.file.0; kind = step_kind_code s.kind }
 
--- as many steps of a chain as there is room for were written to a buffer, and how many it has was given out; or there is none
+-- as many steps of a chain as there is room for were written to a buffer, and their number was returned; or there is none
 abbrev pub GivesSteps : Option (List Step) → (before after : List PathStep) → (count : ℕ) → ℤ → Type 0
 GivesSteps None before after count result = result ≡ code_of Nothing
 GivesSteps (Some steps) before after count result =
@@ -26,6 +26,6 @@ GivesPath g with_validations from to before after count result =
     × GivesSteps path before after count result)
     ⊎ (result ≡ code_of OutOfMemory)
 
--- a buffer is written only by a call that did what was asked
+-- a buffer is written only by a call that succeeded
 abbrev pub StepsKeptUnlessDone : (before after : List PathStep) → ℤ → Type 0
 StepsKeptUnlessDone before after result = result ≢ code_of Done → after ≡ before

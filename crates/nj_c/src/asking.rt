@@ -1,9 +1,9 @@
-//! How calls use a session: what it keeps is taken out, asked or changed, and put back.
+//! How calls use a session: its contents are taken out, read or changed, and put back.
 //!
 //! The macros are bodies of exports, and give the number of a status. **An answer has no `return`
-//! and no `?`**, which would leave the session without what it keeps.
+//! and no `?`**, which would leave the session without its contents.
 
-/// Asks what an open session keeps.
+/// Reads the contents of an open session.
 macro_rules! ask {
     ($session:expr, $alloc:expr, $kept:ident => $answer:expr) => {
         match $session.take($alloc) {
@@ -18,7 +18,7 @@ macro_rules! ask {
     };
 }
 
-/// Asks the graph that is loaded.
+/// Reads the graph that is loaded.
 macro_rules! ask_graph {
     ($session:expr, $alloc:expr, $graph:ident => $answer:expr) => {
         $crate::asking::ask!($session, $alloc, kept => match &kept.graph {
@@ -28,7 +28,7 @@ macro_rules! ask_graph {
     };
 }
 
-/// Asks the graph about an edge of this number, which is an `EdgeNo` in the answer.
+/// Reads the graph about an edge of this number, which is an `EdgeNo` in the answer.
 macro_rules! ask_edge {
     ($session:expr, $alloc:expr, $edge:ident, $graph:ident => $answer:expr) => {
         $crate::asking::ask_graph!($session, $alloc, $graph => if $edge < $graph.edge_count() {
@@ -40,7 +40,7 @@ macro_rules! ask_edge {
     };
 }
 
-/// Asks the graph about a file of this number, which is a `FileNo` in the answer.
+/// Reads the graph about a file of this number, which is a `FileNo` in the answer.
 macro_rules! ask_file {
     ($session:expr, $alloc:expr, $file:ident, $graph:ident => $answer:expr) => {
         $crate::asking::ask_graph!($session, $alloc, $graph => if $file < $graph.file_count() {
@@ -52,7 +52,7 @@ macro_rules! ask_file {
     };
 }
 
-/// Changes what an open session keeps: the answer is that, changed, and a status.
+/// Changes the contents of an open session: the answer is the changed contents and a status.
 macro_rules! change {
     ($session:expr, $alloc:expr, $seal:ident => $answer:expr) => {
         match $session.take($alloc) {

@@ -1,4 +1,4 @@
-//! Lists that are given out many items at a time.
+//! Lists that are returned many items at a time.
 
 ghost use Rattle.std.specs.Prelude.{◌≡◌, ◌≢◌, ◌<◌, ◌-◌, ℕ, List, length, map, min, drop};
 ghost use Rattle.nj_edges.specs.Edges.{edge_at, inputs_of, outputs_of, users_of};
@@ -62,8 +62,8 @@ pub extern "C" fn nx_inputs(
     })
 }
 
-/// The edges that have a file as an input, by number, each once, from an index on: as many as there
-/// is room for; and how many there are in all.
+/// The edges that have a file as an input, by number, without duplicates, from an index on: as many
+/// as there is room for; and how many there are in all.
 #[unsafe(no_mangle)]
 pub extern "C" fn nx_users(
     alloc: Global,

@@ -25,8 +25,8 @@ pub extern "C" fn nx_edge_count(alloc: Global, session: &mut Session, count: &mu
     })
 }
 
-/// How many files there are: the paths that edges name as outputs, inputs or validations, each
-/// once, numbered from 0.
+/// The number of files: of the distinct paths that edges name as outputs, inputs or validations,
+/// numbered from 0.
 #[unsafe(no_mangle)]
 pub extern "C" fn nx_file_count(alloc: Global, session: &mut Session, count: &mut usize) -> i32
     ensures kept { session.new.kept ≡ session.old.kept }

@@ -1,4 +1,4 @@
-//! What build statements name.
+//! The files and rules that build statements name.
 
 ghost use Rattle.std.specs.Prelude.{◌≡◌, List, length, slice_get};
 ghost use Rattle.nj_edges.specs.Edges.{edge_at, inputs_of, kind_at, outputs_of};

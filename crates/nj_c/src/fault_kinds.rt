@@ -5,7 +5,7 @@ ghost use Rattle.nj_c.specs.FaultKinds.{kind_of, kind_of_syntax};
 
 use nj_graph::{Cause, Name, SyntaxCause};
 
-/// The number of what is wrong, which is fixed for good.
+/// The number of a cause, which never changes.
 pub(crate) fn fault_number(cause: &Cause) -> i32
     ensures { result ≡ kind_of cause.now }
 {
@@ -37,7 +37,7 @@ pub(crate) fn fault_number(cause: &Cause) -> i32
     }
 }
 
-// The number of what is wrong with the syntax.
+// The number of the cause of a syntax fault.
 fn syntax_number(syntax: &SyntaxCause<Name>) -> i32
     ensures { result ≡ kind_of_syntax syntax.now }
 {

@@ -15,7 +15,7 @@ use crate::status::Status;
 use nj_graph::{GraphFault, Place};
 use std::alloc::Global;
 
-/// What is wrong, as one of the numbers of `enum nx_fault`.
+/// The kind of the fault, as one of the numbers of `enum nx_fault`.
 #[unsafe(no_mangle)]
 pub extern "C" fn nx_fault_kind(alloc: Global, session: &mut Session, kind: &mut i32) -> i32
     ensures kept { session.new.kept ≡ session.old.kept }
@@ -31,8 +31,8 @@ pub extern "C" fn nx_fault_kind(alloc: Global, session: &mut Session, kind: &mut
     })
 }
 
-/// The line and the column of the fault, counted from 1; columns count bytes. Nothing if no place
-/// is to blame.
+/// The line and the column of the fault, counted from 1; columns count bytes. Nothing if the fault
+/// has no place.
 #[unsafe(no_mangle)]
 pub extern "C" fn nx_fault_place(
     alloc: Global,
@@ -54,7 +54,7 @@ pub extern "C" fn nx_fault_place(
     })
 }
 
-/// The file of the fault, by the name under which it was opened. Nothing if no place is to blame.
+/// The file of the fault, by the name under which it was opened. Nothing if the fault has no place.
 #[unsafe(no_mangle)]
 pub extern "C" fn nx_fault_file(
     alloc: Global,
@@ -81,7 +81,7 @@ fn place_of(fault: &Option<GraphFault>) -> Option<&Place>
     fault.place.as_ref()
 }
 
-/// The line of the fault: `FILE:LINE:COLUMN: TEXT`, or `TEXT` where no place is to blame.
+/// The line of the fault: `FILE:LINE:COLUMN: TEXT`, or `TEXT` where the fault has no place.
 #[unsafe(no_mangle)]
 pub extern "C" fn nx_fault_line(
     alloc: Global,

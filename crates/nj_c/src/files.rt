@@ -77,7 +77,7 @@ pub extern "C" fn nx_maker(
     })
 }
 
-/// The edge at an index among those that have a file as an input, by number, each once.
+/// The edge at an index among those that have a file as an input, by number, without duplicates.
 #[unsafe(no_mangle)]
 pub extern "C" fn nx_user(
     alloc: Global,
@@ -95,7 +95,7 @@ pub extern "C" fn nx_user(
     ask_file!(session, alloc, file, graph => give_edge(graph.users(file), index, edge))
 }
 
-/// The edge at an index among those that name a file as a validation, by number, each once
+/// The edge at an index among those that name a file as a validation, by number, without duplicates
 /// ("Validations" in the Ninja manual).
 #[unsafe(no_mangle)]
 pub extern "C" fn nx_validation_user(

@@ -1,4 +1,4 @@
-//! Items of lists, given out by their index.
+//! Items of lists, by their index.
 
 ghost use Rattle.std.specs.Prelude.{◌≡◌, List, ℕ, slice_get, map};
 ghost use Rattle.nj_names.specs.Files.{AreFiles};

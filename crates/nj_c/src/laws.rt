@@ -7,7 +7,7 @@ pub fn all_words_can_be_given()
     ensures { AllWordsCanBeGiven }
 {}
 
-/// A run that is kept never ends as one whose output could not be written.
+/// A run that is kept never ends as one whose standard output could not be written.
 pub fn outputs_never_fail()
     ensures { OutputsNeverFail }
 {}

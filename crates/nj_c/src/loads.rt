@@ -18,10 +18,10 @@ use nj_graph::{Cause, Graph, GraphFault, Loaded, join_dyndeps, load};
 use std::alloc::Global;
 use std::mem;
 
-/// Loads the main file at a path and all files that it includes, from those that were handed in;
-/// and joins the dyndep files to which edges are bound, if `joins_dyndeps` is not 0 ("Dynamic
-/// Dependencies" in the Ninja manual). What was loaded before is freed. If files are wanted that
-/// were not handed in, `nx_wanted` gives their paths; a fault is given by the `nx_fault_` calls.
+/// Loads the main file at a path and all files that it includes, from those that were supplied; and
+/// joins the dyndep files to which edges are bound, if `joins_dyndeps` is not 0 ("Dynamic
+/// Dependencies" in the Ninja manual). An earlier graph is freed. If files are wanted that were not
+/// supplied, `nx_wanted` returns their paths; the `nx_fault_` calls return a fault.
 #[unsafe(no_mangle)]
 pub extern "C" fn nx_load(
     alloc: Global,
@@ -35,7 +35,7 @@ pub extern "C" fn nx_load(
     change!(session, alloc, seal => load_in(alloc, seal, main, joins_dyndeps != 0))
 }
 
-/// The path at an index among those that the last load wanted and that were not handed in.
+/// The path at an index among those that the last load wanted and that were not supplied.
 #[unsafe(no_mangle)]
 pub extern "C" fn nx_wanted(
     alloc: Global,
@@ -76,7 +76,7 @@ fn load_main(alloc: Global, kept: &mut Kept, main: &[u8], joins: bool) -> Status
     finish_load(alloc, kept, loaded, joins)
 }
 
-// Forgets what was loaded, read and listed.
+// Forgets the load, the readings and the lists.
 fn forget_load(kept: &mut Kept)
     ensures files { kept.new.files ≡ unread kept.old.files }
     ensures nothing { KeepsNothing kept.new }
@@ -91,7 +91,7 @@ fn forget_load(kept: &mut Kept)
     kept.mark.clear();
 }
 
-// Keeps the paths that are wanted, or what the load gives.
+// Keeps the paths that are wanted, or the result of the load.
 fn finish_load(
     alloc: Global,
     kept: &mut Kept,
@@ -109,7 +109,7 @@ fn finish_load(
     }
 }
 
-// Keeps these paths, or where there is none, what the load gives.
+// Keeps these paths, or where there is none, the result of the load.
 fn keep_load(
     alloc: Global,
     kept: &mut Kept,
@@ -128,7 +128,7 @@ fn keep_load(
     Status::Wanted
 }
 
-// The graph of what was loaded, to which its dyndep files are joined if that is asked for.
+// The graph of a load, to which its dyndep files are joined if that is requested.
 #[tactic(auto, using(crate::proofs::LoadLemmas::gives_fault, crate::proofs::LoadLemmas::gives_loaded, crate::proofs::LoadLemmas::gives_joined))]
 fn joined_graph(
     alloc: Global,

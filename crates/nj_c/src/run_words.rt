@@ -7,7 +7,7 @@ ghost use Rattle.nj_c.specs.Inside.RunsHeld.{WordsRefused};
 use crate::status::Status;
 use std::alloc::{AllocError, Global};
 
-/// The words of a text, each of which ends before a zero byte or at the end of the text.
+/// The arguments of a text; each ends before a zero byte or at the end of the text.
 pub(crate) fn words_in(alloc: Global, text: &[u8]) -> Result<Vec<String>, Status>
     ensures words { IfOk result (λ words. map string_bytes words.items ≡ given_words text.now) }
     ensures refused { IfErr result (λ status. WordsRefused text.now status) }
@@ -34,7 +34,7 @@ fn split_words(alloc: Global, text: &str) -> Result<Vec<String>, AllocError>
     Ok(words)
 }
 
-// The first word of a text, and what comes after the zero byte at its end.
+// The first argument of a text, and the text after the zero byte at its end.
 fn first_word(text: &str) -> (&str, &str)
     requires { text.now ≢ [] }
     ensures words { given_words text.now ≡ result.0.now ∷ given_words result.1.now }

@@ -1,5 +1,5 @@
-//! A box of what a session keeps, whose type names no other type: what owns it is proved without
-//! a look at all that it owns.
+//! A box of a session's contents, whose type names no other type: its owners are proved without a
+//! look at all that it owns.
 
 ghost use Rattle.std.specs.Prelude.{◌≡◌};
 ghost use Rattle.nj_c.specs.declared.session_state.Kept.{Kept};
@@ -10,7 +10,7 @@ use crate::taken_box::Loose;
 use std::alloc::{AllocError, Global};
 use std::marker::Model;
 
-/// What an open session keeps.
+/// The contents of an open session.
 pub(crate) struct Seal {
     at: *mut Kept,
     alloc: Global,
@@ -31,7 +31,7 @@ impl Seal {
         Seal::of_loose(Loose::of(value))
     }
 
-    /// What is kept.
+    /// The contents.
     pub(crate) fn get(&self) -> &Kept
         ensures { result.now ≡ self.now.kept }
     {

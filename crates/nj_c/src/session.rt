@@ -1,4 +1,4 @@
-//! A pointer that owns what it points to, or is null.
+//! A pointer that owns its target, or is null.
 
 ghost use Rattle.std.specs.Prelude.{◌≡◌, None, Some, option_map};
 ghost use Rattle.std.specs.declared.option.Option.{Option};
@@ -64,7 +64,7 @@ impl Session {
         }
     }
 
-    /// Takes out what the session keeps, so that it keeps nothing.
+    /// Takes out the contents of the session, so that it keeps nothing.
     pub(crate) fn take(&mut self, alloc: Global) -> Option<Seal>
         ensures taken { option_map (λ s. s.kept) result ≡ self.old.kept }
         ensures left { self.new.kept ≡ None }

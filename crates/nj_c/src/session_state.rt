@@ -1,4 +1,4 @@
-//! What a session keeps.
+//! The contents of a session.
 
 ghost use Rattle.nj_c.specs.Loading.{IsEmpty};
 
@@ -8,24 +8,24 @@ use nj_scope::HashKeys;
 use nj_tools::MemorySink;
 use std::alloc::Global;
 
-/// What an open session keeps.
+/// The contents of an open session.
 #[derive(Drop)]
 pub struct Kept {
-    /// The files that were handed in.
+    /// The supplied files.
     pub(crate) files: HandedIn,
-    /// The paths that the last load or run wanted and that were not handed in.
+    /// The paths that the last load or run wanted and that were not supplied.
     pub(crate) wanted: Vec<Vec<u8>>,
     /// The graph, after a load that went well.
     pub(crate) graph: Option<Graph>,
     /// The fault of the last load, or of the last target that was picked.
     pub(crate) fault: Option<GraphFault>,
-    /// The edges of the last list or page that was asked for.
+    /// The edges of the last requested list or page.
     pub(crate) found: Vec<EdgeNo>,
     /// The text of the mark at which the last page ends; empty if nothing is left after it.
     pub(crate) mark: Vec<u8>,
-    /// What the last run wrote to its output.
+    /// The standard output of the last run.
     pub(crate) output: MemorySink,
-    /// What the last run wrote to its error output.
+    /// The standard error of the last run.
     pub(crate) errors: MemorySink,
 }
 

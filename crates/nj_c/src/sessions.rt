@@ -1,4 +1,4 @@
-//! Sessions, and the files that are handed in.
+//! Sessions, and the supplied files.
 
 ghost use Rattle.std.specs.Prelude.{◌≡◌, None, Some, IfOk};
 ghost use Rattle.nj_scope.specs.Sources.{outcome_bytes};
@@ -15,8 +15,8 @@ use crate::supplied_files::HandedIn;
 use nj_scope::HashKeys;
 use std::alloc::{AllocError, Global};
 
-/// The version of the interface. What a program was written for still works with a greater minor
-/// number; with another major one it may not.
+/// The version of the interface. A program still works with a greater minor number than the one for
+/// which it was written; with another major one it may not.
 #[unsafe(no_mangle)]
 pub extern "C" fn nx_version(major: &mut usize, minor: &mut usize) -> i32
     ensures { (result ≡ code_of Done) × (major.new ≡ 1) × (minor.new ≡ 1) }
@@ -26,8 +26,8 @@ pub extern "C" fn nx_version(major: &mut usize, minor: &mut usize) -> i32
     Status::Done.code()
 }
 
-/// Opens a session that keeps nothing yet; what it kept before is freed. The key is for hashes: a
-/// number that strangers cannot guess keeps their files from slowing a load down.
+/// Opens a session that keeps nothing yet; its earlier contents are freed. The key is for hashes: a
+/// number that nobody can guess keeps untrusted files from slowing a load down.
 #[unsafe(no_mangle)]
 pub extern "C" fn nx_open(alloc: Global, session: &mut Session, key: u64) -> i32
     ensures { Opens session.old.kept session.new.kept result }
@@ -50,7 +50,7 @@ fn new_session(alloc: Global, key: u64) -> Result<Seal, AllocError>
     }
 }
 
-/// Closes a session, and frees all that it keeps. One that is not open stays so.
+/// Closes a session, and frees all that it keeps. One that is not open remains closed.
 #[unsafe(no_mangle)]
 pub extern "C" fn nx_close(alloc: Global, session: &mut Session) -> i32
     ensures closed { session.new.kept ≡ None }
@@ -60,8 +60,8 @@ pub extern "C" fn nx_close(alloc: Global, session: &mut Session) -> i32
     Status::Done.code()
 }
 
-/// Hands in the bytes of the file at a path, in place of what was handed in for it before. A graph
-/// that is loaded stays as it is.
+/// Supplies the bytes of the file at a path, in place of those supplied for it before. A graph that
+/// is loaded stays the same.
 #[unsafe(no_mangle)]
 pub extern "C" fn nx_add_file(
     alloc: Global,
@@ -84,7 +84,7 @@ pub extern "C" fn nx_add_absent(alloc: Global, session: &mut Session, path: &[u8
     change!(session, alloc, seal => set_file(seal, path, None))
 }
 
-// Hands in the bytes of a file.
+// Supplies the bytes of a file.
 fn add_text(alloc: Global, seal: Seal, path: &[u8], bytes: &[u8]) -> (Seal, Status)
     ensures { TakesPath seal.kept result.0.kept path.now (Some bytes.now) result.1 }
 {
@@ -94,7 +94,7 @@ fn add_text(alloc: Global, seal: Seal, path: &[u8], bytes: &[u8]) -> (Seal, Stat
     }
 }
 
-// Sets what the file at a path is.
+// Sets the file at a path.
 fn set_file(seal: Seal, path: &[u8], file: Option<Vec<u8>>) -> (Seal, Status)
     ensures { TakesPath seal.kept result.0.kept path.now (outcome_bytes file) result.1 }
 {

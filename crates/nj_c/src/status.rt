@@ -1,12 +1,12 @@
-//! What calls return.
+//! The statuses that calls return.
 
 ghost use Rattle.std.specs.Prelude.{◌≡◌};
 ghost use Rattle.nj_c.specs.Statuses.{code_of};
 
-/// What a call did. Its number is fixed for good.
+/// The result of a call. Its number never changes.
 #[derive(Clone, Copy, Debug, PartialEq, Eq)]
 pub enum Status {
-    /// It did what was asked.
+    /// It succeeded.
     Done,
     /// There is nothing there: past the end of a list, no maker, no file of this path.
     Nothing,
@@ -14,7 +14,7 @@ pub enum Status {
     Short,
     /// There is a fault, which is kept.
     Fault,
-    /// Files are wanted that were not handed in.
+    /// Files are wanted that were not supplied.
     Wanted,
     /// No graph is loaded.
     NotLoaded,

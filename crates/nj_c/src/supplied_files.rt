@@ -1,4 +1,4 @@
-//! The files that C hands in.
+//! The files that C supplies.
 
 ghost use Rattle.std.specs.Prelude.{◌≡◌, ◌<◌, ◌++◌, [], ◌∷◌, false, is_some, length, map, set, position, bytes_eq, IfOk, IfSome, OnOk, OnErr};
 ghost use Rattle.std.specs.List.{flat_map, list_any};
@@ -11,21 +11,21 @@ use nj_scope::{FileSource, HashKeys, SourceFault};
 use std::alloc::{AllocError, Global};
 use std::marker::Model;
 
-// One reading: the path, and the number of its file; `None` if that was not handed in.
+// One reading: the path, and the number of its file; `None` if that was not supplied.
 #[derive(Drop)]
 struct HandedReading {
     path: Vec<u8>,
     number: Option<usize>,
 }
 
-/// The files that were handed in. One that was not reads as an empty file, and is then wanted.
+/// The supplied files. One that was not supplied reads as an empty file, and is then wanted.
 #[derive(Drop)]
 pub struct HandedIn {
     keys: HashKeys,
     paths: Files,
     // For each path its bytes; `None` if no file is there.
     files: Vec<Option<Vec<u8>>>,
-    // What was read since the last load began.
+    // The readings since the last load began.
     read: Vec<HandedReading>,
 }
 
@@ -59,8 +59,8 @@ impl HandedIn {
         }
     }
 
-    /// Sets what the file at a path is: its bytes, or that no file is there. What was read before
-    /// is forgotten.
+    /// Sets the file at a path: its bytes, or that no file is there. Earlier readings are
+    /// forgotten.
     pub(crate) fn set(&mut self, path: &[u8], file: Option<Vec<u8>>) -> Result<(), AllocError>
         ensures set { OnOk result (SetsFile self.old self.new path.now (outcome_bytes file)) }
         ensures refused { OnErr result (self.new ≡ self.old) }
@@ -74,7 +74,7 @@ impl HandedIn {
         }
     }
 
-    // Sets what the file of a number is.
+    // Sets the file of a number.
     fn replace(&mut self, number: usize, file: Option<Vec<u8>>)
         requires { number < length self.old.files }
         ensures { self.new ≡ record {
@@ -87,7 +87,7 @@ impl HandedIn {
         self.files[number] = file;
     }
 
-    // Adds a file at a path of which nothing is known.
+    // Adds a file at a path that is not known yet.
     fn add(&mut self, path: &[u8], file: Option<Vec<u8>>) -> Result<(), AllocError>
         requires { list_any (bytes_eq path.now) self.old.paths ≡ false }
         ensures aligned { length self.old.files ≡ length self.old.paths }
@@ -105,14 +105,14 @@ impl HandedIn {
         Ok(())
     }
 
-    /// Forgets what was read.
+    /// Forgets the readings.
     pub(crate) fn begin(&mut self)
         ensures { self.new ≡ record self.old { read = [] } }
     {
         self.read.clear();
     }
 
-    /// The paths that were read and not handed in, in the order in which they were read.
+    /// The paths that were read and not supplied, in the order in which they were read.
     pub(crate) fn wanted(&self, alloc: Global) -> Result<Vec<Vec<u8>>, AllocError>
         ensures paths { IfOk result (λ paths.
             map (λ p. p.items) paths.items ≡ wanted_paths self.now) }
@@ -121,7 +121,7 @@ impl HandedIn {
         wanted_in(alloc, &self.read)
     }
 
-    /// Whether something was handed in for a path: bytes, or that no file is there.
+    /// Whether something was supplied for a path: bytes, or that no file is there.
     pub(crate) fn has(&self, path: &[u8]) -> bool
         ensures { result ≡ is_some (handed_in self.now path.now) }
     {
@@ -160,7 +160,7 @@ impl FileSource for HandedIn {
     }
 }
 
-// The paths of readings that were not handed in.
+// The paths of readings that were not supplied.
 fn wanted_in(alloc: Global, read: &[HandedReading]) -> Result<Vec<Vec<u8>>, AllocError>
     ensures { IfOk result (λ paths. map (λ p. p.items) paths.items
         ≡ flat_map wanted_of read.now) }
@@ -172,7 +172,7 @@ fn wanted_in(alloc: Global, read: &[HandedReading]) -> Result<Vec<Vec<u8>>, Allo
     Ok(paths)
 }
 
-// Appends the path of a reading if it was not handed in.
+// Appends the path of a reading if it was not supplied.
 fn push_wanted(
     alloc: Global,
     paths: &mut Vec<Vec<u8>>,
@@ -188,7 +188,7 @@ fn push_wanted(
     Ok(())
 }
 
-// What the file of this number reads as.
+// The reading of the file of this number.
 fn copy_at(
     alloc: Global,
     files: &[Option<Vec<u8>>],

@@ -33,8 +33,8 @@ pub extern "C" fn nx_variable(
     ask_edge!(session, alloc, edge, graph => value(alloc, graph, edge, name, buffer, needed))
 }
 
-/// The command of an edge, as it is passed to a shell; of a phony one what its block binds to
-/// `command`, which is mostly nothing.
+/// The command of an edge, as it is passed to a shell; of a phony one the value that its block
+/// binds to `command`, which is mostly empty.
 #[unsafe(no_mangle)]
 pub extern "C" fn nx_command(
     alloc: Global,

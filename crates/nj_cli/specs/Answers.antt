@@ -96,7 +96,7 @@ PageEnds entries take start targets (stopped mark) =
     × ReadsBack mark
 PageEnds entries take start targets (faulty text) = (leads entries targets start ≡ false) × (text ≡ out_of_range)
 
--- how a run ends for targets; if they have a fault, with that
+-- how a run ends for targets; if they have a fault, the run ends with it
 abbrev pub EndsFor : (Ends : List (List ℕ) → Ending → Type 0) → (targets : Result (List (List ℕ)) GraphFault) → Ending → Type 0
 EndsFor Ends targets ending = MatchResult targets (λ targets. Ends targets ending) (λ fault. ending ≡ faulty (fault_line fault))
 

@@ -34,8 +34,7 @@ WritesTheNeeded = (entries : List ReadStatement) (words : List (List ℕ)) (vali
     × (numbers : List ℕ) × AreNeeded (edges_by_path entries) targets numbers
     × (output_of entries (commands words validations None []) ≡ command_lines entries numbers)
 
--- the run for these arguments that takes at most `take` edges, and begins at the mark that `--resume` gives, or at the
--- start
+-- the run for these arguments that takes at most `take` edges, and begins at the mark of `--resume`, or at the start
 abbrev pub IsRun : (words : List (List ℕ)) → (validations : Bool) → (take : Option ℕ) → (resume : Option (List ℕ)) → ActionModel → Type 0
 IsRun words validations take resume run =
     (start : List ℕ) × (start_of validations resume ≡ Ok start) × (run ≡ commands words validations take start)

@@ -37,7 +37,8 @@ out_of_memory = fault_line no_memory
 
 -- ---- by the statements of its files
 
--- All was output. Standard error took the report; or it failed, and a run that stopped cannot be resumed.
+-- Standard output took the whole output. Standard error took the report; or it failed, and then a run that stopped
+-- cannot be resumed.
 pub record IsReported (entries : List ReadStatement) (action : ActionModel) (old new : Around) (status : Status) : Type 0 where
   pub ending : Ending
   pub ends : EndsWith entries action ending
@@ -110,7 +111,7 @@ RunsAs request old new status =
     (files : List Reading) × IsRead old.source new.source [] files
     × (IsRefused request files old new status ⊎ IsAnswered request files old new status)
 
--- no file is read and nothing is output; standard error has the reason
+-- no file is read and nothing is written to standard output; standard error has the reason
 pub record EndsAtOnce (reason : List ℕ) (old new : Around) : Type 0 where
   pub source : new.source ≡ old.source
   pub output : new.output ≡ old.output

@@ -150,7 +150,7 @@ values-kept text new last (m ∷ names) (bs ∷ bounds) grew held =
     ap (λ vs. (m, vs) ∷ values_by_name new names bounds) (values_kept text new last bs grew held.0.parts)
     ∙ ap (λ rest. (m, values_of text bs) ∷ rest) (values-kept text new last names bounds grew held.1)
 
--- ---- what is held
+-- ---- the fields
 
 all-grow : (len more last : ℕ) (bounds : All-bounds) → len ≤ more → AllByRecursion (BoundsAreHeld len last) bounds → AllByRecursion (BoundsAreHeld more last) bounds
 all-grow len more last [] h held = tt

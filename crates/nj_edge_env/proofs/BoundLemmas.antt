@@ -45,7 +45,7 @@ swapped true true x y z apart = absurd (apart refl refl)
 swapped true false x y z apart = refl
 swapped false t x y z apart = refl
 
--- what is done unless a condition is true
+-- a step unless a condition is true
 pub listed-before : {X : Type 0} (s t : Bool) (x y : X) → t ≡ true → y ≡ cond (s && not t) x y
 listed-before true true x y h = refl
 listed-before false true x y h = refl

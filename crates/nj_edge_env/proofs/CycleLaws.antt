@@ -146,7 +146,7 @@ module _ (block : List ℕ → Option (List ℕ)) (lines : List RuleLineModel) w
       referring_wider (name ∷ reaching steps block lines name) (name ∷ reaching (suc steps) block lines name)
       (also name (reaching steps block lines name) (reaching (suc steps) block lines name) (reaching_wider steps name))
 
-  -- one step more finds no other key
+  -- one more step finds no other key
   abbrev IsFull : (steps : ℕ) → (name : List ℕ) → Type 0
   IsFull steps name = Within (reaching (suc steps) block lines name) (reaching steps block lines name)
 
@@ -247,7 +247,7 @@ lesser_at x y = by (order x y) refl
     by Equal e = (not_less_own x, λ h. let r = turned x y Equal e in cc)
     by Greater e = (λ h. cc, not_less_own y)
 
--- what is not below another is not below anything that is no greater
+-- a name that is not below another is not below one that is no greater
 pub no_less : (x y z : List ℕ) → order x y ≢ Less → order y z ≢ Less → order x z ≢ Less
 no_less x y z p q h = by (order z y) refl
   where
@@ -319,6 +319,6 @@ one_found block lines (Some x) (Some y) p q = ap Some (by (order x y) refl)
     by Equal e = same_text x y e
     by Greater e = absurd (p.1 y q.0 (turned x y Greater e))
 
--- so what is found is what is computed
+-- so the key found is the computed one
 pub is_computed : (block : List ℕ → Option (List ℕ)) (lines : List RuleLineModel) (outcome : Option (List ℕ)) → IsCycleFound block lines outcome → outcome ≡ variable_cycle_of block lines
 is_computed block lines outcome found = one_found block lines outcome (variable_cycle_of block lines) found (computed_found block lines)

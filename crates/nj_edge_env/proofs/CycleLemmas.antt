@@ -223,7 +223,7 @@ never_cycle lines keys counts None are counted is none block =
     sym (is_computed block lines None (λ key on. first_found unbound lines keys counts are counted None is key (unbound_reaches block lines key key on)))
 never_cycle lines keys counts (Some n) are counted is none block = absurd (true≢false none)
 
--- what is held of a rule tells the key that is computed
+-- the references held of a rule tell the computed key
 pub reported : (block : List ℕ → Option (List ℕ)) (lines : List RuleLineModel) (keys : List ReferringKeyModel) (counts : List Bool) (first : Option ℕ) → TellsCycles lines keys → AreCounted block keys counts
     → IsFirstOnCycle (makers_counted keys counts) (length keys) first → option_map (name_at keys) first ≡ variable_cycle_of block lines
 reported block lines keys counts first (inl are) counted is = first_computed block lines keys counts are counted first is

@@ -1,4 +1,4 @@
--- What names give: late strings, where no variable of a rule refers back to itself.
+-- The values of names: late strings, where no variable of a rule refers back to itself.
 use Rattle.std.proofs.Common.{◌≡◌, ℕ, zero, suc, ◌<◌, ◌≤◌, Bool, true, false, ◌||◌, if◌then◌else◌, List, [], ◌∷◌, ◌++◌, length, Option, None, Some, unwrap_or, option_map, bytes_eq, refl, sym, ap, subst, ◌∙◌, true≢false, arith}
 use Rattle.nj_names.specs.NameTables.{is_among}
 use Rattle.std.specs.Option.{option_or}
@@ -47,7 +47,7 @@ pub with_paths : (quoting : Bool) (inputs outputs : List (List ℕ)) (name : Lis
 with_paths quoting inputs outputs name h =
     some_paths (bytes_eq name (codes "in")) (bytes_eq name (codes "in_newline")) (bytes_eq name (codes "out")) (paths_text quoting 32 inputs) (paths_text quoting 10 inputs) (paths_text quoting 32 outputs) h
 
--- what the rule's value of a name tells
+-- the facts about the rule's value of a name
 pub record IsRuleValue (block : List ℕ → Option (List ℕ)) (lines : List RuleLineModel) (name : List ℕ) (parts : List PartModel) : Type 0 where
   pub no_paths : names_paths name ≡ false
   pub unbound : block name ≡ None
@@ -253,7 +253,7 @@ from_block quoting n name value u p h (by_block q e) = let t = sym e ∙ h in cc
 from_block quoting n name value u p h (by_rule parts v e f) = let t = sym (rule_value_is n.block n.lines name parts e).unbound ∙ h in cc
 from_block quoting n name value u p h (by_file q o e) = let t = sym o ∙ h in cc
 
--- what a name gives whose value is the rule's
+-- the value of a name that is the rule's
 from_rule : (quoting : Bool) (n : LateNames) (name u : List ℕ) (parts : List PartModel) → rule_value n.block n.lines name ≡ Some parts → Denotes quoting n name u
     → (value : List ℕ → List ℕ) × ((other : List ℕ) → refers parts other ≡ true → Denotes quoting n other (value other)) × (u ≡ expanded value parts)
 from_rule quoting n name u parts h (by_paths e) = let t = sym (without_paths quoting n.inputs n.outputs name (rule_value_is n.block n.lines name parts h).no_paths) ∙ e in absurd cc

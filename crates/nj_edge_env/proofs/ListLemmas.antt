@@ -173,7 +173,7 @@ module _ (numbers starts : List ℕ) (n e start : ℕ) (new longer : List ℕ) (
       ∙ pushed numbers (starts ++ replicate (e + 1 - length starts) (length numbers)) n e i (starts-padded (length numbers) starts (e + 1 - length starts) held) longer-count
       ∙ ap (λ xs. cond (nat_eq i e) (xs ++ n ∷ []) xs) (padded numbers starts (e + 1 - length starts) i held)
 
--- ---- what `resize` does
+-- ---- the result of `resize`
 
 pub padded-ok : {E : Type 0} (r : Result (Unit {0}) E) (old new : List ℕ) (many len start : ℕ) → len ≡ length old → length old ≤ many
     → new ≡ cond (is_ok r) (take many old ++ replicate (many - len) start) old → OnOk r (new ≡ old ++ replicate (many - length old) start)

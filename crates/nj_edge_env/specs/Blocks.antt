@@ -2,8 +2,8 @@
 use Rattle.std.specs.Prelude.{ℕ, ◌==◌, Option, List, [], option_and_then, slice_index_or, bytes_eq}
 use Rattle.std.specs.Map.{lookup}
 
--- by name the edges whose blocks bind it, with the values; by edge the names that its block binds, each once, as they were first
--- bound, up to the last edge that binds one; and the last edge whose block was given a binding, at first 0
+-- by name the edges whose blocks bind it, with the values; by edge the names that its block binds, without duplicates, in the
+-- order of their first bindings, up to the last edge that binds one; and the last edge whose block got a binding, at first 0
 pub record BlocksModel : Type 0 where
   pub values : List (List ℕ × List (ℕ × List ℕ))
   pub names : List (List (List ℕ))
@@ -13,6 +13,6 @@ pub record BlocksModel : Type 0 where
 abbrev pub bound_in : BlocksModel → (edge : ℕ) → (name : List ℕ) → Option (List ℕ)
 bound_in blocks edge name = option_and_then (lookup (λ e. edge == e)) (lookup (bytes_eq name) blocks.values)
 
--- the names that the block of an edge binds, each once, in the order in which they were first bound
+-- the names that the block of an edge binds, without duplicates, in the order in which they were first bound
 abbrev pub names_in : BlocksModel → (edge : ℕ) → List (List ℕ)
 names_in blocks edge = slice_index_or blocks.names edge []

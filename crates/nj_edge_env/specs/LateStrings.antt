@@ -9,8 +9,8 @@ use Rattle.nj_scope.specs.Rules.{RuleLineModel, given}
 use Rattle.nj_scope.specs.Scopes.{expanded}
 use Rattle.nj_names.specs.NameTables.{is_among}
 
--- What an edge's names depend on: the paths of its explicit inputs and outputs, the values that its block binds, the lines of
--- its rule, whether that is `phony`, and the values of names in the file that has the edge.
+-- The dependencies of an edge's names: the paths of its explicit inputs and outputs, the bindings of its block, the lines
+-- of its rule, whether that is `phony`, and the values of names in the file that has the edge.
 pub record LateNames : Type 0 where
   pub inputs : List (List ℕ)
   pub outputs : List (List ℕ)
@@ -37,7 +37,7 @@ names_paths name = is_among (codes "in" ∷ codes "in_newline" ∷ codes "out" �
 
 -- ---- lines of the rule
 
--- the names that determine what an edge runs
+-- the names that determine an edge's command
 abbrev pub is_of_command : (name : List ℕ) → Bool
 is_of_command name = is_among (codes "command" ∷ codes "rspfile" ∷ codes "rspfile_content" ∷ []) name
 
@@ -46,7 +46,7 @@ abbrev pub unless_empty : Bool → Option (List PartModel) → Option (List Part
 unless_empty true (Some []) = None
 unless_empty unless value = value
 
--- The value that the rule gives: of its last line of this key. For names that determine what an edge runs, no parts are no value.
+-- The value that the rule gives: of its last line of this key. For names that determine an edge's command, no parts are no value.
 abbrev pub value_given : List RuleLineModel → (key : List ℕ) → Option (List PartModel)
 value_given lines key = unless_empty (is_of_command key) (given lines key)
 
@@ -78,7 +78,7 @@ pub data Denotes (quoting : Bool) (n : LateNames) : List ℕ → List ℕ → Ty
   by_file : {name : List ℕ} → names_paths name ≡ false → n.block name ≡ None → value_given n.lines name ≡ None
       → Denotes quoting n name (file_value n name)
 
--- the same, computed: through at most `depth` lines of the rule, the last of which gives nothing
+-- the same, computed: through at most `depth` lines of the rule, where the last one is empty
 abbrev pub late_in : (depth : ℕ) → (quoting : Bool) → LateNames → (name : List ℕ) → List ℕ
 late_in zero quoting n name = []
 late_in (suc depth) quoting n name =
@@ -91,8 +91,8 @@ late_in (suc depth) quoting n name =
 abbrev pub late_text : (quoting : Bool) → LateNames → (name : List ℕ) → List ℕ
 late_text quoting n name = late_in (suc (length n.lines)) quoting n name
 
--- The name that is asked for decides whether paths are quoted, also in what it refers to: the names of files are no part of a
--- shell's command.
+-- The requested name decides whether paths are quoted, also in the values to which it refers: the names of files are no part
+-- of a shell's command.
 abbrev pub is_quoted : (asked : List ℕ) → Bool
 is_quoted asked = not (is_among (codes "rspfile" ∷ codes "depfile" ∷ codes "dyndep" ∷ []) asked)
 

@@ -20,7 +20,7 @@ OneTextIsGiven = (quoting : Bool) (n : LateNames) (name text other : List ℕ) �
 abbrev pub CycleGivesNothing : Type 0
 CycleGivesNothing = (quoting : Bool) (n : LateNames) (key text : List ℕ) → IsOnCycle n.block n.lines key → ¬ Denotes quoting n key text
 
--- What the block binds wins over the rule.
+-- A binding of the block wins over the rule.
 abbrev pub BlockWins : Type 0
 BlockWins = (quoting : Bool) (n : LateNames) (name value : List ℕ) → names_paths name ≡ false → n.block name ≡ Some value
     → late_text quoting n name ≡ value

@@ -1,4 +1,4 @@
--- what must be believed
+-- the definitions to believe
 pub mod Blocks
 pub mod LateStrings
 pub mod Laws

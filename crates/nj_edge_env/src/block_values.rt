@@ -64,12 +64,12 @@ impl Blocks {
         }
     }
 
-    /// Binds the name to the value in the block of this edge, in place of what the block bound it
-    /// to before. Edges come in their order.
+    /// Binds the name to the value in the block of this edge, in place of an earlier value there.
+    /// Edges come in their order.
     ///
     /// # Errors
     ///
-    /// If an allocation failed; what is bound is then unchanged.
+    /// If an allocation failed; the bindings are then unchanged.
     pub fn bind(&mut self, edge: usize, name: &[u8], value: &[u8]) -> Result<(), AllocError>
         requires { self.old.last ≤ edge }
         ensures bound { OnOk result ((e : ℕ) (x : List ℕ) → bound_in self.new e x
@@ -127,8 +127,8 @@ impl Blocks {
         self.lists.list(edge).len()
     }
 
-    /// The name at this index among those that the block of this edge binds, each once, in the
-    /// order in which they were first bound; `None` past the last one.
+    /// The name at this index among those that the block of this edge binds, without duplicates, in
+    /// the order in which they were first bound; `None` past the last one.
     pub fn name(&self, edge: usize, index: usize) -> Option<&[u8]>
         ensures { option_copied result ≡ slice_get (names_in self.now edge) index }
     {

@@ -11,7 +11,7 @@ use nj_text::quote_into;
 use std::alloc::AllocError;
 
 /// Appends the paths of files, with the separator between each two; each path is quoted for a shell
-/// by itself, or written as it is.
+/// by itself, or written verbatim.
 pub(crate) fn append_paths(
     out: &mut Vec<u8>,
     files: &Files,

@@ -11,7 +11,7 @@ pub fn late_strings_are_given()
     ensures cycle { CycleGivesNothing }
 {}
 
-/// What the block of an edge binds counts before the rule's line, and that before the file's value
+/// A binding of an edge's block counts before the rule's line, and that before the file's value
 /// ("Evaluation and scoping" in the Ninja manual).
 pub fn block_before_rule_before_file()
     ensures block { BlockWins }

@@ -58,8 +58,8 @@ fn searched(bounds: &[Bound], edge: usize) -> Option<Bound>
     }
 }
 
-// Binds the name of this number in the block of this edge, in place of what the block bound it to
-// before; a name that the block did not bind yet is listed.
+// Binds the name of this number in the block of this edge, in place of an earlier value there; a
+// name that the block did not bind yet is listed.
 pub(crate) fn bind_value(
     bounds: &mut Vec<Bound>,
     text: &mut Vec<u8>,

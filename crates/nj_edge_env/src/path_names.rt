@@ -11,7 +11,7 @@ pub(crate) fn names_paths(name: &[u8]) -> bool
     name == b"in".as_slice() || name == b"in_newline".as_slice() || name == b"out".as_slice()
 }
 
-/// Whether the name determines what an edge runs.
+/// Whether the name determines an edge's command.
 pub(crate) fn is_of_command(name: &[u8]) -> bool
     ensures { result ≡ is_of_command name.now }
 {
@@ -20,7 +20,7 @@ pub(crate) fn is_of_command(name: &[u8]) -> bool
         || name == b"rspfile_content".as_slice()
 }
 
-/// Whether paths are quoted for a shell where this name is asked for.
+/// Whether paths are quoted for a shell in the value of this name.
 pub(crate) fn is_quoted(asked: &[u8]) -> bool
     ensures { result ≡ is_quoted asked.now }
 {

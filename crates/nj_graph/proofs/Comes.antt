@@ -1,4 +1,4 @@
--- A reading comes to all paths to which what was read before it comes, in their order.
+-- A reading comes to all paths to which the statements before it come, in their order.
 use Rattle.std.proofs.Common.{◌≡◌, ℕ, zero, suc, Bool, true, false, cond, Option, option_map, Some, None, List, [], ◌∷◌, ◌++◌, nat_lt, bytes_eq, refl, sym, ap, subst, ◌∙◌}
 use Rattle.nj_graph.specs.Inside.PathsReached.{with_news, with_new, paths_read, come_to}
 use Rattle.std.specs.Option.{option_to_list}
@@ -50,7 +50,7 @@ and_then-comes main front r k comes others = by_end r.end comes
     by_end (Refused fault) p = p
     by_end (Lacking path place) p = p
 
--- a reading, by what was read before it
+-- a reading, by the statements before it
 abbrev pub ComesTo : (main : List ℕ) → List ReadStatement → ReadingModel → Type 0
 ComesTo main before r = IsPrefix (paths_read main before) (come_to main r)
 

@@ -1,4 +1,4 @@
--- What the parser of a file reports, as the fault of that file.
+-- The faults that the parser of a file reports, as faults of that file.
 use Rattle.std.specs.Prelude.{◌≡◌, ◌⊎◌, ℕ, Result, Err, List}
 use Rattle.std.proofs.Common.{inl, inr}
 use Rattle.nj_text.specs.declared.fault.LexFault.TheVariants as lex

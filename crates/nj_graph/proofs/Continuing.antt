@@ -1,4 +1,4 @@
--- What is read unless there is a fault.
+-- The reading unless there is a fault.
 use Rattle.std.specs.Prelude.{Option, List}
 use Rattle.nj_scope.specs.ReadingList.{ReadStatement}
 use Rattle.nj_faults.specs.declared.fault.GraphFault.{GraphFault}

@@ -94,7 +94,7 @@ joined-is : (old : List Reading) (stated : List ReadStatement) (files : List Rea
 joined-is old stated files =
     ap (λ (paths : List (List ℕ)). record { read = (all_joined files stated).read; paths = paths }) (with_news-is (paths_of old) (all_joined files stated).paths)
 
--- ---- so what is read or joined is as it is stated
+-- ---- so statements that are read or joined are as stated
 
 pub loads : (main : List ℕ) (before after : SourceState) (result : Result LoadedModel GraphFault) → LoadsAfter [] before after (reached_of main) result → Loads main before after result
 loads main before after result h = subst (λ (reading : List Reading → ReachedModel). LoadsAfter [] before after reading result) (fun_ext (reached-is main)) h

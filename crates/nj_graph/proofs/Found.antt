@@ -1,4 +1,4 @@
--- What opening a file leaves, by what is answered for it.
+-- The state after opening a file, by the result for it.
 use Rattle.std.proofs.Common.{inl, inr, ◌≡◌, ◌⊎◌, ℕ, true, false, Option, Some, None, Ok, Err, List, [], ◌∷◌, ◌++◌, append-nil, refl, sym, ap, subst, ◌∙◌}
 use Rattle.nj_graph.specs.Inside.PathsReached.{with_new}
 use Rattle.std.specs.Global.{Global}
@@ -77,7 +77,7 @@ module _ (before after : SourceState) (old held : List Reading) (path : List ℕ
     ap paths_of now.kept ∙ paths-one_more path (shared_bytes found) old now.was_not_read,
   )
 
-  -- what is in the table then
+  -- the table then
   opened-has : (found : Option (RcSlice ℕ Global)) → table.OpensFile before after old held path (Ok found) → reading_of held path ≡ Some (record { path = path; bytes = shared_bytes found })
   opened-has found opens =
       reading-at path held (opened-is_read before after old held path found opens) ∙ ap (λ bytes. Some (record { path = path; bytes = bytes })) (sym (opened-found before after old held path found opens))

@@ -8,7 +8,7 @@ use Rattle.nj_graph.specs.Graph.{GraphModel, insert_by, sorted_by, main_rules_of
 abbrev line : (key : List ℕ) → List PartModel → RuleLineModel
 line key value = record { key = key; value = value }
 
--- rule cc, with two descriptions, of which the last one counts: an escape is its byte
+-- rule cc, with two descriptions, where the last one counts: an escape is its byte
 abbrev cc_rule : RuleModel
 cc_rule = record {
   scope = 0;

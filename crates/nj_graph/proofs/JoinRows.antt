@@ -1,4 +1,5 @@
--- Worked rows, computed on the definitions: what dyndep files add to the statements of a run, and how that ends.
+-- Worked rows, computed on the definitions: the additions of dyndep files to the statements of a
+-- run, and how that ends.
 use Rattle.std.proofs.Common.{◌≡◌, ℕ, true, List, [], ◌∷◌, ◌++◌, map, refl}
 use Rattle.std.specs.Prelude.{⊤, codes}
 use Rattle.std.specs.Char.{encode_utf8}
@@ -25,12 +26,12 @@ use Rattle.nj_graph.specs.Runs.{ReachedModel}
 use Rattle.nj_graph.specs.Joining.{entries_of, entries_joined, file_joined, files_joined, all_joined}
 use Rattle.nj_graph.proofs.ReadingRows.{main_file, file, missing, read_of}
 
--- what a row unfolds to compute on its files
+-- the definitions that a row unfolds to compute on its files
 unfoldable pub on_dyndeps : ⊤
 unfolding on_strings is_utf8 chars encode_utf8 bounds clean_path_of without_leftmost_pair edges_read pending_read discover variable_cycle_of parsed_in statements_read opened_in main_read cut opening next_entry restat_block entry_line added_inputs output_next no_section no_path word_of_form version_next version_line equals_value name_next expect_sign words_next words_within section_next entries_of entries_joined file_joined files_joined all_joined
 on_dyndeps = tt
 
--- ---- what a row shows
+-- ---- the facts of a row
 
 -- `o` is bound to `dd`
 abbrev one_edge : List ℕ
@@ -40,7 +41,7 @@ one_edge = codes "build o: phony i | j || dd\n  dyndep = dd\n"
 abbrev three_edges : List ℕ
 three_edges = one_edge ++ codes "build p: phony || ee\n  dyndep = ./ee\nbuild q: phony || dd\n  dyndep = dd\n"
 
--- what is joined where the main file has this text
+-- the result of joining where the main file has this text
 abbrev joined_of : (text : List ℕ) → (files : List Reading) → ReachedModel
 joined_of text files = all_joined files (read_of text []).entries
 
@@ -109,7 +110,7 @@ not_text_paths : (joined_of (codes "build o: phony || " ++ 255 ∷ codes "\n  dy
 unfolding on_dyndeps
 not_text_paths = refl
 
--- ---- what is wrong with a file
+-- ---- the fault of a file
 
 not_bound : (joined_by three_edges (codes "build p: dyndep\n")).read.end ≡ Refused (fault_at (codes "dd") (at 2 7) (DyndepExtra (codes "p")))
 unfolding on_dyndeps

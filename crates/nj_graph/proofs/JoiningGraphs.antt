@@ -1,4 +1,5 @@
--- What the joining of all dyndep files comes to: the graph of the statements with what was joined, a cycle, or where it stops.
+-- The result of joining all dyndep files: the graph of the joined statements, a cycle, or where it
+-- stops.
 use Rattle.std.proofs.Common.{◌≡◌, ℕ, inl, inr, false, Ok, Err, List, [], ◌∷◌, length, append-nil, refl, sym, ap, subst, ◌∙◌, true≢false}
 use Rattle.nj_graph.proofs.FirstTimes.{joins}
 use Rattle.nj_graph.specs.Inside.PathsReached.{with_news, come_joined}
@@ -75,7 +76,7 @@ module _ (stated : List ReadStatement) (before after : SourceState) (old : List 
     pub none-pending-then : pending_read f.now ≡ []
     none-pending-then = subst (λ (j : ReachedModel). pending_read j.read.entries ≡ []) all-joined (none-unjoined f.files stated (ap (λ (j : ReachedModel). j.read.end) all-joined))
 
-    -- what stays of the statements
+    -- properties that the statements keep
     stays : (P : List ReadStatement → Type 0) → ((edge : ℕ) (found : Discovered) (entries : List ReadStatement) → P entries → P (discover edge found entries)) → P stated → P f.now
     stays P keeps h = subst (λ (j : ReachedModel). P j.read.entries) all-joined (kept-by-all P keeps f.files stated h)
 
@@ -124,7 +125,7 @@ module _ (stated : List ReadStatement) (before after : SourceState) (old : List 
       details-same : built.details ≡ g.built.details
       details-same = comes.0.details ∙ sym f.has.details ∙ f.has.stated_details ∙ sym is.built.details
 
-      -- and it has what a graph has
+      -- and it has the properties of a graph
       pub joined-held : (numbers : List ℕ) → IsGraph g.declarations g.built numbers → IsGraph g.declarations built numbers
       joined-held numbers h = record {
         listed = h.listed;

@@ -62,7 +62,7 @@ find-none test (x ∷ xs) h = by (test x) (find-none test xs) refl h
     by true others is e = absurd cc
     by false others is e = (is, others e)
 
--- ---- what stays as files are joined
+-- ---- properties that stay as files are joined
 
 module _ (P : List ReadStatement → Type 0) (keeps : (edge : ℕ) (found : Discovered) (entries : List ReadStatement) → P entries → P (discover edge found entries)) where
   pub kept-by-entry : (stated joined : List ReadStatement) (entry : EntryModel) → P joined → P (with_entry stated joined entry)

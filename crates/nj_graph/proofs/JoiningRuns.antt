@@ -47,7 +47,8 @@ stays (Lacking path place) p entries others h = refl
 abbrev remainder : List (List ℕ) → ReachedModel → ReachedModel
 remainder paths j = record { read = j.read; paths = paths ++ j.paths }
 
--- What was joined is held, and the whole joins what the files that are left join from here on.
+-- The joined statements are held, and the whole joins the same as the files that are left from here
+-- on.
 pub record FilesUnderway (stated : List ReadStatement) (before after : SourceState) (old table : List Reading) (held : JoiningModel) (left : List Pending) : Type 0 where
   pub files : List Reading
   pub reads : ReadsAll before after old files table

@@ -65,7 +65,8 @@ entries-fault most false ls f h less = by (bind-err (version_next ls) next_entry
 
 -- ---- the entries so far
 
--- What was joined is held, and what the text joins is what the lines that are left join from here on.
+-- The joined statements are held, and the text joins the same as the lines that are left from here
+-- on.
 pub record TextUnderway (file : List ℕ) (stated : List ReadStatement) (text : List ℕ) (joined : List ReadStatement) (held : JoiningModel) (version_read : Bool) (lines : List Line) : Type 0 where
   pub now : List ReadStatement
   pub has : HasJoined held stated now
@@ -119,7 +120,7 @@ module _ (file : List ℕ) (stated : List ReadStatement) (text : List ℕ) (join
         joins = joins-next ∙ ap (λ f. unless_fault f u.now (entries_joined file stated (entries_left step.0 true rest).items (entries_left step.0 true rest).fault (with_entry stated u.now entry))) is;
       })
 
--- ---- what a parser returns
+-- ---- the results of a parser
 
 abbrev pub lines_to_come : DyndepLeft → ℕ
 lines_to_come (dyndep.WholeFile lines) = ahead lines

@@ -1,4 +1,4 @@
--- The paths that a joining asks for, and the table of what was read.
+-- The paths that a joining reads, and the table of readings.
 use Rattle.std.proofs.Common.{◌≡◌, ℕ, zero, suc, ◌<◌, ◌≤◌, Bool, true, false, cond, Some, unwrap_or, Result, Ok, Err, OnOk, List, [], ◌∷◌, ◌++◌, length, drop, slice_get, String, string_bytes, IsUtf8, refl, sym, ap, subst, arith}
 use Rattle.nj_graph.specs.Inside.PathsReached.{with_news, with_new}
 use Rattle.std.specs.Str.{is_utf8}
@@ -35,7 +35,7 @@ path-is files file path h = ap (λ o. unwrap_or o []) h
 pub some-is : {X : Type 0} (x y : X) → Some x ≡ Some y → x ≡ y
 some-is x y h = cc
 
--- ---- the paths that are asked for
+-- ---- the paths that are read
 
 pub all_new-append : (before paths more : List (List ℕ)) → with_news before (paths ++ more) ≡ with_news (with_news before paths) more
 all_new-append before [] more = refl

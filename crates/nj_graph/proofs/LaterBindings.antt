@@ -11,7 +11,7 @@ use Rattle.nj_statements.specs.EdgeList.{EdgeModel, edges_read, edge_given}
 use Rattle.nj_graph.specs.Reading.{expanded_in}
 use Rattle.nj_graph.specs.Laws.{LaterBindingsCount, LaterBindingsChangeNoEdge}
 
--- what the scope of the edge binds is the new value
+-- the binding of the edge's scope is the new value
 binds-now : (e : ReadStatement) (before : List ReadStatement) (edge : EdgeModel) (name : List ℕ) (word : WordModel) → e.item ≡ BindingModel name word → e.scope ≡ edge.scope → bounds (e ∷ before) edge.scope name ≡ Some (expanded_in (scope_of e) before word)
 unfolding bounds
 binds-now e before edge name word is number =

@@ -1,4 +1,5 @@
--- What the joining of a deps log comes to: the graph of the statements with what the log names, or a cycle.
+-- The result of joining a deps log: the graph of the statements with the files of the log, or a
+-- cycle.
 use Rattle.std.proofs.Common.{◌≡◌, ◌<◌, ℕ, Option, Some, Ok, List, length, slice_get, sym, ap, subst, ◌∙◌}
 use Rattle.std.proofs.lemmas.List.{length-map}
 use Rattle.nj_scope.specs.Readings.{IsPrefix}
@@ -52,7 +53,7 @@ module _ (log : LogModel) (numbers : List (Option ℕ)) (graph : EdgeGraph) (rec
   log-cycle n output fault below least first same =
       cycle-at records.details (edges_with_log log numbers graph.edges) (with_log log stated) n output fault (is.details ∙ sym (details-named (named log stated) stated)) paths-are below least first same
 
--- ---- what is finished
+-- ---- the finished graph
 
 pub finishes : (log : LogModel) (numbers : List (Option ℕ)) (graph : EdgeGraph) (t : InputTable) (finished : Finished) → t ≡ joined_edges log numbers (record { table = join_of graph; edge = 0 }) → length numbers ≡ length graph.edges
     → FinishesAs t.table.files t.table.joined finished → FinishesWithLog log numbers graph finished

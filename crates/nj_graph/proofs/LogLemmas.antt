@@ -38,7 +38,7 @@ among-cond : (k : Bool) (p path : List ℕ) (paths : List (List ℕ)) → is_amo
 among-cond true p path paths = refl
 among-cond false p path paths = refl
 
--- a path that is kept is among what is kept of a list, if it is in the list
+-- a path that is kept is among the kept ones of a list, if it is in the list
 pub among-kept : (keeps : List ℕ → Bool) (paths : List (List ℕ)) (path : List ℕ) → keeps path ≡ true → is_among (filter keeps paths) path ≡ is_among paths path
 among-kept keeps [] path kept = refl
 among-kept keeps (p ∷ paths) path kept =
@@ -57,7 +57,7 @@ module _ (e : EdgePaths) (before : List (List ℕ)) (path : List ℕ) where
   abbrev keeps : List ℕ → Bool
   keeps p = not (is_among (inputs_of e) p)
 
-  -- the inputs of an edge and those that are new, with one path more
+  -- the inputs of an edge and those that are new, with one more path
   pub new-more : new_inputs e (before ++ path ∷ []) ≡ (if is_among (inputs_of e ++ new_inputs e before) path then new_inputs e before else new_inputs e before ++ path ∷ [])
   new-more = sym (ap (λ b. if b then new_inputs e before else new_inputs e before ++ path ∷ []) (list_any-append (bytes_eq path) (inputs_of e) (new_inputs e before)) ∙ by (is_among (inputs_of e) path) refl)
     where
@@ -152,13 +152,13 @@ get-front [] x n below = absurd (omega (arith, below))
 get-front (z ∷ zs) x zero below = refl
 get-front (z ∷ zs) x (suc n) below = get-front zs x n (omega (arith, below))
 
--- what was joined up to an edge, and the edges after it
+-- the edges joined so far, and the edges after them
 record Joined (t : InputTable) (edges : List EdgePaths) (before : List (List ℕ)) : Type 0 where
   joined : t.table.joined ≡ edges
   none_open : t.table.«open» ≡ none_added
   files : IsPrefix before t.table.files
 
--- one edge more is joined
+-- one more edge is joined
 record Next (t : InputTable) (front rest : List EdgePaths) (before : List (List ℕ)) : Type 0 where
   joined : t.table.joined ≡ front ++ rest
   count : length front ≡ t.edge
@@ -222,14 +222,14 @@ module _ (log : LogModel) where
   length-log (number ∷ numbers) [] as_many = absurd (omega (arith, as_many))
   length-log (number ∷ numbers) (e ∷ es) as_many = ap suc (length-log numbers es (omega (arith, as_many)))
 
-  -- what is left of the numbers after one more, and the inputs of one edge
+  -- the rest of the numbers after one more, and the inputs of one edge
   one-less : (numbers : List (Option ℕ)) (n : ℕ) (number : Option ℕ) (t : InputTable) → slice_get numbers n ≡ Some number
       → joined_edges log (drop (suc n) numbers) (at_next_edge (fold with_new_input t (inputs_logged log number))) ≡ joined_edges log (drop n numbers) t
   one-less [] n number t is = absurd (true≢false (sym (ap is_some is)))
   one-less (m ∷ numbers) zero number t is = ap (λ o. joined_edges log numbers (at_next_edge (fold with_new_input t (inputs_logged log o)))) (sym (same_Some m number is))
   one-less (m ∷ numbers) (suc n) number t is = one-less numbers n number t is
 
-  -- one number more
+  -- one more number
   pub numbers-push : (stated : List ReadStatement) (numbers : List (Option ℕ)) (number : Option ℕ) (m : ℕ) → AreNumbersLogged log stated numbers → length numbers ≡ m → number ≡ number_logged log stated m
       → AreNumbersLogged log stated (numbers ++ number ∷ [])
   numbers-push stated numbers number m are count is n below = by (cases_lt n (length numbers))

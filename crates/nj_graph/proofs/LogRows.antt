@@ -1,4 +1,4 @@
--- Worked rows, computed on the definitions: what a deps log adds to the edges of a run.
+-- Worked rows, computed on the definitions: the additions of a deps log to the edges of a run.
 use Rattle.std.proofs.Common.{◌≡◌, ℕ, true, List, [], ◌∷◌, ◌++◌, map, refl}
 use Rattle.std.specs.Prelude.{⊤, codes}
 use Rattle.nj_scope.specs.ReadingList.{ReadStatement}
@@ -13,7 +13,7 @@ unfoldable pub on_logs : ⊤
 unfolding on_dyndeps with_inputs_named
 on_logs = tt
 
--- ---- what a row shows
+-- ---- the facts of a row
 
 -- `o` depends on all other paths and on itself; `p` depends on `h`
 abbrev some_log : LogModel
@@ -30,7 +30,7 @@ rules = codes "rule cc\n  command = cc\n  deps = gcc\nrule cp\n  command = cp\n"
 abbrev implicit_inputs : (statements : List ReadStatement) → List (List (List ℕ))
 implicit_inputs statements = map (λ e. e.implicit_inputs) (paths_of_edges (edges_read statements))
 
--- what the edges have as implicit inputs once the log is joined
+-- the implicit inputs of the edges once the log is joined
 abbrev joined : (text : List ℕ) → List (List (List ℕ))
 joined text = implicit_inputs (with_log some_log (read_of (rules ++ text) []).entries)
 

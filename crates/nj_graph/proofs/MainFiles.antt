@@ -138,7 +138,7 @@ module _ (main : List ℕ) (before mid after : SourceState) (old opened held : R
         ends = λ all ext es end stops h. is-text all ext ∙ h;
       }) fault s
 
--- there was no memory for the graph of what was read
+-- there was no memory for the graph of the statements that were read
 pub reads-memory : (main : List ℕ) (before after : SourceState) (old held : Reader) (fault : GraphFault) → ReadsText main before after old held (main_reading main) → fault ≡ no_memory → StopsAt main before after old.files (main_reading main) fault
 reads-memory main before after old held fault r none = record {
   files = r.files;
@@ -169,7 +169,7 @@ module _ (main : List ℕ) (before after : SourceState) (old held : Reader) (r :
   details-count built is =
       ap length is.details ∙ length-map (edges_read r.entries) detail_of ∙ sym (ap length is.paths ∙ length-map (edges_read r.entries) (λ e. e.paths))
 
-  -- and the graph has what was declared and built
+  -- and the graph has the declarations and the edges
   pub is-loaded : (loaded : LoadedModel) (built : BuiltModel) → old.files ≡ [] → loaded.files ≡ held.files → loaded.graph ≡ record { declarations = held.declarations; built = built; origins = held.origins }
       → ComesTo r.entries (Ok built) → Loads main before after (Ok loaded)
   is-loaded loaded built none same_files same_graph comes = loads main before after (Ok loaded) (

@@ -26,7 +26,7 @@ absent : {X : Type 0} (o : Option X) → is_some o ≡ false → o ≡ None
 absent None h = refl
 absent (Some x) h = absurd (true≢false h)
 
--- ---- what is read of a file
+-- ---- the reading of a file
 
 module _ (all : List Reading) (inner : Site) (place : Place) (e : ReadStatement) (entries : List ReadStatement) where
   opened-closed : opened_in all zero inner place e entries ≡ stopped entries place TooDeep
@@ -162,7 +162,7 @@ opens-text main before after old held left within place path entries text left_i
       ∙ opened-answered all inner place e entries within _ capacity (ap (reading_of all) same ∙ reading-kept path _ all found.files is found.found);
 }
 
--- by what the table returns
+-- by the result of the table
 pub opens-answered : (main : List ℕ) (before after : SourceState) (old held : Reader) (left within : ℕ) (place : Place) (path : List ℕ) (entries : List ReadStatement)
     → paths_of old.files ≡ paths_read main entries → left ≡ suc within → files_opened entries < most_opened → EachPathOnce old.files → (result : Result (RcSlice ℕ Global) GraphFault)
     → ReturnsText before after old.files held.files place path result → OpensPath main before after old held left place path entries result

@@ -24,7 +24,7 @@ two_rules : (origins_of (codes "rule a\n  command = c\nsubninja s\n") (file (cod
 unfolding on_files
 two_rules = refl
 
--- the last depth, by what is bound before the pool
+-- the last depth, by the bindings before the pool
 last_depth : (origins_of (codes "n = 3\npool p\n  depth = 1\n  depth = ${n}2x\nn = 4\n") []).pools
     ≡ record { place = line main_file 2; depth = 32 } ∷ []
 unfolding on_files

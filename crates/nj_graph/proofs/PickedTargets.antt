@@ -25,7 +25,7 @@ and_target-ok (Ok p) (Err f) paths is = absurd cc
 and_target-ok (Err f) others paths is = absurd cc
 
 module _ (edges : List EdgePaths) where
-  -- one word more names a target
+  -- one more argument names a target
   named-push : (words : List (List ℕ)) (paths : List (List ℕ)) (word path : List ℕ) → targets_named edges words ≡ Ok paths → picked edges word ≡ Ok path
       → targets_named edges (words ++ word ∷ []) ≡ Ok (paths ++ path ∷ [])
   named-push [] paths word path named is =
@@ -66,7 +66,7 @@ module _ (edges : List EdgePaths) where
     targets-stop fault (inr is) =
         inr (ap (targets_named edges) whole-is ∙ named-stop (map text (take i words)) (map text (drop (i + 1) words)) paths (text word) fault named is)
 
--- the file of one target more
+-- the file of one more target
 pub files-push : (files : List (List ℕ)) (numbers : List FileNo) (paths : List (List ℕ)) (file : FileNo) (path : List ℕ) → AreFiles files numbers paths
     → slice_get files file.0 ≡ Some path → AreFiles files (numbers ++ file ∷ []) (paths ++ path ∷ [])
 files-push files numbers paths file path are is =
@@ -81,7 +81,7 @@ pub PicksTargets-err : (files : List (List ℕ)) (expected : Result (List (List 
 PicksTargets-err files expected (Ok numbers) fault is why = absurd is
 PicksTargets-err files expected (Err e) fault is why = subst (λ (f : GraphFault). (f ≡ no_memory) ⊎ (expected ≡ Err f)) (sym is) why
 
--- what is picked is known
+-- a picked file is known
 pub picks-known : (files : List (List ℕ)) (expected : Result (List (List ℕ)) GraphFault) (result : Result (Vec FileNo) GraphFault) → PicksTargets files expected result
     → IfOk result (λ numbers. All (λ file. file.0 < length files) numbers.items)
 picks-known files expected (Ok numbers) picks = files-known files numbers.items picks.0 picks.2

@@ -44,7 +44,7 @@ module _ (part : List ℕ) where
   in-none (Some zero) h f = absurd (not-start [] f h.1)
   in-none (Some (suc k)) h f = absurd (omega (arith, h.1.fits))
 
-  -- in what follows the first byte
+  -- in the text after the first byte
   in-rest : (byte : ℕ) (text : List ℕ) → ((r : Option ℕ) → FindsNeedle text part 0 r → r ≡ first_position part text)
       → (r : Option ℕ) → FindsNeedle (byte ∷ text) part 0 r → starts_with nat_eq (byte ∷ text) part ≡ false → r ≡ option_map (λ n. n + 1) (first_position part text)
   in-rest byte text found None h f = ap (option_map (λ n. n + 1)) (found None (λ k low high occurs. h (suc k) (omega arith) (omega (arith, high)) (later byte text k occurs)))

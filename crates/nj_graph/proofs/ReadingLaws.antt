@@ -28,7 +28,7 @@ HasCapacity item before = opens_file item ≡ 1 → nat_lt (files_opened before)
 opens-none : ◌≡◌ {A = ℕ} 0 1 → ⊥
 opens-none e = omega (arith, e)
 
--- What is true of no statement, and of one more that is read, is true of all that are read.
+-- A property of no statement, and of one more that is read, is one of all that are read.
 module _ (P : List ReadStatement → Type 0) (next : (e : ReadStatement) (before : List ReadStatement) → P before → own_fault e before ≡ None → HasCapacity e.item before → e.depth ≤ most_within → P (e ∷ before)) where
   -- it is true where a file is opened within which a given number of files may be open, if it is true with the statement that opens it
   -- wherever one more may be opened

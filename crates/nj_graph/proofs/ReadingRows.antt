@@ -1,4 +1,4 @@
--- Worked rows, computed on the definitions: what is read of files, and how it ends.
+-- Worked rows, computed on the definitions: the reading of files, and how it ends.
 use Rattle.std.proofs.Common.{◌≡◌, ℕ, zero, suc, Some, None, List, [], ◌∷◌, ◌++◌, length, refl}
 use Rattle.std.specs.Prelude.{⊤, codes}
 use Rattle.std.specs.Char.{encode_utf8}
@@ -18,12 +18,12 @@ use Rattle.nj_faults.specs.declared.fault.Cause.TheVariants.{Syntax, EmptyPath, 
 use Rattle.nj_faults.specs.Faults.{fault_at}
 use Rattle.nj_graph.specs.Reading.{Whole, Refused, Lacking, ReadingModel, statements_read, opened_in, main_read, paths_come_to}
 
--- what a row unfolds to compute on its files
+-- the definitions that a row unfolds to compute on its files
 unfoldable pub on_files : ⊤
 unfolding on_strings is_utf8 chars encode_utf8 bounds clean_path_of without_leftmost_pair edges_read variable_cycle_of parsed_in statements_read opened_in main_read
 on_files = tt
 
--- ---- what a row shows
+-- ---- the facts of a row
 
 abbrev pub main_file : List ℕ
 main_file = codes "build.ninja"
@@ -35,7 +35,7 @@ file path text = record { path = path; bytes = Some text }
 abbrev pub missing : (path : List ℕ) → Reading
 missing path = record { path = path; bytes = None }
 
--- what is read where the main file has this text, and the others are these
+-- the reading where the main file has this text, and the others are these
 abbrev pub read_of : (text : List ℕ) → (others : List Reading) → ReadingModel
 read_of text others = main_read (file main_file text ∷ others) main_file
 
@@ -193,7 +193,7 @@ abbrev name_remainder : ℕ → List ℕ
 name_remainder zero = codes "x"
 name_remainder (suc n) = codes "a" ++ name_remainder n
 
--- a given number of files, each of which includes the next; the last one includes `x`, which is missing
+-- a given number of files, each including the next; the last one includes `x`, which is missing
 abbrev chain : ℕ → List Reading
 chain zero = missing (codes "x") ∷ []
 chain (suc n) = file (name_remainder (suc n)) (codes "include " ++ name_remainder n) ∷ chain n
@@ -209,7 +209,8 @@ missing_without_capacity = refl
 
 -- ---- paths
 
--- what is read where the main file has this text, and the others are these, comes to these paths after the main file's
+-- the reading where the main file has this text, and the others are these, comes to these paths
+-- after the main file's
 abbrev comes_to : (text : List ℕ) → (others : List Reading) → (paths : List (List ℕ)) → Type 0
 comes_to text others paths = paths_come_to main_file (read_of text others) ≡ main_file ∷ paths
 
@@ -255,7 +256,7 @@ bound_within : refuses (codes "v = a\nsubninja s\ninclude $v\n") binds_b main_fi
 unfolding on_files
 bound_within = refl
 
--- what is included binds in the same scope
+-- an included file binds in the same scope
 bound_by_included : refuses (codes "v = a\ninclude s\ninclude $v\n") binds_b main_file (at 3 9) (Missing (codes "b"))
 unfolding on_files
 bound_by_included = refl

@@ -1,4 +1,4 @@
--- Sorted lists: what a stable sort leaves, and what a list that is sorted by name has.
+-- Sorted lists: the result of a stable sort, and the elements of a list that is sorted by name.
 use Rattle.std.proofs.Common.{◌≡◌, suc, ◌+◌, Bool, true, false, cond, ◌&&◌, not, if◌then◌else◌, List, [], ◌∷◌, map, get_or, refl, sym, ap, ◌∙◌, true≢false, arith}
 use Rattle.std.specs.List.{AllByRecursion, filter}
 use Rattle.std.specs.List.Sorted.{IsSortedBy, IsStableBy, ties}
@@ -25,7 +25,7 @@ module _ {X Y : Type 0} (f : X → Y) (lt : Y → Y → Bool) where
   sorted_by-map [] = refl
   sorted_by-map (x ∷ xs) = insert_by-map x (sorted_by (λ a b. lt (f a) (f b)) xs) ∙ ap (insert_by lt (f x)) (sorted_by-map xs)
 
--- ---- what each element has
+-- ---- properties of each element
 
 module _ {X : Type 0} (lt : X → X → Bool) (P : X → Type 0) where
   pub all-insert : (x : X) (ys : List X) → P x → AllByRecursion P ys → AllByRecursion P (insert_by lt x ys)
@@ -113,7 +113,7 @@ module _ {X : Type 0} (lt : X → X → Bool) (order : IsStrictWeakOrder lt) whe
       by true h = absurd (true≢false (h refl))
       by false h = refl
 
-  -- none of a list that rises ties with what is less than its first
+  -- no element of a list that rises ties with one that is less than its first
   none-ties : (y z : X) (zs : List X) → lt y z ≡ true → AllByRecursion (λ w. lt w z ≡ false) zs → filter (ties lt y) zs ≡ []
   none-ties y z [] h all = refl
   none-ties y z (w ∷ zs) h all = by (lt y w) refl (none-ties y z zs h all.1)
@@ -161,6 +161,6 @@ module _ {X : Type 0} (lt : X → X → Bool) (order : IsStrictWeakOrder lt) whe
         ap (λ n. lt (get_or (x ∷ xs) n d) (get_or xs k d)) (sym e) ∙ up (suc k) d (omega arith) (omega arith)),
   )
 
-  -- what a stable sort leaves
+  -- the result of a stable sort
   pub stable_sort-is : (xs ys : List X) → IsSortedBy lt ys → IsStableBy lt xs ys → ys ≡ sorted_by lt xs
   stable_sort-is xs ys up stable = same-list ys (sorted_by lt xs) (rises-from-sort ys up) (rises-sorted xs) (λ a. stable a ∙ sym (stable-sorted a xs))

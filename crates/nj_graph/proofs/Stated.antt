@@ -1,4 +1,4 @@
--- What a graph keeps of the statements whose graph it is.
+-- The facts that a graph keeps of the statements whose graph it is.
 use Rattle.std.proofs.Common.{◌≡◌, ℕ, ◌<◌, unwrap_or, option_map, List, [], map, length, sym, ap, ◌∙◌}
 use Rattle.nj_scope.specs.ReadingList.{ReadStatement, rules_read}
 use Rattle.nj_statements.specs.EdgeList.{edges_read, paths_of_edges}

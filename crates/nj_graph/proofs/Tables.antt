@@ -1,4 +1,4 @@
--- Lists of readings: what is read, and what more is read after it.
+-- Lists of readings: first ones, and more after them.
 use Rattle.std.proofs.Common.{◌≡◌, ℕ, Bool, true, false, cond, ◌||◌, Option, Some, is_some, option_and_then, List, [], ◌∷◌, ◌++◌, bytes_eq, refl, sym, ap, ◌∙◌, append-nil, append_assoc, true≢false}
 use Rattle.nj_graph.specs.Inside.PathsReached.{with_new}
 use Rattle.std.specs.List.{list_any}
@@ -25,7 +25,7 @@ reading_of-append path r (f ∷ files) others h = by_path (bytes_eq path f.path)
     by_path true rest h = h
     by_path false rest h = rest h
 
--- What was found at a path stays so.
+-- The reading of a path stays the same.
 pub reading-kept : (path : List ℕ) (r : Reading) (all files : List Reading) → IsPrefix files all → reading_of files path ≡ Some r → reading_of all path ≡ Some r
 reading-kept path r all files e h = ap (λ fs. reading_of fs path) e.1 ∙ reading_of-append path r files e.0 h
 
@@ -76,13 +76,13 @@ each_path_once-push (f ∷ files) r once h = by_path (bytes_eq r.path f.path) (b
     by_path true other h rest = absurd (true≢false h)
     by_path false other h rest = (is_read-push files r f.path ∙ ap (λ b. b || bytes_eq f.path r.path) once.0 ∙ other refl, rest h)
 
--- ---- what is read of a source
+-- ---- the readings of a source
 
 -- nothing
 pub read-nothing : (source : SourceState) (files : List Reading) → EachPathOnce files → IsRead source source files files
 read-nothing source files once = record { readings = []; added = sym (append-nil files); read = HasRead-nothing source; once = once }
 
--- one path more
+-- one more path
 pub read-one : (before after : SourceState) (files : List Reading) (path : List ℕ) (bytes : Option (List ℕ)) → EachPathOnce files → is_read files path ≡ false
     → HasRead before after (record { path = path; bytes = bytes } ∷ []) → IsRead before after files (files ++ record { path = path; bytes = bytes } ∷ [])
 read-one before after files path bytes once h read = record {
@@ -101,7 +101,7 @@ reads-then before mid after old files more first others = record {
   once = others.once;
 }
 
--- What is read comes to the files of before.
+-- The readings come to the earlier files.
 pub read-extends : (before after : SourceState) (old files : List Reading) → IsRead before after old files → IsPrefix old files
 read-extends before after old files r = (r.readings, r.added)
 

@@ -1,4 +1,4 @@
--- What words of the command line mean.
+-- The meaning of targets' arguments.
 use Rattle.std.proofs.Common.{if◌then◌else◌, ◌≡◌, ◌⊎◌, inl, inr, ℕ, zero, suc, ◌+◌, ◌-◌, ◌≤◌, Bool, true, false, ◌||◌, List, [], ◌∷◌, ◌++◌, Option, Some, None, Ok, Err, take, drop, length, slice_get, bytes_eq, refl, sym, ap, ◌∙◌, arith, true≢false}
 use Rattle.std.specs.Prelude.{codes, option_and_then, ok_or}
 use Rattle.std.specs.List.{Contains, list_any}

@@ -1,4 +1,4 @@
--- Worked rows, computed on the definitions: what words of a command line mean.
+-- Worked rows, computed on the definitions: the meaning of targets' arguments.
 use Rattle.std.proofs.Common.{◌≡◌, ℕ, false, Ok, Err, List, [], ◌∷◌, refl}
 use Rattle.std.specs.Prelude.{codes, Result}
 use Rattle.nj_text.specs.Paths.{clean_path_of, without_leftmost_pair}
@@ -55,7 +55,7 @@ made_of_nothing : means (codes "^") (Err (unplaced (UnknownTarget [])))
 unfolding clean_path_of without_leftmost_pair
 made_of_nothing = refl
 
--- what is left before the `^` is not cleaned again
+-- the path before the `^` is not cleaned again
 made_of_a_folder : means (codes "a.c/^") (Err (unplaced (UnknownTarget (codes "a.c/"))))
 unfolding clean_path_of without_leftmost_pair
 made_of_a_folder = refl

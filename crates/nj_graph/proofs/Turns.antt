@@ -1,4 +1,4 @@
--- The turns of reading a text: the next statement, the file that it names, and what comes after it.
+-- The turns of reading a text: the next statement, the file that it names, and the rest after it.
 use Rattle.std.proofs.Common.{◌≡◌, ℕ, ◌-◌, ◌<◌, inl, inr, Option, Some, None, Result, Ok, Err, List, ◌∷◌, refl, sym, ap, subst, ◌∙◌, arith}
 use Rattle.nj_graph.specs.Inside.PathsReached.{with_news, paths_read, come_to, reached_by}
 use Rattle.std.specs.Prelude.{⊤}
@@ -120,7 +120,8 @@ abbrev pub lines_left : Left → ℕ
 lines_left (Lines ls) = ahead ls
 lines_left (Refused fault) = 0
 
--- What was read is held, and what the text reads is what the lines that are left read from here on.
+-- The statements read are held, and the text reads the same as the lines that are left from here
+-- on.
 pub record Underway (main : List ℕ) (before after : SourceState) (old held : Reader) (left : ℕ) (site : Site) (text : List ℕ) (entries : List ReadStatement) (lines : List Line) : Type 0 where
   pub files : List Reading
   pub reads : ReadsAll before after old.files files held.files
@@ -212,7 +213,7 @@ module _ (main : List ℕ) (before after : SourceState) (old held : Reader) (lef
         stays es (reading.Refused f) k h = refl
         stays es (Lacking path place) k h = refl
 
--- ---- what a parser returns
+-- ---- the results of a parser
 
 pub next-some : (file : List ℕ) (before after : Left) (lines : List Line) (found : Option (Placed Statement)) (s : Placed Statement) → before ≡ Lines lines → found ≡ Some s → NextIs file before after (Ok found)
     → (rest : List Line) × (next_statement lines ≡ Ok (Some (placed_model s), rest)) × (after ≡ Lines rest)

@@ -1,4 +1,4 @@
--- Lemmas on what a deps log names for edges.
+-- Lemmas on the files that a deps log names for edges.
 use Rattle.std.proofs.Common.{◌≡◌, ◌≢◌, ◌<◌, ◌≤◌, ◌+◌, ◌||◌, ◌⊎◌, inl, inr, ℕ, zero, suc, Bool, true, false, Option, Some, None, List, [], ◌∷◌, ◌++◌, map, length, take, get_or, bytes_eq, nat_eq, refl, sym, ap, subst, ◌∙◌, arith}
 use Rattle.std.specs.Prelude.{position, slice_index_or}
 use Rattle.std.specs.List.{AllByRecursion, IsDistinct, flat_map, range_with_len}

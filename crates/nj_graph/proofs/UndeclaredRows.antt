@@ -1,4 +1,4 @@
--- Worked rows, computed on the definitions: what a deps log names for edges.
+-- Worked rows, computed on the definitions: the files that a deps log names for edges.
 use Rattle.std.proofs.Common.{ℕ, ◌≡◌, true, Some, List, [], ◌∷◌, ◌++◌, map, refl}
 use Rattle.std.specs.Prelude.{codes}
 use Rattle.nj_deps.specs.Logs.{LogModel}
@@ -6,7 +6,7 @@ use Rattle.nj_graph.specs.Undeclared.{inputs_named, paths_of_output}
 use Rattle.nj_graph.proofs.LogRows.{on_logs}
 use Rattle.nj_graph.proofs.ReadingRows.{read_of}
 
--- ---- what a row shows
+-- ---- the facts of a row
 
 -- `a.o` and `b.o` depend on the same header, which the log has by two paths; `c.o` depends on `build.ninja`, and `d.o` on that file by
 -- another path

@@ -34,13 +34,15 @@ paths_logged log (Some o) = map (name_at log.paths) o.inputs
 abbrev pub inputs_logged : LogModel → Option ℕ → List (List ℕ)
 inputs_logged log number = map clean_path_of (paths_logged log (option_and_then (output_of log.outputs) number))
 
--- What the log names for an edge with `deps` becomes an implicit input of it, unless it is an input of it already.
+-- Each file that the log names for an edge with `deps` becomes an implicit input of it, unless it is an input of it
+-- already.
 abbrev pub with_log : LogModel → List ReadStatement → List ReadStatement
 with_log log entries =
     with_inputs_named (λ edge. new_inputs (edge_at (paths_of_edges (edges_read entries)) edge) (inputs_logged log (number_logged log entries edge)))
     entries
 
--- The graph of the statements with what the log names; where these have a dependency cycle, its fault; or memory ran out.
+-- The graph of the statements with the files of the log; where these have a dependency cycle, its fault; or memory ran
+-- out.
 abbrev pub JoinsLog : LogModel → (stated : List ReadStatement) → Result GraphModel GraphFault → Type 0
 JoinsLog log stated (Ok graph) = IsGraphOf graph (with_log log stated)
 JoinsLog log stated (Err fault) = (fault ≡ no_memory) ⊎ IsCycleFault (edges_read (with_log log stated)) fault

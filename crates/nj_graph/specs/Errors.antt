@@ -1,4 +1,4 @@
--- What a client of this crate gets in place of what it asked for.
+-- The errors that a client of this crate gets in place of results.
 use Rattle.std.specs.Prelude.{◌≡◌, ◌⊎◌, ℕ, List, codes}
 use Rattle.nj_text.specs.declared.paths.TextFault.{TextFault}
 use Rattle.nj_text.specs.declared.paths.TextFault.TheVariants as text

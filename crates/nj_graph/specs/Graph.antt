@@ -19,8 +19,7 @@ use Rattle.nj_statements.specs.EdgeList.{EdgeModel, edges_read, names_of_edge}
 use Rattle.nj_statements.specs.Built.{BuiltModel, IsBuiltOf, EdgeDetail, detail_at, detail_of}
 use Rattle.nj_graph.specs.Origins.{OriginsModel, origins_read, main_of}
 
--- What the statements of its files declare, after all reading, the edges and defaults that they yield, and where rules, pools and files
--- come from.
+-- The declarations of its files' statements, after all reading, their edges and defaults, and where rules, pools and files come from.
 pub record GraphModel : Type 0 where
   pub declarations : DeclarationsModel
   pub built : BuiltModel
@@ -45,7 +44,7 @@ pub record HasRule (rules : List RuleModel) (e : EdgeModel) : Type 0 where
   pub rule_is : slice_get rules e.rule ≡ Some rule
   pub phony_is : bytes_eq rule.name phony ≡ e.paths.is_phony
 
--- The graph is what the statements give: what they declare, in which scopes, and their edges and defaults; each edge has a rule, and none
+-- The graph is that of the statements: their declarations, in their scopes, and their edges and defaults; each edge has a rule, and none
 -- needs itself by a chain. Rules, pools and files come from where the statements are, after the main file was opened.
 pub record IsGraphOf (g : GraphModel) (entries : List ReadStatement) : Type 0 where
   pub declares : DeclaredBy g.declarations entries
@@ -78,7 +77,7 @@ rule_name_at entries number = unwrap_or (option_map (rule_name_of entries) (slic
 
 -- ---- the numbers of the rule and the scope of an edge
 
--- what is kept of the edge of a number besides its paths and its block
+-- the record of the edge of a number besides its paths and its block
 abbrev pub detail_stated : List ReadStatement → (number : ℕ) → EdgeDetail
 detail_stated entries number = detail_at (map detail_of (edges_read entries)) number
 

@@ -31,7 +31,7 @@ entries_of text = after_version (suc (length text)) (version_next (text_lines te
 
 -- ---- one file
 
--- Its entries, one after the other: the statements as they were read, and as they are with what was joined so far.
+-- Its entries, one after the other: the statements as they were read, and with the additions so far.
 unfoldable pub entries_joined : (file : List ℕ) → (stated : List ReadStatement) → List EntryModel → Option Fault → (joined : List ReadStatement)
     → ReadingModel
 entries_joined file stated [] fault joined =
@@ -56,9 +56,9 @@ file_joined files stated p joined =
     if is_utf8 p.file then outcome_read p.file place joined (λ text. text_joined p.file stated text joined) (reading_of files p.file)
     else stopped joined place PathNotText
 
--- ---- all files: the statements with what was joined, and the paths of the dyndep files that it reaches
+-- ---- all files: the joined statements, and the paths of the dyndep files that they reach
 
--- a path that is not UTF-8 is not asked for
+-- a path that is not UTF-8 is not read
 abbrev pub path_asked : Pending → List (List ℕ)
 path_asked p = if is_utf8 p.file then p.file ∷ [] else []
 
@@ -72,14 +72,14 @@ files_joined files stated (p ∷ others) joined =
     let file = file_joined files stated p joined in
     continued file.end p file.entries (files_joined files stated others)
 
--- The dyndep files on which edges are pending, each once, in the order of their first edges: the whole file is joined before the
--- next one is opened.
+-- The dyndep files on which edges are pending, without duplicates, in the order of their first edges: the whole file is joined
+-- before the next one is opened.
 unfoldable pub all_joined : (files : List Reading) → (stated : List ReadStatement) → ReachedModel
 all_joined files stated = files_joined files stated (dyndep_files (pending_read stated)) stated
 
--- ---- what joining returns
+-- ---- the results of joining
 
--- what joining reads and reaches after these paths
+-- the statements and paths that joining reads and reaches after these paths
 abbrev pub reached_after : (before : List (List ℕ)) → ReachedModel → ReachedModel
 reached_after before joined = record { read = joined.read; paths = with_all_new before joined.paths }
 
@@ -87,13 +87,14 @@ reached_after before joined = record { read = joined.read; paths = with_all_new 
 abbrev pub joined_after : (old : List Reading) → (stated : List ReadStatement) → (files : List Reading) → ReachedModel
 joined_after old stated files = reached_after (paths_of old) (all_joined files stated)
 
--- Dyndep files are joined to the statements of a run that has read the old files; what was read before is not read again.
+-- Dyndep files are joined to the statements of a run that has read the old files; files that were read before are not
+-- read again.
 abbrev pub Joins : (stated : List ReadStatement) → (old : List Reading) → (before after : SourceState) → Result LoadedModel GraphFault → Type 0
 Joins stated old before after result = LoadsAfter old before after (joined_after old stated) result
 
 -- ---- laws
 
--- What was joined stays joined: joining again changes no statement, and reaches no file.
+-- A joined file stays joined: joining again changes no statement, and reaches no file.
 abbrev pub JoinedStaysJoined : Type 0
 JoinedStaysJoined = (files others : List Reading) (stated : List ReadStatement) (joined : ReachedModel)
     → all_joined files stated ≡ joined → joined.read.end ≡ Whole

@@ -1,4 +1,4 @@
--- What is true of every reading of a run's files.
+-- Laws of every reading of a run's files.
 use Rattle.std.specs.Prelude.{◌≡◌, ◌≢◌, ◌⊎◌, ℕ, ◌+◌, ◌<◌, ◌≤◌, Option, Some, None, Result, Ok, Err, List, [], ◌∷◌, ◌++◌, map, length, slice_get, codes, ⊤}
 use Rattle.std.specs.Cmp.Lexicographic.{slice_cmp}
 use Rattle.std.specs.List.{AllByRecursion, Contains}
@@ -56,18 +56,18 @@ OthersAreNotRead = (files all : List Reading) (main : List ℕ) → IsPrefix fil
 
 -- ---- bindings after the statement of an edge
 
--- What a file binds after the statement of an edge, in the same scope, affects the values of the edge's variables.
+-- A binding after the statement of an edge, in the same scope, affects the values of the edge's variables.
 abbrev pub LaterBindingsCount : Type 0
 LaterBindingsCount = (e : ReadStatement) (before : List ReadStatement) (edge : EdgeModel) (name : List ℕ) (word : WordModel)
     → e.item ≡ BindingModel name word → e.scope ≡ edge.scope
     → (names_of_edge (e ∷ before) edge).file name ≡ expanded_in (scope_of e) before word
 
--- It changes no edge: neither its paths, nor what its block binds, nor its rule.
+-- It changes no edge: neither its paths, nor the bindings of its block, nor its rule.
 abbrev pub LaterBindingsChangeNoEdge : Type 0
 LaterBindingsChangeNoEdge = (e : ReadStatement) (before : List ReadStatement) (name : List ℕ) (word : WordModel)
     → e.item ≡ BindingModel name word → edges_read (e ∷ before) ≡ edges_read before
 
--- ---- what is parsed of a text
+-- ---- the statements of a text
 
 -- A parser finds these items in the lines, one after the other, up to the end of the lines or up to the first fault.
 pub data FindsInTurn {A : Type 0} (next : List Line → Parse (Option A)) : List Line → List A → Option Fault → Type 0 where
@@ -116,7 +116,7 @@ pub record HasSign (command file : List ℕ) (sign : ℕ) : Type 0 where
 abbrev pub SignIsBeforeTheFirst : Type 0
 SignIsBeforeTheFirst = (command file : List ℕ) → Finds (HasSign command file) (sign_position command file)
 
--- ---- what words of the command line mean
+-- ---- the meaning of targets' arguments
 
 -- an edge names the file, as an output, an input or a validation
 pub record IsNamedBy (edges : List EdgePaths) (path : List ℕ) : Type 0 where
@@ -137,19 +137,19 @@ pub record IsMadeOf (edges : List EdgePaths) (path made : List ℕ) : Type 0 whe
 abbrev pub HasNoCaret : (path : List ℕ) → Type 0
 HasNoCaret path = (file : List ℕ) → path ≢ file ++ codes "^"
 
--- What a clean path means.
+-- The meaning of a clean path.
 pub data Means (edges : List EdgePaths) (path : List ℕ) : Result (List ℕ) GraphFault → Type 0 where
   -- a file that an edge names
   a_file : HasNoCaret path → IsNamedBy edges path → Means edges path (Ok path)
   no_file : HasNoCaret path → ¬ IsNamedBy edges path → Means edges path (Err (unplaced (UnknownTarget path)))
-  -- with a `^` after its path, what is made of such a file
+  -- with a `^` after its path, the first output that is made from such a file
   made : {file output : List ℕ} → path ≡ file ++ codes "^" → IsMadeOf edges file output → Means edges path (Ok output)
   made_of_no_file : {file : List ℕ} → path ≡ file ++ codes "^" → ¬ IsNamedBy edges file
       → Means edges path (Err (unplaced (UnknownTarget file)))
   not_made : {file : List ℕ} → path ≡ file ++ codes "^" → IsNamedBy edges file → ((output : List ℕ) → ¬ IsMadeOf edges file output)
       → Means edges path (Err (unplaced (NoOutEdge file)))
 
--- A word means what its clean path means.
+-- The meaning of an argument is that of its clean path.
 abbrev pub WordsMeanPaths : Type 0
 WordsMeanPaths = (edges : List EdgePaths) (word : List ℕ) → word ≢ [] → Means edges (clean_path_of word) (picked edges word)
 

@@ -1,4 +1,4 @@
--- what must be believed
+-- the definitions to believe
 pub mod DepsLogs
 pub mod Errors
 pub mod Graph
@@ -14,7 +14,7 @@ pub mod Targets
 pub mod Undeclared
 -- how the code does that
 pub mod Inside
--- what contracts cite of lower crates
+-- definitions of lower crates that contracts cite
 pub use Rattle.nj_text.specs.Paths
 pub use Rattle.nj_text.specs.Words
 pub use Rattle.nj_scope.specs.ReadingList

@@ -15,15 +15,15 @@ pub record LoadedModel : Type 0 where
   pub files : List Reading
   pub graph : GraphModel
 
--- By these files the reading goes to its end: these statements, none of which has a fault. The files are those at the paths that it
--- reaches. The source did not fail.
+-- By these files the reading goes to its end: these statements, without a fault. The files are those at the paths that it reaches.
+-- The source did not fail.
 pub record IsWhole (before after : SourceState) (files : List Reading) (reading : List Reading → ReachedModel) (entries : List ReadStatement)
     : Type 0 where
   pub read : (reading files).read ≡ record { entries = entries; end = Whole }
   pub came_to : (reading files).paths ≡ paths_of files
   pub failures : after.failures ≡ before.failures
 
--- All was read, and the graph is what the statements give.
+-- All was read, and the graph is that of the statements.
 pub record IsLoaded (before after : SourceState) (files : List Reading) (reading : List Reading → ReachedModel) (loaded : LoadedModel)
     : Type 0 where
   pub files_are : loaded.files ≡ files

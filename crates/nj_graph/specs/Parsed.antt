@@ -1,4 +1,4 @@
--- What is parsed of a text: the statements of a manifest, the entries of a dyndep file.
+-- The items of a text: the statements of a manifest, the entries of a dyndep file.
 use Rattle.std.specs.Prelude.{ℕ, zero, suc, Option, Some, None, Ok, Err, List, [], ◌∷◌, length}
 use Rattle.nj_text.specs.Lines.{Line, text_lines}
 use Rattle.nj_manifest.specs.Faults.{Fault}

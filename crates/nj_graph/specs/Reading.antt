@@ -52,7 +52,7 @@ entry_at site s = record {
   discovered = None;
 }
 
--- ---- what is wrong with a statement by itself
+-- ---- the fault of a statement by itself
 
 abbrev pub binding_fault : (file : List ℕ) → Spot → (name value : List ℕ) → Option GraphFault
 binding_fault file spot name value =
@@ -114,7 +114,7 @@ continued end entries others = record { entries = entries; end = end }
 abbrev pub and_then : ReadingModel → (List ReadStatement → ReadingModel) → ReadingModel
 and_then r others = continued r.end r.entries others
 
--- What is read of the file that a statement names: where its own statements are, the place of its name, the statement
+-- The reading of the file that a statement names: where its own statements are, the place of its name, the statement
 -- itself, and the statements before it.
 abbrev pub Opens : Type 0
 Opens = Site → Place → ReadStatement → (before : List ReadStatement) → ReadingModel
@@ -156,11 +156,11 @@ text_read opens site text before = statements_read opens site (parsed text).item
 abbrev pub stopped : List ReadStatement → Place → Cause → ReadingModel
 stopped before place cause = record { entries = before; end = Refused (record { place = Some place; cause = cause }) }
 
--- by what was found at a path that the statement at this place names
+-- by the reading of a path that the statement at this place names
 abbrev pub found_read : (path : List ℕ) → Place → (before : List ReadStatement) → (List ℕ → ReadingModel) → Option (List ℕ) → ReadingModel
 found_read path place before reads text = option_map_or reads text (stopped before place (Missing path))
 
--- by what the table returns for that path
+-- by the result of the table for that path
 abbrev pub outcome_read : (path : List ℕ) → Place → (before : List ReadStatement) → (List ℕ → ReadingModel) → Option table.Reading → ReadingModel
 outcome_read path place before reads found =
     option_map_or (λ r. found_read path place before reads r.bytes) found (record { entries = before; end = Lacking path place })
@@ -170,7 +170,7 @@ if_capacity false within files site place e before = stopped before place TooMan
 if_capacity true within files site place e before =
     outcome_read site.file place before (λ text. text_read within site text (e ∷ before)) (reading_of files site.file)
 
--- what is read of a file by these files, where `left` more may be open
+-- the reading of a file by these files, where `left` more may be open
 unfoldable pub opened_in : (files : List table.Reading) → (left : ℕ) → Opens
 opened_in files zero site place e before = stopped before place TooDeep
 opened_in files (suc left) site place e before =

@@ -1,5 +1,5 @@
 -- Commands without their response files ("Rule variables" in the Ninja manual, `rspfile`): a command that names its response file
--- after an `@` reads as if what is in that file stood there.
+-- after an `@` reads as if the contents of that file stood there.
 use Rattle.std.specs.Prelude.{ℕ, zero, suc, ◌+◌, ◌==◌, if◌then◌else◌, Option, Some, None, option_map, option_and_then, List, [], ◌∷◌, ◌++◌}
 use Rattle.std.specs.Prelude.{map, length, take, drop, slice_index, codes, nat_eq}
 use Rattle.std.specs.List.{starts_with}

@@ -1,4 +1,4 @@
--- What a run reads from its source, and how it ends.
+-- The readings of a run from its source, and how it ends.
 use Rattle.std.specs.Prelude.{◌≡◌, ◌⊎◌, ℕ, false, Some, List, [], ◌∷◌, ◌++◌, ⊤}
 use Rattle.nj_scope.specs.Readings.{Reading, EachPathOnce, is_read, paths_of, IsPrefix}
 use Rattle.nj_scope.specs.Sources.{SourceState, HasRead, Rises}
@@ -7,7 +7,7 @@ use Rattle.nj_faults.specs.declared.fault.Cause.TheVariants.{Io}
 use Rattle.nj_faults.specs.Faults.{no_memory}
 use Rattle.nj_graph.specs.Reading.{End, Whole, Refused, Lacking, ReadingModel}
 
--- What was read from the source is appended to the earlier files, each path once.
+-- The readings from the source are appended to the earlier files, each path once.
 pub record IsRead (before after : SourceState) (old files : List Reading) : Type 0 where
   pub readings : List Reading
   pub added : files ≡ old ++ readings
@@ -35,7 +35,7 @@ paths_with Whole files = paths_of files
 paths_with (Refused fault) files = paths_of files
 paths_with (Lacking path place) files = paths_of files ++ path ∷ []
 
--- What is read by some files: the statements, and how that ends; and the paths that it reaches, the one at its end among them.
+-- The reading by some files: the statements, and how it ends; and the paths that it reaches, the one at its end among them.
 pub record ReachedModel : Type 0 where
   pub read : ReadingModel
   pub paths : List (List ℕ)

@@ -23,7 +23,7 @@ abbrev pub made_target : List EdgePaths → (path : List ℕ) → Result (List �
 made_target edges path =
     if is_named edges path then ok_or (first_made_of edges path) (unplaced (NoOutEdge path)) else Err (unplaced (UnknownTarget path))
 
--- A `^` at the end of a clean path asks for what is made of the file; it is not part of the path.
+-- A `^` at the end of a clean path means the first output that is made from the file; it is not part of the path.
 abbrev pub clean_target : List EdgePaths → (path : List ℕ) → Result (List ℕ) GraphFault
 clean_target edges path =
     if bytes_eq (drop (length path - 1) path) (codes "^") then made_target edges (take (length path - 1) path)

@@ -23,8 +23,8 @@ pub record IsUndeclared (edges : List EdgePaths) (input : InputOfEdge) : Type 0 
   pub makes : maker_of edges input.path ≡ Some maker
   pub not_needed : ¬ IsOrNeeds edges input.edge maker
 
--- The clean paths on which an output depends by a log, each once, in the order of the log; none of an output for which it names
--- `build.ninja`, by that very path, since that means only that the output is built again after the manifest was.
+-- The clean paths on which an output depends by a log, without duplicates, in the order of the log; none of an output for which
+-- it names `build.ninja`, by that very path, since that means only that the output is built again after the manifest was.
 abbrev pub paths_of_output : LogModel → (output : Option ℕ) → List (List ℕ)
 paths_of_output log output =
     let paths = paths_logged log (option_and_then (output_of log.outputs) output) in
@@ -33,7 +33,7 @@ paths_of_output log output =
 abbrev pub inputs_of_edge : (edge : ℕ) → (paths : List (List ℕ)) → List InputOfEdge
 inputs_of_edge edge paths = map (λ path. record { edge = edge; path = path }) paths
 
--- what a log names for the first outputs of edges with `deps`: by edge, and then as above
+-- the files that a log names for the first outputs of edges with `deps`: by edge, and then as above
 abbrev pub inputs_named : LogModel → List ReadStatement → List InputOfEdge
 inputs_named log entries =
     flat_map (λ edge. inputs_of_edge edge (paths_of_output log (number_logged log entries edge))) (range_with_len 0 (length (edges_read entries)))

@@ -1,4 +1,4 @@
-//! What the blocks of edges bind.
+//! The bindings of edges' blocks.
 
 ghost use Rattle.std.specs.Prelude.{◌≡◌, List, length, slice_get, option_copied};
 ghost use Rattle.nj_scope.specs.ReadingList.{ReadStatement};
@@ -18,8 +18,8 @@ impl Graph {
         self.built.blocks().name_count(edge.0)
     }
 
-    /// The name at this index among those that the block of an edge binds, each once, in the order
-    /// of their first lines; `None` past the last one.
+    /// The name at this index among those that the block of an edge binds, without duplicates, in
+    /// the order of their first lines; `None` past the last one.
     pub fn block_name(&self, edge: EdgeNo, index: usize) -> Option<&[u8]>
         ensures { (entries : List ReadStatement) → IsGraphOf self.now entries
             → option_copied result ≡ slice_get (block_names_at (edges_read entries) edge.0) index }

@@ -21,13 +21,13 @@ use nj_text::{TextFault, clean_into, is_clean};
 use std::alloc::{AllocError, Global};
 
 impl Graph {
-    /// Joins a deps log ("Deps" in the Ninja manual): what it names for the first output of an edge
-    /// whose value of `deps` is not empty becomes an implicit input of the edge, after those that
-    /// the edge has and in the log's order: each clean path once, unless it is an input of the edge
-    /// already. Paths that no edge named become files. An edge that waits for a dyndep file still
-    /// waits for it. The same log again changes nothing.
+    /// Joins a deps log ("Deps" in the Ninja manual): each file that it names for the first output
+    /// of an edge whose value of `deps` is not empty becomes an implicit input of the edge, after
+    /// those that the edge has and in the log's order: each clean path once, unless it is an input
+    /// of the edge already. Paths that no edge named become files. An edge that waits for a dyndep
+    /// file still waits for it. The same log again changes nothing.
     ///
-    /// Takes time in proportion to the graph and to what the log names for its edges.
+    /// Takes time in proportion to the graph and to the files that the log names for its edges.
     ///
     /// # Errors
     ///
@@ -107,7 +107,7 @@ fn first_output_number(graph: &EdgeGraph, log: &DepsLog, edge: EdgeNo) -> Option
     log.number(graph.path(*output))
 }
 
-// The edges of a run, with what the log has for outputs of these numbers, by edge.
+// The edges of a run, with the log's inputs for outputs of these numbers, by edge.
 fn join_built(
     alloc: Global,
     built: Built,
@@ -132,7 +132,7 @@ fn join_built(
     }
 }
 
-// The graph with what the log has for outputs of these numbers, by edge.
+// The graph with the log's inputs for outputs of these numbers, by edge.
 fn joined_graph(
     alloc: Global,
     graph: EdgeGraph,
@@ -147,7 +147,7 @@ fn joined_graph(
     joining.finish(alloc)
 }
 
-// Adds to each edge what the log has for the output of its number.
+// Adds to each edge the log's inputs for the output of its number.
 fn join_edges(
     alloc: Global,
     joining: &mut JoiningInputs,
@@ -166,7 +166,7 @@ fn join_edges(
     Ok(())
 }
 
-// Adds to the edge what the log has for the output of this number. The buffer is for clean paths.
+// Adds to the edge the log's inputs for the output of this number. The buffer is for clean paths.
 fn add_logged(
     joining: &mut JoiningInputs,
     log: &DepsLog,

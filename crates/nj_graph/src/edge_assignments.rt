@@ -1,4 +1,4 @@
-//! What is assigned to edges: pools and dyndep files.
+//! The assignments of edges: pools and dyndep files.
 
 ghost use Rattle.std.specs.Prelude.{◌≡◌, List, ◌<◌, length, option_copied};
 ghost use Rattle.nj_scope.specs.ReadingList.{ReadStatement};

@@ -9,11 +9,11 @@ use nj_text::{OUT_OF_MEMORY_TEXT, TextFault};
 use std::alloc::{AllocError, AllocFailed};
 use std::{error, fmt};
 
-/// Why a client's work on a graph went no further. What the calls of this crate return goes into it
+/// Why a client's work on a graph went no further. The errors of this crate's calls convert into it
 /// by `?`; lack of memory is `OutOfMemory`, whichever call met it.
 #[derive(Debug, PartialEq, Eq, Drop)]
 pub enum Error {
-    /// The files are not a graph, or what was asked of their graph cannot be given.
+    /// The files are not a graph, or a request about their graph has no answer.
     Graph(GraphFault),
     /// A path is empty, so that it has no clean form.
     EmptyPath,
@@ -21,8 +21,8 @@ pub enum Error {
     OutOfMemory,
 }
 
-/// `FILE:LINE:COLUMN: TEXT`, or `TEXT` where no place is to blame. In names U+FFFD replaces what
-/// is not UTF-8.
+/// `FILE:LINE:COLUMN: TEXT`, or `TEXT` where the fault has no place. In names U+FFFD replaces
+/// invalid UTF-8.
 impl fmt::Display for Error {
     ghost output = { λ error. Some (error_text error) };
 

@@ -12,8 +12,8 @@ use nj_statements::Built;
 use std::alloc::{AllocError, Global};
 use std::marker::Model;
 
-/// The graph of a run: what its files declare ("Rules" and "Variables" in the Ninja manual), its
-/// edges and its defaults.
+/// The graph of a run: the declarations of its files ("Rules" and "Variables" in the Ninja manual),
+/// its edges and its defaults.
 #[derive(Drop)]
 pub struct Graph {
     pub(crate) declarations: Declarations,
@@ -39,7 +39,7 @@ impl Model for Graph {
 }
 
 impl Graph {
-    /// The graph of what the files of a run declare, and of its edges.
+    /// The graph of the declarations of a run's files, and of its edges.
     pub(crate) fn new(
         alloc: Global,
         declarations: Declarations,

@@ -8,10 +8,10 @@ ghost use Rattle.nj_graph.specs.Origins.{rule_place_given, pool_detail_given, op
 ghost use Rattle.nj_graph.specs.Laws.{ReadIsFaultless, OpenFilesAreBounded, OpeningsAreBounded, OthersAreNotRead, MainRulesRise, LaterBindingsCount, LaterBindingsChangeNoEdge};
 ghost use Rattle.nj_graph.specs.Laws.{StatementsAreFoundInTurn, EntriesAreFoundInTurn, FirstPositionIsFirst, SignIsBeforeTheFirst, WordsMeanPaths, EmptyWordMeansNothing};
 
-/// What is true of the statements that are read of a run's files up to the first fault: none of
-/// them has a fault by those before it, so that the rules of the main scope have names of their
-/// own; at most 32 files are open at any of them, and no more are opened than may be; and files
-/// that the reading does not reach make no difference.
+/// The statements that are read of a run's files up to the first fault: none of them has a fault by
+/// those before it, so that the rules of the main scope have names of their own; at most 32 files
+/// are open at any of them, and no more are opened than may be; and files that the reading does not
+/// reach make no difference.
 pub fn statements_up_to_the_first_fault()
     ensures faultless { ReadIsFaultless }
     ensures open_files { OpenFilesAreBounded }
@@ -37,15 +37,15 @@ pub fn bindings_after_an_edge()
     ensures edges { LaterBindingsChangeNoEdge }
 {}
 
-/// What was joined stays joined: after a whole joining no edge is pending on a dyndep file, so that
+/// A joined file stays joined: after a whole joining no edge is pending on a dyndep file, so that
 /// joining again changes no statement, and reaches no file.
 pub fn joined_dyndeps_stay_joined()
     ensures { JoinedStaysJoined }
 {}
 
-/// What is parsed of a text: the statements that the parser finds in its lines, one after the
-/// other, up to the end of the lines or up to the first fault; in a dyndep file the entries after
-/// the version, in the same way.
+/// The statements that are parsed of a text: those that the parser finds in its lines, one after
+/// the other, up to the end of the lines or up to the first fault; in a dyndep file the entries
+/// after the version, in the same way.
 pub fn items_are_found_in_turn()
     ensures statements { StatementsAreFoundInTurn }
     ensures entries { EntriesAreFoundInTurn }
@@ -60,9 +60,9 @@ pub fn sign_before_the_first_name()
     ensures sign { SignIsBeforeTheFirst }
 {}
 
-/// What a word of the command line means ("Running Ninja" in the Ninja manual), by its clean path:
+/// The meaning of a target's argument ("Running Ninja" in the Ninja manual), by its clean path:
 /// `FILE` is the file itself, if an edge names it; `FILE^` is the first output of the edge of the
-/// smallest number that has FILE as an input. Else it is refused, as an empty word is.
+/// smallest number that has FILE as an input. Else it is refused, as an empty argument is.
 pub fn words_mean_targets()
     ensures words { WordsMeanPaths }
     ensures empty { EmptyWordMeansNothing }

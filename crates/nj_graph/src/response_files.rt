@@ -7,9 +7,9 @@ ghost use Rattle.nj_graph.specs.ResponseFiles.{on_one_line, with_content};
 use memchr::memmem;
 use std::alloc::{AllocError, Global};
 
-/// A command as it is without its response file: what is in the file, on one line, replaces the `@`
-/// and the name after it ("Rule variables" in the Ninja manual). Where the first occurrence of the
-/// name has no `@` directly before it, or there is none, the command stays as it is.
+/// A command without its response file: the contents of the file, on one line, replace the `@` and
+/// the name after it ("Rule variables" in the Ninja manual). Where the first occurrence of the name
+/// has no `@` directly before it, or there is none, the command stays the same.
 ///
 /// # Errors
 ///

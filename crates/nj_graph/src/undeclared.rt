@@ -28,10 +28,10 @@ pub struct UndeclaredInput {
 /// The inputs that edges use without declaring them ("Deps" in the Ninja manual): a deps log names a
 /// file for the first output of an edge whose value of `deps` is not empty, another edge makes that
 /// file, and the edge needs that maker through no chain of inputs. So it may run before the file is
-/// made. By edge, then in the log's order, each once. An edge for which the log names `build.ninja`,
-/// by that very path, is left out.
+/// made. By edge, then in the log's order, without duplicates. An edge for which the log names
+/// `build.ninja`, by that very path, is left out.
 ///
-/// Ask before [`Graph::join_deps`], after which what the log names are inputs.
+/// Call it before [`Graph::join_deps`], after which the files of the log are inputs.
 ///
 /// Fails only if an allocation fails.
 pub fn undeclared_inputs(

@@ -1,4 +1,4 @@
--- What is held after one statement more.
+-- The declarations after one more statement.
 use Rattle.std.proofs.Common.{◌≡◌, ℕ, ◌+◌, Bool, true, false, ◌&&◌, ◌==◌, if◌then◌else◌, List, [], ◌∷◌, ◌++◌, map, length, Option, Some, None, unwrap_or, bytes_eq, Result, Ok, Err, OnOk, OnErr, IfOk, refl, sym, ap, ◌∙◌, true≢false}
 use Rattle.std.specs.Option.{option_or, option_map_or}
 use Rattle.std.specs.List.{push}
@@ -81,7 +81,7 @@ module _ (held after : DeclarationsModel) (entries : List ReadStatement) (e : Re
 
 -- ---- statements that bind nothing
 
--- a statement that is neither a binding nor a rule leaves the scopes' own names as they are
+-- a statement that is neither a binding nor a rule leaves the scopes' own names unchanged
 bounds-kept : (e : ReadStatement) (entries : List ReadStatement) → ((value : List ℕ → List ℕ) (x : List ℕ) → binds value e.item x ≡ None) → (n : ℕ) (x : List ℕ) → bounds (e ∷ entries) n x ≡ bounds entries n x
 unfolding bounds
 bounds-kept e entries nothing n x = by (n == e.scope)

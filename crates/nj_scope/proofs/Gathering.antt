@@ -1,4 +1,4 @@
--- Lists of what statements give.
+-- Lists of declarations.
 use Rattle.std.proofs.Common.{◌≡◌, ℕ, ◌+◌, ◌<◌, if◌then◌else◌, List, [], ◌∷◌, ◌++◌, map, length, slice_get, Option, Some, None, is_some, refl, sym, ap, ◌∙◌, add-zero, arith}
 use Rattle.std.specs.Option.{option_map_or}
 use Rattle.std.specs.List.{push}
@@ -10,7 +10,7 @@ use Rattle.nj_manifest.specs.Statements.{StatementModel, BindingModel, RuleModel
 use Rattle.nj_scope.specs.ReadingList.{ReadStatement, scope_of, expanded_in, gathered, path_named, files_opened}
 use Rattle.nj_scope.specs.Laws.{givers, IsInReadingOrder}
 
--- a list with what one statement more gives
+-- a list with the declaration of one more statement
 abbrev pub with_given : {A : Type 0} → List A → Option A → List A
 with_given others given = option_map_or (push others) given others
 
@@ -23,7 +23,7 @@ pub get-last : {X : Type 0} (xs : List X) (y : X) → slice_get (xs ++ y ∷ [])
 get-last xs y = slice_get-get_or (xs ++ y ∷ []) (length xs) y (simp length-append (omega arith)) ∙ ap Some (get_or-append_seam xs y [] y)
 
 module _ {A : Type 0} (given : ReadStatement → List ReadStatement → StatementModel → Option A) where
-  -- what gives the same of other statements
+  -- a function that gives the same of other statements
   pub gathered-map : (f : ReadStatement → ReadStatement) → ((e : ReadStatement) (before : List ReadStatement) → given (f e) (map f before) (f e).item ≡ given e before e.item)
       → (entries : List ReadStatement) → gathered given (map f entries) ≡ gathered given entries
   gathered-map f same [] = refl

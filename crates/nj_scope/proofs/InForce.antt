@@ -20,7 +20,7 @@ some_same {x = x} h = ap (λ o. unwrap_or o x) h
 none_some : {X P : Type 0} {x : X} → None ≡ Some x → P
 none_some h = absurd (true≢false (ap is_some (sym h)))
 
--- ---- what a scope itself declares
+-- ---- the declarations of a scope itself
 
 pub record Found (strings : List kept.RuleModel) (scope : ℕ) (name : List ℕ) (number : ℕ) : Type 0 where
   pub rule : kept.RuleModel

@@ -311,7 +311,7 @@ line_passed lines last i n line is are below at =
     subst (λ ls. AreIndexes (map line_held lines) last (last_lines ls)) (sym (line_next lines i line is))
     (subst (λ b. AreIndexes (map line_held lines) last (if b then last_lines rest else last_lines rest ++ line_held line ∷ [])) (sym has) are)
 
--- ---- the same for what a rule keeps, where ls and is are read from it
+-- ---- the same for the fields of a rule, where ls and is are read from it
 
 module _ (lines : List RuleLine) (last : List ℕ) (held : List RuleLineModel) (same : map line_held lines ≡ held) (are : AreIndexes (map line_held lines) last (last_lines (map line_held lines)))
     (ls : List RuleLine) (is : List ℕ) (e : ls ≡ lines) (f : is ≡ last) where

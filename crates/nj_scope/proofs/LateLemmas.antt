@@ -16,13 +16,13 @@ use Rattle.nj_scope.specs.Inside.LateHeld.{text_or_name, late_part, late_parts, 
 sub_smaller : (n m s : ℕ) → n ≤ m → n - s ≤ m - s
 sub_smaller n m s h = omega arith
 
--- a range of what was there before
+-- a range of the earlier elements
 range-front : {X : Type 0} (xs more : List X) (s e : ℕ) → s ≤ e → e ≤ length xs → slice_range (xs ++ more) s e ≡ slice_range xs s e
 range-front xs more s e h k =
     ap (take (e - s)) (drop-append-le s xs more (le_trans h k))
     ∙ take-append-le (e - s) (drop s xs) more (subst (λ n. e - s ≤ n) (sym (length-drop s xs)) (sub_smaller e (length xs) s k))
 
--- the range of what follows
+-- the range of the elements after them
 range-back : {X : Type 0} (xs ys : List X) → slice_range (xs ++ ys) (length xs) (length (xs ++ ys)) ≡ ys
 range-back xs ys =
     ap (take (length (xs ++ ys) - length xs)) (drop-append_seam xs ys)
@@ -44,7 +44,7 @@ pub within-longer : (text more : List ℕ) (ps : List LatePart) → AreWithin te
 within-longer text more [] within = tt
 within-longer text more (p ∷ ps) within = ((within.0.0, longer text more p.end within.0.1), within-longer text more ps within.1)
 
--- ---- one part more
+-- ---- one more part
 
 abbrev pub part_after : (text bytes : List ℕ) → Bool → LatePart
 part_after text bytes is_name = record { start = length text; end = length (text ++ bytes); is_name = is_name }

@@ -3,7 +3,7 @@ use Rattle.std.proofs.Common.{◌≡◌, ℕ, Bool, true, false, cond, ◌||◌,
 use Rattle.std.proofs.lemmas.Slice.Eq.{bytes_eq-Decides}
 use Rattle.nj_scope.specs.Readings.{Reading, reading_of, is_read, bytes_in}
 
--- what was read stays so as more is read
+-- a path that was read remains read as more is read
 pub reading_of-push_old : (done : List Reading) (r : Reading) (path : List ℕ) → is_read done path ≡ true → reading_of (done ++ r ∷ []) path ≡ reading_of done path
 reading_of-push_old [] r path h = absurd (true≢false (sym h))
 reading_of-push_old (d ∷ done) r path h = by (bytes_eq path d.path) (reading_of-push_old done r path) h
@@ -23,7 +23,7 @@ reading_of-push_new (d ∷ done) r path h = by (bytes_eq path d.path) (reading_o
     by true rest h = absurd (true≢false h)
     by false rest h = rest h
 
--- the bytes of a path that was read stay so
+-- the bytes of a path that was read stay the same
 pub bytes_in-push_old : (done : List Reading) (r : Reading) (path : List ℕ) → is_read done path ≡ true → bytes_in (done ++ r ∷ []) path ≡ bytes_in done path
 bytes_in-push_old done r path h = ap (option_and_then (λ x. x.bytes)) (reading_of-push_old done r path h)
 

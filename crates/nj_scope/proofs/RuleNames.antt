@@ -20,7 +20,7 @@ abbrev one_name : (own : Bool) → (name : List ℕ) → List (List ℕ)
 one_name true name = name ∷ []
 one_name false name = []
 
--- the names, with the names of one rule more
+-- the names, with the names of one more rule
 names-push : (before : List kept.RuleModel) (r : kept.RuleModel) (scope : ℕ) → rule_names (before ++ r ∷ []) scope ≡ rule_names before scope ++ one_name (scope == r.scope) r.name
 names-push before r scope =
     ap (λ rs. map (λ x. x.name) rs) (filter-append (λ x. scope == x.scope) before (r ∷ []))

@@ -25,7 +25,7 @@ left-falls n None earlier = zero-lt-suc n
 left-falls n (Some p) earlier = suc-lt_of_lt-pred {n = p} {m = suc n} earlier
 
 module _ {X : Type 0} where
-  -- a look-up in the scopes that are left finds what a look-up in all of them finds
+  -- a look-up in the scopes that are left has the result of one in all of them
   abbrev pub LooksFrom : (own : ℕ → Option X) → List ScopeModel → (found : Option X) → Option ℕ → Type 0
   LooksFrom own scopes found None = found ≡ None
   LooksFrom own scopes found (Some n) = (around : List ℕ) × IsScope (parent_at scopes) n around × (found ≡ first_given own around)

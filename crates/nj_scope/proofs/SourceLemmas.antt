@@ -1,4 +1,4 @@
--- Lemmas on what was read of a source, for those who read several files.
+-- Lemmas on the readings of a source, for those who read several files.
 use Rattle.std.proofs.Common.{◌≡◌, ℕ, List, [], ◌∷◌, ◌++◌, Option, Some, None, option_map, true, Ok, IfSome, refl, sym, ap, subst, ◌∙◌, inl, inr}
 use Rattle.std.specs.Global.{Global}
 use Rattle.std.specs.declared.rc.RcSlice.{RcSlice}
@@ -13,7 +13,7 @@ nothing_added : (reported : Option (List Reading)) → reported ≡ option_map (
 nothing_added None = refl
 nothing_added (Some rs) = ap Some (sym (append-nil rs))
 
--- nothing was read of a source that is as it was
+-- nothing was read of a source that is unchanged
 pub HasRead-nothing : (source : SourceState) → HasRead source source []
 HasRead-nothing source = record { reported = nothing_added source.readings; as_given = tt; files = λ path. refl }
 
@@ -28,7 +28,7 @@ as_given-both before middle files [] [] first second = tt
 as_given-both before middle files [] (y ∷ ys) first second =
     (subst (λ meant. IfSome meant (λ bytes. y.bytes ≡ bytes)) (files y.path) second.0, as_given-both before middle files [] ys tt second.1)
 
--- what was read at first, and then
+-- the first readings, and the later ones
 pub HasRead-then : (before middle after : SourceState) (xs ys : List Reading) → HasRead before middle xs → HasRead middle after ys → HasRead before after (xs ++ ys)
 HasRead-then before middle after xs ys first second = record {
   reported = second.reported ∙ ap (option_map (λ rs. rs ++ ys)) first.reported ∙ both_added xs ys before.readings;

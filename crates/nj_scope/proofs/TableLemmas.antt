@@ -1,4 +1,4 @@
--- Lemmas on what a table of files keeps.
+-- Lemmas on the readings that a table of files keeps.
 use Rattle.std.proofs.Common.{◌≡◌, ℕ, Bool, true, false, cond, List, [], ◌∷◌, ◌++◌, map, Option, Some, None, is_some, option_map, slice_get, bytes_eq, refl, sym, ap, ◌∙◌, true≢false}
 use Rattle.std.specs.Global.{Vec}
 use Rattle.std.specs.Rc.{rc_slice_items}
@@ -29,7 +29,7 @@ module _ {Z : Type 0} where
       by true rest = refl
       by false rest = rest
 
-  -- and what was found there
+  -- and the bytes found there
   pub reading_of-kept : (path : List ℕ) (es : List (Vec ℕ × Option (RcSlice ℕ Z)))
       → option_map (option_map rc_slice_items) (lookup (λ k. bytes_eq path k.items) es) ≡ option_map (λ r. r.bytes) (reading_of (map kept_reading es) path)
   reading_of-kept path [] = refl

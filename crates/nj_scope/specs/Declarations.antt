@@ -1,4 +1,5 @@
--- What is held of the statements that were read: that the scopes, rules and pools are those that the statements declare.
+-- The declarations held of the statements that were read: the scopes, rules and pools are those that the statements
+-- declare.
 use Rattle.std.specs.Prelude.{false, ◌≡◌, ℕ, None, List, length, ◌∷◌}
 use Rattle.nj_text.specs.declared.spot.Spot.{Spot}
 use Rattle.nj_manifest.specs.Statements.{StatementModel}
@@ -12,7 +13,7 @@ pub record DeclarationsModel : Type 0 where
   pub rules : List RuleModel
   pub pools : List (List ℕ)
 
--- It has what these statements declare, the last read first: each scope binds what they bind there,
+-- It has the declarations of these statements, the last read first: each scope has the bindings that they have there,
 -- and declares the rules that they declare there; there are as many scopes, and the same rules and pools.
 pub record DeclaredBy (held : DeclarationsModel) (entries : List list.ReadStatement) : Type 0 where
   pub bound : (number : ℕ) (name : List ℕ) → bound_at held.scopes number name ≡ list.bounds entries number name
@@ -21,7 +22,7 @@ pub record DeclaredBy (held : DeclarationsModel) (entries : List list.ReadStatem
   pub rules : held.rules ≡ list.rules_read entries
   pub pools : held.pools ≡ list.pools entries
 
--- One statement more: it is in the scope of this number, within those around it, wherever in the files.
+-- One more statement: it is in the scope of this number, within those around it, wherever in the files.
 abbrev pub TakesIn : (old new : DeclarationsModel) → (number : ℕ) → (around : List ℕ) → StatementModel → Type 0
 TakesIn old new number around item =
     (entries : List list.ReadStatement) (file : List ℕ) (spot : Spot) (depth : ℕ) → DeclaredBy old entries
@@ -36,7 +37,7 @@ TakesIn old new number around item =
       discovered = None;
     } ∷ entries)
 
--- What was held before is still held.
+-- The earlier declarations are still held.
 abbrev pub Keeps : (old new : DeclarationsModel) → Type 0
 Keeps old new = (entries : List list.ReadStatement) → DeclaredBy old entries → DeclaredBy new entries
 

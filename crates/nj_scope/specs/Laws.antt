@@ -1,4 +1,4 @@
--- Laws of what statements give, in the words of Ninja's manual.
+-- Laws of bindings and declarations, in terms of Ninja's manual.
 use Rattle.std.specs.Prelude.{◌≡◌, ◌⊎◌, ℕ, ◌+◌, Bool, false, ◌&&◌, ◌==◌, if◌then◌else◌, Option, Some, is_some, List, [], ◌∷◌, ◌++◌, length, slice_get, bytes_eq}
 use Rattle.std.specs.List.{Contains}
 use Rattle.nj_text.specs.Words.{WordModel}
@@ -17,7 +17,8 @@ abbrev pub NoneBinds : List ReadStatement → (number : ℕ) → (name : List �
 NoneBinds [] number name = Unit {0}
 NoneBinds (e ∷ others) number name = ((number == e.scope && binds_name e.item name) ≡ false) × NoneBinds others number name
 
--- The value of a name in a scope that binds it itself is the value of its last binding there, expanded by what was bound before.
+-- The value of a name in a scope that binds it itself is the value of its last binding there, expanded by the bindings before
+-- it.
 abbrev pub LastBindingCounts : Type 0
 LastBindingCounts = (after before : List ReadStatement) (e : ReadStatement) (name : List ℕ) (word : WordModel)
     → e.item ≡ BindingModel name word → NoneBinds after e.scope name
@@ -28,7 +29,7 @@ abbrev pub OthersAreInherited : Type 0
 OthersAreInherited = (entries : List ReadStatement) (number : ℕ) (around name : List ℕ) → NoneBinds entries number name
     → value_after entries (number ∷ around) name ≡ value_after entries around name
 
--- What a scope binds changes the values of no other scope's own names.
+-- A binding of a scope changes the values of no other scope's own names.
 abbrev pub OthersKeepTheirs : Type 0
 OthersKeepTheirs = (e : ReadStatement) (before : List ReadStatement) (number : ℕ) (name : List ℕ) → (number == e.scope) ≡ false
     → bounds (e ∷ before) number name ≡ bounds before number name
@@ -39,18 +40,18 @@ InForceIsDeclared = (entries : List ReadStatement) (scope name : List ℕ) (numb
     → (rule : kept.RuleModel) × (slice_get (rules_read entries) number ≡ Some rule) × (rule.name ≡ name)
     × ((rule ≡ phony_rule) ⊎ Contains scope rule.scope)
 
--- ---- lists of what statements give
+-- ---- lists of declarations
 
 -- how many of the statements give something
 abbrev pub givers : {A : Type 0} → (given : ReadStatement → List ReadStatement → StatementModel → Option A) → List ReadStatement → ℕ
 givers given [] = 0
 givers given (e ∷ before) = givers given before + (if is_some (given e before e.item) then 1 else 0)
 
--- The k-th of the list is what the k-th statement that gives something gives, by the statements before it.
+-- The k-th of the list is that of the k-th statement that has one, by the statements before it.
 pub record IsInReadingOrder {A : Type 0} (given : ReadStatement → List ReadStatement → StatementModel → Option A)
     (list : List ReadStatement → List A) : Type 0 where
-  -- there are as many as statements that give something
+  -- there are as many as statements that have one
   pub count : (entries : List ReadStatement) → length (list entries) ≡ givers given entries
-  -- what a statement gives has the number of such statements before it
+  -- the number of a statement's own is that of such statements before it
   pub each : (after before : List ReadStatement) (e : ReadStatement) (x : A) → given e before e.item ≡ Some x
       → slice_get (list (after ++ e ∷ before)) (givers given before) ≡ Some x

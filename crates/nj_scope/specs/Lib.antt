@@ -1,4 +1,4 @@
--- what must be believed
+-- the definitions to believe
 pub mod Faults
 pub mod Late
 pub mod Laws

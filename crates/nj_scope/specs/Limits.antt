@@ -10,6 +10,6 @@ abbrev pub within_depth : Option ℕ → Bool
 within_depth None = false
 within_depth (Some n) = nat_le n greatest_depth
 
--- A depth begins with a digit, and the number of the digits at its front is not too great. What follows them is ignored.
+-- A depth begins with a digit, and the number of the digits at its front is not too great. The rest is ignored.
 abbrev pub is_depth : List ℕ → Bool
 is_depth text = within_depth (leading_number_of text)

@@ -1,4 +1,4 @@
--- What a source of files in memory has.
+-- A source of files in memory.
 use Rattle.std.specs.Prelude.{ℕ, List, reverse, Option, Some, option_map, find, bytes_eq}
 use Rattle.nj_scope.specs.Readings.{Reading}
 use Rattle.nj_scope.specs.Sources.{SourceState}
@@ -8,7 +8,7 @@ pub record Added : Type 0 where
   pub name : List ℕ
   pub bytes : List ℕ
 
--- the files in the order in which they were added, what was read of them, how often a reading failed, and which of the next
+-- the files in the order in which they were added, their readings, how often a reading failed, and which of the next
 -- readings will fail, the first being 1; 0: none
 pub record Memory : Type 0 where
   pub added : List Added
@@ -20,6 +20,6 @@ pub record Memory : Type 0 where
 abbrev pub bytes_added : List Added → List ℕ → Option (List ℕ)
 bytes_added added name = option_map (λ a. a.bytes) (find (λ a. bytes_eq name a.name) (reverse added))
 
--- it reports all readings, and what it would return
+-- it reports all readings, and the results of later ones
 abbrev pub memory_state : Memory → SourceState
 memory_state m = record { readings = Some m.readings; failures = m.failures; files = λ path. Some (bytes_added m.added path) }

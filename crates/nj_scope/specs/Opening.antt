@@ -1,4 +1,4 @@
--- What opening a file returns, and what it does to the table of files and to the source.
+-- Opening a file: its result, and its effect on the table of files and on the source.
 use Rattle.std.specs.Prelude.{◌≡◌, ◌⊎◌, ℕ, true, false, Option, option_map, List, [], ◌∷◌, ◌++◌, Result, Ok, Err, ⊤}
 use Rattle.std.specs.Global.{Global}
 use Rattle.std.specs.Rc.{rc_slice_items}
@@ -8,7 +8,7 @@ use Rattle.nj_scope.specs.Sources.{SourceState, HasRead, Rises}
 use Rattle.nj_scope.specs.declared.source.SourceFault.{SourceFault}
 use Rattle.nj_scope.specs.declared.source.SourceFault.TheVariants.{Io, OutOfMemory}
 
--- The path was read before: the table returns it, and the source is not asked.
+-- The path was read before: the table returns it, and the source is not read.
 pub record IsKnown (before after : SourceState) (old new : List Reading) (path : List ℕ) (found : Option (List ℕ)) : Type 0 where
   pub was_read : is_read old path ≡ true
   pub found_is : found ≡ bytes_in old path
@@ -22,7 +22,7 @@ pub record IsReadNow (before after : SourceState) (old new : List Reading) (read
   pub failures : after.failures ≡ before.failures
   pub kept : new ≡ old ++ reading ∷ []
 
--- The source failed at a new path. The table is as it was.
+-- The source failed at a new path. The table is unchanged.
 pub record CannotBeRead (before after : SourceState) (old new : List Reading) (path : List ℕ) : Type 0 where
   pub was_not_read : is_read old path ≡ false
   pub read : HasRead before after []
@@ -35,7 +35,7 @@ AtMostOneReading old path [] = ⊤
 AtMostOneReading old path (r ∷ []) = (r.path ≡ path) × (is_read old path ≡ false)
 AtMostOneReading old path (r ∷ s ∷ others) = ⊥
 
--- Out of memory: the table is as it was, though the path may have been read.
+-- Out of memory: the table is unchanged, though the path may have been read.
 pub record LacksCapacity (before after : SourceState) (old new : List Reading) (path : List ℕ) : Type 0 where
   pub readings : List Reading
   pub at_most_one : AtMostOneReading old path readings
@@ -47,7 +47,7 @@ pub record LacksCapacity (before after : SourceState) (old new : List Reading) (
 abbrev pub shared_bytes : Option (RcSlice ℕ Global) → Option (List ℕ)
 shared_bytes found = option_map rc_slice_items found
 
--- What opening the file at a path does, by what it returns: the source before and after it, the table before and after it.
+-- Opening the file at a path, by its result: the source before and after it, the table before and after it.
 abbrev pub OpensFile : (before after : SourceState) → (old new : List Reading) → (path : List ℕ)
     → Result (Option (RcSlice ℕ Global)) SourceFault → Type 0
 OpensFile before after old new path (Ok found) =

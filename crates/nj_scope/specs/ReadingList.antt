@@ -9,12 +9,12 @@ use Rattle.nj_scope.specs.Rules.{line_kept, phony, phony_rule}
 use Rattle.nj_manifest.specs.Statements.{StatementModel, BindingModel, RuleModel, PoolModel, IncludeModel, SubninjaModel}
 use Rattle.nj_scope.specs.Scopes.{first_given, Bounds, value_in, expanded}
 
--- What is discovered for a build statement ("Dynamic Dependencies" and "Deps" in the manual): outputs and inputs, by their clean paths.
+-- The discoveries for a build statement ("Dynamic Dependencies" and "Deps" in the manual): outputs and inputs, by their clean paths.
 pub record Discovered : Type 0 where
   pub outputs : List (List ℕ)
   pub inputs : List (List ℕ)
 
--- A statement that was read: where it is, and what it gives.
+-- A statement that was read: where it is, and its contents.
 pub record ReadStatement : Type 0 where
   -- the file, by the name under which it was opened
   pub file : List ℕ
@@ -37,17 +37,17 @@ scope_of e = e.scope ∷ e.around
 
 -- ---- values
 
--- what a statement binds to a name, where the names in its value have these values
+-- the value that a statement binds to a name, where the names in its value have these values
 abbrev pub binds : (value : List ℕ → List ℕ) → StatementModel → (name : List ℕ) → Option (List ℕ)
 binds value (BindingModel bound word) name = if bytes_eq name bound then Some (expanded value word.parts) else None
 binds value item name = None
 
--- what a statement binds in a scope
+-- the value that a statement binds in a scope
 abbrev pub binds_in : (number : ℕ) → ReadStatement → (value : List ℕ → List ℕ) → (name : List ℕ) → Option (List ℕ)
 binds_in number e value name = if number == e.scope then binds value e.item name else None
 
--- What each scope binds after some statements, the last read first. A value is expanded where it is read: by
--- what the statements before it bind.
+-- The bindings of each scope after some statements, the last read first. A value is expanded where it is read: by the
+-- bindings of the statements before it.
 unfoldable pub bounds : List ReadStatement → Bounds
 bounds [] number name = None
 bounds (e ∷ before) number name = option_or (binds_in number e (value_in (bounds before) (scope_of e)) name) (bounds before number name)
@@ -64,9 +64,9 @@ value_if_bound entries scope name = first_given (λ s. bounds entries s name) sc
 abbrev pub expanded_in : (scope : List ℕ) → (before : List ReadStatement) → WordModel → List ℕ
 expanded_in scope before word = expanded (value_after before scope) word.parts
 
--- ---- lists of what statements give
+-- ---- lists of declarations
 
--- What each statement that gives something gives, in reading order. It gives that by the statements before it, the last read first.
+-- The values that `given` has for statements, in reading order; each by the statements before it, the last read first.
 abbrev pub gathered : {A : Type 0} → (given : ReadStatement → List ReadStatement → StatementModel → Option A) → List ReadStatement → List A
 gathered given [] = []
 gathered given (e ∷ before) = let others = gathered given before in option_map_or (push others) (given e before e.item) others

@@ -1,4 +1,4 @@
--- What was read of files: which paths, in which order, and what was found there.
+-- The readings of files: which paths, in which order, and with which bytes.
 use Rattle.std.specs.Prelude.{◌≡◌, ℕ, Bool, false, List, [], ◌∷◌, ◌++◌, map, Option, is_some, option_and_then, find, bytes_eq, ⊤}
 
 -- one reading of a file: its path, and the bytes that were found there; `None` if no file was there

@@ -13,7 +13,7 @@ unfoldable pub last_lines : List RuleLineModel → List RuleLineModel
 last_lines [] = []
 last_lines (l ∷ lines) = if has_key lines l.key then last_lines lines else last_lines lines ++ l ∷ []
 
--- ---- the keys of a rule, each once, by number
+-- ---- the keys of a rule, without duplicates, by number
 
 abbrev pub key_count : List RuleLineModel → ℕ
 key_count lines = length (last_lines lines)

@@ -4,12 +4,12 @@ use Rattle.std.specs.Option.{option_or}
 use Rattle.std.specs.Map.{lookup}
 pub use Rattle.nj_manifest.specs.Expansion.{part_expanded, expanded}
 
--- what the first element that gives something gives
+-- the first value that `given` has for an element
 abbrev pub first_given : {A X : Type 0} → (given : A → Option X) → List A → Option X
 first_given given [] = None
 first_given given (a ∷ others) = option_or (given a) (first_given given others)
 
--- what each scope itself binds, by its number and the name
+-- the bindings of each scope itself, by its number and the name
 abbrev pub Bounds : Type 0
 Bounds = ℕ → List ℕ → Option (List ℕ)
 

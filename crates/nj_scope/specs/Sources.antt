@@ -1,4 +1,4 @@
--- The state of a source of files, and what a reading does to it.
+-- The state of a source of files, and its changes by a reading.
 use Rattle.std.specs.Prelude.{◌≡◌, ℕ, ◌-◌, ◌^◌, ◌<◌, ◌≤◌, Option, option_map, List, [], ◌∷◌, ◌++◌, IfSome, Result, Ok, Err}
 use Rattle.std.specs.Global.{Vec}
 use Rattle.std.specs.List.{AllByRecursion}
@@ -12,14 +12,14 @@ pub record SourceState : Type 0 where
   pub readings : Option (List Reading)
   -- how often a reading has failed
   pub failures : ℕ
-  -- what it would return for each path that it declares: the bytes, or `None` if there is no file
+  -- the result for each path that it declares: the bytes, or `None` if there is no file
   pub files : List ℕ → Option (Option (List ℕ))
 
--- a reading found what the source declares for the path, where it declares anything
+-- a reading is as the source declares for the path, where it declares anything
 abbrev pub IsAsGiven : SourceState → Reading → Type 0
 IsAsGiven source r = IfSome (source.files r.path) (λ meant. r.bytes ≡ meant)
 
--- These were read from the source: it reports exactly them after the earlier ones, it found what it declared, and it declares the same
+-- These were read from the source: it reports exactly them after the earlier ones, they are as it declared, and it declares the same
 -- of its files as before.
 pub record HasRead (before after : SourceState) (readings : List Reading) : Type 0 where
   pub reported : after.readings ≡ option_map (λ rs. rs ++ readings) before.readings
@@ -35,7 +35,7 @@ pub record Rises (before after : ℕ) : Type 0 where
 abbrev pub outcome_bytes : Option (Vec ℕ) → Option (List ℕ)
 outcome_bytes outcome = option_map (λ v. v.items) outcome
 
--- What a call of `read` does: a result is one more reading, and a refusal is none. Each `Io` is counted, and nothing else is.
+-- A call of `read`: a result is one more reading, and a refusal is none. Each `Io` is counted, and nothing else is.
 abbrev pub ReadsPath : (before after : SourceState) → (path : List ℕ) → Result (Option (Vec ℕ)) SourceFault → Type 0
 ReadsPath before after path (Ok outcome) =
     HasRead before after (record { path = path; bytes = outcome_bytes outcome } ∷ []) × (after.failures ≡ before.failures)

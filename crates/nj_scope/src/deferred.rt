@@ -12,7 +12,7 @@ use std::marker::Model;
 /// The number of bytes of `${` and `}`.
 const REFERENCE_SIGNS: usize = 3;
 
-// A part of a late value: the bytes of its text from `start` to `end`, as they are or as a name.
+// A part of a late value: the bytes of its text from `start` to `end`, verbatim or as a name.
 #[derive(Clone, Copy)]
 struct LatePart {
     start: usize,

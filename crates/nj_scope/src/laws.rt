@@ -1,4 +1,4 @@
-//! Laws of what statements give. A law is a theorem, stated as a function with an empty body.
+//! Laws of bindings and declarations. A law is a theorem, stated as a function with an empty body.
 
 ghost use Rattle.nj_scope.specs.Laws.{LastBindingCounts, OthersAreInherited, OthersKeepTheirs, InForceIsDeclared};
 ghost use Rattle.nj_scope.specs.Laws.{IsInReadingOrder};
@@ -6,7 +6,7 @@ ghost use Rattle.nj_scope.specs.ReadingList.{gathered, rule_given, pool_given, s
 
 /// The value of a name, by the statements that were read: the last binding of its own scope counts,
 /// with the values that names had before it; without one the scopes around count; and no scope
-/// changes what another binds.
+/// changes the bindings of another.
 pub fn values_by_reading_order()
     ensures last_counts { LastBindingCounts }
     ensures inherited { OthersAreInherited }
@@ -20,8 +20,8 @@ pub fn rules_in_force()
 {}
 
 /// The rules that are declared, the pools, the scopes that are opened and the paths of opened files,
-/// in reading order: the k-th is what the k-th statement that gives one gives, by the statements
-/// before it, and there are no others.
+/// in reading order: the k-th is that of the k-th statement that has one, by the statements before
+/// it, and there are no others.
 pub fn lists_by_reading_order()
     ensures rules { IsInReadingOrder rule_given (gathered rule_given) }
     ensures pools { IsInReadingOrder pool_given (gathered pool_given) }

@@ -106,7 +106,7 @@ impl FileSource for MemoryFiles {
         ensures outcome { IfOk result (λ outcome.
             outcome_bytes outcome ≡ bytes_added self.old.added path.now) }
 
-        // What changes by each outcome. Each comes one nearer to the reading that fails.
+        // Counts an outcome. Each comes one nearer to the reading that fails.
         ensures answered { IfOk result (λ outcome. self.new ≡ record self.old {
           readings = self.old.readings
               ++ record { path = path.now; bytes = outcome_bytes outcome } ∷ [];

@@ -6,7 +6,7 @@ ghost use Rattle.nj_scope.specs.Limits.{is_depth};
 use nj_text::leading_number;
 
 /// Whether an expanded text is the depth of a pool: it begins with a digit, and the number that its
-/// first digits make is at most 2147483647. What follows the digits is ignored ("Pools" in the
+/// first digits make is at most 2147483647. The rest after the digits is ignored ("Pools" in the
 /// Ninja manual).
 pub fn is_depth(text: &[u8]) -> bool
     ensures { result ≡ is_depth text.now }

@@ -61,13 +61,13 @@ pub trait FileSource {
     ///
     /// # Errors
     ///
-    /// `Io` if the file could not be read, and `OutOfMemory`. The source can be asked again after
+    /// `Io` if the file could not be read, and `OutOfMemory`. The source can be read again after
     /// either.
     fn read(&mut self, alloc: Global, path: &str) -> Result<Option<Vec<u8>>, SourceFault>
         ensures { ReadsPath (state self.old) (state self.new) path.now result };
 
-    /// The keys for maps of names in its files. A source of files that strangers may
-    /// have written draws them; no result depends on them, only how long it takes.
+    /// The keys for maps of names in its files. A source of untrusted files draws them; no result
+    /// depends on them, only how long it takes.
     fn hash_keys(&self) -> HashKeys {
         HashKeys::default()
     }

@@ -78,12 +78,12 @@ impl FileTable {
     }
 
     /// The bytes of the file at the path, shared with the table; `None` if no file is there. The
-    /// source is asked once for each path; that no file is there is kept too.
+    /// source is read once for each path; that no file is there is kept too.
     ///
     /// # Errors
     ///
     /// The faults of the source, and `OutOfMemory` where the table cannot grow. The table is then
-    /// as it was, though the source may have read the file.
+    /// unchanged, though the source may have read the file.
     pub fn open<S: FileSource>(
         &mut self,
         alloc: Global,
@@ -101,7 +101,7 @@ impl FileTable {
         self.read_new(alloc, source, path)
     }
 
-    // Reads a path that was not read, and keeps what was found.
+    // Reads a path that was not read, and keeps the result.
     fn read_new<S: FileSource>(
         &mut self,
         alloc: Global,
@@ -122,7 +122,7 @@ impl FileTable {
         Ok(shared)
     }
 
-    // Keeps what was found at a path that was not read.
+    // Keeps the reading of a path that was not read.
     fn keep(&mut self, path: Vec<u8>, bytes: Option<RcSlice<u8>>) -> Result<(), AllocError>
         requires { is_read self.old path.items ≡ false }
         ensures kept { OnOk result (self.new
@@ -134,7 +134,7 @@ impl FileTable {
         Ok(())
     }
 
-    // What was found at the path, if it was read.
+    // The reading of the path, if it was read.
     fn reading_of(&self, path: &str) -> Option<&Option<RcSlice<u8>>>
         ensures found { option_map shared_bytes (option_copied result)
             ≡ option_map (λ r. r.bytes) (reading_of self.now path.now) }

@@ -1,4 +1,4 @@
--- Lemmas on what is collected for an edge.
+-- Lemmas on the files that are collected for an edge.
 use Rattle.std.proofs.Common.{◌≡◌, ℕ, ◌+◌, ◌<◌, Option, None, length, drop, get_or, Bool, true, false, if◌then◌else◌, List, [], ◌∷◌, ◌++◌, bytes_eq, refl, sym, ap, subst, ◌∙◌}
 use Rattle.nj_scope.specs.Scopes.{first_given}
 use Rattle.std.specs.Bool.{then_some}
@@ -59,7 +59,7 @@ keeps-input s t path is =
 pub keeps-same : (s t : JoinTable) → t ≡ s → KeepsEdges s t
 keeps-same s t is = subst (KeepsEdges s) (sym is) (keeps-nothing s)
 
--- ---- what is collected
+-- ---- the collected files
 
 pub outputs-open : (t : JoinTable) (paths : List (List ℕ)) → (with_added_outputs t paths).«open» ≡ record t.«open» { outputs = t.«open».outputs ++ paths }
 outputs-open t [] = ap (λ os. record t.«open» { outputs = os }) (sym (append-nil t.«open».outputs))
@@ -69,7 +69,7 @@ pub inputs-open : (t : JoinTable) (paths : List (List ℕ)) → (with_added_inpu
 inputs-open t [] = ap (λ is. record t.«open» { inputs = is }) (sym (append-nil t.«open».inputs))
 inputs-open t (p ∷ ps) = inputs-open (with_added_input t p) ps ∙ ap (λ is. record t.«open» { inputs = is }) (append_assoc t.«open».inputs (p ∷ []) ps)
 
--- ---- one word more
+-- ---- one more word
 
 pub inputs-turn : (t new : JoinTable) (path : List ℕ) (words : List Word) (i : ℕ) (word : Word) → i < length words → word ≡ get_or words i word → path ≡ path_given no_values (word_model word)
     → new ≡ with_added_input t path

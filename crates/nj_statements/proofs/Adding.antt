@@ -1,4 +1,4 @@
--- What is added by a build statement.
+-- The additions of a build statement.
 use Rattle.std.proofs.Common.{◌≡◌, ℕ, Bool, List, [], ◌∷◌, ◌++◌, length, sym, ap, subst, ◌∙◌}
 use Rattle.nj_manifest.specs.Statements.{OutputsModel, InputsModel}
 use Rattle.nj_scope.specs.Readings.{IsPrefix}

@@ -1,4 +1,4 @@
--- What is assigned to edges, and the numbers by which it is kept.
+-- The assignments of edges, and the numbers by which they are kept.
 use Rattle.std.proofs.Common.{◌≡◌, ◌+◌, ℕ, zero, suc, List, [], ◌∷◌, ◌++◌, map, Option, Some, None, option_map, unwrap_or, is_some, true≢false, slice_get, refl, sym, ap, subst, ◌∙◌, arith}
 use Rattle.std.specs.List.{AllByRecursion}
 use Rattle.std.proofs.lemmas.List.{append-nil, map-append}
@@ -32,7 +32,7 @@ numbered-longer strings longer n o (more, is) there =
     subst (λ (l : List (List ℕ)). slice_get (numbered l) n ≡ Some o) (sym is)
     (subst (λ (l : List (Option (List ℕ))). slice_get (None ∷ l) n ≡ Some o) (sym (map-append Some strings more)) (get-longer (numbered strings) (map Some more) n o there))
 
--- ---- one edge more
+-- ---- one more edge
 
 pub assigned-longer : (strings longer : List (List ℕ)) (d : DetailModel) (a : AssignedModel) → IsPrefix strings longer → IsAssigned strings d a → IsAssigned longer d a
 assigned-longer strings longer d a grows is = record { pool = numbered-longer strings longer d.pool a.pool grows is.pool; dyndep = numbered-longer strings longer d.dyndep a.dyndep grows is.dyndep }

@@ -63,7 +63,7 @@ names-turn old new edge names name value so_far binds lists = record {
     by x true = or-true (is_some (bound_in old edge x))
     by x false = or-false (is_some (bound_in old edge x))
 
--- the names of one line more
+-- the names of one more line
 pub names-next : (lines : List Line) (i : ℕ) (l : Line) → i < length lines → l ≡ get_or lines i l → line_names (take (i + 1) lines) ≡ line_names (take i lines) ++ l.name.now ∷ []
 names-next lines i l below is =
     ap line_names (take_more lines i l below ∙ ap (λ x. take i lines ++ x ∷ []) (sym is))

@@ -1,4 +1,4 @@
--- Worked rows of what statements come to: the defaults in force, and the fault of a cycle.
+-- Worked rows of the result of statements: the defaults in force, and the fault of a cycle.
 use Rattle.std.proofs.Common.{false, ◌≡◌, ◌<◌, ℕ, Option, None, Some, unwrap_or, ap, zero, suc, List, [], ◌∷◌, refl, lit<, arith, sym, subst}
 use Rattle.std.specs.Prelude.{codes, Contains}
 use Rattle.nj_text.specs.Words.{Text, WordModel}

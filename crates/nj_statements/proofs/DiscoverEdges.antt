@@ -1,4 +1,4 @@
--- What is discovered for an edge: which edges it changes, and which ones are pending from then on.
+-- Discoveries for an edge: which edges they change, and which ones are pending from then on.
 use Rattle.std.proofs.Common.{slice_index_or, ◌≡◌, ◌≢◌, ◌⊎◌, inl, inr, ℕ, zero, suc, ◌+◌, ◌<◌, ◌≤◌, ◌==◌, ◌||◌, Bool, true, false, not, cond, true≢false, if◌then◌else◌, List, [], ◌∷◌, ◌++◌, length, map, Option, Some, None, unwrap_or, slice_get, bytes_eq, is_some, refl, sym, ap, ◌∙◌, subst, arith}
 use Rattle.nj_statements.specs.Inside.JoiningSteps.{discover_for}
 use Rattle.std.specs.Bool.{then_some}
@@ -52,7 +52,7 @@ map-changed g f h same n [] = refl
 map-changed g f h same zero (x ∷ xs) = ap (λ y. y ∷ map g xs) (same x)
 map-changed g f h same (suc n) (x ∷ xs) = ap (λ ys. g x ∷ ys) (map-changed g f h same n xs)
 
--- ---- one edge, by what its statement sees
+-- ---- one edge, by the values that its statement sees
 
 abbrev number_by : ReadStatement → Declared → NameModel → ℕ
 number_by e own rule = unwrap_or (if bytes_eq rule.name phony then Some 0 else first_given (λ s. own s rule.name) (scope_of e)) 0
@@ -92,7 +92,7 @@ pub same-all : (edges : List EdgeModel) → AllZip SameEdge edges edges
 same-all [] = tt
 same-all (e ∷ edges) = (refl, same-all edges)
 
--- what is discovered after the rest is added after it
+-- discoveries after the others are added after them
 found-after : (d : Option Discovered) (found : Discovered) (paths : EdgePaths) → with_discovered (Some (and_found d found)) paths ≡ with_discovered (Some found) (with_discovered d paths)
 found-after None found paths = refl
 found-after (Some earlier) found paths =
@@ -154,7 +154,7 @@ map-same g unseen (e ∷ edges) [] same = absurd same
 map-same g unseen (e ∷ edges) (o ∷ others) same =
     ap (λ x. x ∷ map g others) (ap g same.0 ∙ unseen e o.paths.implicit_outputs o.paths.implicit_inputs) ∙ ap (λ xs. g e ∷ xs) (map-same g unseen edges others same.1)
 
--- What does not look at implicit files gives the same for each edge.
+-- A function that does not look at implicit files gives the same for each edge.
 pub map-discover : {X : Type 0} (g : EdgeModel → X) → ((e : EdgeModel) (outs ins : List (List ℕ)) → g (record e { paths = record e.paths { implicit_outputs = outs; implicit_inputs = ins } }) ≡ g e)
     → (edge : ℕ) (found : Discovered) (entries : List ReadStatement) → map g (edges_read (discover edge found entries)) ≡ map g (edges_read entries)
 map-discover g unseen edge found entries = map-same g unseen (edges_read entries) (edges_read (discover edge found entries)) (same-edges edge found entries)
@@ -191,7 +191,7 @@ all-same P kept [] (o ∷ others) same all = absurd same
 all-same P kept (e ∷ edges) [] same all = absurd same
 all-same P kept (e ∷ edges) (o ∷ others) same all = (subst P (sym same.0) (kept e o.paths.implicit_outputs o.paths.implicit_inputs all.0), all-same P kept edges others same.1 all.1)
 
--- What is true of each edge, whatever its implicit files are, stays true.
+-- A property of each edge, whatever its implicit files are, stays true.
 pub all_edges-discover : (P : EdgeModel → Type 0) → ((e : EdgeModel) (outs ins : List (List ℕ)) → P e → P (record e { paths = record e.paths { implicit_outputs = outs; implicit_inputs = ins } }))
     → (edge : ℕ) (found : Discovered) (entries : List ReadStatement) → AllByRecursion P (edges_read entries) → AllByRecursion P (edges_read (discover edge found entries))
 all_edges-discover P kept edge found entries = all-same P kept (edges_read entries) (edges_read (discover edge found entries)) (same-edges edge found entries)
@@ -362,7 +362,7 @@ unfolding edges_read pending_read discover
 pending-discover edge found [] = refl
 pending-discover edge found (e ∷ before) = pending-item edge found e before e.item (pending-discover edge found before)
 
--- ---- what is assigned to edges
+-- ---- the assignments of edges
 
 assigned-same : (edge : ℕ) (found : Discovered) (before : List ReadStatement) (e : EdgeModel) → assigned_of (discover edge found before) e ≡ assigned_of before e
 assigned-same edge found before e =

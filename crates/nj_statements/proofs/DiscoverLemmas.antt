@@ -1,4 +1,4 @@
--- What is discovered for a statement changes nothing else that the statements give.
+-- Discoveries for a statement change nothing else of the statements.
 use Rattle.std.proofs.Common.{◌≡◌, ℕ, suc, ◌+◌, ◌==◌, ◌&&◌, Bool, true, false, if◌then◌else◌, List, [], ◌∷◌, ◌++◌, length, map, Option, Some, None, slice_get, bytes_eq, refl, sym, ap, ◌∙◌, subst}
 use Rattle.std.specs.Prelude.{is_some}
 use Rattle.nj_statements.specs.Inside.JoiningSteps.{discover_for}
@@ -25,7 +25,7 @@ use Rattle.nj_statements.specs.Laws.{NamesStay}
 abbrev pub unseen : ReadStatement → ReadStatement
 unseen e = record e { was_joined = false; discovered = None }
 
--- what was discovered does not count; statements that are the same then differ in that alone
+-- discoveries do not count; statements that are the same then differ in them alone
 abbrev pub as_read : List ReadStatement → List ReadStatement
 as_read entries = map unseen entries
 
@@ -39,14 +39,14 @@ as_read-discover edge found (e ∷ before) = by (is_some (edge_given e before e.
     by true rest = refl
     by false rest = ap (λ es. unseen e ∷ es) rest
 
--- what does not look at what was discovered stays the same
+-- a function that does not look at discoveries stays the same
 kept-by : {A : Type 0} (f : List ReadStatement → A) → ((entries : List ReadStatement) → f (as_read entries) ≡ f entries)
     → (entries others : List ReadStatement) → as_read others ≡ as_read entries → f others ≡ f entries
 kept-by f same entries others are = sym (same others) ∙ ap f are ∙ same entries
 
 -- ---- values
 
--- one statement more
+-- one more statement
 abbrev bounds_with : ReadStatement → Bounds → Bounds
 bounds_with e before number name = option_or (binds_in number e (value_in before (scope_of e)) name) (before number name)
 
@@ -88,7 +88,7 @@ rules_read-discover edge found entries = rules_read-same entries (discover edge 
 abbrev pub Declared : Type 0
 Declared = ℕ → List ℕ → Option ℕ
 
--- one statement more, after this many rules
+-- one more statement, after this many rules
 abbrev declared_with : ReadStatement → (strings : List kept.RuleModel) → Declared → Declared
 declared_with e strings own number name = option_or (if number == e.scope && declares e.item name then Some (length strings) else None) (own number name)
 
@@ -215,7 +215,7 @@ defaults_read-discover edge found entries = defaults_read-same entries (discover
 
 -- ---- the names of an edge
 
--- by the rules, and by what scopes bind
+-- by the rules, and by the bindings of scopes
 abbrev names_by : List kept.RuleModel → Bounds → EdgeModel → LateNames
 names_by strings b e = record {
   inputs = e.paths.explicit_inputs;
@@ -246,7 +246,7 @@ names_stay entries edge found = record {
   names = names_of_edge-discover edge found entries;
 }
 
--- What is held of the statements is held still.
+-- The declarations held of the statements are held still.
 pub declared-same : (held : DeclarationsModel) (entries others : List ReadStatement) → as_read others ≡ as_read entries → DeclaredBy held entries → DeclaredBy held others
 declared-same held entries others are by = record {
   bound = λ number name. by.bound number name ∙ ap (λ (b : Bounds). b number name) (sym (bounds-same entries others are));
@@ -268,7 +268,7 @@ length-as_read (e ∷ before) = ap suc (length-as_read before)
 pub length-discover : (edge : ℕ) (found : Discovered) (entries : List ReadStatement) → length (discover edge found entries) ≡ length entries
 length-discover edge found entries = kept-by length length-as_read entries (discover edge found entries) (as_read-discover edge found entries)
 
--- What is true of each statement, whatever was discovered for it, stays true.
+-- A property of each statement, whatever was discovered for it, stays true.
 pub all-discover : (P : ReadStatement → Type 0) → ((e : ReadStatement) (joined : Bool) (d : Option Discovered) → P e → P (record e { was_joined = joined; discovered = d }))
     → (edge : ℕ) (found : Discovered) (entries : List ReadStatement) → AllByRecursion P entries → AllByRecursion P (discover edge found entries)
 unfolding discover
@@ -279,7 +279,8 @@ all-discover P kept edge found (e ∷ before) all = by (is_some (edge_given e be
     by true rest = (kept e true (Some (and_found e.discovered found)) all.0, all.1)
     by false rest = (all.0, rest)
 
--- What is true of statements, and of them with what is discovered for any edge, is true of them with what an entry adds.
+-- A property of statements, and of them with discoveries for any edge, is one of them with the
+-- additions of an entry.
 pub with_entry-by : (P : List ReadStatement → Type 0) (stated joined : List ReadStatement) (entry : EntryModel) → P joined
     → ((edge : ℕ) → P (discover edge (discovered_by entry) joined)) → P (with_entry stated joined entry)
 with_entry-by P stated joined entry same more = by (edge_meant stated entry)

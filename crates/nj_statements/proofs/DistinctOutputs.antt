@@ -30,7 +30,7 @@ bytes-equivalence = nat_list_eq_equiv
 
 -- ---- the outputs of a statement
 
--- what no edge makes is not an output
+-- a file that no edge makes is not an output
 no-output : (edges : List EdgePaths) (path : List ℕ) → maker_of edges path ≡ None → is_among (all_outputs edges) path ≡ false
 no-output [] path none = refl
 no-output (e ∷ edges) path none = list_any-append (bytes_eq path) (outputs_of e) (all_outputs edges) ∙ by (is_among (outputs_of e) path) (no-output edges path) none

@@ -8,7 +8,7 @@ use Rattle.nj_statements.specs.Joining.{dyndep_files}
 use Rattle.nj_statements.specs.Laws.{AreRising, ComeOnce, DyndepFilesComeOnce}
 use Rattle.nj_statements.proofs.DiscoverEdges.{pending-rising}
 
--- ---- what a filter keeps
+-- ---- elements that a filter keeps
 
 all-filter : {X : Type 0} (P : X → Type 0) (keep : X → Bool) (xs : List X) → AllByRecursion P xs → AllByRecursion P (filter keep xs)
 all-filter P keep [] all = tt

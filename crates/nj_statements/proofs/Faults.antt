@@ -25,7 +25,7 @@ fault-first a b f (inl m) = inl m
 fault-first (Some x) b f (inr e) = inr e
 fault-first None b f (inr e) = absurd (cc)
 
--- what the exit of a `?` returns
+-- the error that the exit of a `?` returns
 pub err-checks : {A : Type 0} (r : Result A GraphFault) (f : GraphFault) (a : Option GraphFault) → IsErrAnd r (λ y. y ≡ f) → IsFault a f → Checks a r
 err-checks (Err y) f a is h = subst (IsFault a) (sym is) h
 err-checks (Ok x) f a is h = absurd is

@@ -1,4 +1,4 @@
--- What the statements come to is what was held of them.
+-- The result of the statements is the one that was held of them.
 use Rattle.std.proofs.Common.{Bool, true, ◌≡◌, ◌<◌, ◌+◌, ◌==◌, ℕ, false, List, [], ◌∷◌, ◌++◌, map, length, slice_get, get_or, Option, Some, None, Ok, unwrap_or, is_some, refl, sym, ap, subst, ◌∙◌, true≢false, suc, zero, arith}
 use Rattle.nj_scope.proofs.Gathering.{with_given}
 use Rattle.std.specs.List.{AllByRecursion}

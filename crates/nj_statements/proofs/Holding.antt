@@ -1,4 +1,4 @@
--- What is held of no statement, and of one statement more.
+-- The fields for no statement, and for one more statement.
 use Rattle.std.proofs.Common.{◌≡◌, ◌⊎◌, inl, inr, take, ℕ, ◌+◌, ◌<◌, ◌≤◌, ◌==◌, Bool, true, false, true≢false, if◌then◌else◌, List, [], ◌∷◌, ◌++◌, length, get_or, Option, Some, None, is_some, unwrap_or, Result, Ok, Err, OnOk, OnErr, IsErrAnd, map, slice_get, refl, sym, ap, subst, ◌∙◌, arith, ◌≢◌, suc}
 use Rattle.std.specs.Option.{option_or}
 use Rattle.std.proofs.lemmas.List.{append_assoc, append-nil, length-append, length-map, get_or_past, map-append, take_more}
@@ -139,7 +139,7 @@ details-more names longer (c ∷ ds) [] d e grows are is = absurd are
 details-more names longer (c ∷ ds) (f ∷ es) d e grows (of, are) is =
     (record { file = get-prefix names longer c.file f.file grows of.file; spot = of.spot; scope = of.scope; rule = of.rule }, details-more names longer ds es d e grows are is)
 
--- the blocks of one edge more
+-- the blocks of one more edge
 abbrev bound-by : Option EdgeModel → (name : List ℕ) → Option (List ℕ)
 bound-by o name = block_of_edge o name
 
@@ -168,7 +168,7 @@ block-more edges e n name = by (eqb_tells n (length edges)) (cases_lt n (length 
         ap (λ b. if b then option_or (e.block name) (block_at edges n name) else block_at edges n name) other
         ∙ ap (λ o. bound-by o name) (slice_get_past edges n above ∙ sym (slice_get_past (edges ++ e ∷ []) n (omega (arith, above, apart, whole))))
 
--- the names of one block more
+-- the names of one more block
 names-more : (edges : List EdgeModel) (e : EdgeModel) (n : ℕ) → (new old : List (List ℕ)) → old ≡ block_names_at edges n
     → (n ≡ length edges → new ≡ e.block_names) → ((n == length edges) ≡ false → new ≡ old) → new ≡ block_names_at (edges ++ e ∷ []) n
 names-more edges e n new old was here others = by (eqb_tells n (length edges)) (cases_lt n (length edges))
@@ -195,7 +195,7 @@ names-more edges e n new old was here others = by (eqb_tells n (length edges)) (
     by (inr (other, apart)) (inr above) =
         others other ∙ was ∙ get_or_past all n [] (omega (arith, above, count)) ∙ sym (get_or_past (all ++ one) n [] (omega (arith, above, apart, whole, count))) ∙ sym appended
 
--- what is pending with one edge more
+-- the pending edges with one more edge
 pending-more : (files longer : List (List ℕ)) (held : List DyndepEdge) (expected : List Pending) (edge : ℕ) (number : Option FileNo) (file : Option (List ℕ))
     → IsPrefix files longer → ArePending files held expected → IsFileGiven longer number file → ArePending longer (with_dyndep edge number held) (expected ++ pending_at edge false file)
 pending-more files longer held expected edge None None grows are meant =
@@ -262,7 +262,7 @@ no-block held before edge has is name = has.blocks edge name ∙ ap (λ o. bound
 pub no-names : (held : BuildingModel) (before : List ReadStatement) (edge : ℕ) → HasEdges held before → edge ≡ length held.details → names_in held.blocks edge ≡ []
 no-names held before edge has is = has.block_names edge ∙ get_or_past (map (λ (x : EdgeModel). x.block_names) (edges_read before)) edge [] (omega (arith, is, details-count held.names held.details (edges_read before) has.details, length-map (edges_read before) (λ (x : EdgeModel). x.block_names)))
 
--- what the block of the edge that is being read binds
+-- the bindings of the block of the edge that is being read
 pub open-block : (old : BuildingModel) (before : List ReadStatement) (block : Block) (new : BlocksModel) (edge : ℕ) → HasEdges old before → edge ≡ length old.details
     → ((n : ℕ) (name : List ℕ) → bound_in new n name ≡ (if n == edge then option_or (block name) (bound_in old.blocks n name) else bound_in old.blocks n name))
     → (name : List ℕ) → bound_in new edge name ≡ block name
@@ -299,6 +299,6 @@ has-item held e before (DefaultModel words) other has = absurd (true≢false oth
 has-item held e before (IncludeModel word) other has = record { edges = has.edges; none_open = has.none_open; blocks = has.blocks; block_names = has.block_names; details = has.details; assigned = has.assigned; defaults = has.defaults; dyndeps = has.dyndeps; references = has.references }
 has-item held e before (SubninjaModel word) other has = record { edges = has.edges; none_open = has.none_open; blocks = has.blocks; block_names = has.block_names; details = has.details; assigned = has.assigned; defaults = has.defaults; dyndeps = has.dyndeps; references = has.references }
 
--- What is held is held still after a statement that names no files.
+-- The fields stay right after a statement that names no files.
 pub kept-other : (held : BuildingModel) (e : ReadStatement) (before : List ReadStatement) → names_files e.item ≡ false → HasEdges held before → HasEdges held (e ∷ before)
 kept-other held e before other has = has-item held e before e.item other has

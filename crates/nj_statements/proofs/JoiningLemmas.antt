@@ -1,4 +1,4 @@
--- What is kept while dyndep files are joined is what the statements give.
+-- The state while dyndep files are joined is that of the statements.
 use Rattle.std.proofs.Common.{◌≡◌, ◌⊎◌, inl, inr, ℕ, zero, suc, ◌+◌, ◌-◌, ◌<◌, ◌≤◌, ◌==◌, Bool, true, false, not, if◌then◌else◌, true≢false, ◌≢◌, List, [], ◌∷◌, length, get_or, set, map, slice_get, Option, Some, None, Result, Ok, Err, IsErrAnd, option_map, option_and_then, IfSome, is_some, unwrap_or, find, bytes_eq, refl, sym, ap, subst, ◌∙◌, arith}
 use Rattle.nj_scope.specs.Scopes.{first_given}
 use Rattle.std.specs.Bool.{then_some}
@@ -37,7 +37,7 @@ use Rattle.nj_statements.proofs.DiscoverEdges.{details-discover, assigned-discov
 
 -- ---- results
 
--- what the exit of a `?` returns
+-- the error that the exit of a `?` returns
 pub joins-err : (after : JoiningModel) (expected : Option GraphFault) (stated joined : List ReadStatement) (r : Result (Unit {0}) GraphFault) (f : GraphFault)
     → IsErrAnd r (λ y. y ≡ f) → IsFault expected f → JoinsEntry after expected stated joined r
 joins-err after expected stated joined (Err y) f is h = subst (IsFault expected) (sym is) h
@@ -45,7 +45,7 @@ joins-err after expected stated joined (Ok x) f is h = absurd is
 
 -- ---- files and their numbers
 
--- these are bound to files, of which there are this many
+-- these are bound to files below this number
 abbrev pub AreKnown : (count : ℕ) → List (Option FileNo) → Type 0
 AreKnown count bound = AllByRecursion (λ file. IfSome file (λ f. f.0 < count)) bound
 
@@ -104,7 +104,7 @@ no-first files [] [] are none = refl
 no-first files [] (p ∷ paths) are none = absurd (omega (arith, ap length are))
 no-first files (m ∷ ns) paths are none = absurd (true≢false (ap is_some none))
 
--- ---- lists of which one item is changed
+-- ---- lists with one changed item
 
 pub length-changed : {A : Type 0} (f : A → A) (n : ℕ) (xs : List A) → length (changed_at f n xs) ≡ length xs
 unfolding changed_at
@@ -168,7 +168,7 @@ meant-binds bound file edge (Some m) h = by (is_bound_to (get_or bound m None) f
     by true binds h = (h, ap (λ n. is_bound_to (get_or bound n None) file) (sym (same_Some m edge h)) ∙ binds)
     by false binds h = absurd (true≢false (sym (ap is_some h)))
 
--- ---- what is held
+-- ---- the fields
 
 module _ (table : JoinTable) (blocks : BlocksModel) (names : List (List ℕ)) (details : List Detail) (defaults : List FileNo) (firsts : List DyndepEdge) (bound : List (Option FileNo)) (unjoined : List ℕ)
     (held : JoiningIsHeld table names details defaults firsts bound unjoined) where
@@ -215,7 +215,7 @@ module _ (table : JoinTable) (blocks : BlocksModel) (names : List (List ℕ)) (d
     pub same-bound : map (file_named after.files) bound ≡ map (file_named table.files) bound
     same-bound = bound-kept table.files after.files bound keeps.files bound-files
 
-    -- what is held then
+    -- the fields then
     pub joins-nothing : (b : JoiningModel) → joining_of table blocks names details defaults firsts bound ≡ b → JoinsNothing b (joining_of after blocks names details defaults firsts bound)
     joins-nothing b is =
         subst (λ (h : JoiningModel). JoinsNothing h (joining_of after blocks names details defaults firsts bound)) is
@@ -428,7 +428,7 @@ module _ (table : JoinTable) (blocks : BlocksModel) (names : List (List ℕ)) (d
               ∙ ap (λ b. option_or (then_some (not b) extra) (then_some (not (is_bound_to (unless_joined (get_or bound edge None) (is_joined table edge)) file)) twice)) (sym (bound-pends edge))
               ∙ ap (λ b. option_or (then_some (not (pending_on name (pending_read stated) (Some edge))) extra) (then_some (not b) twice)) (sym (still-pends edge))
 
-      -- what is wrong with an entry
+      -- the fault of an entry
       pub fault-is : (entry : EntryModel)
           → entry_fault name stated joined entry
           ≡ option_or (option_or (empty_path name no_values entry.out) (maker_fault name entry.out table (edge_bound table bound file entry.out)))
@@ -449,7 +449,7 @@ module _ (table : JoinTable) (blocks : BlocksModel) (names : List (List ℕ)) (d
           or_then-assoc (Some x) b d = refl
           or_then-assoc None b d = refl
 
-      -- the statements with what an entry adds
+      -- the statements with the additions of an entry
       pub joined-has : (entry : EntryModel) (edge : ℕ) → IsMeant table bound file entry.out edge → (after last : JoinTable) → KeepsEdges table after
           → after.«open» ≡ record { outputs = (discovered_by entry).outputs; inputs = (discovered_by entry).inputs } → last ≡ with_joined after edge
           → HasJoined (joining_of last blocks names details defaults firsts bound) stated (with_entry stated joined entry)
@@ -503,7 +503,7 @@ module _ (table : JoinTable) (blocks : BlocksModel) (names : List (List ℕ)) (d
             assigned = has.assigned ∙ sym (assigned-discover edge found joined);
           }
 
--- what is held after an entry, whose files were collected
+-- the fields after an entry, whose files were collected
 module _ (table : JoinTable) (blocks : BlocksModel) (names : List (List ℕ)) (details : List Detail) (defaults : List FileNo) (firsts : List DyndepEdge) (bound : List (Option FileNo)) (unjoined : List ℕ)
     (held : JoiningIsHeld table names details defaults firsts bound unjoined) (file : FileNo) (word : WordModel) (edge : ℕ) (meant : IsMeant table bound file word edge) where
   binds : is_bound_to (get_or bound edge None) file ≡ true

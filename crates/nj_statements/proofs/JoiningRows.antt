@@ -1,4 +1,5 @@
--- Worked rows, computed on the definitions: what entries of dyndep files add to edges, and what is wrong with them.
+-- Worked rows, computed on the definitions: the additions of dyndep files' entries to edges, and
+-- their faults.
 use Rattle.std.proofs.Common.{false, ◌≡◌, ℕ, Some, None, List, [], ◌∷◌, refl}
 use Rattle.std.specs.Prelude.{codes, true, Option}
 use Rattle.nj_text.specs.declared.spot.Spot.{Spot}
@@ -63,7 +64,7 @@ of_o = entry (codes "o") (word 11 (codes "o2") ∷ []) (word 24 (codes "extra") 
 abbrev joined : List ReadStatement
 joined = with_entry stated stated of_o
 
--- what is wrong with an entry, where nothing was joined before
+-- the fault of an entry, where nothing was joined before
 abbrev wrong_with : EntryModel → Option GraphFault
 wrong_with e = entry_fault (codes "dd") stated stated e
 
@@ -146,7 +147,7 @@ pub row-named_twice : wrong_with (entry (codes "o") (word 11 (codes "o2") ∷ wo
 unfolding clean_path_of without_leftmost_pair edges_read bounds pending_read discover
 row-named_twice = refl
 
--- `build zz | n: dyndep`: what the entry means comes before what it discovers
+-- `build zz | n: dyndep`: the meaning of the entry comes before its discoveries
 pub row-meaning_first : wrong_with (entry (codes "zz") (word 12 (codes "n") ∷ []) []) ≡ wrong 7 (DyndepExtra (codes "zz"))
 unfolding clean_path_of without_leftmost_pair edges_read bounds pending_read discover
 row-meaning_first = refl

@@ -1,4 +1,4 @@
--- Lemmas on the edges that were read, which stay as they are, and on paths, which stay clean.
+-- Lemmas on the edges that were read, which stay the same, and on paths, which stay clean.
 use Rattle.std.proofs.Common.{◌≡◌, ℕ, Bool, true, false, if◌then◌else◌, List, [], ◌∷◌, ◌++◌, Option, Some, None, option_map, slice_get, bytes_eq, refl, sym, ap, subst, ◌∙◌}
 use Rattle.std.specs.Prelude.{IfSome, position}
 use Rattle.std.specs.List.{list_any}
@@ -36,7 +36,7 @@ named-clean files path all clean = by (list_any (bytes_eq path) files)
     by true = all
     by false = all-append (λ p. clean_path_of p ≡ p) files (path ∷ []) all (clean, tt)
 
--- a word that is the path of a file as it is
+-- a word that is the path of a file already
 
 module _ (files : List (List ℕ)) (path : List ℕ) (word : WordModel) (all : AreClean files) (values : Values) (is : word.parts ≡ Text path ∷ []) where
   path-clean : (n : ℕ) → Some n ≡ position (bytes_eq path) files → clean_path_of path ≡ path

@@ -1,4 +1,4 @@
--- What is named for build statements: which edges it changes, and that nothing else changes.
+-- Inputs named for build statements: which edges they change, and that nothing else changes.
 use Rattle.std.proofs.Common.{◌≡◌, ℕ, suc, ◌+◌, List, [], ◌∷◌, ◌++◌, length, map, Option, slice_index_or, refl, sym, ap, ◌∙◌, subst, arith, append-nil}
 use Rattle.std.specs.Prelude.{codes}
 use Rattle.std.specs.List.{AllByRecursion, AllZip}
@@ -20,14 +20,14 @@ use Rattle.nj_statements.proofs.DiscoverLemmas.{as_read, defaults_read-same, nam
 
 -- ---- statements
 
--- The statements are the same but for what was discovered.
+-- The statements are the same but for their discoveries.
 pub as_read-named : (named : ℕ → List (List ℕ)) (entries : List ReadStatement) → as_read (with_inputs_named named entries) ≡ as_read entries
 unfolding with_inputs_named
 as_read-named named [] = refl
 as_read-named named (e ∷ before) =
     ap (λ es. unseen e ∷ es) (as_read-named named before)
 
--- What is true of each statement, whatever was discovered for it, stays true.
+-- A property of each statement, whatever was discovered for it, stays true.
 pub all-named : (P : ReadStatement → Type 0) → ((e : ReadStatement) (d : Option Discovered) → P e → P (record e { discovered = d }))
     → (named : ℕ → List (List ℕ)) (entries : List ReadStatement) → AllByRecursion P entries → AllByRecursion P (with_inputs_named named entries)
 unfolding with_inputs_named
@@ -116,7 +116,7 @@ module _ (named : ℕ → List (List ℕ)) (e : ReadStatement) (before : List Re
 -- ---- all statements
 
 module _ (named : ℕ → List (List ℕ)) where
-  -- one statement more, by what it is
+  -- one more statement, by its kind
   same-item : (e : ReadStatement) (before : List ReadStatement) (item : StatementModel) → AllZip SameEdge (edges_read before) (edges_read (with_inputs_named named before))
       → AllZip SameEdge (edges_read (record e { item = item } ∷ before)) (edges_read (with_inputs_named named (record e { item = item } ∷ before)))
   unfolding edges_read with_inputs_named
@@ -186,7 +186,7 @@ module _ (named : ℕ → List (List ℕ)) where
   assigned-named [] = refl
   assigned-named (e ∷ before) = assigned-item e before e.item (assigned-named before)
 
-  -- What is true of each edge, whatever its implicit files are, stays true.
+  -- A property of each edge, whatever its implicit files are, stays true.
   pub all_edges-named : (P : EdgeModel → Type 0) → ((e : EdgeModel) (outs ins : List (List ℕ)) → P e → P (record e { paths = record e.paths { implicit_outputs = outs; implicit_inputs = ins } }))
       → (entries : List ReadStatement) → AllByRecursion P (edges_read entries) → AllByRecursion P (edges_read (with_inputs_named named entries))
   all_edges-named P kept entries = all-same P kept (edges_read entries) (edges_read (with_inputs_named named entries)) (same-edges entries)
@@ -194,7 +194,7 @@ module _ (named : ℕ → List (List ℕ)) where
   pub details-named : (entries : List ReadStatement) → map detail_of (edges_read (with_inputs_named named entries)) ≡ map detail_of (edges_read entries)
   details-named entries = map-same detail_of (λ e outs ins. refl) (edges_read entries) (edges_read (with_inputs_named named entries)) (same-edges entries)
 
-  -- what has the edges with what is named for them, and all else that was held
+  -- a value with the edges and the inputs named for them, and all else that was held
   pub built-named : (built new : BuiltModel) (entries : List ReadStatement) → IsBuiltOf built entries → new.graph.edges ≡ with_inputs_added named 0 built.graph.edges
       → new ≡ record built { graph = new.graph } → IsBuiltOf new (with_inputs_named named entries)
   built-named built new entries is paths same = subst (λ (b : BuiltModel). IsBuiltOf b (with_inputs_named named entries)) (sym same) (record {

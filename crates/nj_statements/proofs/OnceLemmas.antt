@@ -21,7 +21,7 @@ not_or true false = refl
 not_or false true = refl
 not_or false false = refl
 
--- what is not among the earlier paths
+-- paths that are not among the earlier ones
 abbrev fresh : (earlier paths : List (List ℕ)) → List (List ℕ)
 fresh earlier paths = filter (λ p. not (is_among earlier p)) paths
 
@@ -34,7 +34,8 @@ fresh-cons x xs ps =
     filter-filter (λ y. not (bytes_eq y x)) (λ y. not (is_among xs y)) ps
     ∙ sym (filter_agree (λ y. not (bytes_eq y x || is_among xs y)) (λ y. not (is_among xs y) && not (bytes_eq y x)) (λ y. not_or (bytes_eq y x) (is_among xs y)) ps)
 
--- of two lists after each other, the first without its repeats, and then what is new in the second
+-- of two lists after each other, the first without its repeats, and then the new elements of the
+-- second
 once-append : (xs ys : List (List ℕ)) → each_once bytes_eq (xs ++ ys) ≡ each_once bytes_eq xs ++ fresh xs (each_once bytes_eq ys)
 once-append [] ys = sym (fresh-none (each_once bytes_eq ys))
 once-append (x ∷ xs) ys =

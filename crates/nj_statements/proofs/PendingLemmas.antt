@@ -19,13 +19,13 @@ use Rattle.nj_statements.specs.Joining.{dyndep_files, pending_on}
 use Rattle.nj_statements.specs.JoiningHeld.{unless_joined, still_pending, pending_of, pending_from}
 use Rattle.nj_statements.specs.Inside.JoiningSteps.{is_bound_to, one_if, count_pending, count_bound, bind_all, first_edges, file_named}
 
--- ---- what is still pending
+-- ---- edges that are still pending
 
 none-joined : {A : Type 0} (b : Option A) (was : Bool) → b ≡ None → unless_joined b was ≡ None
 none-joined b true is = refl
 none-joined b false is = is
 
--- what an edge is pending on
+-- the file on which an edge is pending
 pub still-at : {A : Type 0} (bound : List (Option A)) (was : List Bool) (n : ℕ) → get_or (still_pending bound was) n None ≡ unless_joined (get_or bound n None) (get_or was n false)
 still-at [] was n = sym (none-joined None (get_or was n false) refl)
 still-at (b ∷ bound) [] n = refl
@@ -228,7 +228,7 @@ none-first file (w ∷ ws) none = by (is_bound_to w file) none (none-first file 
 abbrev pub default-edge : DyndepEdge
 default-edge = record { edge = 0; file = record { 0 = 0 } }
 
--- the dyndep files of one edge more
+-- the dyndep files of one more edge
 pub first-more : (ds : List DyndepEdge) (d : DyndepEdge)
     → ((count_bound d.file ds ≡ 0) × (first_edges (ds ++ d ∷ []) ≡ first_edges ds ++ d ∷ [])) ⊎ ((0 < count_bound d.file ds) × (first_edges (ds ++ d ∷ []) ≡ first_edges ds))
 first-more [] d = inl (refl, refl)
@@ -250,7 +250,7 @@ first-more (x ∷ ds) d = by (first-more ds d) (eqb_tells x.file.0 d.file.0)
         inl ((let h = ap one_if other in omega (arith, h, none)), ap others is ∙ with-last false (other-eqb d.file.0 x.file.0 (λ e. apart (sym e))))
     by (inr (some, is)) h = inr (omega (arith, some), ap others is)
 
--- the first edges of each file, after a file of which this many edges were seen
+-- the first edges of each file, after this many edges of a file were seen
 pub first-next : (ds : List DyndepEdge) (i n : ℕ) (fs gs : List DyndepEdge) → i < length ds → n ≡ count_bound (get_or ds i default-edge).file (take i ds) → fs ≡ first_edges (take i ds)
     → ((n ≡ 0) × (gs ≡ fs ++ get_or ds i default-edge ∷ [])) ⊎ ((n ≢ 0) × (gs ≡ fs)) → gs ≡ first_edges (take (i + 1) ds)
 first-next ds i n fs gs below seen is turn = by turn (first-more (take i ds) d) ∙ ap first_edges (sym (take_more ds i default-edge below))
@@ -331,7 +331,7 @@ firsts-named files once (d ∷ ds) (here, known) =
             ap (λ ps. pending_named files e ∷ ps) rest
             ∙ ap (λ b. cond (not b) (pending_named files e ∷ filter (λ (q : Pending). not (bytes_eq q.file (path_at files d.file))) (map (pending_named files) es)) (filter (λ (q : Pending). not (bytes_eq q.file (path_at files d.file))) (map (pending_named files) es))) is
 
--- what edges are bound to, by paths
+-- the files to which edges are bound, by paths
 abbrev bind-paths : List Pending → List (Option (List ℕ)) → List (Option (List ℕ))
 bind-paths [] bound = bound
 bind-paths (p ∷ ps) bound = bind-paths ps (set bound p.edge (Some p.file))

@@ -1,4 +1,4 @@
--- Lemmas on what is kept of edges while files are added to them.
+-- Lemmas on the records of edges while files are added to them.
 use Rattle.std.proofs.Common.{◌≡◌, ◌<◌, ◌≤◌, ◌+◌, inl, inr, ℕ, zero, suc, true≢false, is_some, List, [], ◌∷◌, ◌++◌, map, length, slice_get, slice_index_or, get_or, Option, Some, None, option_map, refl, sym, ap, subst, ◌∙◌, arith, length-append}
 use Rattle.std.specs.List.{AllByRecursion}
 use Rattle.std.proofs.lemmas.List.{length-map}

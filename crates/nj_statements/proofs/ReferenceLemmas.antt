@@ -1,4 +1,4 @@
--- Lemmas on what is kept of rules: which variables refer to which.
+-- Lemmas on the references kept for rules: which variables refer to which.
 use Rattle.std.proofs.Common.{◌≡◌, ◌≢◌, ◌⊎◌, inl, inr, ℕ, ◌<◌, ◌==◌, true, false, List, [], ◌∷◌, ◌++◌, length, get_or, set, Option, Some, None, is_some, unwrap_or, slice_get, refl, sym, ap, ◌∙◌, suc, zero, true≢false, subst}
 use Rattle.std.proofs.lemmas.List.{get_or-set_same, get_or-set_other}
 use Rattle.std.proofs.lemmas.Bool.Decides.{eqb_tells}
@@ -28,7 +28,7 @@ same-pushed (k ∷ kept) (suc number) = same-pushed kept number
 pub same-then : (first second third : List (Option (List ReferringKeyModel))) → SameReferences first second → SameReferences second third → SameReferences first third
 same-then first second third p q number = p number ∙ q number
 
--- what is kept of one rule more
+-- the references kept for one more rule
 pub references-set : (kept new : List (Option (List ReferringKeyModel))) (rules : List RuleModel) (at : ℕ) (rule : RuleModel) (keys : List ReferringKeyModel) → at < length kept → new ≡ set kept at (Some keys)
     → slice_get rules at ≡ Some rule → TellsCycles rule.lines keys → HasReferences kept rules → HasReferences new rules
 references-set kept new rules at rule keys within is there tells held number others kept_of = by (eqb_tells number at)

@@ -1,4 +1,4 @@
--- Worked rows, computed on the definitions: the edges of statements, and what is wrong with them.
+-- Worked rows, computed on the definitions: the edges of statements, and their faults.
 use Rattle.std.proofs.Common.{false, ◌≡◌, ℕ, true, Some, None, List, [], ◌∷◌, map, refl}
 use Rattle.std.specs.Prelude.{codes, Option}
 use Rattle.nj_text.specs.declared.spot.Spot.{Spot}
@@ -53,7 +53,7 @@ entries items = map entry items
 abbrev line : (name value : List ℕ) → LineModel
 line name value = record { spot = at 3; name = name; value = word 7 (Text value) }
 
--- what is wrong with a build statement after these statements, the last one first
+-- the fault of a build statement after these statements, the last one first
 abbrev wrong_with : List StatementModel → OutputsModel → NameModel → InputsModel → List LineModel → Option GraphFault
 wrong_with before outputs rule inputs lines = build_fault (entry (BuildModel outputs rule inputs lines)) (entries before) outputs rule inputs lines
 

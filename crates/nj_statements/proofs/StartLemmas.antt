@@ -1,4 +1,4 @@
--- What is held before anything is joined, and after all of it.
+-- The fields before anything is joined, and after all of it.
 use Rattle.std.proofs.Common.{Bool, true, ◌≡◌, ℕ, zero, suc, true≢false, is_some, option_map, ◌+◌, ◌<◌, ◌≤◌, false, List, [], ◌∷◌, ◌++◌, length, get_or, replicate, map, slice_get, Option, Some, None, bytes_eq, refl, sym, ap, subst, ◌∙◌, arith}
 use Rattle.std.specs.List.{AllByRecursion, IsDistinct}
 use Rattle.std.proofs.lemmas.List.{length-map, length-append, length-replicate}
@@ -29,9 +29,9 @@ use Rattle.nj_statements.specs.JoiningHeld.{pending_of, pending_from, HasJoined}
 use Rattle.nj_statements.specs.Inside.JoiningSteps.{count_pending, count_bound, bind_all, first_edges, file_named, joining_of, JoiningIsHeld}
 use Rattle.nj_statements.proofs.PendingLemmas.{still-all, pending-more, firsts-all, firsts-named, bind-unjoined, bind-length, bind-known, none-known, count-bind, count-none}
 
--- ---- what each edge is pending on
+-- ---- the files on which edges are pending
 
--- this is what edges are pending on
+-- these are the files on which edges are pending
 pub record AreAwaited (entries : List ReadStatement) (unjoined : List (Option (List ℕ))) : Type 0 where
   pub are : pending_read entries ≡ pending_from 0 unjoined
   pub count : length unjoined ≡ length (edges_read entries)

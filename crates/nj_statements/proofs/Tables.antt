@@ -30,7 +30,7 @@ named-prefix files path = by (list_any (bytes_eq path) files)
     by true = prefix-refl files
     by false = (path ∷ [], refl)
 
--- ---- one input more
+-- ---- one more input
 pub grows-input : (before t new : EdgeTable) (path : List ℕ) (loses_own : Bool) → Grows 0 before t → new ≡ with_input_unless loses_own t path → Grows 0 before new
 grows-input before t new path false grows is = subst (Grows 0 before) (sym is) (record { outputs_are = grows.outputs_are; inputs = longer })
   where

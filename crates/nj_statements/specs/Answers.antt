@@ -1,4 +1,4 @@
--- What the reading of a statement returns, and how what is read is represented.
+-- The results of reading a statement, and how they are represented.
 use Rattle.std.specs.Prelude.{false, ◌≡◌, ℕ, Option, Some, None, Result, Ok, Err}
 use Rattle.std.specs.Prelude.{List, [], ◌∷◌, ◌<◌, map, length, slice_get, slice_index_or}
 use Rattle.nj_text.specs.declared.spot.Spot.{Spot}
@@ -26,7 +26,7 @@ Checks expected (Err fault) = IsFault expected fault
 
 -- ---- the files of an edge
 
--- The edges that were read stay as they are. Files may be new, which keep the numbers of the others, and of the edge that is being
+-- The edges that were read stay the same. Files may be new, which keep the numbers of the others, and of the edge that is being
 -- read nothing is known.
 pub record KeepsRead (before after : EdgeTable) : Type 0 where
   pub edges : after.edges ≡ before.edges
@@ -34,13 +34,13 @@ pub record KeepsRead (before after : EdgeTable) : Type 0 where
 
 -- ---- the names of a rule
 
--- what is kept of rules is enough to find their cycles
+-- the references kept for rules are enough to find their cycles
 abbrev pub HasReferences : (kept : List (Option (List ReferringKeyModel))) → List RuleModel → Type 0
 HasReferences kept rules =
     (number : ℕ) (keys : List ReferringKeyModel) → slice_index_or kept number None ≡ Some keys
     → (rule : RuleModel) × (slice_get rules number ≡ Some rule) × TellsCycles rule.lines keys
 
--- ---- what is held
+-- ---- the fields
 
 -- an edge, without its paths and its block
 pub record DetailModel : Type 0 where
@@ -105,7 +105,7 @@ pub record HasEdges (held : BuildingModel) (entries : List ReadStatement) : Type
   pub dyndeps : ArePending held.table.files held.dyndeps (pending_read entries)
   pub references : HasReferences held.references (rules_read entries)
 
--- No edge and no default is added: those that were read stay as they are, with their blocks. Files may be new, which keep the numbers of
+-- No edge and no default is added: those that were read stay the same, with their blocks. Files may be new, which keep the numbers of
 -- the others, and an edge may be read in part.
 pub record AddsNothing (before after : BuildingModel) : Type 0 where
   pub edges : KeepsRead before.table after.table

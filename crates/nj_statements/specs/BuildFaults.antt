@@ -1,4 +1,4 @@
--- What is wrong with a `build` or `default` statement, by the statements before it.
+-- The faults of a `build` or `default` statement, by the statements before it.
 use Rattle.std.specs.Prelude.{ℕ, ◌||◌, not, Option, None, is_some, option_map, List, [], ◌∷◌, ◌++◌, codes}
 use Rattle.std.specs.Option.{option_or}
 use Rattle.std.specs.Bool.{then_some}
@@ -49,7 +49,7 @@ abbrev pub paths_fault : (file : List ℕ) → Values → List EdgePaths → Out
 paths_fault file values edges outputs inputs =
     option_or (outputs_fault file values edges [] (outputs.explicit ++ outputs.implicit)) (inputs_fault file values inputs)
 
--- A variable of the rule refers back to itself, by variables that the block does not bind. It is a fault even if nothing asks for it.
+-- A variable of the rule refers back to itself, by variables that the block does not bind. It is a fault even if nothing uses it.
 abbrev pub variable_cycle_fault : (file : List ℕ) → Spot → LateNames → Option GraphFault
 variable_cycle_fault file spot n = option_map (λ key. fault_at file spot (RuleVariableCycle key)) (variable_cycle_of n.block n.lines)
 

@@ -1,4 +1,4 @@
--- What the statements of a run yield after the last one: its edges and defaults, or a dependency cycle.
+-- The result of a run's statements after the last one: its edges and defaults, or a dependency cycle.
 use Rattle.std.specs.Prelude.{◌≡◌, ◌⊎◌, ℕ, Some, Result, Ok, Err, List, [], ◌∷◌, map, length, slice_get, slice_index_or}
 use Rattle.nj_text.specs.declared.spot.Spot.{Spot}
 use Rattle.nj_scope.specs.ReadingList.{ReadStatement}
@@ -29,7 +29,7 @@ pub record BuiltModel : Type 0 where
   pub defaults : List (List ℕ)
   -- the edges to which dyndep files are still to be joined
   pub pending : List Pending
-  -- what is assigned to each edge
+  -- the assignment of each edge
   pub assigned : List AssignedModel
 
 -- the detail of the edge of a number; past the last edge there is none
@@ -37,8 +37,7 @@ abbrev pub detail_at : List EdgeDetail → (number : ℕ) → EdgeDetail
 detail_at details number =
     slice_index_or details number (record { file = []; spot = record { line = 0; column = 0 }; scope = 0; rule = 0 })
 
--- The defaults in force: the files of the `default` lines, each of which names one or more; the roots where there is no such
--- line.
+-- The defaults in force: the files of the `default` lines, each naming at least one; the roots where there is no such line.
 abbrev pub defaults_in_force : (defaults : List (List ℕ)) → List EdgePaths → List (List ℕ)
 defaults_in_force [] edges = roots_of edges
 defaults_in_force (path ∷ paths) edges = path ∷ paths

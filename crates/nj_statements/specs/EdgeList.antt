@@ -20,7 +20,7 @@ use Rattle.nj_edge_env.specs.LateStrings.{LateNames, asked_text}
 abbrev pub Values : Type 0
 Values = (name : List ℕ) → List ℕ
 
--- what the block of a build statement binds to each name
+-- the value that the block of a build statement binds to each name
 abbrev pub Block : Type 0
 Block = (name : List ℕ) → Option (List ℕ)
 
@@ -32,7 +32,7 @@ no_block name = None
 abbrev pub block_of : Values → List LineModel → Block
 block_of values lines name = option_map (λ l. expanded values l.value.parts) (last_line (λ l. l.name) lines name)
 
--- the names that a block binds, each once, in the order of their first lines
+-- the names that a block binds, without duplicates, in the order of their first lines
 abbrev pub names_bound : List LineModel → List (List ℕ)
 names_bound lines = each_once bytes_eq (map (λ l. l.name) lines)
 
@@ -158,7 +158,7 @@ defaults_read (e ∷ before) = with_defaults e before e.item (defaults_read befo
 
 -- ---- the names of rules
 
--- What the names of an edge depend on, where its rule is used after these statements: its block and its rule come from its own
+-- The dependencies of an edge's names, where its rule is used after these statements: its block and its rule come from its own
 -- statement, its paths those that it keeps, and a name of the file has the value that it has by then.
 abbrev pub names_of_edge : List ReadStatement → EdgeModel → LateNames
 names_of_edge entries e = record {
@@ -211,7 +211,7 @@ name_given text = if is_empty text then None else Some text
 abbrev pub pool_of : (before : List ReadStatement) → EdgeModel → Option (List ℕ)
 pool_of before edge = name_given (asked_text (names_of_edge before edge) (codes "pool"))
 
--- What is assigned to an edge at its build statement: a pool, by its name, and a dyndep file, by its clean path.
+-- The assignment of an edge at its build statement: a pool, by its name, and a dyndep file, by its clean path.
 pub record AssignedModel : Type 0 where
   pub pool : Option (List ℕ)
   pub dyndep : Option (List ℕ)
@@ -222,10 +222,10 @@ assigned_of before edge = record { pool = pool_of before edge; dyndep = dyndep_o
 abbrev pub assigned_given : ReadStatement → (before : List ReadStatement) → StatementModel → Option AssignedModel
 assigned_given e before item = option_map (assigned_of before) (edge_given e before item)
 
--- what is assigned to each edge, by number; that a dyndep file was joined to an edge changes nothing of it
+-- the assignment of each edge, by number; joining a dyndep file to an edge does not change it
 unfoldable pub assigned_read : List ReadStatement → List AssignedModel
 assigned_read entries = gathered assigned_given entries
 
--- what is assigned to the edge of a number; past the last edge it is nothing
+-- the assignment of the edge of a number; past the last edge it is empty
 abbrev pub assigned_at : List AssignedModel → (number : ℕ) → AssignedModel
 assigned_at assigned number = slice_index_or assigned number (record { pool = None; dyndep = None })

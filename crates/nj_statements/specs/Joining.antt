@@ -1,4 +1,4 @@
--- What the entries of dyndep files add to build statements ("Dynamic Dependencies" in the manual).
+-- The additions of dyndep files' entries to build statements ("Dynamic Dependencies" in the manual).
 use Rattle.std.specs.Prelude.{ℕ, ◌==◌, Bool, true, false, ◌&&◌, not, if◌then◌else◌, Option, Some, None, option_map, option_and_then, unwrap_or, is_some, List, [], ◌∷◌, ◌++◌}
 use Rattle.nj_scope.specs.Scopes.{first_given}
 use Rattle.std.specs.Bool.{then_some}
@@ -18,7 +18,7 @@ use Rattle.nj_statements.specs.BuildFaults.{empty_path, outputs_fault}
 
 -- ---- the statements that are joined
 
--- what was discovered, with what is discovered after it
+-- discoveries, with those after them
 abbrev pub and_found : Option Discovered → Discovered → Discovered
 and_found None found = found
 and_found (Some earlier) found = record { outputs = earlier.outputs ++ found.outputs; inputs = earlier.inputs ++ found.inputs }
@@ -26,14 +26,14 @@ and_found (Some earlier) found = record { outputs = earlier.outputs ++ found.out
 abbrev pub also_discovered : Discovered → ReadStatement → ReadStatement
 also_discovered found e = record e { discovered = Some (and_found e.discovered found) }
 
--- the statements with what a dyndep file discovers for the build statement of an edge
+-- the statements with the discoveries of a dyndep file for the build statement of an edge
 unfoldable pub discover : (edge : ℕ) → Discovered → List ReadStatement → List ReadStatement
 discover edge found [] = []
 discover edge found (e ∷ before) =
     if is_some (edge_given e before e.item) && length (edges_read before) == edge then record (also_discovered found e) { was_joined = true } ∷ before
     else e ∷ discover edge found before
 
--- what an entry adds to the outputs and the inputs of its build statement
+-- the additions of an entry to the outputs and the inputs of its build statement
 abbrev pub discovered_by : EntryModel → Discovered
 discovered_by entry = record { outputs = paths_given no_values entry.outs; inputs = paths_given no_values entry.ins }
 
@@ -41,12 +41,12 @@ discovered_by entry = record { outputs = paths_given no_values entry.outs; input
 abbrev pub edge_meant : (stated : List ReadStatement) → EntryModel → Option ℕ
 edge_meant stated entry = maker_of (paths_of_edges (edges_read stated)) (path_given no_values entry.out)
 
--- The statements with what an entry adds, by the statements as they were read, and those with what was joined before.
+-- The statements with the additions of an entry, by the statements as they were read, and those with earlier additions.
 abbrev pub with_entry : (stated joined : List ReadStatement) → EntryModel → List ReadStatement
 with_entry stated joined entry =
     unwrap_or (option_map (λ edge. discover edge (discovered_by entry) joined) (edge_meant stated entry)) joined
 
--- ---- what is wrong with an entry
+-- ---- the fault of an entry
 
 -- an edge is pending on this dyndep file
 abbrev pub pending_on : (file : List ℕ) → List Pending → Option ℕ → Bool
@@ -60,8 +60,8 @@ meaning_fault file stated joined entry =
     option_or (then_some (not (pending_on file (pending_read stated) edge)) (fault_at file entry.out.spot (DyndepExtra path)))
     (then_some (not (pending_on file (pending_read joined) edge)) (fault_at file entry.out.spot (DyndepTwice path)))
 
--- its output, and which statement it means; the outputs that it discovers, from left to right, each of which no other edge may
--- make; and the inputs
+-- its output, and which statement it means; the outputs that it discovers, from left to right, which no other edge may make;
+-- and the inputs
 abbrev pub entry_fault : (file : List ℕ) → (stated joined : List ReadStatement) → EntryModel → Option GraphFault
 entry_fault file stated joined entry =
     option_or (empty_path file no_values entry.out)
@@ -69,7 +69,7 @@ entry_fault file stated joined entry =
     (option_or (outputs_fault file no_values (paths_of_edges (edges_read joined)) [] entry.outs)
     (first_given (empty_path file no_values) entry.ins)))
 
--- ---- what is wrong with a file
+-- ---- the fault of a file
 
 abbrev pub no_statement : (file : List ℕ) → EdgeModel → GraphFault
 no_statement file e = fault_at e.file e.spot (DyndepNoStatement (unwrap_or (first_output e.paths) []) file)

@@ -1,4 +1,4 @@
--- What is kept while dyndep files are joined: the edges with what was added to them, and which are still pending.
+-- The state while dyndep files are joined: the edges with their additions, and which are still pending.
 use Rattle.std.specs.Prelude.{◌≡◌, ℕ, ◌+◌, Bool, true, false, Option, Some, None}
 use Rattle.std.specs.Prelude.{Result, Ok, Err, List, [], ◌∷◌, ◌++◌, map, bytes_eq}
 use Rattle.std.specs.List.{IsDistinct}
@@ -18,12 +18,13 @@ abbrev pub has_pending : List Pending → Bool
 has_pending [] = false
 has_pending (p ∷ others) = true
 
--- what an edge is pending on, if it is bound to this, or to nothing
+-- the file on which an edge is pending, if it is bound to this one, or to none
 abbrev pub unless_joined : {A : Type 0} → Option A → (was_joined : Bool) → Option A
 unless_joined bound true = None
 unless_joined bound false = bound
 
--- what each edge is pending on, by what it is bound to; nothing was joined to edges past the end of the second list
+-- the file on which each edge is pending, by the one to which it is bound; nothing was joined to edges past the end of
+-- the second list
 abbrev pub still_pending : {A : Type 0} → (bound : List (Option A)) → (was_joined : List Bool) → List (Option A)
 still_pending [] was_joined = []
 still_pending (b ∷ bound) [] = b ∷ bound
@@ -33,7 +34,7 @@ abbrev pub pending_of : (edge : ℕ) → Option (List ℕ) → List Pending
 pending_of edge (Some file) = record { edge = edge; file = file } ∷ []
 pending_of edge None = []
 
--- the pending edges, of which the first one has this number
+-- the pending edges, numbered from this number on
 abbrev pub pending_from : (number : ℕ) → (unjoined : List (Option (List ℕ))) → List Pending
 pending_from number [] = []
 pending_from number (w ∷ unjoined) = pending_of number w ++ pending_from (number + 1) unjoined
@@ -41,7 +42,7 @@ pending_from number (w ∷ unjoined) = pending_of number w ++ pending_from (numb
 abbrev pub left_pending_from : (number : ℕ) → (bound : List (Option (List ℕ))) → (was_joined : List Bool) → List Pending
 left_pending_from number bound was_joined = pending_from number (still_pending bound was_joined)
 
--- ---- what is collected for an edge
+-- ---- files collected for an edge
 
 -- no edge is changed, and files keep their numbers
 pub record KeepsEdges (before after : JoinTable) : Type 0 where
@@ -51,7 +52,7 @@ pub record KeepsEdges (before after : JoinTable) : Type 0 where
   pub joined : after.joined ≡ before.joined
   pub was_joined : after.was_joined ≡ before.was_joined
 
--- ---- what is held
+-- ---- the fields
 
 pub record JoiningModel : Type 0 where
   pub table : JoinTable
@@ -63,7 +64,7 @@ pub record JoiningModel : Type 0 where
   pub dyndep_files : List Pending
   -- of each edge the dyndep file to which it is bound
   pub bound : List (Option (List ℕ))
-  -- what is assigned to each edge
+  -- the assignment of each edge
   pub assigned : List AssignedModel
 
 -- It has the edges and defaults of the joined statements, the edges of the statements as they were read, and which edges are pending.
@@ -81,8 +82,8 @@ pub record HasJoined (held : JoiningModel) (stated joined : List ReadStatement) 
   pub unjoined : pending_read joined ≡ left_pending_from 0 held.bound held.table.was_joined
   pub assigned : held.assigned ≡ assigned_read joined
 
--- Nothing is joined to an edge: the edges are as they were, and so is what they are pending on. Files may be new, which keep the
--- numbers of the others, and what an entry adds may be collected in part.
+-- Nothing is joined to an edge: the edges are unchanged, and so are the files on which they are pending. Files may be new, which
+-- keep the numbers of the others, and the additions of an entry may be collected in part.
 pub record JoinsNothing (before after : JoiningModel) : Type 0 where
   pub edges : KeepsEdges before.table after.table
   pub blocks : after.blocks ≡ before.blocks

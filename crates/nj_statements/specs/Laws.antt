@@ -1,4 +1,4 @@
--- What the joining of dyndep files does to the edges of a run, and what it leaves.
+-- Laws of joining dyndep files to the edges of a run.
 use Rattle.std.specs.Prelude.{◌≡◌, ℕ, ◌<◌, ◌==◌, Bool, true, false, not, Some, None, List, [], ◌∷◌, map, find, length, filter, bytes_eq}
 use Rattle.std.specs.List.{AllByRecursion, IsDistinct, list_any, flat_map}
 use Rattle.nj_manifest.specs.Statements.{StatementModel, BuildModel}
@@ -20,7 +20,7 @@ is_pending entries edge = list_any (λ p. p.edge == edge) (pending_read entries)
 abbrev pub with_found : Discovered → EdgeModel → EdgeModel
 with_found found e = record e { paths = with_discovered (Some found) e.paths }
 
--- What is discovered for a pending edge is added to that edge, and every other edge stays as it is.
+-- The discoveries for a pending edge are added to that edge, and every other edge stays the same.
 abbrev pub AddsToOneEdge : Type 0
 AddsToOneEdge = (entries : List ReadStatement) (edge : ℕ) (found : Discovered) → is_pending entries edge ≡ true
     → edges_read (discover edge found entries) ≡ changed_at (with_found found) edge (edges_read entries)
@@ -30,7 +30,7 @@ abbrev pub OthersArePendingAsBefore : Type 0
 OthersArePendingAsBefore = (entries : List ReadStatement) (edge : ℕ) (found : Discovered)
     → pending_read (discover edge found entries) ≡ filter (λ p. not (p.edge == edge)) (pending_read entries)
 
--- What an entry of a dyndep file discovers is added to this edge, which waited for the file.
+-- The discoveries of an entry of a dyndep file are added to this edge, which waited for the file.
 pub record AddsToItsEdge (file : List ℕ) (stated joined : List ReadStatement) (entry : EntryModel) (edge : ℕ) : Type 0 where
   pub meant : edge_meant stated entry ≡ Some edge
   pub waited : pending_on file (pending_read joined) (Some edge) ≡ true
@@ -42,8 +42,8 @@ abbrev pub EntriesAddToTheirEdges : Type 0
 EntriesAddToTheirEdges = (file : List ℕ) (stated joined : List ReadStatement) (entry : EntryModel)
     → entry_fault file stated joined entry ≡ None → (edge : ℕ) × AddsToItsEdge file stated joined entry edge
 
--- An edge that has the entry of its dyndep file makes what the entry discovers, which no edge made before; each other file has the
--- maker that it had.
+-- An edge that has the entry of its dyndep file makes the outputs that the entry discovers, which no edge made before; each other
+-- file has the maker that it had.
 pub record MakesWhatItDiscovers (stated joined : List ReadStatement) (entry : EntryModel) (edge : ℕ) (path : List ℕ) : Type 0 where
   pub new : is_among (discovered_by entry).outputs path ≡ true → maker_of (paths_of_edges (edges_read joined)) path ≡ None
   pub makes : is_among (discovered_by entry).outputs path ≡ true
@@ -67,7 +67,7 @@ abbrev pub AreFaultless : List ReadStatement → Type 0
 AreFaultless [] = Unit {0}
 AreFaultless (e ∷ before) = IsFaultless e before e.item × AreFaultless before
 
--- The statements with what entries of dyndep files add, one after the other, each of which has no fault by then.
+-- The statements with the additions of dyndep files' entries, one after the other, each without a fault by then.
 pub data IsWithEntries (stated : List ReadStatement) : List ReadStatement → Type 0 where
   as_stated : IsWithEntries stated stated
   with_one_more : {joined : List ReadStatement} → (file : List ℕ) → (entry : EntryModel) → IsWithEntries stated joined
@@ -77,12 +77,13 @@ pub data IsWithEntries (stated : List ReadStatement) : List ReadStatement → Ty
 abbrev pub all_outputs : List EdgePaths → List (List ℕ)
 all_outputs edges = flat_map outputs_of edges
 
--- Of statements without a fault no two edges make the same file, and no edge makes one twice; nor with what dyndep files add.
+-- Of statements without a fault no two edges make the same file, and no edge makes one twice; nor with the additions of
+-- dyndep files.
 abbrev pub NoFileGetsTwoMakers : Type 0
 NoFileGetsTwoMakers = (stated joined : List ReadStatement) → AreFaultless stated → IsWithEntries stated joined
     → IsDistinct bytes_eq (all_outputs (paths_of_edges (edges_read joined)))
 
--- The values of names and the rules stay as they are, for statements and for edges, and so do the pools and the defaults.
+-- The values of names and the rules stay the same, for statements and for edges, and so do the pools and the defaults.
 pub record GivesTheSame (entries others : List ReadStatement) : Type 0 where
   pub values : value_after others ≡ value_after entries
   pub rules : rules_read others ≡ rules_read entries
@@ -99,7 +100,7 @@ abbrev pub AreRising : List Pending → Type 0
 AreRising [] = Unit {0}
 AreRising (p ∷ others) = AllByRecursion (λ q. p.edge < q.edge) others × AreRising others
 
--- The pending edges are edges of the statements, in ascending order of number, each once.
+-- The pending edges are edges of the statements, in ascending order of number, without duplicates.
 pub record AreByNumber (entries : List ReadStatement) : Type 0 where
   pub within : AllByRecursion (λ p. p.edge < length (edges_read entries)) (pending_read entries)
   pub rising : AreRising (pending_read entries)
@@ -107,8 +108,8 @@ pub record AreByNumber (entries : List ReadStatement) : Type 0 where
 abbrev pub PendingEdgesRise : Type 0
 PendingEdgesRise = (entries : List ReadStatement) → AreByNumber entries
 
--- The dyndep files on which edges are pending: each once, with the lowest-numbered edge that is pending on it, and in the order of these
--- edges.
+-- The dyndep files on which edges are pending: without duplicates, each with the lowest-numbered edge that is pending on it, and in the
+-- order of these edges.
 pub record ComeOnce (edges : List Pending) : Type 0 where
   pub distinct : IsDistinct bytes_eq (map (λ p. p.file) (dyndep_files edges))
   pub first : (file : List ℕ) → find (λ p. bytes_eq p.file file) (dyndep_files edges) ≡ find (λ p. bytes_eq p.file file) edges

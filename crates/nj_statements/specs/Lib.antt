@@ -1,4 +1,4 @@
--- what must be believed
+-- the definitions to believe
 pub mod EdgeList
 pub mod BuildFaults
 pub mod Built

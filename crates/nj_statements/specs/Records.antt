@@ -1,4 +1,4 @@
--- What is kept of the edges of a run beside their files, while files are added to the edges.
+-- The records of a run's edges beside their files, while files are added to the edges.
 use Rattle.std.specs.Prelude.{◌≡◌, ℕ, ◌<◌, List, map, length}
 use Rattle.std.specs.List.{AllByRecursion}
 use Rattle.nj_edge_env.specs.Blocks.{BlocksModel}

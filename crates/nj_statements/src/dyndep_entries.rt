@@ -1,4 +1,4 @@
-//! What dyndep files add to the edges of a run.
+//! The additions of dyndep files to the edges of a run.
 
 ghost use Rattle.std.specs.Prelude.{◌≡◌, ◌<◌, ◌==◌, List, [], Some, None, option_map, unwrap_or, length, slice_get, replicate, slice_index_or, IfOk, IfSome, OnOk, OnErr};
 ghost use Rattle.nj_scope.specs.Scopes.{first_given};
@@ -44,7 +44,7 @@ pub struct DyndepFile<'a> {
     pub edge: EdgeNo,
 }
 
-/// The edges of a run, and what dyndep files add to them.
+/// The edges of a run, and the additions of dyndep files to them.
 #[derive(Drop)]
 pub struct Joining {
     edges: JoiningEdges,
@@ -270,8 +270,8 @@ impl Joining {
         Ok(place.fault(alloc, Cause::DyndepNoStatement(output, path)))
     }
 
-    /// What the edges yield with what was joined to them, once no edge is pending. Takes time in
-    /// proportion to the edges and their files.
+    /// The result of the edges with the files that were joined to them, once no edge is pending.
+    /// Takes time in proportion to the edges and their files.
     ///
     /// # Errors
     ///

@@ -1,4 +1,4 @@
-//! What is wrong with the edge that is being read by the variables of its rule.
+//! The faults of the edge that is being read by the variables of its rule.
 
 ghost use Rattle.std.specs.Prelude.{◌≡◌, ◌<◌, List, Some, codes, length, slice_get, IfOk, IfSome, OnOk};
 ghost use Rattle.nj_edge_env.specs.LateStrings.{LateNames, asked_text};
@@ -23,8 +23,8 @@ use nj_text::TextFault;
 use std::alloc::AllocError;
 
 impl Context<'_> {
-    /// Checks the variables of the rule, then the pool, then the dyndep file. Returns what is
-    /// assigned to the edge.
+    /// Checks the variables of the rule, then the pool, then the dyndep file. Returns the
+    /// assignment of the edge.
     pub(crate) fn check_late(
         self,
         edge: LateEdge<'_>,

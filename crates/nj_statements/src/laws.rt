@@ -1,5 +1,5 @@
-//! Laws of edges and of what dyndep files add to them. A law is a theorem, stated as a function with
-//! an empty body.
+//! Laws of edges and of the additions of dyndep files to them. A law is a theorem, stated as a
+//! function with an empty body.
 
 ghost use Rattle.nj_scope.specs.Laws.{IsInReadingOrder};
 ghost use Rattle.nj_statements.specs.EdgeList.{edge_given, edges_read, assigned_given, assigned_read};
@@ -9,24 +9,24 @@ ghost use Rattle.nj_statements.specs.Laws.{EntriesAddToTheirEdges, EdgesMakeWhat
 ghost use Rattle.nj_statements.specs.Laws.{NoFileGetsTwoMakers};
 ghost use Rattle.nj_statements.specs.Laws.{PendingEdgesRise, DyndepFilesComeOnce};
 
-/// The k-th edge is that of the k-th `build` statement, by the statements before it, and so is what
-/// is assigned to it; there are no others.
+/// The k-th edge is that of the k-th `build` statement, by the statements before it, and so is its
+/// assignment; there are no others.
 pub fn edges_by_reading_order()
     ensures edges { IsInReadingOrder edge_given edges_read }
     ensures assigned { IsInReadingOrder assigned_given assigned_read }
 {}
 
-/// What a dyndep file gives is added to one edge that is pending on it; that edge is then no longer
-/// pending. The other edges stay as they are and pending as before, and the values of names, rules
-/// and defaults do not change.
+/// The discoveries of a dyndep file are added to one edge that is pending on it; that edge is then
+/// no longer pending. The other edges stay the same and pending as before, and the values of names,
+/// rules and defaults do not change.
 pub fn discovered_files_are_added()
     ensures added { AddsToOneEdge }
     ensures unjoined { OthersArePendingAsBefore }
     ensures names { NamesStay }
 {}
 
-/// An entry of a dyndep file that has no fault means one edge that is pending on the file, and what
-/// it discovers is added to that edge: it makes the outputs, which no edge made before, and each
+/// An entry of a dyndep file that has no fault means one edge that is pending on the file, and its
+/// discoveries are added to that edge: it makes the outputs, which no edge made before, and each
 /// other file has the maker that it had.
 pub fn entries_add_to_their_edges()
     ensures added { EntriesAddToTheirEdges }
@@ -39,18 +39,18 @@ pub fn no_file_gets_two_makers()
     ensures { NoFileGetsTwoMakers }
 {}
 
-/// The edges that are pending on dyndep files are in ascending order of number, each once.
+/// The edges that are pending on dyndep files are in ascending order of number, without duplicates.
 pub fn pending_edges_rise()
     ensures { PendingEdgesRise }
 {}
 
-/// The dyndep files of the pending edges are in the order of their first edges, each once.
+/// The dyndep files of the pending edges are in the order of their first edges, without duplicates.
 pub fn dyndep_files_come_once()
     ensures { DyndepFilesComeOnce }
 {}
 
-/// What deps logs name for edges is added to their inputs, and nothing else changes: an edge that
-/// waits for its dyndep file still waits for it.
+/// The files that deps logs name for edges are added to their inputs, and nothing else changes: an
+/// edge that waits for its dyndep file still waits for it.
 pub fn named_inputs_are_added()
     ensures { NamedInputsAreAdded }
 {}

@@ -1,4 +1,4 @@
-//! The reading of `build` and `default` statements: edges and what they name.
+//! The reading of `build` and `default` statements: edges and the files that they name.
 #![tactic(auto)]
 
 mod building;

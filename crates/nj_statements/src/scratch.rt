@@ -74,7 +74,7 @@ fn plain_text(text: &mut Vec<u8>, word: &Word<'_>) -> Result<(), AllocError>
     Ok(())
 }
 
-/// The bytes of a word that is a clean path as it is.
+/// The bytes of a word that is a clean path already.
 pub(crate) fn clean_bytes<'b>(word: &'b Word<'_>) -> Option<&'b [u8]>
     ensures path { (values : Values)
         → IfSome result (λ path. path.now ≡ path_given values (word_model word.now)) }

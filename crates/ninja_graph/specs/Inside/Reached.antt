@@ -1,4 +1,4 @@
--- What is kept of how the manifest is made, and what it tells of changed files.
+-- The record of how the manifest is made, and its answers about changed files.
 use Rattle.std.specs.Prelude.{◌≡◌, ◌↔◌, ℕ, true, false, Option, Some, List, [], ◌∷◌, ◌++◌, map, length, slice_index_or, Contains}
 use Rattle.std.specs.List.{filter, list_any}
 use Rattle.nj_graph.specs.ReadingList.{ReadStatement}

@@ -27,6 +27,6 @@ findings_of g entries missing serving undeclared DepfileWithoutDeps = depfiles_w
 findings_of g entries missing serving undeclared RepeatedInput = repeated_inputs g
 findings_of g entries missing serving undeclared UndeclaredInput = undeclared
 
--- what is asked for of the findings of a kind
+-- the requested ones of the findings of a kind
 abbrev pub asked_of : Kinds → (Kind → List FindingModel) → Kind → List FindingModel
 asked_of kinds of kind = if contains kinds kind then of kind else []

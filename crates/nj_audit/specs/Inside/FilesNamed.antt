@@ -1,4 +1,4 @@
--- The files at paths, as they are found one by one. Nothing here has to be believed.
+-- The files at paths, found one by one. Nothing here has to be believed.
 use Rattle.std.specs.Prelude.{◌≡◌, ◌<◌, ℕ, Option, option_and_then, List, [], ◌++◌, length, map, All}
 use Rattle.std.specs.List.{cons_option, filter_map}
 use Rattle.nj_names.specs.declared.files.FileNo.{FileNo}

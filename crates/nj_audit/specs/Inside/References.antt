@@ -1,4 +1,4 @@
--- The references of rules as they are kept. Nothing here has to be believed.
+-- The references of rules in memory. Nothing here has to be believed.
 use Rattle.std.specs.Prelude.{◌≡◌, ℕ, List}
 use Rattle.nj_scope.specs.Rules.{RuleModel}
 use Rattle.nj_graph.specs.Edges.{is_among}

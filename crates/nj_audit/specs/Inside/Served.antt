@@ -11,7 +11,7 @@ HasCommand edges e = (e < length edges) × ((edge_at edges e).is_phony ≡ false
 abbrev pub MakesOneOf : List EdgePaths → (files : List (List ℕ)) → (edge : ℕ) → Type 0
 MakesOneOf edges files e = Contains (map (maker_of edges) files) (Some e)
 
--- between two turns: what was found serves commands; and found are the edges with commands, and the makers of the inputs of each edge
+-- between two turns: the edges found serve commands; and found are the edges with commands, and the makers of the inputs of each edge
 -- before a place in the list
 pub record FindsServing (edges : List EdgePaths) (found : NumberSetModel) (place : ℕ) : Type 0 where
   pub limit : found.limit ≡ length edges

@@ -1,11 +1,11 @@
--- How the files that C hands in are held.
+-- How the files that C supplies are held.
 use Rattle.std.specs.Prelude.{◌≡◌, ℕ, List, [], ◌∷◌, Option, Some, None, is_some, unwrap_or, length, position, slice_get, bytes_eq, if◌then◌else◌}
 use Rattle.std.specs.Global.{Vec}
 use Rattle.std.specs.List.{AllByRecursion}
 use Rattle.nj_scope.specs.Readings.{Reading}
 use Rattle.nj_c.specs.declared.supplied_files.HandedReading.{HandedReading}
 
--- what the file of a number reads as: an empty file if there is none of this number
+-- the reading of the file of a number: an empty file if there is none of this number
 abbrev pub read_bytes : List (Option (List ℕ)) → Option ℕ → Option (List ℕ)
 read_bytes files None = Some []
 read_bytes files (Some number) = unwrap_or (slice_get files number) None
@@ -18,6 +18,6 @@ abbrev pub AreHanded : List (List ℕ) → List (Option (Vec ℕ)) → List Hand
 AreHanded paths files read = (length files ≡ length paths)
     × AllByRecursion (λ r. r.number ≡ position (bytes_eq r.path.items) paths) read
 
--- the path of a reading that was not handed in
+-- the path of a reading that was not supplied
 abbrev pub wanted_of : HandedReading → List (List ℕ)
 wanted_of r = if is_some r.number then [] else r.path.items ∷ []

@@ -1,4 +1,4 @@
--- What a session owns.
+-- The memory that a session owns.
 use Rattle.std.specs.Prelude.{◌≡◌}
 use denote.Struct.Lending.{lent_at}
 use base.Fml.{Lft, Fml, ftrue, fsep, fex}
@@ -28,7 +28,7 @@ keeps alloc (block_ptr b o) kept = fex the_row.Denot (λ value. fsep
 abbrev pub kept_coded : Coded (Option the_row.Denot)
 kept_coded = (option.the_row the_row).coded
 
--- what a `&` to a seal lends, and how what it keeps is stored
+-- the loan of a `&` to a seal, and how its contents are stored
 abbrev pub lends : Ptr → the_row.Denot → Lft → Fml
 lends = lent_at the_row
 

@@ -9,7 +9,7 @@ use Rattle.nj_c.specs.declared.session_state.Kept.{Kept}
 use Rattle.nj_c.specs.declared.status.Status.{Status}
 use Rattle.nj_c.specs.Inside.Results.{KeepsResult}
 
--- a log was joined to the graph that was kept, and what came of it is kept
+-- a log was joined to the graph that was kept, and the result is kept
 abbrev pub JoinsKnown : (before after : Kept) → LogModel → Status → Type 0
 JoinsKnown before after log status =
     (g : GraphModel) × (result : Result GraphModel GraphFault) × (before.graph ≡ Some g)

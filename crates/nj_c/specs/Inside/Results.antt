@@ -1,4 +1,4 @@
--- What is kept of the result of a load.
+-- The kept result of a load.
 use Rattle.std.specs.Prelude.{◌≡◌, ◌≢◌, ◌⊎◌, ℕ, Bool, List, [], map, Some, Result, Ok, Err, ⊤}
 use Rattle.std.specs.Global.{Vec}
 use Rattle.nj_scope.specs.ReadingList.{ReadStatement}
@@ -12,7 +12,7 @@ use Rattle.nj_c.specs.declared.session_state.Kept.{Kept}
 use Rattle.nj_c.specs.declared.status.Status.{Status}
 use Rattle.nj_c.specs.declared.status.Status.TheVariants.{Done, Fault, Wanted, OutOfMemory}
 
--- the statements of what was loaded, if it was
+-- the statements of a load, if it succeeded
 abbrev pub AreStatements : Result LoadedModel GraphFault → List ReadStatement → Type 0
 AreStatements (Ok loaded) entries = IsGraphOf loaded.graph entries
 AreStatements (Err fault) entries = ⊤
@@ -28,7 +28,7 @@ abbrev pub KeepsResult : (before after : Kept) → Result GraphModel GraphFault 
 KeepsResult before after (Ok graph) status = (after ≡ record before { graph = Some graph }) × (status ≡ Done)
 KeepsResult before after (Err fault) status = KeepsFault before after fault status
 
--- these paths are kept, or where there is none, what the load gives
+-- these paths are kept, or where there is none, the result of the load
 abbrev pub KeepsLoad : (before after : Kept) → (joins : Bool) → Result LoadedModel GraphFault → (wanted : Vec (Vec ℕ)) → Status → Type 0
 KeepsLoad before after joins loaded wanted status =
     ((status ≡ Wanted) × (after ≡ record before { wanted = wanted }) × (wanted.items ≢ []))
@@ -36,7 +36,7 @@ KeepsLoad before after joins loaded wanted status =
     × GivesGraph (handed_state before.files) (handed_state files) joins loaded result
     × KeepsResult (record before { files = files }) after result status)
 
--- what is kept of a load by the paths that are wanted; or an allocation failed
+-- the kept result of a load by the paths that are wanted; or an allocation failed
 abbrev pub FinishesLoad : (before after : Kept) → (joins : Bool) → Result LoadedModel GraphFault → Status → Type 0
 FinishesLoad before after joins loaded status =
     ((wanted : Vec (Vec ℕ))

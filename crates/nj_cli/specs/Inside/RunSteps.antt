@@ -73,7 +73,7 @@ ReturnsFor entries action old new (Err fault.OutOfMemory) = TakesFront old new (
 abbrev pub ReportsLine : (old new : SinkState) → (text : List ℕ) → Type 0
 ReportsLine old new text = Reported old new text ⊎ Reported old new (line out_of_memory)
 
--- the mark was reported; or standard error failed; or its line could not be made
+-- the mark was reported; or standard error failed; or the line could not be made
 abbrev pub ReportsMark : (validations : Bool) → (old new : SinkState) → (mark : List ℕ) → Status → Type 0
 ReportsMark validations old new mark Stopped = Takes old new (mark_line validations mark)
 ReportsMark validations old new mark OutputFailed = FailsWithin old new (mark_line validations mark)

@@ -15,7 +15,7 @@ HasMainRules rules numbers = map (slice_get rules) numbers ≡ map (λ r. Some r
 abbrev pub IsKnown : DeclarationsModel → EdgeDetail → Type 0
 IsKnown declarations d = (d.scope < length declarations.scopes) × (d.rule < length declarations.rules)
 
--- what is true of the fields of a graph
+-- the facts about the fields of a graph
 pub record IsGraph (declarations : DeclarationsModel) (built : BuiltModel) (numbers : List ℕ) : Type 0 where
   pub listed : HasMainRules declarations.rules numbers
   pub outermost : parent_at declarations.scopes 0 ≡ None

@@ -1,4 +1,4 @@
--- What each step of the joining of dyndep files returns, by what is joined so far. Nothing here has to be believed.
+-- The results of the steps of joining dyndep files, by the statements joined so far. Nothing here has to be believed.
 use Rattle.std.specs.Prelude.{◌≡◌, ◌⊎◌, ℕ, true, false, Option, Some, None, Result, Ok, Err, List, String, string_bytes, ⊤}
 use Rattle.nj_graph.specs.Inside.PathsReached.{with_news, come_joined}
 use Rattle.std.specs.Str.{is_utf8}
@@ -34,7 +34,7 @@ NamesFile place path (Err fault) =
 
 -- ---- the next entry
 
--- what a parser returns if this is read from what is left; its faults are reported in the file
+-- the result of a parser if this is read from the rest; its faults are reported in the file
 abbrev pub NextEntryOf : (file : List ℕ) → Parse (Option EntryModel) → (after : DyndepLeft) → Result (Option text.Entry) GraphFault
     → Type 0
 NextEntryOf file expected after (Ok (Some entry)) =

@@ -15,7 +15,7 @@ use Rattle.nj_graph.specs.DepsLogs.{inputs_logged, number_logged}
 abbrev pub AreNumbersLogged : LogModel → List ReadStatement → (numbers : List (Option ℕ)) → Type 0
 AreNumbersLogged log entries numbers = (n : ℕ) → n < length numbers → slice_get numbers n ≡ Some (number_logged log entries n)
 
--- the edges with what a log has for outputs of these numbers, from the next edge on
+-- the edges with a log's inputs for outputs of these numbers, from the next edge on
 abbrev pub joined_edges : LogModel → (numbers : List (Option ℕ)) → InputTable → InputTable
 joined_edges log [] t = t
 joined_edges log (number ∷ numbers) t = joined_edges log numbers (at_next_edge (fold with_new_input t (inputs_logged log number)))
@@ -26,7 +26,7 @@ edges_with_log log (number ∷ numbers) [] = []
 edges_with_log log (number ∷ numbers) (e ∷ edges) =
     with_added (record { outputs = []; inputs = new_inputs e (inputs_logged log number) }) e ∷ edges_with_log log numbers edges
 
--- the edges of a graph with what a log has come to this; files keep their numbers
+-- the result of a graph's edges with a log's inputs; files keep their numbers
 pub record FinishesWithLog (log : LogModel) (numbers : List (Option ℕ)) (graph : EdgeGraph) (finished : Finished) : Type 0 where
   pub files : List (List ℕ)
   pub longer : IsPrefix graph.files files

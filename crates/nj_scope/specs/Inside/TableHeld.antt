@@ -1,4 +1,4 @@
--- What a table of files keeps of a reading.
+-- The reading that a table of files keeps.
 use Rattle.std.specs.Prelude.{ℕ, Option, option_map}
 use Rattle.std.specs.Global.{Vec}
 use Rattle.std.specs.Rc.{rc_slice_items}

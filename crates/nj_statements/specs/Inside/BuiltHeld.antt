@@ -1,4 +1,4 @@
--- How what the statements yield is held. Nothing here has to be believed.
+-- How the result of the statements is held. Nothing here has to be believed.
 use Rattle.std.specs.Prelude.{◌≡◌, ℕ, ◌<◌, List, map, length}
 use Rattle.std.specs.List.{AllByRecursion}
 use Rattle.nj_edge_env.specs.Blocks.{BlocksModel}

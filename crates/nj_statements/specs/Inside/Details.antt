@@ -28,7 +28,7 @@ numbered_at strings number = slice_index_or (numbered strings) number None
 abbrev pub IsNumbered : (strings : List (List ℕ)) → (number : ℕ) → Type 0
 IsNumbered strings number = number < length (numbered strings)
 
--- the numbers of what is assigned
+-- the numbers of an assignment
 pub record AreNumbersOf (names : List (List ℕ)) (a : Assigned) (meant : AssignedModel) : Type 0 where
   pub pool : slice_get (numbered names) a.pool ≡ Some meant.pool
   pub dyndep : slice_get (numbered names) a.dyndep ≡ Some meant.dyndep

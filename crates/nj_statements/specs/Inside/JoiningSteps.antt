@@ -1,4 +1,4 @@
--- How the code joins what dyndep files discover, step by step.
+-- How the code joins the discoveries of dyndep files, step by step.
 use Rattle.std.specs.Prelude.{◌≡◌, ℕ, ◌+◌, ◌<◌, ◌≤◌, ◌==◌, Bool, true, false, not, if◌then◌else◌, Option, Some, None, option_map, unwrap_or, IfSome}
 use Rattle.std.specs.Bool.{then_some}
 use Rattle.std.specs.Prelude.{List, [], ◌∷◌, map, filter, length, set, slice_get, slice_index_or, bytes_eq}
@@ -67,7 +67,7 @@ maker_fault name word table None = Some (fault_at name word.spot (DyndepExtra (p
 maker_fault name word table (Some edge) =
     then_some (is_joined table edge) (fault_at name word.spot (DyndepTwice (path_given no_values word)))
 
--- the edge that makes what a word gives, if it is bound to a file
+-- the edge that makes the file of a word, if it is bound to a dyndep file
 abbrev pub edge_bound : JoinTable → (bound : List (Option FileNo)) → FileNo → WordModel → Option ℕ
 edge_bound table bound file word = if_bound bound file (maker_of table.stated (path_given no_values word))
 
@@ -102,7 +102,7 @@ joining_of table blocks names details defaults dyndep_files bound = record {
   assigned = map (assigned_named names) details;
 }
 
--- For each edge there are a detail and what is joined. All numbers are numbers of files and edges. For each file at most as many edges
+-- For each edge there are a detail and its additions. All numbers are numbers of files and edges. For each file at most as many edges
 -- are pending as are counted.
 pub record JoiningIsHeld (table : JoinTable) (names : List (List ℕ)) (details : List Detail) (defaults : List FileNo)
     (dyndep_files : List DyndepEdge) (bound : List (Option FileNo)) (unjoined : List ℕ) : Type 0 where

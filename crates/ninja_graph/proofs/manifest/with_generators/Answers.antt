@@ -11,7 +11,7 @@ use Rattle.ninja_graph.proofs.LineLemmas.{mapped-more}
 use Rattle.ninja_graph.proofs.manifest.with_generators.Goals as goal
 use Rattle.ninja_graph.proofs.manifest.with_generators.Goals.{then-branch, else-branch}
 
--- what passes of one number more
+-- the elements that pass with one more number
 passes-more : (p : ℕ → Bool) (numbers before : List ℕ) (n : ℕ) → numbers ++ filter p (before ++ n ∷ []) ≡ (numbers ++ filter p before) ++ cond (p n) (n ∷ []) []
 passes-more p numbers before n = ap (λ ns. numbers ++ ns) (filter-append p before (n ∷ [])) ∙ sym (append_assoc numbers (filter p before) (cond (p n) (n ∷ []) []))
 

@@ -4,7 +4,7 @@ use Rattle.nj_names.specs.NameTables.{name_at}
 use Rattle.nj_edges.specs.MoreInputs.{with_new_input}
 use Rattle.nj_graph.proofs.deps_logs.add_inputs.Given as goal
 
--- what is left comes to the same
+-- the rest has the same result
 abbrev pub invariant-inputs : goal.invariant-inputs
 invariant-inputs l =
     fold with_new_input l.joining (map clean_path_of (map (name_at l.log.paths) (drop l.number-index l.numbers)))

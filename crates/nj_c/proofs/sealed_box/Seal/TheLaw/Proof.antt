@@ -1,4 +1,4 @@
--- A `&` to the seal is made where one to what it pure is.
+-- A `&` to the seal is made where one to its contents is.
 use base.Fraction.{full_share}
 use contract.BorrowLft.{⊑_static}
 use denote.Memory.{lone}

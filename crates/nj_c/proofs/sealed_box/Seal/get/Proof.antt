@@ -1,4 +1,4 @@
--- `get` reads the pointer through the `&`, and lends what the seal shares.
+-- `get` reads the pointer through the `&`, and lends the contents that the seal shares.
 use mathlib.Core.Path.{refl}
 use Prim.Native.Nat.{ℕ, zero, suc, ◌+◌}
 use mathlib.Core.List.{List, [], ◌∷◌}

@@ -1,4 +1,4 @@
--- A session may cross threads, as what it keeps may.
+-- A session may cross threads, as its contents may.
 use mir.Raw.{raw}
 use base.Shift.{Keyless}
 use denote.Memory.{lone}

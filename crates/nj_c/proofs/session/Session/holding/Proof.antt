@@ -1,4 +1,4 @@
--- `holding` takes the two parts, and owns what they owned.
+-- `holding` takes the two parts, and owns the memory that they owned.
 use Rattle.std.proofs.Common.{◌≡◌, List, [], ◌∷◌, ◌++◌, refl, sym, subst}
 use mir.Val.{Val, vptr}
 use base.Logic.{SProp, ent, emp, id⊢}

@@ -1,4 +1,4 @@
--- `into_loose` tests the pointer, and gives out what the session owns.
+-- `into_loose` tests the pointer, and returns the memory that the session owns.
 use Rattle.std.proofs.Common.{◌≡◌, List, [], ◌∷◌, ◌++◌, refl, sym, subst, lit<}
 use mir.Val.{Val, vptr, vcons, vnil}
 use base.Logic.{SProp, ent, emp, id⊢}
