@@ -16,9 +16,9 @@ const NAME: &str = "affected";
 const ABOUT: &str = "Read changed paths, and write the outputs that the change affects";
 
 const MORE: &str = "\
-A line of standard input is a changed path. Status 3 means that more may be affected: the error
-output names each path that no edge names, as a header that only a compiler tells of, and each from
-which the manifest itself is made.
+A line of standard input is a changed path. Status 3 means that more may be affected: standard error
+names each path that no edge names, as a header that only a compiler knows, and each from which the
+manifest itself is made.
 
 Where CMake wrote the manifest, sources have absolute paths, and with Meson they are relative:
   git diff --name-only main | ninja-graph affected -C build --source-dir \"$PWD\"

@@ -1,4 +1,5 @@
-//! The subcommand `draw`: a drawing of what files need, or of what a change of them affects.
+//! The subcommand `draw`: a drawing of the edges that files need, or of those that a change of them
+//! affects.
 
 ghost use Rattle.std.specs.Prelude.{◌<◌, All, length};
 ghost use Rattle.nj_graph.specs.Graph.{files_of};
@@ -14,14 +15,14 @@ use std::alloc::{AllocError, Global};
 
 const NAME: &str = "draw";
 
-const ABOUT: &str = "Write a drawing of what targets need, for dot of Graphviz";
+const ABOUT: &str = "Write a drawing of the edges that targets need, for dot of Graphviz";
 
 const MORE: &str = "\
 Without targets it draws the default ones. An ellipse is an edge with its rule, a box is a file, and
 order-only inputs have dashed arrows. A label says how many edges there are, if not all are drawn.
   ninja-graph draw --limit 40 app | dot -Tsvg > app.svg";
 
-/// The inputs that an edge has in a drawing at most, unless the words say otherwise.
+/// The inputs that an edge has in a drawing at most, unless an option says otherwise.
 const MOST_INPUTS: usize = 12;
 
 /// The subcommand with its options.
@@ -33,7 +34,7 @@ pub fn command<'a>(alloc: Global) -> Result<Command<'a>, AllocError> {
         .arg(flag(
             alloc,
             "affected",
-            "Draw what a change of the files affects, and not what they need",
+            "Draw the edges that a change of the files affects, not those that they need",
         ))?
         .arg(flag(
             alloc,
@@ -59,7 +60,7 @@ pub fn command<'a>(alloc: Global) -> Result<Command<'a>, AllocError> {
         )
 }
 
-/// Writes the drawing that the words ask for.
+/// Writes the requested drawing.
 pub fn answer(rt: HostRuntime, graph: &Graph, options: &ArgMatches<'_>) -> Result<Status, Failure> {
     let words = options.get_strs("targets").unwrap_or(&[]);
     let files = graph.pick_targets(rt.alloc(), words)?;
@@ -71,7 +72,7 @@ pub fn answer(rt: HostRuntime, graph: &Graph, options: &ArgMatches<'_>) -> Resul
     }
 }
 
-/// The drawing of what these files need or affect.
+/// The drawing of the edges that these files need or affect.
 fn drawing_of(
     alloc: Global,
     graph: &Graph,

@@ -25,11 +25,11 @@ const ABOUT: &str =
 const MORE: &str = "\
 A line is a key and the first output of its edge, in the order of `ninja -t commands`. A key changes
 with the command, the response file, the paths of inputs and outputs, and the keys of the edges that
-make the inputs. What files contain is not in it.
+make the inputs. The contents of files are not in it.
 
-With --take the status is 3 if more are left; the error output then names the mark of the rest.
+With --take the status is 3 if more are left; standard error then names the mark of the rest.
 
-Builds of one project in two folders have the same keys where these are given alike:
+Builds of one project in two directories have the same keys where these are given alike:
   ninja-graph keys -C build --base \"$PWD/build\" --base \"$PWD\"";
 
 /// The subcommand with its options.
@@ -48,12 +48,12 @@ pub fn command<'a>(alloc: Global) -> Result<Command<'a>, AllocError> {
             alloc,
             "resume",
             "MARK",
-            "Write what is left after the run that named MARK",
+            "Write the rest after the run that named MARK",
         ))?
         .arg(targets(alloc, "Targets; the default ones if there are none"))
 }
 
-/// Writes the keys that the options ask for.
+/// Writes the keys that the options request.
 pub fn answer(rt: HostRuntime, options: &ArgMatches<'_>) -> Result<Status, Failure> {
     let bases = bases_of(rt.alloc(), options.get_strs("base").unwrap_or(&[]))?;
     let mark = mark_of(rt.alloc(), options.get_str("resume"))?;
@@ -66,7 +66,7 @@ pub fn answer(rt: HostRuntime, options: &ArgMatches<'_>) -> Result<Status, Failu
     Ok(write_page(rt.alloc(), &page?, &mut out, &mut err)?)
 }
 
-/// The page of a graph that the options ask for, after a mark.
+/// The page of a graph that the options request, after a mark.
 fn page_of(
     alloc: Global,
     graph: &Graph,
@@ -79,7 +79,7 @@ fn page_of(
     page_from(alloc, graph, bases, &targets, mark, take)
 }
 
-/// The folders that these paths name, each of which has to be absolute.
+/// The directories at these paths, which have to be absolute.
 fn bases_of(alloc: Global, paths: &[&str]) -> Result<Bases, Failure> {
     let mut bases = Bases::new(alloc);
     'paths: for path in paths {
@@ -95,7 +95,8 @@ fn mark_of(alloc: Global, text: Option<&str>) -> Result<Mark, Error> {
     Ok(Mark::read(alloc, text.unwrap_or("start"))?)
 }
 
-/// Writes the lines of a page to the output, and its mark, if more are left, to the error output.
+/// Writes the lines of a page to standard output, and its mark, if more are left, to standard
+/// error.
 ///
 /// # Errors
 ///

@@ -17,9 +17,9 @@ const NAME: &str = "why";
 const ABOUT: &str = "Write a shortest chain of inputs by which A needs B";
 
 const MORE: &str = "\
-A line for each edge of the chain: its place, its rule, what it makes, and which kind of input comes
-next. Of several shortest chains it is the first when inputs are tried from left to right. Status 3
-means that there is none; nothing is written then.";
+A line for each edge of the chain: its place, its rule, the file that it makes, and the kind of the
+next input. Of several shortest chains it is the first when inputs are tried from left to right.
+Status 3 means that there is none; nothing is written then.";
 
 /// The subcommand with its options.
 pub fn command<'a>(alloc: Global) -> Result<Command<'a>, AllocError> {

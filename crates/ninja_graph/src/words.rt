@@ -34,18 +34,18 @@ fn of_graph<'a>(alloc: Global, command: Command<'a>) -> Result<Command<'a>, Allo
         .arg(flag(
             alloc,
             "dyndep",
-            "Join what dyndep files that are there add to edges",
+            "Join the discoveries of dyndep files, which have to exist",
         ))?
         .arg(flag(
             alloc,
             "deps-log",
-            "Join what compilers told of headers, from .ninja_deps in builddir",
+            "Join the headers that compilers reported, from .ninja_deps in builddir",
         ))?
         .arg(option(
             alloc,
             "deps-log-file",
             "FILE",
-            "Join what FILE tells of headers, a deps log",
+            "Join the headers of the deps log FILE",
         ))
 }
 
