@@ -74,8 +74,8 @@ lib/pkgconfig/ninja_explain.pc: include/ninja_explain.pc.in
 	sed 's|@PREFIX@|$(CURDIR)|' $< > $@
 
 # Builds the program without any proof, and prints the commands of a project in three files. With
-# FOLDER=.. it runs on the *.ninja files in that folder and below, with the words WORDS='..'; after a
-# word `;` comes another question. Both are passed on through the environment, so quotes stay.
+# FOLDER=.. it runs on the *.ninja files in that directory and below, with the arguments WORDS='..'; after
+# an argument `;` comes another question. Both are passed on through the environment, so quotes stay.
 run:
 ifdef FOLDER
 	@python3 scripts/try_folder.py "$$FOLDER" "$$WORDS"
@@ -180,8 +180,8 @@ dist: $(BUILT) $(GRAPH) $(LIBRARY).so
 wheel: $(LIBRARY).so
 	@python3 scripts/wheel.py
 
-# Packs twice, plants what must be refused, and runs in empty folders what was unpacked there; with
-# debootstrap and as root, also in a Debian that it makes.
+# Packs twice, plants mistakes that must be refused, and runs the unpacked programs in empty directories;
+# with debootstrap and as root, also in a Debian that it makes.
 dist-check: $(BUILT) $(GRAPH) $(LIBRARY).so
 	@python3 scripts/dist_check --jobs $(JOBS) $(CHECKS)
 

@@ -3,7 +3,7 @@
 
     flood.py [--names N] PROGRAM [WORD..]
 
-PROGRAM, with these words, loads build.ninja in its working directory, as `ninja-explain -t rules`
+PROGRAM, with these arguments, loads build.ninja in its working directory, as `ninja-explain -t rules`
 does. For each table of names it loads two files of the same size, which differ only in their names. The
 names of one collide if the number is 0; they are from collisions.c, which is compiled with `cc`.
 The names of the other are arbitrary. Each file is loaded five times in turn, and the best times
@@ -44,7 +44,7 @@ def chosen_names(folder, count, bits=12):
 
 
 def words(command):
-    """The words that a command prints. They may contain any bytes."""
+    """The output of a command, as words. They may contain any bytes."""
     output = subprocess.run(command, check=True, capture_output=True).stdout
     return [word.decode(ENCODING) for word in output.split(b"\n") if word]
 

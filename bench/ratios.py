@@ -49,7 +49,7 @@ SHAPES = {
 
 
 def words_of(program, tool, folder):
-    """The words of a run. Ninja writes its working directory as `directory`."""
+    """The arguments of a run. Ninja writes its working directory as `directory`."""
     return [program, "-t", tool] + (["--directory", folder] if tool == "compdb" and program != "ninja" else [])
 
 

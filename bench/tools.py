@@ -88,7 +88,7 @@ def files_of(shape, count):
 
 
 def tools_of(shape, count):
-    """The words of each tool."""
+    """The arguments of each tool."""
     rule = RULES[shape][0]
     files = list(itertools.islice(files_of(shape, count), MANY_FILES))
     rules = [*(f"no_rule_{number:03}" for number in range(MANY_RULES - 1)), rule]
@@ -112,7 +112,7 @@ def tools_of(shape, count):
 
 
 def command_of(program, words, place):
-    """The words of a run. Ninja writes its working directory as `directory`, and runs `inputs`
+    """The arguments of a run. Ninja writes its working directory as `directory`, and runs `inputs`
     without a style."""
     here = []
     if program == "ninja":
@@ -162,7 +162,7 @@ def is_same(words, ours, theirs):
 
 
 def commands_of(tool, words, program, place):
-    """The words of the runs of a tool, by program, and whether both write the same. Ninja is left
+    """The arguments of the runs of a tool, by program, and whether both write the same. Ninja is left
     out if it is not installed or fails, and the tool if the program does not know a style of
     `inputs`."""
     ours, theirs = os.path.join(place, "program"), os.path.join(place, "ninja")

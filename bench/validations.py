@@ -39,7 +39,7 @@ def step(number):
 
 
 def chain(count):
-    """The manifest, the words, and the commands without and with validations."""
+    """The manifest, the arguments, and the commands without and with validations."""
     lines = [RULES]
     for number in range(count):
         validation = f" |@ {step(number + 1)}" if number + 1 < count else ""

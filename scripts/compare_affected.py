@@ -3,7 +3,7 @@
 
     compare_affected.py [--edges N] [--changes N] [--seed N] -- PROGRAM [WORD..]
 
-PROGRAM, with its words, reads changed paths from standard input. It has to print all targets of
+PROGRAM, with its arguments, reads changed paths from standard input. It has to print all targets of
 build.ninja in its working directory that they affect, one per line. It runs on manifests like the ones
 of CMake and LLVM with N edges, and on each for N changes, which are random files. The outputs that
 Ninja's `query` lists for a file belong to the edges that have it as an input. So the affected

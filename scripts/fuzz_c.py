@@ -1,13 +1,13 @@
 #!/usr/bin/env python3
-"""Feeds the library for C with what libFuzzer makes of seeds: fuzz_c.py [--seconds N] [--jobs N]
+"""Feeds the library for C with libFuzzer's mutations of seeds: fuzz_c.py [--seconds N] [--jobs N]
 
-fuzz_c.c says what an input is, and what has to hold. The seeds are the projects of examples/ and of
+fuzz_c.c describes the form of an input, and the conditions that have to hold. The seeds are the projects of examples/ and of
 lib/projects.py, and the rows of crates/nj_*_rows with the files that they run on; the dictionary
-has what means something in a manifest (lib/strangers.py), and the words of the program. What was
-found new is kept in lib/fuzz_c/corpus, from which the next run begins.
+has texts with a meaning in a manifest (`lib/strangers.py`), and the arguments of the program. New
+inputs are kept in lib/fuzz_c/corpus, from which the next run begins.
 
 Needs clang with libFuzzer's runtime, and lib/libninja_explain.a. Prints how many inputs were tried;
-for each process that found something, what is wrong, and the file that has the input. The status is
+for each process that found something, the problem, and the file that has the input. The status is
 1 then, and where a call of the header was never made. With --tools it only looks for what it needs.
 With --planted it checks that a wrong expectation, which all seeds meet, is found.
 """
@@ -128,7 +128,7 @@ def content(lines):
 
 
 def repeated(words, lines):
-    """The files that a row of this kind appends to, with what it appends."""
+    """The files to which a row of this kind appends, with the texts."""
     name, first, last = words[0], int(words[1]), int(words[2])
     step = 1 if first <= last else -1
     for number in range(first, last + step, step)[:MOST_REPEATED]:
@@ -168,7 +168,7 @@ def projects_of(text):
 # ---- seeds
 
 ZERO = b"\0"
-# What fuzz_c.c does for a row, by the kind of the row.
+# The calls of fuzz_c.c for a row, by the kind of the row.
 CALLS = {
     "run": lambda words: [b"r" + ZERO.join(words)],
     "request": lambda words: [b"R" + ZERO.join(words)],
@@ -181,7 +181,7 @@ CALLS = {
     "users": lambda words: [b"l0", *(b"n" + word for word in words), b"A"],
     "variable": lambda words: [b"l0", *(b"v%d " % edge + words[0] for edge in range(4))],
 }
-# What every seed ends with, and each kind of call.
+# The end of every seed, and each kind of call.
 LAST = [b"l1", b"G0", b"A", b"q"]
 EACH = [b"i", b"L0", b"w0", b"h", b"L1", b"h", b"l1", b"f0", b"e0", b"v1 out", b"t0", b"t1", b"g2"]
 EACH += [b"m0", b"g1 0.0", b"d", b"0", b"nout", b"pout^", b"k", b"a0 1", b"xd", b"R-t" + ZERO + b"rules"]
@@ -281,7 +281,7 @@ class Run:
         return found and found[1]
 
     def reasons(self):
-        """What is wrong, as the process said it."""
+        """The problem, as the process reported it."""
         found = ["".join(each) for each in WRONG.findall(self.log)]
         return list(dict.fromkeys(found)) or self.log.splitlines()[-LAST_LINES:]
 
@@ -307,7 +307,7 @@ def text_of(log):
 
 
 def problems(fuzzer, runs):
-    """What the processes found, and whether what calls return counted as coverage."""
+    """The findings of the processes, and whether results of calls counted as coverage."""
     for each in runs:
         if COUNTERS not in each.log:
             yield "libFuzzer has no counters of what calls return"
@@ -331,7 +331,7 @@ def total(runs):
 
 
 def fuzz(clang, seconds, jobs):
-    """Runs the fuzzer, and prints what it did. Returns the exit status."""
+    """Runs the fuzzer, and prints its results. Returns the exit status."""
     fuzzer, seeds, start = build(clang, "fuzz_c"), write_seeds(), time.monotonic()
     write_dictionary()
     runs = run(fuzzer, seconds, jobs, CORPUS, FOLDER)
@@ -352,7 +352,7 @@ def fuzz(clang, seconds, jobs):
 
 
 def try_planted(clang, seconds):
-    """Checks that the fuzzer finds what is planted, and no seed does. Returns the exit status."""
+    """Checks that the fuzzer finds planted mistakes, and no seed does. Returns the exit status."""
     fuzzer, start = build(clang, "planted", "-DPLANTED"), time.monotonic()
     seeds = write_seeds()
     write_dictionary()

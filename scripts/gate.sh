@@ -1,7 +1,7 @@
 #!/usr/bin/env bash
 # The gate: `rt ci`, and then `make smoke` on the program that it built. The last line of `rt ci`,
-# "N passed, M failed", is held back and printed at the end, after what each step took; what
-# `make smoke` finds counts as one more failure; so does a program that is not there.
+# "N passed, M failed", is held back and printed at the end, after the time of each step; a
+# finding of `make smoke` counts as one more failure, and so does a missing program.
 set -uo pipefail
 cd "$(dirname "$0")/.." || exit
 source scripts/last_line.sh

@@ -1,8 +1,8 @@
 """Follows the processes that `rt ci` starts, by /proc, and sums the time and memory of each.
 
-A `Meter` looks a few times a second. What a process used after the last look at it is in what its
-parent took over from ended children, so it is not lost: it goes to the processes that ended since.
-`label_of` says from a process's words which step of which crate it is.
+A `Meter` looks a few times a second. The time of a process after the last look at it is in the times
+that its parent has of ended children, so it is not lost: it goes to the processes that ended since.
+`label_of` tells from a process's arguments which step of which crate it is.
 """
 
 import os
@@ -26,7 +26,7 @@ PROOF, TESTS, BESIDE, EDIT, BUILD, RUN, LAYOUT = PHASES = (
     "run",
     "layout",
 )
-# The directories that `rt ci` makes: a crate with an edit, what such checks begin with, and a run.
+# The directories that `rt ci` makes: a crate with an edit, the seed of such checks, and a run.
 EDITED, SEEDS = re.compile(r"/rt-edit-\d+-[^/]*$"), re.compile(r"/rt-edits-\d+-[^/]*/(\w+)$")
 STARTED = re.compile(r"/rt-run-\d+-[^/]*/bin/(\w+?)(_tests)?$")
 IN_CRATE = re.compile(r"/crates/(\w+)(/|$)")
@@ -68,7 +68,7 @@ class Part:
 
 
 def value_after(words, flag):
-    """The word after a flag, or an empty text."""
+    """The argument after a flag, or an empty text."""
     return words[words.index(flag) + 1] if flag in words[:-1] else ""
 
 
@@ -84,7 +84,7 @@ def edit_of(words, crate, root):
 
 
 def prover_of(words, folder, root):
-    """The label of a process of the prover, whose words begin with its own name."""
+    """The label of a process of the prover, whose arguments begin with its own name."""
     crate, jobs = value_after(words, "--crate-name"), value_after(words, "--jobs")
     if not crate:
         found = IN_CRATE.search(words[-1]) if words[1:2] == ["fmt"] else None
@@ -99,7 +99,7 @@ def prover_of(words, folder, root):
 
 
 def label_of(words, folder, root):
-    """The label of a process with these words in this directory, or `None` where they say nothing."""
+    """The label of a process with these arguments in this directory, or `None` where they tell nothing."""
     names = [os.path.basename(word) for word in words]
     if "rattle" in names:
         at = names.index("rattle")
@@ -229,7 +229,7 @@ class Meter:
         self.settle(max(whole - self.own, self.settled), {}, now(), b"")
 
     def attributed(self):
-        """The processes of which crate and phase are known, in the order in which they ended."""
+        """The processes whose crate and phase are known, in the order in which they ended."""
         return [part for part in self.ended if part.label]
 
     def not_attributed(self):

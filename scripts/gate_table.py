@@ -65,7 +65,7 @@ class Machine:
         self.busy = user + nice + system + interrupts + soft_interrupts
 
     def described(self):
-        """The processors and the memory in words."""
+        """The processors and the memory as text."""
         model = re.search(r"model name\s*: (.*)", text_of("/proc/cpuinfo"))
         memory = re.search(r"MemTotal:\s*(\d+)", text_of("/proc/meminfo"))
         gigabytes = int(memory[1]) / (1 << 20) if memory else 0

@@ -1,7 +1,7 @@
 #!/usr/bin/env python3
 """Runs the gate and measures it: measure_gate.py [--table FILE] [--print] [WORD..]
 
-Runs `rt ci` with these words, as `--anew`, at the top of the repository, and follows the processes
+Runs `rt ci` with these arguments, as `--anew`, at the top of the repository, and follows the processes
 that it starts. Its output passes through, and the status is its own. A failure of the measuring
 changes neither; it is reported on standard error.
 

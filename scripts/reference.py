@@ -1,6 +1,6 @@
 #!/usr/bin/env python3
 """Writes docs/REFERENCE.md: each public call of the libraries with its documentation, its signature,
-what is proved of it, and what shows that the proof says something.
+its proved clauses, and the edits and tests that show that these say something.
 
     reference.py            writes the page
     reference.py --check    ends with status 1 if the page is out of date

@@ -3,7 +3,7 @@
 
 Each crate with tests, and each program on the files that lie beside its `src/` (`args`, `stdin` and
 `data/`), is built with run-time checks and run by `rt try`, several side by side. A program has to
-write what its file `stdout` has and to end with the status in its file `status`. Where it ends with
+write the text of its file `stdout` and to end with the status in its file `status`. Where it ends with
 the line `N rows, M differ`, each of its rows counts. Then comes `make lint`. With names of crates
 only these are run.
 
@@ -34,7 +34,7 @@ LINT = "lint"
 LINTED = re.compile(r"^(\d+) checks passed, (\d+) failed")
 # They take longest, so they begin first.
 LONGEST = ("nj_call_rows", "nj_run_rows")
-# How `rt try` says that a program ended, and how often what may differ is told.
+# How `rt try` reports that a program ended, and a program of rows how many rows differ.
 ENDED = re.compile(r"^run=ended status=(\d+) .*proved=no$", re.M)
 ROWS = re.compile(r"^(\d+) rows, (\d+) differ$")
 ROW = re.compile(r"\S+:\d+: wanted ")
@@ -43,7 +43,7 @@ RESULT = re.compile(r"^test result: (\w+)\. (\d+) passed; (\d+) failed", re.M)
 MOST_LINES = 20
 # How long a program or a test may take, with run-time checks and with others beside it.
 SECONDS = "300"
-# A word of the checks that `rt try` makes beside a run.
+# An argument of the checks that `rt try` makes beside a run.
 HINT = b"\0no function\0"
 
 
@@ -110,7 +110,7 @@ def first_difference(wanted, came):
 
 
 def run_program(crate):
-    """Runs a program on its stored words and files."""
+    """Runs a program on its stored arguments and files."""
     folder = CRATES / crate
     data = sorted(path for path in folder.glob("data/**/*") if path.is_file())
     data = [f"{path.relative_to(folder / 'data')}={path.relative_to(folder)}" for path in data]

@@ -3,8 +3,8 @@
 
 `rt try` builds the program without any proof, and runs it with WORDS, by default `-t commands`, in a
 new directory with a copy of each `*.ninja` file in FOLDER and below it. It has no other files of
-FOLDER, such as dyndep files. WORDS is split as a shell does it, so a word may have quotes; after a
-word `;` comes another question, for which nothing is built anew.
+FOLDER, such as dyndep files. WORDS is split as a shell does it, so an argument may have quotes; after
+an argument `;` comes another question, for which nothing is built anew.
 
 `rt try` refuses runs that take more than a minute or write more than 1 MiB. This script then prints
 which of the two it was. It ends with the status of `rt try`.
@@ -33,13 +33,13 @@ def data(folder):
 
 
 def questions(words):
-    """The words of each question."""
+    """The arguments of each question."""
     words = shlex.split(words)
     return [list(it) for is_next, it in groupby(words, NEXT.__eq__) if not is_next]
 
 
 def write_cases(asked, room):
-    """Writes a file for each question, with its words beside it, as `rt try --cases` takes them."""
+    """Writes a file for each question, with its arguments beside it, as `rt try --cases` takes them."""
     for number, words in enumerate(asked, 1):
         (room / str(number)).touch()
         (room / f"{number}.args").write_text("".join(f"{word}\n" for word in words))

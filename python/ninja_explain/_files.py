@@ -36,9 +36,9 @@ NOWHERE = _Nowhere()
 
 @dataclass(frozen=True)
 class Folder:
-    """The files of a folder.
+    """The files of a directory.
 
-    A path that a manifest names is taken below the folder. One that is absolute or has a component
+    A path that a manifest names is taken below the directory. One that is absolute or has a component
     `..` is refused with PermissionError, unless `allow_outside` is true. Symbolic links are followed,
     wherever they lead.
     """

@@ -18,8 +18,8 @@ AS_BUILT = "unstripped-binary-or-object"
 
 @dataclass(frozen=True)
 class Package:
-    """A Debian package: its name, what its control file says of it, and what lintian finds that is
-    as it should be."""
+    """A Debian package: its name, the fields of its control file, and lintian's findings that are
+    to be expected."""
 
     name: str
     section: str

@@ -1,5 +1,5 @@
-"""The origins of a release, as text: the commit, the toolchain, what each binary says of its
-proof, and the verdict on each crate."""
+"""The origins of a release, as text: the commit, the toolchain, the logic that each binary names,
+and the verdict on each crate."""
 
 import re
 import subprocess

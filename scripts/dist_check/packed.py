@@ -14,7 +14,7 @@ from lint.version import version
 
 # The directories with the built files, as `scripts/dist` takes them.
 Built = namedtuple("Built", "crates library")
-# A directory that holds what a package has below its PREFIX, its libraries, and what pkg-config is told.
+# A directory with the files of a package below its PREFIX, its libraries, and pkg-config's environment.
 Prefix = namedtuple("Prefix", "name folder libraries environment")
 
 ARCHIVE = f"ninja-explain-{version()}-linux-x86_64"

@@ -1,7 +1,7 @@
 """A registry of checks, and how they are run.
 
 A check is a function under `@check`. It yields a text for each thing that is wrong, or raises. Its
-parameters are named after what it gets: what the main gives, and `folder`, an empty directory of its
+parameters are named after their arguments: those of the main, and `folder`, an empty directory of its
 own. A main runs the checks that take no more than it gives. A check is skipped, and counted, if a
 program that it needs is not installed, or if it raises `Skipped`.
 """
@@ -35,7 +35,7 @@ class Check:
         self.name = f"{function.__module__}.{function.__name__}"
 
     def is_meant(self, words, given):
-        """Whether one of the words is the name of the check or of a module of it, and all that it
+        """Whether one of the arguments is the name of the check or of a module of it, and all that it
         takes is given."""
         is_named = not words or any(f".{word}." in f".{self.name}." for word in words)
         return is_named and self.parameters() <= {*given, "folder"}
@@ -109,7 +109,7 @@ def results(words, given, jobs):
 def run(words, given, jobs):
     """Runs the checks that the arguments name, or all. Prints the problems, and last how many passed,
     failed and were skipped, and why. Returns the exit status: 1 if one failed, or there was none. A
-    word that names no check counts as one that failed."""
+    argument that names no check counts as one that failed."""
     unknown = [word for word in words if not any(each.is_meant([word], given) for each in CHECKS)]
     for word in unknown:
         print(f"{word}: there is no such check")

@@ -1,4 +1,4 @@
-"""The tools and options of ninja-explain, and how shells complete its words and ninja-graph's."""
+"""The tools and options of ninja-explain, and how shells complete its arguments and ninja-graph's."""
 
 import os
 import re
@@ -11,7 +11,7 @@ BASH = ROOT / "completions/ninja-explain.bash"
 FISH = ROOT / "completions/ninja-explain.fish"
 ZSH = ROOT / "completions/_ninja-explain"
 
-# The options of each tool that not every tool has, and words that it takes.
+# The options of each tool that not every tool has, and arguments that it takes.
 TOOLS = {
     "commands": ({"-s", "--take", "--resume", "--validations"}, []),
     "inputs": ({"--validations", "--dependency-order", "--no-shell-escape", "--print0"}, []),

@@ -20,7 +20,7 @@ class Project:
         write_files(folder, self.files)
 
     def input_for(self, words):
-        """The standard input of a run with these words."""
+        """The standard input of a run with these arguments."""
         return self.files[MAIN] if not words or "--stdin" in words else b""
 
 
@@ -146,7 +146,7 @@ PROJECTS = {
     "cycle": Project({MAIN: "rule c\n  command = c\nbuild a: c b\nbuild b: c a\n"}, {}),
 }
 
-# Runs of every tool, by project. The words are split at spaces; some of them are refused.
+# Runs of every tool, by project. The arguments are split at spaces; some of them are refused.
 RUNS = {
     "diamond": [
         "",
@@ -252,13 +252,13 @@ RUNS = {
 
 
 def runs_of(table):
-    """The runs of a table such as `RUNS`, each as the name of a project and words."""
+    """The runs of a table such as `RUNS`, each as the name of a project and arguments."""
     return [(name, line.split()) for name, lines in table.items() for line in lines]
 
 
 def targets_differ(program, folder):
-    """The problem if the program does not list the targets of a project. What only compares runs of
-    a program with one another would not see that it does nothing."""
+    """The problem if the program does not list the targets of a project. A comparison of runs
+    of a program with one another would not see that it does nothing."""
     PROJECTS["diamond"].write_to(folder)
     wanted = (DONE, b"a: mk\nb1: mk\nb2: mk\nd: mk\n", b"")
     yield from expect("targets", program.run(["-t", "targets", "all"], folder), wanted)

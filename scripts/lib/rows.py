@@ -24,7 +24,7 @@ def marked(line):
 
 
 def row_of(files, words):
-    """The text of a file with one row: it runs the words over these files, and wants nothing."""
+    """The text of a file with one row: it runs the arguments over these files, and wants nothing."""
     lines = []
     for name, text in files.items():
         kind = "file" if text.endswith(LINE_FEED) else "unended"

@@ -1,4 +1,4 @@
-"""Hostile manifests, with words for the program. Each is determined by a number, its seed.
+"""Hostile manifests, with arguments for the program. Each is determined by a number, its seed.
 
 Most of them are real projects with bytes and lines that are deleted, doubled, swapped or spliced.
 Others include themselves, have long lines, deep or wide graphs, values that grow, dyndep files that
@@ -108,7 +108,7 @@ class Maker:
         self.lines = [line for content in contents for line in content.split(b"\n")]
 
     def case(self, seed):
-        """The files, the words, and whether the run may take any time: it may if it writes a tree
+        """The files, the arguments, and whether the run may take any time: it may if it writes a tree
         of targets, or if expanded values grow without bound."""
         self.chance = random.Random(seed)
         kinds = {
@@ -257,7 +257,7 @@ class Maker:
             files[f"d{number}"] = b"\n".join(lines) + self.pick([b"", b"\n"])
         return files
 
-    # ---- words
+    # ---- arguments
 
     def words(self, files):
         tools = ["commands"] * 4 + ["compdb"] * 2 + ["inputs", "targets", "query", "rules"]
@@ -273,7 +273,7 @@ class Maker:
         return ["-t", tool, *self.options(tool), *end, *words]
 
     def target(self, files):
-        """A word of the main file, which may be a target, or a hostile word."""
+        """A word of the main file, which may be a target, or a hostile argument."""
         found = files[MAIN][:20_000].decode("latin-1").split() + HOSTILE_WORDS[:1]
         word = self.pick(found if self.chance.random() < 0.8 else HOSTILE_WORDS)
         return word.strip(":|").replace("\0", "")[:100_000] + self.pick(["", "", "", "^"])

@@ -1,8 +1,8 @@
 """Tests believed.py, on which the number of lines to believe rests.
 
 A small repository has a contract and definitions that it reaches. Into each of them something is
-planted, and what the script counts must grow by the lines that the contract then reaches, and by no
-other line.
+planted, and the script's count must grow by the lines that the contract then reaches, and by no other
+line.
 """
 
 import shutil

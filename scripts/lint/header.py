@@ -156,7 +156,7 @@ def example(header):
 
 
 def refusal(compiler, text):
-    """The words of a compiler about a text, or None if it takes it."""
+    """The messages of a compiler about a text, or None if it takes it."""
     words = [compiler, *LANGUAGES[compiler], *WARNINGS, f"-I{HEADER.parent}", "-"]
     ran = subprocess.run(words, input=text, capture_output=True, text=True)
     return ran.stderr if ran.returncode or ran.stderr else None

@@ -5,7 +5,7 @@ from pathlib import Path
 import try_folder
 from lib.checks import check, expect
 
-# The words of `make run`, and the questions that they are.
+# The arguments of `make run`, and the questions that they are.
 WORDS = {
     "": [],
     "-t rules": [["-t", "rules"]],

@@ -1,7 +1,7 @@
 """Checks that each library keeps definitions to believe apart from plumbing.
 
 A definition must be believed if it is named in the contract of a public function, in the value of a
-public type, in what a type provides for a trait, or in another definition that must be believed. In
+public type, in a type's implementation of a trait, or in another definition that must be believed. In
 crates/*/specs such definitions are in the files that Lib.antt lists, and all others are in the
 directory Inside. How fields represent a value (`view`) is plumbing.
 """
@@ -46,8 +46,8 @@ def contract(text, start, indent):
 
 
 def contracts(crate):
-    """The contracts of the public functions of a library, its public types, and what these provide
-    for traits."""
+    """The contracts of the public functions of a library, its public types, and their
+    implementations of traits."""
     public = exported(crate)
     for file in sorted((CRATES / crate).glob("src/**/*.rt")):
         of, text = rust(file)

@@ -1,7 +1,7 @@
 """Compares the version in VERSION with the places that name it.
 
-The first section of CHANGELOG.md is that version's, and the foot of each man page has it, and what
-ninja-graph writes for `--version`. The C interface has a version of its own.
+The first section of CHANGELOG.md is that version's, and the foot of each man page has it, and the
+output of `ninja-graph --version`. The C interface has a version of its own.
 """
 
 import re

@@ -25,7 +25,7 @@ cc hello.o greet.o -o hello
 """
 COMMANDS = ["-t", "commands"]
 EDGES = 200_000
-# A mark in a chain has a number for each edge that is left, and a word of the command line has at
+# A mark in a chain has a number for each edge that is left, and an argument of the command line has at
 # most 128 KiB.
 TAKEN = 150_000
 LEVELS = 1000

@@ -1,7 +1,7 @@
 """Runs ninja-graph's `json`.
 
-The wanted objects of one manifest were worked out by hand. Of others the objects have to say what
-`ninja-explain -t query`, `commands` and `targets` write.
+The wanted objects of one manifest were worked out by hand. Those of others have to agree with the
+output of `ninja-explain -t query`, `commands` and `targets`.
 """
 
 import json

@@ -24,7 +24,7 @@ MOST = 4
 
 
 def slow_tables(words, folder):
-    """For each table the reason why it is too slow, or None. The words run a program that loads
+    """For each table the reason why it is too slow, or None. The arguments run a program that loads
     build.ninja in its working directory."""
     chosen = flood.chosen_names(folder, NAMES, BITS)
     for table, seconds, usual in flood.seconds(words, folder, chosen, ROUNDS, TIMES):

@@ -10,7 +10,7 @@ from lib.programs import EXAMPLES, ROOT
 PROJECT = EXAMPLES / "project"
 # Its statuses.
 DONE, FAULT, USAGE, LOOK, OUTPUT_FAILED = range(5)
-# The subcommands, each with the options that it has besides those of all, and words with which it
+# The subcommands, each with the options that it has besides those of all, and arguments with which it
 # answers on examples/project.
 SUBCOMMANDS = {
     "affected": (["--source-dir", "--rule", "--prefix", "--no-phony"], []),

@@ -2,7 +2,7 @@
 
 The edges of examples/project are read from the output of `ninja-explain -t query` and `-t commands`;
 those of another project, which has a response file, phony edges and a generated source, are listed
-below as its manifest has them; and random builds are known as they are made.
+below as its manifest has them; and random builds are known from their generation.
 """
 
 import hashlib

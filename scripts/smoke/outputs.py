@@ -6,7 +6,7 @@ from lib.programs import ROOT
 
 PAGE = ROOT / "man/ninja-explain.1"
 
-# Words, and the output. The words are split at spaces.
+# Arguments, and the output. The arguments are split at spaces.
 OUTPUTS = {
     "-t commands -s out/count test": """\
 cc out/main.o out/libtext.a -o out/count
@@ -271,7 +271,7 @@ phony
 NOT_TEXT = b"rule cc\n  command = cc $in\nbuild good: cc a\nbuild bad: cc \xff\n"
 NOT_TEXT_FAULT = b"build.ninja:4:1: text is not UTF-8\n"
 
-# Words, and the fault in them.
+# Arguments, and the fault in them.
 USAGE_FAULTS = {
     "-t": "cannot read the arguments",
     "inputs": "cannot read the arguments",
@@ -308,7 +308,7 @@ USAGE_FAULTS = {
 
 def page_examples():
     """The examples of the man page that only run the program, on files in examples/: of each the
-    folder, the words and the output."""
+    directory, the arguments and the output."""
     section = re.search(r"^\.SH EXAMPLES\n(.*?)^\.SH ", PAGE.read_text(), re.M | re.S)[1]
     folder, examples = None, []
     for part in re.split(r"^\.E[XE]\n", section, flags=re.M):

@@ -29,7 +29,7 @@ CHANGING = re.compile(r"O_(?!RDONLY\b|CLOEXEC\b|LARGEFILE\b|NOCTTY\b|NOFOLLOW\b|
 
 
 def changes_something(call, words):
-    """Whether a call could change a file or start a program, given the words of its arguments."""
+    """Whether a call could change a file or start a program, given its arguments as text."""
     if call in OPENING:
         return "O_RDONLY" not in words or bool(CHANGING.search(words))
     if call in ("write", "writev"):

@@ -3,7 +3,7 @@
 There are two projects of two files: one with a dyndep file, and one with lines that end in CR LF.
 Each file is cut off after each of its bytes, and each byte is replaced in turn by NUL, a tab, CR
 and `$`. A run on the project has to succeed or to report one fault, and the place of the fault has
-to contain what such a fault is about.
+to contain the subject of such a fault.
 """
 
 import tempfile

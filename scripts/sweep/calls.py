@@ -127,7 +127,7 @@ def is_wrong(project, words, call, way, opened, ran, usual):
 
 
 class Runs:
-    """Runs on one project with the same words."""
+    """Runs on one project with the same arguments."""
 
     def __init__(self, program, library, name, words, folder):
         self.program, self.library, self.words, self.folder = program, library, words, folder

@@ -3,11 +3,11 @@
 In runs of every tool, each allocation in turn is refused: in one run that allocation alone, in
 another one it and all after it. (This is done by fail_alloc.c, which is compiled with `cc`.) Then
 runs get a limited address space, as by `ulimit -v`, from the least in which the program starts to
-what the run needs. A run has to end as it does with ample memory, or to write a prefix of its
+that which the run needs. A run has to end as it does with ample memory, or to write a prefix of its
 output and the line `ninja-explain: out of memory`, with status 1.
 
 The same runs are rows of crates/nj_run_rows too, which runs them over sinks in memory. There one
-allocation or two in a row are refused: after more, the rows could not say what came. A sink without
+allocation or two in a row are refused: after more, the rows could not report their outcome. A sink without
 memory fails like any other sink: a failed output is status 4 with nothing on standard error, a
 lost mark line is status 4, and a lost fault line does not change the status. With ample memory such
 a run ends as the program does.
@@ -27,7 +27,7 @@ from lib.sweeps import Sweep
 # In KB: the steps, and the most that a run of one of the small projects can need.
 STEP, LARGE_STEP = 4, 64
 MOST_KB = 1 << 20
-# This word is refused before any file is read.
+# This argument is refused before any file is read.
 REFUSED = ["--nothing"]
 EDGES = 20_000
 LARGE = "rule mk\n  command = mk $out\nbuild e0: mk\n" + "".join(
@@ -52,7 +52,7 @@ REFUSALS = {ALONE: "alone", TWO: "with the next one", ALL: "with all after it"}
 
 
 class Runs:
-    """Runs of the same words on one project, to which allocations are refused."""
+    """Runs of the same arguments on one project, to which allocations are refused."""
 
     def __init__(self, program, name, words, folder):
         self.program, self.words, self.folder = program, words, folder
@@ -174,7 +174,7 @@ def run_within(program, kilobytes, words, folder, text):
 
 
 def starts_within(program, kilobytes, folder):
-    """Whether the program gets far enough to refuse its words, or to report the lack of memory."""
+    """Whether the program gets far enough to refuse its arguments, or to report the lack of memory."""
     ran = run_within(program, kilobytes, REFUSED, folder, b"")
     return ran.status == USAGE or (ran.status, ran.error) == (FAULT, LACKS_MEMORY)
 
@@ -189,8 +189,8 @@ def least_space(program, folder):
 
 
 def try_spaces(program, task):
-    """Gives a run more and more address space, until it ends as usual. Returns the counts, and what
-    is wrong."""
+    """Gives a run more and more address space, until it ends as usual. Returns the counts, and the
+    problems."""
     name, project, words, least, step = task
     tried, wrong, kilobytes = 0, [], least
     with tempfile.TemporaryDirectory() as folder:

@@ -15,7 +15,7 @@ from lib.sweeps import Sweep
 
 EDGES = 100_000
 HALF = EDGES // 2
-# The mark after fewer commands is too long for one word of a Linux command line.
+# The mark after fewer commands is too long for one argument of a Linux command line.
 FEWEST = 34_465
 LAST = f"e{EDGES - 1}"
 ALL = range(EDGES)
@@ -81,7 +81,7 @@ def chain_of_marks(number):
 
 
 def of_chain():
-    """Words, and how the run on the chain has to end."""
+    """Arguments, and how the run on the chain has to end."""
     whole, needed = commands(ALL), ALL[:-1]
     unexpanded = database({number: command(number) for number in ALL[1:]}, ".")
     expanded = {number: f"mk e{number} e{number - 1}" for number in ALL[1:]}
@@ -133,7 +133,7 @@ def pages(mark, target, sizes):
     the mark of an edge, given its number."""
     letters = {"": "", "--validations ": "v"}
     for options, letter in letters.items() if mark is chain_of_marks else [("--validations ", "v")]:
-        # The letter makes the word one byte longer.
+        # The letter makes the argument one byte longer.
         for taken in (size + len(letter) for size in sizes):
             text = letter + mark(taken - 1)
             first, rest = commands(ALL[:taken]), commands(ALL[taken:])
@@ -203,7 +203,7 @@ def try_run(program, folders, task):
 
 
 def tasks_of(manifests):
-    """Each run: the name of its manifest, its words, and how it has to end."""
+    """Each run: the name of its manifest, its arguments, and how it has to end."""
     for name, of_manifest in manifests.items():
         for line, wanted in of_manifest():
             yield name, line.split(), wanted

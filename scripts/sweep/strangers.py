@@ -1,10 +1,10 @@
 """Runs the program on hostile manifests.
 
-Each case has a seed (lib/strangers.py makes it of that). Each run gets 256 MB, 10
-seconds, and an output that takes 16 MB, or in one run of ten nothing. It has to end by itself, with
-a status of the man page. A fault has to be one that exists, and its place has to contain what such
-a fault is about. Only trees of targets, and manifests with values that grow without bound, may run
-out of time.
+Each case has a seed, from which `lib/strangers.py` makes it. Each run gets 256 MB, 10 seconds, and
+an output that takes 16 MB, or in one run of ten nothing. It has to end by itself, with a status of
+the man page. A fault has to be one that exists, and its place has to contain the subject of such a
+fault. Only trees of targets, and manifests with values that grow without bound, may run out of
+time.
 
 A run that did not end as it should is printed with its seed.
 """
