@@ -1,6 +1,6 @@
 /*
- * Supplies the library with the files of a manifest from a folder, and loads, joins or runs. Header-only, for
- * POSIX systems; include it first, or define _POSIX_C_SOURCE as 200809L before other headers.
+ * Supplies the library with the files of a manifest from a directory, and loads, joins or runs.
+ * Header-only, for POSIX systems; include it first, or define _POSIX_C_SOURCE as 200809L before other headers.
  *
  *     #include <ninja_explain_files.h>
  *     #include <stdio.h>
@@ -22,8 +22,8 @@
  *         return status == NX_DONE ? 0 : 1;
  *     }
  *
- * Only regular files of at most 1 GiB are read, and only below the folder: a path that is absolute or
- * has a component `..` is refused, unless `allow_outside` is 1, so that an untrusted manifest cannot
+ * Only regular files of at most 1 GiB are read, and only below the directory: a path that is absolute
+ * or has a component `..` is refused, unless `allow_outside` is 1, so that an untrusted manifest cannot
  * name a file elsewhere. Symbolic links are followed, wherever they lead.
  */
 #ifndef NINJA_EXPLAIN_FILES_H
@@ -42,15 +42,15 @@
 #include <sys/types.h>
 #include <unistd.h>
 
-/* What the calls below return beside the statuses of the library. */
+/* The statuses of the calls below, beside those of the library. */
 enum nx_files_status {
     /* A file cannot be read; errno says why. */
     NX_FILES_UNREADABLE = -1,
-    /* A path leads out of the folder. */
+    /* A path leads out of the directory. */
     NX_FILES_OUTSIDE = -2,
     /* A file is not a regular one, or is larger than 1 GiB. */
     NX_FILES_UNFIT = -3,
-    /* Files were still wanted after NX_FILES_MOST_LOADS loads, each of which named others. */
+    /* Files were still wanted after NX_FILES_MOST_LOADS loads, each naming others. */
     NX_FILES_ENDLESS = -4
 };
 
@@ -60,9 +60,9 @@ enum nx_files_status {
 
 /* Where files are read, and the path of the one that failed. */
 struct nx_files {
-    /* The folder of the manifest; empty for the working folder. */
+    /* The directory of the manifest; empty for the working directory. */
     const char *folder;
-    /* 1 if paths may lead out of the folder, else 0. */
+    /* 1 if paths may lead out of the directory, else 0. */
     int allow_outside;
     /* After one of `enum nx_files_status` the path that failed, else NULL. nx_files_clear frees it. */
     char *failed;
@@ -70,14 +70,14 @@ struct nx_files {
 
 #define NX_FILES_IN(folder) { (folder), 0, NULL }
 
-/* Frees what the files own. */
+/* Frees the memory of the files. */
 static inline void nx_files_clear(struct nx_files *files)
 {
     free(files->failed);
     files->failed = NULL;
 }
 
-/* What one of `enum nx_files_status` means. */
+/* The meaning of one of `enum nx_files_status`. */
 static inline const char *nx_files_text(int32_t status)
 {
     switch (status) {
@@ -110,7 +110,7 @@ static inline int nx_files_leads_out(const char *path)
     return 0;
 }
 
-/* Opens the file at a path of the folder. Returns a descriptor, or -1 with errno. */
+/* Opens the file at a path of the directory. Returns a descriptor, or -1 with errno. */
 static inline int nx_files_open(const struct nx_files *files, const char *path)
 {
     /* (a pipe without a writer would wait for one) */
@@ -271,7 +271,7 @@ static inline int32_t nx_files_load(nx_session *session, const char *main, uint3
 }
 
 /*
- * As nx_join_deps, with the deps log at a path of the folder, as ".ninja_deps". Returns its status or one
+ * As nx_join_deps, with the deps log at a path of the directory, as ".ninja_deps". Returns its status or one
  * of `enum nx_files_status`; NX_NOTHING if there is no such file.
  */
 static inline int32_t nx_files_join_deps(nx_session *session, const char *path, struct nx_files *files)

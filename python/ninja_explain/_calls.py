@@ -37,7 +37,7 @@ _TEXT, _NUMBERS = [c_char_p, c_size_t], [POINTER(c_size_t), c_size_t]
 _BUFFER = [c_char_p, c_size_t, _NUMBER]
 _AT = [c_size_t, c_size_t, _NUMBER]
 _FROM = [c_size_t, c_size_t, *_NUMBERS]
-# What each call takes after its session.
+# The arguments of each call after its session.
 _CALLS: dict[str, Sequence[Any]] = {
     "nx_close": [],
     "nx_open": [c_uint64],
@@ -125,7 +125,7 @@ def decoded(content: bytes) -> str:
 
 
 class Session:
-    """A session of the library: a graph, and what was listed and run last.
+    """A session of the library: a graph, and its last list and run.
 
     A call that comes while another thread makes one is refused with RuntimeError. `with session`
     holds the session for several calls, so that no other thread's come between them.
@@ -166,7 +166,7 @@ class Session:
     # ---- calls
 
     def call(self, name: str, *arguments: Any) -> int:
-        """Makes a call. Returns its status if that is no error, or raises what it means."""
+        """Makes a call. Returns its status if that is no error, or raises its exception."""
         with self:
             status: int = getattr(_library, name)(ctypes.byref(self._kept), *arguments)
             if status <= WANTED and status != FAULT:
@@ -174,7 +174,7 @@ class Session:
             raise self._error(status)
 
     def is_there(self, name: str, *arguments: Any) -> bool:
-        """Makes a call. Returns whether there is what it asks for."""
+        """Makes a call. Returns whether it found something."""
         return self.call(name, *arguments) == DONE
 
     def number(self, name: str, *arguments: Any) -> int | None:

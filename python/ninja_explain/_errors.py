@@ -1,4 +1,4 @@
-"""What goes wrong."""
+"""Errors and faults."""
 
 from __future__ import annotations
 
@@ -6,7 +6,7 @@ from enum import IntEnum
 
 
 class FaultKind(IntEnum):
-    """What is wrong, as `enum nx_fault` of the library for C has it, whose comments say more."""
+    """The kinds of faults, as `enum nx_fault` of the library for C has them, whose comments say more."""
 
     UNKNOWN = 0
     BAD_BYTE = 1
@@ -54,7 +54,7 @@ class FaultKind(IntEnum):
 
 
 class Fault(Exception):
-    """Why a manifest is not a graph, or a word not a target: FILE:LINE:COLUMN: TEXT, or TEXT alone.
+    """Why a manifest is not a graph, or an argument not a target: FILE:LINE:COLUMN: TEXT, or TEXT alone.
 
     `line` and `column` count from 1, and columns count bytes. A fault without a location has None
     for `file`, `line` and `column`.
@@ -83,7 +83,7 @@ class BadDepsLog(ValueError):
     """Bytes that are not a deps log of version 4, which Ninja has written since 1.9."""
 
 
-# What a status of the library means, beside a fault.
+# The meaning of a status of the library, beside a fault.
 STATUS_ERRORS: dict[int, tuple[type[Exception], str]] = {
     5: (ValueError, "no graph is loaded"),
     6: (ValueError, "no edge or file has this number"),

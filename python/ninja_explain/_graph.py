@@ -48,7 +48,7 @@ class Place(NamedTuple):
 
 
 class Run(NamedTuple):
-    """What the program does with some arguments: its exit status, and what it writes to standard
+    """The result of the program for some arguments: its exit status, and its output on standard
     output and standard error."""
 
     status: int
@@ -218,7 +218,7 @@ class Edge(_Numbered):
 
     @property
     def command(self) -> str:
-        """Its command, as it is passed to a shell. No phony edge is run: its command is what its block
+        """Its command, as it is passed to a shell. No phony edge is run: its command is the value that its block
         binds to `command`, and mostly empty."""
         return self._session.text("nx_command", self._number)
 
@@ -303,16 +303,16 @@ class Graph:
         deps_log: AnyPath | None = None,
         allow_outside: bool = False,
     ) -> Graph:
-        """The graph of a manifest and of all files that it includes, which are read in a folder.
+        """The graph of a manifest and of all files that it includes, which are read in a directory.
 
         With `joins_dyndeps` its dyndep files are read and joined too. `deps_log` is the path of a deps
-        log, which Ninja keeps as `.ninja_deps` in the build folder: what it names for the first output
+        log, which Ninja keeps as `.ninja_deps` in the build directory: the files that it names for the first output
         of an edge with a value of `deps` becomes an implicit input of the edge. Only regular files of
-        at most 1 GiB are read, and only below the folder, unless `allow_outside` is true; symbolic
+        at most 1 GiB are read, and only below the directory, unless `allow_outside` is true; symbolic
         links are followed.
 
         Raises the first Fault of the manifest, or of joining the log: a dependency cycle, if the log
-        is older than the manifest; BadDepsLog; PermissionError for a path outside of the folder;
+        is older than the manifest; BadDepsLog; PermissionError for a path outside of the directory;
         FileNotFoundError if there is no deps log; another OSError for a file that is there and cannot
         be read; MemoryError.
         """
@@ -346,7 +346,7 @@ class Graph:
         self._session.call("nx_join_deps", log, len(log))
 
     def close(self) -> None:
-        """Frees its memory. A graph that is closed stays so."""
+        """Frees its memory. A graph that is closed remains closed."""
         self._session.close()
 
     @property
@@ -403,7 +403,7 @@ class Graph:
         return None if number is None else File._of(self, number)
 
     def target(self, word: AnyPath) -> File:
-        """The file that a word of Ninja's command line means: its path is cleaned, and `FILE^` is
+        """The file that an argument of Ninja's command line means: its path is cleaned, and `FILE^` is
         the first output of the first edge that has FILE as an input. Raises Fault if there is none."""
         return File._of(self, self._session.count("nx_pick_target", *text_arguments(word)))
 
@@ -466,7 +466,7 @@ class Graph:
     def run(
         self, words: Iterable[str], folder: AnyPath = ".", *, allow_outside: bool = False
     ) -> Run:
-        """Runs the program with these arguments, without its own name, over the files in a folder,
+        """Runs the program with these arguments, without its own name, over the files in a directory,
         which are read as `load` reads them. What was read before is not read again. The loaded graph
         stays. Raises ValueError for an argument with a zero byte."""
         return _run(self._session, words, Folder(encoded(folder), allow_outside))
@@ -492,8 +492,8 @@ class Graph:
 
 
 def run(words: Iterable[str], folder: AnyPath = ".", *, allow_outside: bool = False) -> Run:
-    """Runs the program with these arguments, without its own name, over the files in a folder, which
-    are read as `Graph.load` reads them. Raises ValueError for an argument with a zero byte."""
+    """Runs the program with these arguments, without its own name, over the files in a directory,
+    which are read as `Graph.load` reads them. Raises ValueError for an argument with a zero byte."""
     return _run(Session(), words, Folder(encoded(folder), allow_outside))
 
 

@@ -22,7 +22,7 @@ NEVER = {
     r"for good": "permanently",
     r"each once": "without duplicates",
     r"(?-i:[Ff]olders?)": "directory",
-    r"as (?:it is|they are|it was|they were)(?! \w+(?:ed|en)\b)": "verbatim, unchanged",
+    r"as (?:it is|they are|it was|they were)(?! (?:\w+(?:ed|en)|read|made)\b)": "verbatim, unchanged",
     r"(?:hand|hands|handed|handing) (?:in|out|over)": "supply, return",
     r"(?:give|gives|given|gave|giving) out": "re-export, return",
     r"(?:is|are|was|were|be|been) asked (?:for|which|what|whether|how)": "query, request",
@@ -31,13 +31,14 @@ NEVER = {
     r"dear|dearer|dearest": "expensive, costs more",
     r"took some since": "has written since",
     r"odd": "a finding, a problem",
-    r"one \w+ more": "one more ..",
+    r"one (?!or\b)\w+ more": "one more ..",
     r"wrong words": "invalid arguments",
 }
 
 # Where a phrase of `NEVER` stays all the same: a fault's text, a name, a table of these phrases.
 EXCEPT = {
     "bench/projects.py": {r"(?-i:[Ff]olders?)"},
+    "crates/nj_names/src/name_hasher.rt": {r"odd"},
     "man/ninja-explain.1": {r"wrong words"},
 }
 

@@ -1,4 +1,4 @@
--- what must be believed
+-- the definitions to believe
 pub mod Affected
 pub mod Chains
 pub mod LogPaths

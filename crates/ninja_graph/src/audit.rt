@@ -37,7 +37,7 @@ pub fn command<'a>(alloc: Global) -> Result<Command<'a>, AllocError> {
         .arg(flag(alloc, "list", "List the kinds, and read nothing"))
 }
 
-/// Writes the findings that the options ask for, or the kinds.
+/// Writes the findings that the options select, or the kinds.
 pub fn answer(rt: HostRuntime, options: &ArgMatches<'_>) -> Result<Status, Failure> {
     if options.get_flag("list") {
         let lines = kind_lines(rt.alloc())?;
@@ -52,7 +52,7 @@ pub fn answer(rt: HostRuntime, options: &ArgMatches<'_>) -> Result<Status, Failu
     written
 }
 
-/// The kinds that `--only` and `--except` ask for.
+/// The kinds that `--only` and `--except` select.
 fn kinds_of(alloc: Global, options: &ArgMatches<'_>) -> Result<Kinds, Failure> {
     let only = options.get_strs("only").unwrap_or(&[]);
     let except = options.get_strs("except").unwrap_or(&[]);
@@ -81,7 +81,7 @@ fn write_findings(
 }
 
 /// Of each file whether it is a source that is not on the disk. It is empty, and nothing is looked
-/// up, unless missing sources are asked for.
+/// up, unless missing sources are requested.
 fn missing_files(rt: HostRuntime, graph: &Graph, kinds: Kinds) -> Result<Vec<bool>, AllocError> {
     if !kinds.contains(Kind::MissingSource) {
         return Ok(Vec::new(rt.alloc()));
@@ -94,8 +94,8 @@ fn missing_files(rt: HostRuntime, graph: &Graph, kinds: Kinds) -> Result<Vec<boo
     Ok(missing)
 }
 
-/// The path of the working folder, below which absolute paths are those of the build; empty if it is
-/// not known.
+/// The path of the working directory, below which absolute paths are those of the build; empty if
+/// it is not known.
 fn working_folder(rt: HostRuntime) -> Result<Vec<u8>, AllocError> {
     match env::current_dir(&rt) {
         Ok(folder) => Vec::from_slice(rt.alloc(), folder.as_str().as_bytes()),

@@ -39,7 +39,8 @@ fn main(rt: HostRuntime) -> ExitCode {
     ExitCode::from(status.code())
 }
 
-/// Reports why there is no answer. Where an output failed, that is not said to another one.
+/// Reports why there is no answer. Where an output stream failed, that is not reported on the other
+/// one.
 fn report_failure(rt: HostRuntime, failure: &Failure) -> Status {
     let status = failure.status();
     if !matches!(status, Status::OutputFailed) {
@@ -74,7 +75,7 @@ fn arguments(rt: HostRuntime) -> Result<Vec<String>, Failure> {
     }
 }
 
-/// Prints the text that `clap` has for other words, among them those that ask for help.
+/// Prints the text that `clap` has for other arguments, among them those for help.
 fn print_error(rt: HostRuntime, error: &clap::Error) -> Status {
     let printed = error.print(&rt);
     match error.kind() {
@@ -87,7 +88,7 @@ fn print_error(rt: HostRuntime, error: &clap::Error) -> Status {
     }
 }
 
-/// Answers what a subcommand asks.
+/// Runs a subcommand.
 fn answer(rt: HostRuntime, matches: &ArgMatches<'_>) -> Result<Status, Failure> {
     let Some((name, options)) = matches.subcommand() else {
         return Ok(Status::Usage);
@@ -99,7 +100,7 @@ fn answer(rt: HostRuntime, matches: &ArgMatches<'_>) -> Result<Status, Failure> 
     }
 }
 
-/// Answers what a subcommand asks of its graph.
+/// Runs a subcommand on its graph.
 fn answer_about_graph(
     rt: HostRuntime,
     name: &str,

@@ -14,8 +14,8 @@ use nj_graph::{FileSource, Graph, GraphFault, join_dyndeps, load};
 use std::alloc::Global;
 use std::env;
 
-/// Changes to the folder of `-C`, and reads the main file there and all that it includes; with
-/// `--dyndep` also dyndep files, and last the deps log that is asked for.
+/// Changes to the directory of `-C`, and reads the main file there and all that it includes; with
+/// `--dyndep` also dyndep files, and last the requested deps log.
 pub fn read_graph(rt: HostRuntime, options: &ArgMatches<'_>) -> Result<Graph, Failure> {
     if let Some(folder) = options.get_str("folder") {
         env::set_current_dir(&rt, folder).map_err(Failure::Folder)?;
@@ -40,7 +40,7 @@ fn read_manifest<S: FileSource>(
     Ok(loaded.into_graph())
 }
 
-/// The graph with what a deps log has for its edges, if there is one.
+/// The graph with a deps log's inputs for its edges, if there is one.
 ///
 /// # Errors
 ///

@@ -20,7 +20,7 @@ use Rattle.nj_audit.specs.UndeclaredInputs.AreUndeclared.{no_edges, one_more}
 use Rattle.nj_audit.proofs.ListLemmas.{map-append}
 use Rattle.nj_audit.specs.Audit.{all_findings, findings_asked_for, edge_numbers, numbers, first_output_at, paths_at, path_of, unused_outputs, unused_outputs_at, is_unused_output, missing_source, missing_sources, user_of_missing, is_used_rule, rule_of_number, unused_rule, unused_rules, pools_of_edges, unused_pool, unused_pools, is_unused_variable, unused_variables, unused_variables_at, repeats_command, repeated_commands, has_depfile_without_deps, depfiles_without_deps, repeated_inputs, repeated_inputs_at, repeated_paths}
 
--- of findings, all of which are of a kind, a filter by kinds keeps all or none
+-- of findings that are all of a kind, a filter by kinds keeps all or none
 abbrev pub AreOf : Kind → List FindingModel → Type 0
 AreOf kind found = (asked : Kind → Bool) → filter (λ (f : FindingModel). asked f.kind) found ≡ cond (asked kind) found []
 
@@ -212,13 +212,13 @@ module _ (g : GraphModel) (entries : List ReadStatement) (missing serving : List
   of-kind RepeatedInput = of-inputs g
   of-kind UndeclaredInput = are
 
-  -- kind by kind, those that are asked for are a filter of all
+  -- kind by kind, the requested ones are a filter of all
   pub asked-law : (kinds : Kinds)
       → flat_map (asked_of kinds (findings_of g entries missing serving undeclared)) all_kinds
       ≡ findings_asked_for kinds (all_findings g entries missing serving undeclared)
   asked-law kinds = nine (contains kinds) (findings_of g entries missing serving undeclared) of-kind
 
--- one kind more
+-- one more kind
 pub one-asked : (b : Bool) (text found : List FindingModel) → b ≡ true → text ++ found ≡ text ++ (cond b found [] ++ [])
 one-asked b text found is = ap (λ t. text ++ t) (sym (append-nil found)) ∙ ap (λ c. text ++ (cond c found [] ++ [])) (sym is)
 
@@ -243,13 +243,13 @@ plain-option : {X : Type 0} (o : Option X) → option_map (λ x. x) o ≡ o
 plain-option None = refl
 plain-option (Some x) = refl
 
--- the first item of two lists that passes by what stands for it
+-- the first item of two lists that passes by its value
 pub find-in-both : {X Y : Type 0} (f : X → Y) (p : Y → Bool) (o : Option X) (xs ys : List X) → option_map (λ x. x) o ≡ find (λ x. p (f x)) (xs ++ ys)
     → option_map f o ≡ find p (map f xs ++ map f ys)
 find-in-both f p o xs ys is =
     ap (option_map f) (sym (plain-option o) ∙ is) ∙ find-mapped f p (xs ++ ys) ∙ ap (find p) (map-append f xs ys)
 
--- flags that are each what the words ask for
+-- flags that each match the selection of the values
 pub ask-for : (kinds : Kinds) (only except : List (List ℕ)) → kinds.unused_output ≡ is_asked_for only except UnusedOutput
     → kinds.missing_source ≡ is_asked_for only except MissingSource → kinds.unused_rule ≡ is_asked_for only except UnusedRule
     → kinds.unused_pool ≡ is_asked_for only except UnusedPool → kinds.unused_variable ≡ is_asked_for only except UnusedVariable

@@ -1,4 +1,4 @@
--- How the code meets the definitions beside this folder.
+-- How the code meets the definitions beside this directory.
 pub mod ByKind
 pub mod FilesNamed
 pub mod LateFiles

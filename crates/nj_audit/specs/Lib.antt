@@ -1,4 +1,4 @@
--- what must be believed
+-- the definitions to believe
 pub mod Audit
 pub mod Audits
 pub mod Findings

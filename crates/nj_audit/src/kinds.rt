@@ -1,4 +1,4 @@
-//! The kinds of findings, and which of them are asked for.
+//! The kinds of findings, and which of them are requested.
 
 ghost use Rattle.std.specs.Prelude.{◌≡◌, None, Some, IfErr, IfOk, OnOk, option_map};
 ghost use Rattle.nj_graph.specs.Edges.{is_among};
@@ -65,7 +65,7 @@ impl Kind {
         }
     }
 
-    /// What is found.
+    /// The meaning of a finding of this kind.
     pub fn meaning(self) -> &'static str {
         match self {
             Kind::UnusedOutput => "an output that is no default, no input and no validation",
@@ -81,7 +81,7 @@ impl Kind {
         }
     }
 
-    /// Whether it is asked for where `--only` names no kinds.
+    /// Whether it is reported where `--only` names no kinds.
     pub fn is_on_by_default(self) -> bool
         ensures { result ≡ is_on_by_default self }
     {
@@ -95,7 +95,7 @@ impl Kind {
     }
 }
 
-/// The kinds that are asked for, with a flag for each kind.
+/// The requested kinds, with a flag for each kind.
 #[derive(Clone, Copy)]
 pub struct Kinds {
     pub unused_output: bool,
@@ -110,11 +110,11 @@ pub struct Kinds {
 }
 
 impl Kinds {
-    /// The kinds that the words of `--only` and of `--except` ask for.
+    /// The kinds that the values of `--only` and of `--except` select.
     ///
     /// # Errors
     ///
-    /// The first word that names no kind.
+    /// The first value that names no kind.
     pub fn from_words<'a>(only: &[&'a str], except: &[&'a str]) -> Result<Kinds, &'a str>
         ensures asked { IfOk result (λ kinds. AskFor kinds (texts only.now) (texts except.now)) }
         ensures known { OnOk result (first_unknown (texts only.now) (texts except.now) ≡ None) }
@@ -127,7 +127,7 @@ impl Kinds {
         }
     }
 
-    /// The kinds that words ask for, each of which names a kind.
+    /// The kinds that values select, each naming a kind.
     fn known_from_words(only: &[&str], except: &[&str]) -> Kinds
         ensures { AskFor result (texts only.now) (texts except.now) }
     {
@@ -162,7 +162,7 @@ impl Kinds {
     }
 }
 
-/// The first word that names no kind.
+/// The first value that names no kind.
 fn first_unknown<'a>(only: &[&'a str], except: &[&'a str]) -> Option<&'a str>
     ensures { option_map (λ word. word.now) result
         ≡ first_unknown (texts only.now) (texts except.now) }
@@ -180,7 +180,7 @@ fn is_unknown(word: &str) -> bool
     !Kind::ALL.iter().any(|kind| word == kind.name())
 }
 
-/// Whether words ask for a kind.
+/// Whether values select a kind.
 fn is_asked_for(only: &[&str], except: &[&str], kind: Kind) -> bool
     ensures { result ≡ is_asked_for (texts only.now) (texts except.now) kind }
 {

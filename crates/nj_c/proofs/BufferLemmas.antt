@@ -15,7 +15,7 @@ use Rattle.nj_c.specs.Buffers.{filled, kinds_of}
 abbrev pub written_up_to : {A : Type 0} → (at : ℕ) → (items before : List A) → List A
 written_up_to at items before = take at items ++ drop at before
 
--- one item more
+-- one more item
 written-more : {A : Type 0} (items before buffer : List A) (at : ℕ) (x d : A) → at < length items → at < length before → x ≡ get_or items at d
     → buffer ≡ written_up_to at items before → set buffer at x ≡ written_up_to (at + 1) items before
 written-more items before buffer at x d inside room is held =

@@ -1,4 +1,4 @@
--- What a load gives, and what a session keeps of it.
+-- The result of a load, and the part that a session keeps.
 use Rattle.std.specs.Global.{Vec}
 use Rattle.std.proofs.Common.{◌≡◌, ◌≢◌, ◌⊎◌, inl, inr, ℕ, suc, ◌==◌, Bool, true, false, if◌then◌else◌, Some, None, is_some, unwrap_or, Result, Ok, Err, List, [], ◌∷◌, length, map, refl, sym, ap, subst, ◌∙◌, arith, true≢false}
 use Rattle.std.proofs.lemmas.Bool.Decides.{eqb_tells}
@@ -35,14 +35,14 @@ first-none : (paths others : List (List ℕ)) → paths_or paths others ≡ [] �
 first-none [] others is = (refl, is)
 first-none (path ∷ paths) others is = absurd (not-nil path paths is)
 
--- what is wanted, and what was found, by the state of the source
+-- the wanted paths, and the files found, by the state of the source
 abbrev wanted-of : SourceState → List (List ℕ)
 wanted-of s = filter_map (λ r. if is_some (s.files r.path) then None else Some r.path) (unwrap_or s.readings [])
 
 abbrev FoundBy : SourceState → Type 0
 FoundBy s = AllByRecursion (λ r. r.bytes ≡ unwrap_or (s.files r.path) (Some [])) (unwrap_or s.readings [])
 
--- all that was read was handed in, and the same was handed in as before
+-- all files read were supplied, and the same was supplied as before
 pub record AllWasHanded (between after : Handed) : Type 0 where
   pub wanted : wanted_paths after ≡ []
   pub found : ReadsAsHanded after
@@ -75,7 +75,7 @@ all-handed-in : (main : List ℕ) (before : SourceState) (between after : Handed
 all-handed-in main before between after (Ok loaded) joins result loads none found gives = handed-loaded main before between after loaded joins result loads none found gives
 all-handed-in main before between after (Err fault) joins result loads none found gives = as-before between after gives.0 none found
 
--- ---- what is kept of a load
+-- ---- the kept result of a load
 
 are-statements : (main : List ℕ) (before after : SourceState) (loaded : Result LoadedModel GraphFault) → Loads main before after loaded
     → (entries : List ReadStatement) × AreStatements loaded entries
@@ -89,7 +89,7 @@ no-items (p ∷ ps) is = absurd (true≢false (sym (ap is-nil is)))
 module _ (before middle : Kept) (files : Handed) (main : List ℕ) (joins : Bool) (loaded : Result LoadedModel GraphFault)
     (begun : middle.files ≡ unread before.files) (none : KeepsNothing middle) (nothing : ListsNothing middle) (run : SameRun before middle)
     (loads : Loads main (handed_state (unread before.files)) (handed_state files) loaded) where
-  -- the session after the load, of which nothing is kept yet
+  -- the session after the load, before anything of it is kept
   abbrev read : Kept
   read = record middle { files = files }
 

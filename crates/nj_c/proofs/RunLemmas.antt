@@ -1,4 +1,4 @@
--- What a run leaves.
+-- The session after a run.
 use Rattle.std.proofs.Common.{◌≡◌, ◌≢◌, ◌⊎◌, inl, inr, ℕ, ℤ, pos, Bool, true, false, Ok, Err, Result, List, [], refl, sym, ap, subst, ◌∙◌, arith, true≢false}
 use Rattle.nj_tools.specs.MemorySinks.{state_of}
 use Rattle.nj_requests.specs.Actions.{ActionModel, RequestModel}
@@ -23,7 +23,7 @@ use Rattle.nj_c.specs.Loading.{unread}
 use Rattle.nj_c.specs.Runs.{untouched, given_words, KeepsNoOutput, OutputsNeverFail, LeavesRun, LeavesRunOfText, RunsKept, SameLoad}
 use Rattle.nj_c.specs.Inside.RunsHeld.{FinishesRun, NoRun, Ran, WordsRefused}
 
--- ---- what the source declares stays
+-- ---- the declared files stay the same
 
 files-with : (request : Result RequestModel UsageFault) (old new : Around) (status : run.Status) → RunsWith request old new status
     → (path : List ℕ) → new.source.files path ≡ old.source.files path

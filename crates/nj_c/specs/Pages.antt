@@ -1,4 +1,4 @@
--- Lists of edges: what a change reaches, what files need, and pages of the commands that targets need.
+-- Lists of edges: those that a change affects, those that files need, and pages of the commands that targets need.
 use Rattle.std.specs.Prelude.{◌≡◌, ◌<◌, ◌⊎◌, ◌↔◌, ℕ, true, false, List, [], ◌∷◌, map, length, nat_eq, All, Contains, Option, Some, None}
 use Rattle.std.specs.Str.{is_utf8}
 use Rattle.std.specs.List.{IsDistinct}
@@ -37,7 +37,7 @@ numbered numbers = map (λ n. record { 0 = n }) numbers
 abbrev pub paths_of_files : GraphModel → List ℕ → List (List ℕ)
 paths_of_files g numbers = map (path_at (files_of g)) (numbered numbers)
 
--- a session of which only the edges that were listed last changed, and the mark after them
+-- a session in which only the edges that were listed last changed, and the mark after them
 pub record Lists (before after : Kept) : Type 0 where
   pub files : after.files ≡ before.files
   pub wanted : after.wanted ≡ before.wanted
@@ -45,7 +45,7 @@ pub record Lists (before after : Kept) : Type 0 where
   pub fault : after.fault ≡ before.fault
   pub run : SameRun before after
 
--- ---- what a change reaches
+-- ---- affected edges
 
 abbrev pub IsReached : GraphModel → (files edges : List ℕ) → Type 0
 IsReached g files edges = IsStrictlyIncreasing edges
@@ -61,9 +61,9 @@ ListsReached before after files NotLoaded = (before.graph ≡ None) × (after �
 ListsReached before after files OutOfMemory = after ≡ before
 ListsReached before after files other = ⊥
 
--- ---- what files need
+-- ---- needed edges
 
--- these are the edges that files need through any chain of inputs, each once, and nearest first
+-- these are the edges that files need through any chain of inputs, without duplicates, nearest first
 pub record IsNeededList (edges : List EdgePaths) (files : List (List ℕ)) (numbers : List ℕ) : Type 0 where
   pub are : (edge : ℕ) → Contains numbers edge ↔ IsNeeded edges files edge
   pub each_once : IsDistinct nat_eq numbers

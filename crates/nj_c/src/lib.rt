@@ -1,7 +1,7 @@
 //! The library for C, and for each language that calls C. Its header is `include/ninja_explain.h`.
 //!
-//! Every export takes a session, which owns all that it keeps, and returns a status. An asking call
-//! leaves the session as it is. Nothing is lent: texts are copied into the caller's buffers.
+//! Every export takes a session, which owns its contents, and returns a status. A query leaves the
+//! session unchanged. Nothing is lent: texts are copied into the caller's buffers.
 #![tactic(auto)]
 
 mod asking;

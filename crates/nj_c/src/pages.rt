@@ -1,5 +1,5 @@
-//! Lists of edges: what a change reaches, what files need, and pages of the commands that targets
-//! need.
+//! Lists of edges: those that a change affects, those that files need, and pages of the commands
+//! that targets need.
 
 ghost use Rattle.std.specs.Prelude.{◌≡◌, ◌<◌, Some, map, length, slice_get, All, IfErr, IfOk, IfSome, MatchOption};
 ghost use Rattle.nj_needs.specs.declared.mark_fault.MarkFault.TheVariants.{OutOfMemory};
@@ -22,7 +22,7 @@ use std::alloc::{AllocError, Global};
 use std::mem;
 
 /// Lists the edges that a change of these files affects: those that need one of them through any
-/// chain of inputs, phony edges among them, each once, by number. `nx_found` gives them.
+/// chain of inputs, phony edges among them, without duplicates, by number. `nx_found` returns them.
 #[unsafe(no_mangle)]
 pub extern "C" fn nx_affected(alloc: Global, session: &mut Session, files: &[usize]) -> i32
     ensures { Changes session.old.kept session.new.kept result (λ kept after.
@@ -31,9 +31,9 @@ pub extern "C" fn nx_affected(alloc: Global, session: &mut Session, files: &[usi
     change!(session, alloc, seal => list_affected(alloc, seal, files))
 }
 
-/// Lists the edges that these files need through any chain of inputs, phony edges among them, each
-/// once and nearest first: the edges that make the files, then those that make their inputs, and so
-/// on. `nx_found` gives them.
+/// Lists the edges that these files need through any chain of inputs, phony edges among them,
+/// without duplicates, nearest first: the edges that make the files, then those that make their
+/// inputs, and so on. `nx_found` returns them.
 #[unsafe(no_mangle)]
 pub extern "C" fn nx_needed(alloc: Global, session: &mut Session, files: &[usize]) -> i32
     ensures { Changes session.old.kept session.new.kept result (λ kept after.
@@ -42,9 +42,9 @@ pub extern "C" fn nx_needed(alloc: Global, session: &mut Session, files: &[usize
     change!(session, alloc, seal => list_needed(alloc, seal, files))
 }
 
-/// Lists the edges with commands that targets need, each once, after all edges that make its
-/// inputs: at most `take` of those that are left after a mark. The mark is the empty text for the
-/// first page, and what `nx_page_mark` gave for the next one. `nx_found` gives the edges.
+/// Lists the edges with commands that targets need, without duplicates, each after all edges that
+/// make its inputs: at most `take` of those that are left after a mark. The mark is the empty text
+/// for the first page, and that of `nx_page_mark` for the next one. `nx_found` returns the edges.
 #[unsafe(no_mangle)]
 pub extern "C" fn nx_page(
     alloc: Global,
@@ -136,7 +136,8 @@ fn keep_edges(seal: Seal, edges: Vec<EdgeNo>, mark: Vec<u8>) -> Seal
     Seal::new(kept)
 }
 
-// The edges that a change of files of these numbers affects; `None` if a number is none of a file.
+// The edges that a change of files of these numbers affects; `None` if a number is not that of a
+// file.
 fn affected(
     alloc: Global,
     graph: &Graph,
@@ -152,7 +153,7 @@ fn affected(
     }
 }
 
-// The edges that files of these numbers need; `None` if a number is none of a file.
+// The edges that files of these numbers need; `None` if a number is not that of a file.
 fn needed(
     alloc: Global,
     graph: &Graph,

@@ -27,7 +27,7 @@ settles_longer block lines zero more name le s = absurd s
 settles_longer block lines (suc depth) zero name le s = absurd (omega arith)
 settles_longer block lines (suc depth) (suc more) name le s = λ other r. settles_longer block lines depth more other (omega arith) (s other r)
 
--- what settles is the same at each greater depth
+-- a name that settles is the same at each greater depth
 pub late_settled : (quoting : Bool) (n : LateNames) (depth more : ℕ) (name : List ℕ) → depth ≤ more → Settles n.block n.lines depth name → late_in more quoting n name ≡ late_in depth quoting n name
 late_settled quoting n zero more name le s = absurd s
 late_settled quoting n (suc depth) zero name le s = absurd (omega arith)

@@ -22,7 +22,7 @@ pub struct LateEdge<'a> {
     pub edge: usize,
     /// Its rule.
     pub rule: &'a Rule,
-    /// What the files declare.
+    /// The declarations of the files.
     pub declarations: &'a Declarations,
     /// The number of the scope that has the edge.
     pub scope: usize,

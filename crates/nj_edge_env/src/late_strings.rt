@@ -19,11 +19,11 @@ use nj_text::Part;
 use std::alloc::AllocError;
 
 impl<'a> LateEdge<'a> {
-    /// Appends the late string of a name: its value where it is asked for ("Rule variables" in the
-    /// Ninja manual). An edge with a cycle of its rule's variables has no late strings: ask
+    /// Appends the late string of a name: its value when its rule is used ("Rule variables" in the
+    /// Ninja manual). An edge with a cycle of its rule's variables has no late strings: call
     /// `variable_cycle` first. For any other edge each line of the rule is expanded once, and its
     /// text is copied at each further reference. So the time grows with the text and the lines, and
-    /// calls nest no deeper than the rule has keys, of which there are few.
+    /// calls nest no deeper than the rule has keys, which are few.
     ///
     /// # Errors
     ///
@@ -202,8 +202,8 @@ impl<'a> LateEdge<'a> {
     }
 }
 
-// The number of a key to which the rule gives a value: for a name that determines what an edge
-// runs, a value without parts is not given.
+// The number of a key to which the rule gives a value: for a name that determines an edge's
+// command, a value without parts is none.
 fn given_key(rule: &Rule, key: &[u8]) -> Option<usize>
     ensures number { IfSome result (IsNumber rule.now.lines key.now) }
     ensures given { is_some result ≡ is_some (value_given rule.now.lines key.now) }

@@ -24,7 +24,7 @@ use Rattle.nj_graph.specs.Inside.NeedsSearched.{IsSearch}
 use Rattle.nj_graph.specs.declared.found_inputs.FoundInputs.{FoundInputs}
 use Rattle.nj_graph.specs.declared.undeclared.UndeclaredInput.{UndeclaredInput}
 
--- ---- those of some items that have a property, and one item more
+-- ---- the items with a property, and one more item
 
 module _ {A : Type 0} (P : A → Type 0) (x : A) where
   pub those-more : (items those : List A) → AreThose P items those → P x → AreThose P (items ++ x ∷ []) (those ++ x ∷ [])
@@ -37,7 +37,7 @@ module _ {A : Type 0} (P : A → Type 0) (x : A) where
   those-same _ _ (has_it q rest) p = has_it q (those-same _ _ rest p)
   those-same _ _ (lacks_it q rest) p = lacks_it q (those-same _ _ rest p)
 
--- ---- what is no undeclared input
+-- ---- files that are no undeclared inputs
 
 module _ (edges : List EdgePaths) (input : InputOfEdge) where
   pub not-made : maker_of edges input.path ≡ None → IsUndeclared edges input → ⊥
@@ -50,7 +50,7 @@ module _ (edges : List EdgePaths) (input : InputOfEdge) where
   declared maker is needs undeclared =
       undeclared.not_needed (subst (IsOrNeeds edges input.edge) (same_Some maker undeclared.maker (sym is ∙ undeclared.makes)) needs)
 
--- ---- one path more
+-- ---- one more path
 
 module _ (g : EdgeGraph) (edge : ℕ) (before : List InputOfEdge) (paths : List (List ℕ)) (path : List ℕ) where
   abbrev own : InputOfEdge
@@ -198,7 +198,7 @@ cleans-more paths numbers i below =
 pub cleans-all : (paths : List (List ℕ)) (numbers : List ℕ) (i : ℕ) → length numbers ≤ i → map clean_path_of (map (name_at paths) (take i numbers)) ≡ map clean_path_of (map (name_at paths) numbers)
 cleans-all paths numbers i past = ap (λ ns. map clean_path_of (map (name_at paths) ns)) (take_all i numbers past)
 
--- what finds the next ones makes no difference
+-- the search for the next ones makes no difference
 pub same-finds : (g : EdgeGraph) (edge : ℕ) (before : List InputOfEdge) (paths : List (List ℕ)) (f other : FoundInputs) → f.inputs ≡ other.inputs → f.files ≡ other.files → FindsAt g edge before paths f → FindsAt g edge before paths other
 same-finds g edge before paths f other inputs files finds = record {
   those = subst (λ is. AreThose (IsUndeclared g.edges) (before ++ inputs_of_edge edge (each_once bytes_eq paths)) (map (input_of_edge g.files) is)) (ap (λ v. v.items) inputs) finds.those;

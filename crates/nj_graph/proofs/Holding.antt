@@ -1,4 +1,4 @@
--- What a reader has after one statement more.
+-- A reader after one more statement.
 use Rattle.std.proofs.Common.{◌≡◌, ℕ, ◌==◌, ◌&&◌, if◌then◌else◌, Bool, true, false, not, cond, Some, None, option_map, option_and_then, unwrap_or, Result, Ok, Err, Option, List, [], ◌∷◌, ◌++◌, drop, take, get_or, length, length-append, slice_get, ◌+◌, ◌-◌, ◌<◌, find, refl, sym, ap, subst, ◌∙◌, true≢false, arith}
 use Rattle.nj_graph.specs.Inside.PathsReached.{with_news, paths_read}
 use Rattle.nj_graph.proofs.OriginLemmas.{origins-more}
@@ -119,7 +119,7 @@ depths-next file scope entries lines i line lt at is =
     ap (λ ls. depth_fault file scope entries (lines_model ls)) (drop_more lines i line lt ∙ ap (λ (l : Line). l ∷ drop (i + 1) lines) (sym at))
     ∙ ap (λ b. option_map (λ (m : LineModel). fault_at file m.spot BadDepth) (cond (not b) (Some (line_model line)) (find (λ m. not (is_depth (expanded_in scope entries m.value))) (lines_model (drop (i + 1) lines))))) is
 
--- the depth after one line more is the number of that line
+-- the depth after one more line is the number of that line
 pub depth-next : (scope : List ℕ) (entries : List ReadStatement) (lines : List Line) (i : ℕ) (line : Line) → i < length lines → line ≡ get_or lines i line
     → depth_of scope entries (lines_model (take (i + 1) lines)) ≡ unwrap_or (leading_number_of (expanded_in scope entries (word_model line.value))) 0
 depth-next scope entries lines i line lt at =
@@ -151,7 +151,7 @@ pub placed-text : (place : PlaceRef) (file : List ℕ) (spot : Spot) → place.f
 placed-text place file spot file_is spot_is =
     ap (λ (name : List ℕ). record { file = name; spot = place.spot }) file_is ∙ ap (λ (s : Spot). record { file = file; spot = s }) spot_is
 
--- a statement that leaves the declarations as they are and adds the edges of one statement
+-- a statement that leaves the declarations unchanged and adds the edges of one statement
 pub built-declares : (main : List ℕ) (old held : Reader) (entries : List ReadStatement) (e : ReadStatement) (result : Result (Unit {0}) GraphFault) → Has main old entries
     → DeclaredBy held.declarations (e ∷ entries) → held.origins ≡ origins_with e entries old.origins → held.files ≡ old.files → path_named e entries e.item ≡ None
     → Grows old.declarations.scopes held.declarations.scopes → IsOpenScope old.declarations.scopes e.scope e.around

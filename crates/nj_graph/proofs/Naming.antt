@@ -1,4 +1,4 @@
--- What is read of a statement, where it has a fault of its own, and where it names a file.
+-- The reading of a statement, where it has a fault of its own, and where it names a file.
 use Rattle.std.proofs.Common.{◌≡◌, ℕ, ◌+◌, ◌<◌, Result, Ok, Err, IfOk, OnOk, length, arith, Bool, true, false, inl, inr, Option, Some, None, option_map, List, [], ◌∷◌, ◌++◌, refl, sym, ap, subst, ◌∙◌}
 use Rattle.nj_graph.specs.Inside.PathsReached.{with_news, with_new, paths_read, come_to, reached_by}
 use Rattle.nj_graph.proofs.OriginLemmas.{origins-more}
@@ -205,7 +205,7 @@ module _ (main : List ℕ) (before after : SourceState) (old : Reader) (entries 
       stops-refused (λ all. statement_read (opened_in all left) e entries) fault fault (λ all. ap (λ f. unless_fault f entries (item_read (opened_in all left) e entries e.item)) reported)
       (item-names e entries e.item fault reported) refl
 
-  -- the same where this is what the statement gives
+  -- the same where this is the statement
   pub stops-item : (left : ℕ) (site : Site) (spot : Spot) (item meant : StatementModel) (fault : GraphFault) → item ≡ meant
       → IsFault (own_fault (entry_at site (record { spot = spot; item = meant })) entries) fault
       → StopsAt main before after old.files (λ all. statement_read (opened_in all left) (entry_at site (record { spot = spot; item = item })) entries) fault

@@ -167,7 +167,7 @@ openings-count main (e ∷ before) =
 pub main-named : (main : List ℕ) (entries : List ReadStatement) → main_of (origins_read main entries) ≡ main
 main-named main entries = refl
 
--- ---- one statement more
+-- ---- one more statement
 
 after-first : {A : Type 0} (x : A) (others : List A) (o : Option A) → with_given (x ∷ others) o ≡ x ∷ with_given others o
 after-first x others None = refl
@@ -180,11 +180,11 @@ origins-more main e before =
     ∙ ap (λ (os : List OpeningModel). record { rules = rule_places (e ∷ before); pools = pool_details (e ∷ before); openings = os })
     (after-first (main_opening main) (gathered opening_given before) (opening_given e before e.item))
 
--- what is kept of the statements after a main file gives that file
+-- the origins of statements after a main file give that file
 pub origins-of_main : (o : OriginsModel) (main : List ℕ) (entries : List ReadStatement) → o ≡ origins_read main entries → o ≡ origins_read (main_of o) entries
 origins-of_main o main entries is = is ∙ ap (λ m. origins_read m entries) (sym (ap main_of is ∙ main-named main entries))
 
--- ---- what is discovered changes nothing of it
+-- ---- discoveries change nothing of it
 
 rule-by : (e : ReadStatement) (before other : List ReadStatement) (item : StatementModel) → rule_place_given e other item ≡ rule_place_given e before item
 rule-by e before other (RuleModel name lines) = refl
@@ -217,7 +217,7 @@ opening-by e before other same count (PoolModel name lines) = refl
 opening-by e before other same count (BuildModel outputs rule inputs lines) = refl
 opening-by e before other same count (DefaultModel words) = refl
 
--- one statement more, after statements with the same values and scopes
+-- one more statement, after statements with the same values and scopes
 origins-step : (main : List ℕ) (e : ReadStatement) (before others : List ReadStatement) → value_after others ≡ value_after before → scopes_opened others ≡ scopes_opened before
     → origins_read main others ≡ origins_read main before → origins_read main (e ∷ others) ≡ origins_read main (e ∷ before)
 origins-step main e before others values count rest =
@@ -229,7 +229,7 @@ origins-step main e before others values count rest =
     (opening-by e before others values count e.item)
     ∙ ap (origins_with e before) rest ∙ origins-more main e before
 
--- what is named for edges changes nothing of it either
+-- inputs named for edges change nothing of it either
 pub origins-named : (main : List ℕ) (named : ℕ → List (List ℕ)) (entries : List ReadStatement) → origins_read main (with_inputs_named named entries) ≡ origins_read main entries
 unfolding with_inputs_named
 origins-named main named [] = refl

@@ -1,4 +1,4 @@
--- How the code meets the definitions beside this folder. No contract of a public call needs these.
+-- How the code meets the definitions beside this directory. No contract of a public call needs these.
 pub mod GraphHeld
 pub mod JoiningContracts
 pub mod LogSteps

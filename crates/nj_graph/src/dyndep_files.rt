@@ -20,8 +20,8 @@ use nj_statements::{DyndepFile, Joining};
 use std::alloc::Global;
 
 /// Joins the dyndep files to which edges are bound ("Dynamic Dependencies" in the Ninja manual):
-/// the outputs and inputs that they discover become implicit ones. A value to which they were
-/// already joined stays as it is. Files are joined in the order of the first edges that are bound
+/// the outputs and inputs that they discover become implicit ones. A graph to which they were
+/// already joined stays the same. Files are joined in the order of the first edges that are bound
 /// to them, and read under their clean paths, unless they were read before. Takes time in
 /// proportion to the graph and these files.
 ///

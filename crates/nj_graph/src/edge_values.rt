@@ -68,10 +68,11 @@ impl Graph {
         self.variable(alloc, edge, b"command")
     }
 
-    /// The command of an edge as it is without its response file ("Rule variables" in the Ninja
-    /// manual): where the first occurrence of the value of `rspfile` has an `@` directly before it,
-    /// both are replaced by the value of `rspfile_content`, with a space for each line feed. A
-    /// command that does not name its response file in this way stays as it is.
+    /// The command of an edge with the contents of its response file in place of the name ("Rule
+    /// variables" in the Ninja manual): where the first occurrence of the value of `rspfile` has an
+    /// `@` directly before it, both are replaced by the value of `rspfile_content`, with a space
+    /// for each line feed. A command that does not name its response file in this way stays the
+    /// same.
     ///
     /// # Errors
     ///
@@ -87,10 +88,9 @@ impl Graph {
         with_content(alloc, command, &file, &content)
     }
 
-    /// The value of a variable for an edge, as `append_variable` appends it. Any name may be asked
-    /// for; one that is bound nowhere has the empty value. Paths (`$in`, `$in_newline`, `$out`) are
-    /// quoted for a shell, except in `rspfile`, `depfile` and `dyndep`, which name files
-    /// themselves.
+    /// The value of a variable for an edge, as `append_variable` appends it. Any name is valid; one
+    /// that is bound nowhere has the empty value. Paths (`$in`, `$in_newline`, `$out`) are quoted
+    /// for a shell, except in `rspfile`, `depfile` and `dyndep`, which name files themselves.
     ///
     /// The pool of an edge and its dyndep file are fixed by the values at its build statement. For
     /// `pool` and `dyndep` this call returns the values after all statements, which may differ.

@@ -117,8 +117,8 @@ impl Reader {
 }
 
 // The text of the file at the path, which is read unless the table has it; a fault is placed at the
-// word at this place. What the fault names is copied before the file is read, so that a failed read
-// is reported as such.
+// word at this place. The name in the fault is copied before the file is read, so that a failed
+// read is reported as such.
 pub(crate) fn text_at<S: FileSource>(
     alloc: Global,
     source: &mut S,

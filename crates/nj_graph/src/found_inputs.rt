@@ -15,7 +15,7 @@ use crate::undeclared::UndeclaredInput;
 use nj_edges::{EdgeGraph, EdgeNo};
 use std::alloc::{AllocError, Global};
 
-/// Undeclared inputs that were found, and what finds the next ones.
+/// Undeclared inputs that were found, and the search for the next ones.
 #[derive(Drop)]
 pub(crate) struct FoundInputs {
     pub(crate) inputs: Vec<UndeclaredInput>,

@@ -16,7 +16,7 @@ impl Deref for Graph {
 
     ghost deref_gives = { λ g edges. edges ≡ g.built.graph };
 
-    /// What is asked of a graph about its edges and files is answered by these.
+    /// A graph answers queries about its edges and files by these.
     fn deref(&self) -> &EdgeGraph
         ensures { result.now ≡ self.now.built.graph }
     {
@@ -25,7 +25,7 @@ impl Deref for Graph {
 }
 
 impl Graph {
-    /// The edges and their files alone, without what statements bind: a walk goes over these.
+    /// The edges and their files alone, without the bindings of statements: a walk goes over these.
     pub fn edge_graph(&self) -> &EdgeGraph
         ensures { result.now ≡ self.now.built.graph }
     {

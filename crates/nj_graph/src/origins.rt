@@ -1,4 +1,4 @@
-//! Where what was read comes from: the places of rules and pools, and the files that were opened.
+//! The origins of statements: the places of rules and pools, and the files that were opened.
 
 ghost use Rattle.std.specs.Prelude.{◌≡◌, ◌<◌, [], ◌∷◌, ◌++◌, Some, None, length, option_map, slice_get, IfOk, OnOk};
 ghost use Rattle.nj_scope.specs.Readings.{IsPrefix};
@@ -50,7 +50,7 @@ pub(crate) struct HeldOpening {
 /// which files.
 #[derive(Drop)]
 pub(crate) struct Origins {
-    // The names under which files were opened, each once.
+    // The names under which files were opened, without duplicates.
     names: Names,
     // The rules but `phony`.
     rules: Vec<HeldPlace>,

@@ -54,7 +54,7 @@ pub(crate) struct Opened {
     pub(crate) text: RcSlice<u8>,
 }
 
-/// What was read so far.
+/// The statements read so far.
 #[derive(Drop)]
 pub(crate) struct Reader {
     pub(crate) declarations: Declarations,
@@ -153,7 +153,7 @@ impl Reader {
         }
     }
 
-    // Reads what a statement itself gives. Returns the file that it names, if it names one.
+    // Reads a statement itself. Returns the file that it names, if it names one.
     fn read_item<S: FileSource>(
         &mut self,
         alloc: Global,

@@ -51,7 +51,7 @@ is-phony entries scope name number rule is there =
     named : rule.name ≡ name
     named = let (r, at, its, _) = in_force entries scope name number is in ap (λ (x : RuleModel). x.name) (some_same (sym there ∙ at)) ∙ its
 
--- an edge that loses its own outputs is phony as it was
+-- an edge that loses its own outputs is still phony or not
 pub kept-phony : (s : EdgePaths) → (edge_paths s).is_phony ≡ s.is_phony
 kept-phony s = by (loses_own s)
   where
@@ -159,7 +159,7 @@ names-by-numbers files held ins outs inputs outputs i o n held_is are_inputs are
     ∙ ap (λ (ps : List (List ℕ)). record n { inputs = ps; outputs = map (path_at files) (take o outs) }) (first-paths files ins inputs i are_inputs)
     ∙ ap (λ (ps : List (List ℕ)). record n { inputs = take i inputs; outputs = ps }) (first-paths files outs outputs o are_outputs)
 
--- what the names of the edge that is being read depend on
+-- the dependencies of the names of the edge that is being read
 pub sees-late : (edge : LateEdge) (held : DeclarationsModel) (scope : ℕ) (entries : List ReadStatement) (around : List ℕ) (read paths : EdgePaths) (block : Block) (rule : RuleModel)
     → edge.declarations.now ≡ held → edge.scope ≡ scope → ((file : Values) → late_names edge file ≡ names_read read block rule file) → read ≡ paths
     → DeclaredBy held entries → IsScope (parent_at held.scopes) scope (scope ∷ around)

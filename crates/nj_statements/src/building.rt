@@ -261,7 +261,7 @@ fn push_dyndep(dyndeps: &mut Vec<DyndepEdge>, edge: usize, file: Option<FileNo>)
     }
 }
 
-// Appends the files that words name, each of which an earlier edge has to name.
+// Appends the files that words name; an earlier edge has to name each of them.
 fn add_targets(
     context: Context<'_>,
     capacity: &mut Capacity,

@@ -46,8 +46,8 @@ impl Model for Built {
         b.dyndeps.items };
 }
 
-/// What is kept of the edges of a run beside their files, and its defaults, while files are added
-/// to the edges.
+/// The records of a run's edges beside their files, and its defaults, while files are added to the
+/// edges.
 #[derive(Drop)]
 pub struct EdgeRecords {
     blocks: Blocks,
@@ -104,8 +104,8 @@ impl EdgeRecords {
 }
 
 impl Building {
-    /// What the statements yield, none of which may have had a fault. Takes time in proportion to
-    /// the edges and their inputs.
+    /// The result of the statements, which must be without faults. Takes time in proportion to the
+    /// edges and their inputs.
     ///
     /// # Errors
     ///
@@ -165,7 +165,7 @@ pub(crate) fn place_of(names: &Names, detail: Detail) -> PlaceRef<'_>
 }
 
 impl Built {
-    /// The files and the edges, and what is kept of the edges beside their files.
+    /// The files and the edges, and the records of the edges beside their files.
     pub fn into_parts(self) -> (EdgeGraph, EdgeRecords)
         ensures built { self ≡ with_graph result.0 result.1 }
         ensures fits { AreOfGraph result.0 result.1 }

@@ -1,4 +1,4 @@
-//! Where a statement is, and what names mean there.
+//! Where a statement is, and the meaning of names there.
 
 ghost use Rattle.std.specs.Prelude.{◌<◌, Some, length};
 ghost use Rattle.nj_faults.specs.Faults.{IsFault, fault_at};
@@ -9,7 +9,7 @@ use nj_scope::Declarations;
 use nj_text::Spot;
 use std::alloc::Global;
 
-/// Where a statement is, and what names mean there: what the block of its edge binds, else the
+/// Where a statement is, and the meaning of names there: the binding of its edge's block, else the
 /// value in its scope. A statement that is not an edge has the number of the next one, which binds
 /// nothing yet.
 #[derive(Clone, Copy)]

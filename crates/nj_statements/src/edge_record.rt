@@ -1,4 +1,4 @@
-//! What is kept of an edge beside its paths and its block.
+//! The record of an edge beside its paths and its block.
 
 ghost use Rattle.std.specs.Prelude.{◌≡◌, IfOk};
 ghost use Rattle.nj_statements.specs.Inside.Details.{IsDetailOf, spot_of};
@@ -9,7 +9,7 @@ use nj_text::Spot;
 use std::alloc::AllocError;
 
 /// An edge without its paths and its block: the number of the file of its statement,
-/// its place there, the numbers of its scope and of its rule; and what is assigned to it.
+/// its place there, the numbers of its scope and of its rule; and its assignment.
 #[derive(Clone, Copy)]
 pub(crate) struct Detail {
     pub(crate) file: u32,
@@ -21,7 +21,7 @@ pub(crate) struct Detail {
     pub(crate) dyndep: u32,
 }
 
-/// What is assigned to an edge at its build statement ("Pools" and "Dynamic Dependencies" in the
+/// The assignment of an edge at its build statement ("Pools" and "Dynamic Dependencies" in the
 /// Ninja manual): the numbers of its pool and of the path of its dyndep file among the strings that
 /// are kept, which count from 1, where 0 is none; and the dyndep file.
 #[derive(Clone, Copy)]

@@ -17,7 +17,7 @@ use nj_scope::Declarations;
 use nj_text::Word;
 use std::alloc::AllocError;
 
-/// Binds what the lines of an edge's block give; `text` is a buffer for their values.
+/// Binds the lines of an edge's block; `text` is a buffer for their values.
 pub(crate) fn bind_block(
     blocks: &mut Blocks,
     text: &mut Vec<u8>,

@@ -108,8 +108,8 @@ impl Context<'_> {
         Ok(())
     }
 
-    // Appends the input that a word names. A file that an edge names already is found by the word as
-    // it is, so that its path is not looked at again.
+    // Appends the input that a word names. A file that an edge names already is found by the word
+    // itself, so that its path is not cleaned again.
     fn add_input(
         self,
         capacity: &mut Capacity,
@@ -161,7 +161,7 @@ impl Context<'_> {
     }
 }
 
-// The file of a word that is the path of a file as it is. Such a word is clean, since the paths of
+// The file of a word that is the path of a file already. Such a word is clean, since the paths of
 // all files are.
 fn known_file(edges: &Edges, word: &Word<'_>) -> Option<FileNo>
     requires { AreClean edges.now.files }
@@ -319,7 +319,7 @@ fn late_edge<'a>(
     }
 }
 
-/// Reads a build statement as an edge, which is then the last one. Returns what is assigned to it.
+/// Reads a build statement as an edge, which is then the last one. Returns its assignment.
 #[tactic(auto, using(crate::proofs::Keeps::keeps_same))]
 pub(crate) fn add_edge(
     context: Context<'_>,

@@ -20,7 +20,7 @@ abbrev pub Settles : (block : List ℕ → Option (List ℕ)) → List RuleLineM
 Settles block lines zero name = ⊥
 Settles block lines (suc depth) name = (other : List ℕ) → RefersTo block lines name other → Settles block lines depth other
 
--- whatever the statements are of which the declarations are held
+-- for all statements whose declarations are held
 abbrev pub ForEdge : LateEdge → (LateNames → Type 0) → Type 0
 ForEdge e P = (entries : List ReadStatement) (around : List ℕ) → DeclaredBy e.declarations.now entries
     → IsScope (parent_at e.declarations.now.scopes) e.scope (e.scope ∷ around) → P (late_names e (value_after entries (e.scope ∷ around)))

@@ -39,7 +39,7 @@ pub record AreNamed (names : List (List ℕ)) (rules : List HeldPlace) (pools : 
   pub pools_named : AllByRecursion (λ (p : HeldPool). IsNamed names p.place) pools
   pub openings_named : AllByRecursion (λ (o : HeldOpening). (o.file < length names) × IfSome o.named_at (IsNamed names)) openings
 
--- what is held after one statement more
+-- the origins after one more statement
 abbrev pub origins_with : ReadStatement → (before : List ReadStatement) → OriginsModel → OriginsModel
 origins_with e before o = record {
   rules = option_map_or (push o.rules) (rule_place_given e before e.item) o.rules;

@@ -1,4 +1,4 @@
--- What a reader has after some statements, and what each of its calls reads.
+-- A reader after some statements, and the readings of its calls.
 use Rattle.std.specs.Prelude.{◌≡◌, ◌⊎◌, ℕ, suc, ◌<◌, ◌≤◌, Option, Some, None, Result, Ok, Err, List, [], ◌∷◌, length, String, string_bytes}
 use Rattle.nj_graph.specs.Inside.PathsReached.{with_new, paths_read, reached_by}
 use Rattle.std.specs.Prelude.{⊤}
@@ -40,7 +40,7 @@ use Rattle.nj_graph.specs.Runs.{IsRead, Stops}
 abbrev pub site_scope : Site → List ℕ
 site_scope site = site.scope ∷ site.around
 
--- ---- what is held
+-- ---- the fields
 
 -- nothing was read of the main file
 pub record IsNew (main : List ℕ) (held : Reader) : Type 0 where
@@ -50,7 +50,7 @@ pub record IsNew (main : List ℕ) (held : Reader) : Type 0 where
   pub files : held.files ≡ []
   pub origins : held.origins ≡ origins_read main []
 
--- It has what these statements give, the last read first.
+-- It has the declarations and edges of these statements, the last read first.
 pub record Has (main : List ℕ) (held : Reader) (entries : List ReadStatement) : Type 0 where
   pub declares : DeclaredBy held.declarations entries
   pub edges : HasEdges held.building entries
@@ -95,7 +95,7 @@ Declares main after e before (Err fault) = IsFault (own_fault e before) fault
 
 -- ---- files
 
--- What is read from a source if it does not fail and the table can grow: the table then has it.
+-- The readings of a source if it does not fail and the table can grow: the table then has them.
 pub record ReadsAll (before after : SourceState) (old files held : List Reading) : Type 0 where
   pub reads : IsRead before after old files
   pub held_is : held ≡ files
@@ -104,8 +104,8 @@ pub record ReadsAll (before after : SourceState) (old files held : List Reading)
 abbrev pub place_in : OpenFile → Spot → Place
 place_in file spot = record { file = file.name.now; spot = spot }
 
--- What is answered for the file at a path that a word at this place names, by what the table did when it opened the file: the text, or the
--- fault. Out of memory may also come before the table is asked.
+-- The result for the file at a path that a word at this place names, by that of the table when it opened the file: the text, or the fault.
+-- Out of memory may also come before the table is read.
 abbrev pub ReturnsText : (before after : SourceState) → (old new : List Reading) → Place → (path : List ℕ)
     → Result (RcSlice ℕ Global) GraphFault → Type 0
 ReturnsText before after old new place path (Ok text) = table.OpensFile before after old new path (Ok (Some text))
@@ -126,7 +126,7 @@ abbrev pub GivesPath : {Z : Type 0} → Option GraphFault → (gives : List ℕ)
 GivesPath expected gives (Ok path) = (expected ≡ None) × (string_bytes path ≡ gives)
 GivesPath expected gives (Err fault) = IsFault expected fault
 
--- A file is open: what is read of it from here on is its text.
+-- A file is open: its text is read from here on.
 pub record OpensText (main : List ℕ) (before after : SourceState) (old held : Reader) (left : ℕ) (place : Place) (path : List ℕ)
     (entries : List ReadStatement) (text : List ℕ) : Type 0 where
   pub files : List Reading
@@ -170,7 +170,7 @@ pub record ReadsOne (main : List ℕ) (before after : SourceState) (old held : R
   pub has : Has main held (e ∷ entries)
   pub read : (opens : Opens) → statement_read opens e entries ≡ record { entries = e ∷ entries; end = Whole }
 
--- What a statement names is open: what is read from here on is the text of the file, and what was read before that is held.
+-- The file that a statement names is open: its text is read from here on, and the statements read before it are held.
 pub record OpensNamed (main : List ℕ) (before after : SourceState) (old held : Reader) (left : ℕ) (inner : Site) (text : List ℕ)
     (e : ReadStatement) (entries : List ReadStatement) : Type 0 where
   pub files : List Reading
@@ -223,7 +223,7 @@ ReadsOrStops main before after old held reading (Err fault) = StopsAt main befor
 
 -- ---- the next statement
 
--- what a parser returns; its faults are reported in a file
+-- the result of a parser; its faults are reported in a file
 abbrev pub NextOf : (file : List ℕ) → List Line → (after : Left) → Result (Option (Placed Statement)) GraphFault → Type 0
 NextOf file lines after (Ok (Some s)) =
     (rest : List Line) × (next_statement lines ≡ Ok (Some (placed_model s), rest)) × (after ≡ Lines rest)

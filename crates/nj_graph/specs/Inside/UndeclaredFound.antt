@@ -14,7 +14,7 @@ use Rattle.nj_graph.specs.declared.found_inputs.FoundInputs.{FoundInputs}
 use Rattle.nj_graph.specs.declared.made_files.MadeFile.{MadeFile}
 use Rattle.nj_graph.specs.declared.undeclared.UndeclaredInput.{UndeclaredInput}
 
--- ---- what edges make
+-- ---- the outputs of edges
 
 -- the number of the file at a path, and of the edge that makes it; none if no edge does
 abbrev pub MadeIs : EdgeGraph → (path : List ℕ) → Option MadeFile → Type 0
@@ -30,7 +30,7 @@ IsKnownIfAny g (Some made) = (made.file.0 < length g.files) × (made.maker.0 < l
 abbrev pub AreMade : EdgeGraph → (paths : List (List ℕ)) → List (Option MadeFile) → Type 0
 AreMade g paths made = (n : ℕ) → n < length made → MadeIs g (clean_path_of (name_at paths n)) (slice_index_or made n None)
 
--- ---- what was found
+-- ---- the inputs found
 
 abbrev pub IsKnownInput : EdgeGraph → UndeclaredInput → Type 0
 IsKnownInput g input = (input.edge.0 < length g.edges) × (input.file.0 < length g.files)
@@ -61,7 +61,7 @@ pub record AddsFile (input : UndeclaredInput) (old new : FoundInputs) : Type 0 w
 
 -- ---- all edges
 
--- what a log names for outputs of these numbers, by edge
+-- the files that a log names for outputs of these numbers, by edge
 abbrev pub inputs_by_number : LogModel → (numbers : List (Option ℕ)) → List InputOfEdge
 inputs_by_number log numbers =
     flat_map (λ edge. inputs_of_edge edge (paths_of_output log (slice_index_or numbers edge None))) (range_with_len 0 (length numbers))

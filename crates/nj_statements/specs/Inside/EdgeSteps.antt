@@ -39,7 +39,7 @@ names_fault file spot declared inputs n =
 abbrev pub lines_of_rule : Option RuleModel → List RuleLineModel
 lines_of_rule r = unwrap_or (option_map (λ r. r.lines) r) []
 
--- Names have these values in a scope, by what the earlier statements declare and the block binds.
+-- Names have these values in a scope, by the declarations of the earlier statements and the bindings of the block.
 pub record Sees (held : DeclarationsModel) (scope : ℕ) (block : Block) (values : Values) : Type 0 where
   pub entries : List ReadStatement
   pub around : List ℕ
@@ -74,7 +74,7 @@ with_validations t (path ∷ paths) = with_validations (with_validation t path) 
 abbrev pub AreClean : (files : List (List ℕ)) → Type 0
 AreClean files = AllByRecursion (λ path. clean_path_of path ≡ path) files
 
--- the edges that were read stay as they are, and where all paths were clean they are still
+-- the edges that were read stay the same, and where all paths were clean they are still
 pub record KeepsClean (before after : EdgeTable) : Type 0 where
   pub read : KeepsRead before after
   pub clean : AreClean before.files → AreClean after.files
@@ -119,14 +119,14 @@ names_read paths block rule file = record {
   file = file;
 }
 
--- The names of an edge depend on these, by what the earlier statements declare.
+-- The names of an edge depend on these, by the declarations of the earlier statements.
 pub record SeesLate (edge : LateEdge) (entries : List ReadStatement) (n : LateNames) : Type 0 where
   pub around : List ℕ
   pub declared : DeclaredBy edge.declarations.now entries
   pub within : IsScope (parent_at edge.declarations.now.scopes) edge.scope (edge.scope ∷ around)
   pub are : n ≡ late_names edge (value_after entries (edge.scope ∷ around))
 
--- what is assigned to an edge whose names depend on these
+-- the assignment of an edge whose names depend on these
 abbrev pub assigned_by : LateNames → AssignedModel
 assigned_by n = record { pool = name_given (asked_text n (codes "pool")); dyndep = file_given (asked_text n (codes "dyndep")) }
 

@@ -1,4 +1,4 @@
--- What a build statement means that has this rule, where names have these values on its line.
+-- The meaning of a build statement with this rule, where names have these values on its line.
 use Rattle.std.specs.Prelude.{◌==◌, Option, List, ◌∷◌}
 use Rattle.std.specs.Option.{option_or}
 use Rattle.nj_manifest.specs.declared.statement.Build.{Build}
