@@ -52,6 +52,6 @@ pub record IsInReadingOrder {A : Type 0} (given : ReadStatement → List ReadSta
     (list : List ReadStatement → List A) : Type 0 where
   -- there are as many as statements that have one
   pub count : (entries : List ReadStatement) → length (list entries) ≡ givers given entries
-  -- the number of a statement's own is that of such statements before it
+  -- the element of a statement has the number of such statements before it
   pub each : (after before : List ReadStatement) (e : ReadStatement) (x : A) → given e before e.item ≡ Some x
       → slice_get (list (after ++ e ∷ before)) (givers given before) ≡ Some x

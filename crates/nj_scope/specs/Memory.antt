@@ -20,6 +20,6 @@ pub record Memory : Type 0 where
 abbrev pub bytes_added : List Added → List ℕ → Option (List ℕ)
 bytes_added added name = option_map (λ a. a.bytes) (find (λ a. bytes_eq name a.name) (reverse added))
 
--- it reports all readings, and the results of later ones
+-- it reports all readings, and the bytes that it would return
 abbrev pub memory_state : Memory → SourceState
 memory_state m = record { readings = Some m.readings; failures = m.failures; files = λ path. Some (bytes_added m.added path) }

@@ -67,7 +67,7 @@ maker_fault name word table None = Some (fault_at name word.spot (DyndepExtra (p
 maker_fault name word table (Some edge) =
     then_some (is_joined table edge) (fault_at name word.spot (DyndepTwice (path_given no_values word)))
 
--- the edge that makes the file of a word, if it is bound to a dyndep file
+-- the edge that makes the file of a word, if it is bound to this dyndep file
 abbrev pub edge_bound : JoinTable → (bound : List (Option FileNo)) → FileNo → WordModel → Option ℕ
 edge_bound table bound file word = if_bound bound file (maker_of table.stated (path_given no_values word))
 
