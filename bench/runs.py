@@ -16,25 +16,26 @@ TIME = shutil.which("time")
 
 
 class Run:
-    """A run of a program in a directory, without standard input. The output goes to the file `out`, or
-    else is kept. The program has to end with the status."""
+    """A run of a program in a directory, with the file `given` as standard input, or without one. The
+    output goes to the file `out`, or else is kept. The program has to end with the status, if any."""
 
-    def __init__(self, words, folder=None, status=0, out=None):
+    def __init__(self, words, folder=None, status=0, out=None, given=os.devnull):
         with contextlib.ExitStack() as files:
             peak = files.enter_context(tempfile.NamedTemporaryFile("r"))
             errors = files.enter_context(tempfile.TemporaryFile())
             stdout = files.enter_context(open(out, "wb")) if out else subprocess.PIPE
+            stdin = files.enter_context(open(given, "rb"))
             counting = [TIME, "-q", "-f", "%M", "-o", peak.name] if TIME else []
             start = time.perf_counter()
-            given = {"stdin": subprocess.DEVNULL, "stdout": stdout, "stderr": errors, "cwd": folder}
-            process = subprocess.Popen([*counting, *words], **given)
+            streams = {"stdin": stdin, "stdout": stdout, "stderr": errors}
+            process = subprocess.Popen([*counting, *words], cwd=folder, **streams)
             self.output = b"" if out else process.stdout.read()
             _, ended, usage = os.wait4(process.pid, 0)
             self.seconds = time.perf_counter() - start
             process.returncode = os.waitstatus_to_exitcode(ended)
             errors.seek(0)
             self.errors = errors.read()
-            if process.returncode != status:
+            if status is not None and process.returncode != status:
                 raise SystemExit(f"{words[0]} ended with status {process.returncode}: {self.errors.decode(errors='replace')}")
             self.processor_seconds = usage.ru_utime + usage.ru_stime
             self.memory = 1024 * int(peak.read() if TIME else usage.ru_maxrss)
