@@ -1,6 +1,6 @@
 /*
- * ninja-explain as a library: reads build.ninja and every file that it includes, and gives the graph
- * of build statements, without building anything.
+ * ninja-explain as a library: reads build.ninja and every file that it includes, and returns the
+ * graph of build statements, without building anything.
  *
  *     #include <ninja_explain.h>
  *     #include <stdio.h>
@@ -25,27 +25,27 @@
  *     }
  *
  * Every call returns a status, one of `enum nx_status`. Texts are bytes with a length; they need not
- * be UTF-8 and have no zero byte at their end. A call that gives a text copies it into the buffer of
- * the caller and gives its length through `needed`; if the buffer is too small the status is
- * NX_SHORT, the length is given all the same, and the buffer stays as it is. After any other status
- * than NX_DONE no number that a call gives is to be read. Nothing that a call gives points into the
- * session. Edges (one for each build statement) and files have numbers from 0,
- * in reading order. Lists are asked for by an index, until the status is NX_NOTHING.
+ * be UTF-8 and have no zero byte at their end. A call that returns a text copies it into the buffer
+ * of the caller and stores its length in `needed`; if the buffer is too small the status is
+ * NX_SHORT, the length is stored all the same, and the buffer is unchanged. After any other status
+ * than NX_DONE do not read numbers that a call stores. No result points into the session. Edges
+ * (one for each build statement) and files have numbers from 0, in reading order. Lists are read by
+ * an index, until the status is NX_NOTHING.
  *
- * nx_outputs, nx_inputs and nx_users give many items of a list in one call: those from an index on,
- * as many as the caller's array has room for, the rest of which stays as it is. `count` is how many
- * the whole list has, wherever the call begins, and the status is NX_DONE past its end too. Room for
- * none, with a null pointer, asks for the count alone.
+ * nx_outputs, nx_inputs and nx_users return many items of a list in one call: those from an index
+ * on, as many as the caller's array has room for; the rest of the array is unchanged. `count` is
+ * the length of the whole list, wherever the call begins, and the status is NX_DONE past its end
+ * too. With room for none, and a null pointer, a call returns the count alone.
  *
- * What the library does is proved for all that C may hand in, as long as C keeps its side, which no
- * proof can check:
+ * The results of the library are proved for all inputs from C, as long as C keeps its side, which
+ * no proof can check:
  *  - every pointer points to memory that may be read, and written where the call writes, for the
  *    length beside it. A null pointer may go with the length 0;
  *  - memory that a call writes does not overlap other memory that the same call reads or writes;
  *  - a session is only changed by these calls, and was set to NX_SESSION_CLOSED before the first;
  *    a copy of an open session is not used as another one;
  *  - at most one call at a time uses a session. Calls for different sessions may run at the same
- *    time, in different threads, and a session may be handed to another thread between calls;
+ *    time, in different threads, and a session may be passed to another thread between calls;
  *  - a thread that makes calls has enough stack. 256 KB are enough: files that include one another
  *    as deep as is allowed need less than 90 KB, which is measured;
  *  - no call is made from a signal handler, or in the forked child of a process with threads.
@@ -64,9 +64,9 @@ extern "C" {
 #define NX_VERSION_MAJOR 1
 #define NX_VERSION_MINOR 1
 
-/* What a call returns. The numbers are fixed for good; later versions may add some. */
+/* The statuses of calls. Their numbers never change; later versions may add some. */
 enum nx_status {
-    /* It did what was asked. */
+    /* It succeeded. */
     NX_DONE = 0,
     /* There is nothing there: past the end of a list, a source that no edge makes, no such path. */
     NX_NOTHING = 1,
@@ -74,7 +74,7 @@ enum nx_status {
     NX_SHORT = 2,
     /* There is a fault; the nx_fault_ calls describe it. */
     NX_FAULT = 3,
-    /* Files are wanted that were not handed in; nx_wanted gives their paths. */
+    /* Files are wanted that were not supplied; nx_wanted returns their paths. */
     NX_WANTED = 4,
     /* No graph is loaded. */
     NX_NOT_LOADED = 5,
@@ -82,18 +82,18 @@ enum nx_status {
     NX_BAD_NUMBER = 6,
     /* The text is not a mark, or it leads to no edge. */
     NX_BAD_MARK = 7,
-    /* The path of the main file, or the words of a run, are not UTF-8. */
+    /* The path of the main file, or the arguments of a run, are not UTF-8. */
     NX_NOT_UTF8 = 8,
     /* The session is not open. */
     NX_NOT_OPEN = 9,
-    /* An allocation failed, and nothing else happened, but for what nx_load, nx_join_deps and nx_run
+    /* An allocation failed, and nothing else happened, except as nx_load, nx_join_deps and nx_run
        say below. The session can be used and closed as before. */
     NX_OUT_OF_MEMORY = 10,
     /* The bytes are not a deps log, or one of another version than 4. */
     NX_BAD_LOG = 11
 };
 
-/* What is wrong, for nx_fault_kind. The numbers are fixed for good; later versions may add some. */
+/* The kinds of faults, for nx_fault_kind. Their numbers never change; later versions may add some. */
 enum nx_fault {
     /* a NUL byte, or a carriage return that no line feed follows */
     NX_FAULT_BAD_BYTE = 1,
@@ -135,7 +135,7 @@ enum nx_fault {
     NX_FAULT_TOO_DEEP = 19,
     /* more than 65,536 files would be opened */
     NX_FAULT_TOO_MANY_OPENINGS = 20,
-    /* the file cannot be read; it does not occur for files that were handed in */
+    /* the file cannot be read; it does not occur for files that were supplied */
     NX_FAULT_IO = 21,
     /* no scope declares the rule */
     NX_FAULT_UNKNOWN_RULE = 22,
@@ -186,33 +186,33 @@ typedef struct nx_session {
     void *kept;
 } nx_session;
 
-/* What a session is set to before its first call. */
+/* The value of a session before its first call. */
 #define NX_SESSION_CLOSED { 0 }
 
 /* ---- the version ---- */
 
 /*
- * The version of the interface. What a program was written for still works with a greater minor
- * number; with another major one it may not. NX_DONE.
+ * The version of the interface. A program still works with a greater minor number than the one for
+ * which it was written; with another major one it may not. NX_DONE.
  */
 int32_t nx_version(size_t *major, size_t *minor);
 
 /* ---- sessions and files ---- */
 
 /*
- * Opens a session that keeps nothing yet. What it kept before is freed. The key is for hashes: a
- * number that strangers cannot guess, so that they cannot choose names which slow a load down.
- * NX_DONE, or NX_OUT_OF_MEMORY, which leaves the session as it was.
+ * Opens a session that keeps nothing yet. Its earlier contents are freed. The key is for hashes: a
+ * number that nobody can guess, so that untrusted files cannot have names that slow a load down.
+ * NX_DONE, or NX_OUT_OF_MEMORY, which leaves the session unchanged.
  */
 int32_t nx_open(nx_session *session, uint64_t key);
 
-/* Closes a session and frees all that it keeps. One that is not open stays so. NX_DONE. */
+/* Closes a session and frees all that it keeps. One that is not open remains closed. NX_DONE. */
 int32_t nx_close(nx_session *session);
 
 /*
- * Hands in the bytes of the file at a path: as the main file is named in nx_load, and as other files
- * are named in `include`, `subninja` and dyndep bindings. They are copied. They take the place of
- * what was handed in for this path before. A graph that is loaded stays as it is.
+ * Supplies the bytes of the file at a path: as the main file is named in nx_load, and as other
+ * files are named in `include`, `subninja` and dyndep bindings. They are copied. They replace the
+ * bytes that were supplied for this path before. A graph that is loaded stays the same.
  * NX_DONE or NX_OUT_OF_MEMORY.
  */
 int32_t nx_add_file(nx_session *session, const void *path, size_t path_length,
@@ -222,13 +222,13 @@ int32_t nx_add_file(nx_session *session, const void *path, size_t path_length,
 int32_t nx_add_absent(nx_session *session, const void *path, size_t path_length);
 
 /*
- * Loads the main file at a path and all files that it includes, from those that were handed in; a
- * file that was not is taken for an empty one, and is wanted. If `joins_dyndeps` is not 0, the dyndep
- * files to which edges are bound are joined too, and a failed join is a failed load. Those of them that
- * were not handed in are wanted all at once, as soon as no other file is. What was loaded before is
- * freed, and what nx_affected or nx_page listed, whatever the status is.
- * NX_DONE; NX_FAULT, with the first fault; NX_WANTED if files are wanted that were not handed in:
- * hand them in, or record that they are absent, and load again; NX_NOT_UTF8; NX_OUT_OF_MEMORY. There
+ * Loads the main file at a path and all files that it includes, from those that were supplied; a
+ * file that was not is taken for an empty one, and is wanted. If `joins_dyndeps` is not 0, the
+ * dyndep files to which edges are bound are joined too, and a failed join is a failed load. Those
+ * of them that were not supplied are wanted all at once, as soon as no other file is. An earlier
+ * graph is freed, and so are the lists of nx_affected and nx_page, whatever the status is.
+ * NX_DONE; NX_FAULT, with the first fault; NX_WANTED if files are wanted that were not supplied:
+ * supply them, or record that they are absent, and load again; NX_NOT_UTF8; NX_OUT_OF_MEMORY. There
  * is a graph only after NX_DONE and a fault only after NX_FAULT, and files are wanted only after
  * NX_WANTED.
  */
@@ -236,57 +236,58 @@ int32_t nx_load(nx_session *session, const void *main, size_t main_length,
                 uint32_t joins_dyndeps);
 
 /*
- * The path at an index among the files that the last load or run wanted and that were not handed in,
- * in the order in which it came to them, dyndep files of a load in the order of the first edges that
- * are bound to them. More may be wanted once these are there. The list stays as it is until the next
- * load or run, so files can be handed in while it is gone through.
+ * The path at an index among the files that the last load or run wanted and that were not supplied,
+ * in the order in which it came to them, dyndep files of a load in the order of the first edges
+ * that are bound to them. More may be wanted once these are there. The list stays the same until
+ * the next load or run, so files can be supplied while it is gone through.
  * NX_DONE, NX_NOTHING past the end, NX_SHORT.
  */
 int32_t nx_wanted(nx_session *session, size_t index, void *buffer, size_t size, size_t *needed);
 
 /*
- * Joins a deps log to the graph: the bytes of `.ninja_deps`, which Ninja writes to the build folder.
- * What it names for the first output of an edge whose value of `deps` is not empty becomes an implicit
- * input of the edge, after those that it has, unless it is an input of it already. Paths that no edge
- * named become files, after the others. A log that is cut off counts as far as it goes. What was listed
- * stays listed, and the same log again changes nothing.
- * NX_DONE; NX_BAD_LOG, which leaves the graph as it is; NX_FAULT for a dependency cycle, which a log
- * that is older than the manifest can make; NX_OUT_OF_MEMORY. After the last two there is no graph.
+ * Joins a deps log to the graph: the bytes of `.ninja_deps`, which Ninja writes to the build
+ * directory. Each file that it names for the first output of an edge whose value of `deps` is not
+ * empty becomes an implicit input of the edge, after those that it has, unless it is an input of it
+ * already. Paths that no edge named become files, after the others. A log that is cut off counts as
+ * far as it goes. Lists stay the same, and the same log again changes nothing.
+ * NX_DONE; NX_BAD_LOG, which leaves the graph unchanged; NX_FAULT for a dependency cycle, which a
+ * log that is older than the manifest can make; NX_OUT_OF_MEMORY. After the last two there is no
+ * graph.
  */
 int32_t nx_join_deps(nx_session *session, const void *log, size_t log_length);
 
 /* ---- the last fault: of a load, of nx_join_deps, or of nx_pick_target ---- */
 
-/* What is wrong, one of `enum nx_fault`. NX_DONE, or NX_NOTHING if there is no fault. */
+/* The kind of the fault, one of `enum nx_fault`. NX_DONE, or NX_NOTHING if there is no fault. */
 int32_t nx_fault_kind(nx_session *session, int32_t *kind);
 
 /*
  * The line and the column of the fault, from 1; columns count bytes.
- * NX_DONE, or NX_NOTHING if there is no fault or no place is to blame.
+ * NX_DONE, or NX_NOTHING if there is no fault or it has no place.
  */
 int32_t nx_fault_place(nx_session *session, size_t *line, size_t *column);
 
 /*
  * The file of the fault, by the name under which it was opened.
- * NX_DONE, NX_NOTHING if there is no fault or no place is to blame, NX_SHORT.
+ * NX_DONE, NX_NOTHING if there is no fault or it has no place, NX_SHORT.
  */
 int32_t nx_fault_file(nx_session *session, void *buffer, size_t size, size_t *needed);
 
 /*
- * The line that reports the fault: FILE:LINE:COLUMN: TEXT, or TEXT if no place is to blame.
+ * The line that reports the fault: FILE:LINE:COLUMN: TEXT, or TEXT if the fault has no place.
  * NX_DONE, NX_NOTHING if there is no fault, NX_SHORT, NX_OUT_OF_MEMORY.
  */
 int32_t nx_fault_line(nx_session *session, void *buffer, size_t size, size_t *needed);
 
 /* ---- counts ---- */
 
-/* How many edges there are, one for each build statement. */
+/* The number of edges, one for each build statement. */
 int32_t nx_edge_count(nx_session *session, size_t *count);
 
-/* How many files there are: the paths that edges name, each once. */
+/* The number of files: of the distinct paths that edges name. */
 int32_t nx_file_count(nx_session *session, size_t *count);
 
-/* How many rules the scope of the main file has, `phony` among them. */
+/* The number of rules in the scope of the main file, `phony` among them. */
 int32_t nx_rule_count(nx_session *session, size_t *count);
 
 /*
@@ -301,12 +302,12 @@ int32_t nx_rule_name_at(nx_session *session, size_t index, void *buffer, size_t 
 /* The path of a file. NX_DONE, NX_BAD_NUMBER, NX_SHORT. */
 int32_t nx_path(nx_session *session, size_t file, void *buffer, size_t size, size_t *needed);
 
-/* The file at this path, which is taken as it is: not cleaned. NX_DONE or NX_NOTHING. */
+/* The file at this path, which is taken verbatim: not cleaned. NX_DONE or NX_NOTHING. */
 int32_t nx_file_named(nx_session *session, const void *path, size_t path_length, size_t *file);
 
 /*
- * The file that a word of the command line means: the path is cleaned first, and `FILE^` means the
- * first output of the first edge that has FILE as an input.
+ * The file that an argument of the command line means: the path is cleaned first, and `FILE^` means
+ * the first output of the first edge that has FILE as an input.
  * NX_DONE; NX_FAULT if there is none, which is then the last fault; NX_OUT_OF_MEMORY.
  */
 int32_t nx_pick_target(nx_session *session, const void *word, size_t word_length, size_t *file);
@@ -315,7 +316,7 @@ int32_t nx_pick_target(nx_session *session, const void *word, size_t word_length
 int32_t nx_maker(nx_session *session, size_t file, size_t *edge);
 
 /*
- * The edge at an index among those that have a file as an input, by number, each once.
+ * The edge at an index among those that have a file as an input, by number, without duplicates.
  * NX_DONE, NX_NOTHING past the end, NX_BAD_NUMBER.
  */
 int32_t nx_user(nx_session *session, size_t file, size_t index, size_t *edge);
@@ -324,7 +325,7 @@ int32_t nx_user(nx_session *session, size_t file, size_t index, size_t *edge);
 int32_t nx_validation_user(nx_session *session, size_t file, size_t index, size_t *edge);
 
 /*
- * The edges that nx_user gives of a file, from an index on: as many as there is room for.
+ * The edges that nx_user returns for a file, from an index on: as many as there is room for.
  * NX_DONE or NX_BAD_NUMBER.
  */
 int32_t nx_users(nx_session *session, size_t file, size_t from, size_t *edges, size_t room,
@@ -346,8 +347,8 @@ int32_t nx_outputs(nx_session *session, size_t edge, size_t from, size_t *files,
 int32_t nx_input(nx_session *session, size_t edge, size_t index, size_t *file, int32_t *kind);
 
 /*
- * The inputs of an edge and their kinds, as nx_input gives them, from an index on: as many of each
- * as there is room for. NX_DONE or NX_BAD_NUMBER.
+ * The inputs of an edge and their kinds, as nx_input returns them, from an index on: as many of
+ * each as there is room for. NX_DONE or NX_BAD_NUMBER.
  */
 int32_t nx_inputs(nx_session *session, size_t edge, size_t from, size_t *files, size_t room,
                   int32_t *kinds, size_t kind_room, size_t *count);
@@ -379,8 +380,8 @@ int32_t nx_edge_file(nx_session *session, size_t edge, void *buffer, size_t size
                      size_t *needed);
 
 /*
- * The command of an edge, as it is passed to a shell. No phony edge is run: its command is what its
- * block binds to `command`, and mostly empty.
+ * The command of an edge, as it is passed to a shell. No phony edge is run: its command is the
+ * value that its block binds to `command`, and mostly empty.
  * NX_DONE, NX_BAD_NUMBER, NX_SHORT, NX_OUT_OF_MEMORY.
  */
 int32_t nx_command(nx_session *session, size_t edge, void *buffer, size_t size, size_t *needed);
@@ -405,24 +406,25 @@ int32_t nx_root(nx_session *session, size_t index, size_t *file);
 
 /*
  * Lists the edges that a change of these files affects: those that need one of them through any
- * chain of inputs, phony edges among them, each once, by number. nx_found gives them.
+ * chain of inputs, phony edges among them, without duplicates, by number. nx_found returns them.
  * NX_DONE, NX_BAD_NUMBER, NX_OUT_OF_MEMORY.
  */
 int32_t nx_affected(nx_session *session, const size_t *files, size_t file_count);
 
 /*
- * Lists the edges that these files need through any chain of inputs, phony edges among them, each
- * once and nearest first: the edges that make the files, then those that make their inputs, and so on.
- * nx_found gives them.
+ * Lists the edges that these files need through any chain of inputs, phony edges among them,
+ * without duplicates, nearest first: the edges that make the files, then those that make their
+ * inputs, and so on. nx_found returns them.
  * NX_DONE, NX_BAD_NUMBER, NX_OUT_OF_MEMORY.
  */
 int32_t nx_needed(nx_session *session, const size_t *files, size_t file_count);
 
 /*
- * Lists the edges with commands that the targets need through any chain of inputs, each once, after
- * all edges that make its inputs: a page of at most `take` of those that are left after a mark. The
- * mark of the first page is the empty text. nx_found gives the edges, and nx_page_mark the mark for
- * the next page. A mark fits the same graph and targets, also in another session or process.
+ * Lists the edges with commands that the targets need through any chain of inputs, without
+ * duplicates, each after all edges that make its inputs: a page of at most `take` of those that are
+ * left after a mark. The mark of the first page is the empty text. nx_found returns the edges, and
+ * nx_page_mark the mark for the next page. A mark fits the same graph and targets, also in another
+ * session or process.
  * NX_DONE, NX_BAD_NUMBER, NX_BAD_MARK, NX_OUT_OF_MEMORY.
  */
 int32_t nx_page(nx_session *session, const size_t *targets, size_t target_count,
@@ -438,10 +440,11 @@ int32_t nx_page_mark(nx_session *session, void *buffer, size_t size, size_t *nee
 
 /*
  * A shortest chain of inputs by which one file needs another: its first step is from the edge that makes
- * `from`, its last one to `to`, and each is from the edge that makes the file of the step before it. Of
- * several shortest ones it is the first when inputs are tried in their order. Validations count as
- * inputs too, after those of their edge, if `with_validations` is not 0. Gives as many steps as there
- * is room for, the rest of which stays as it is, and through `count` how many the chain has.
+ * `from`, its last one to `to`, and each is from the edge that makes the file of the step before
+ * it. Of several shortest ones, it is the first when inputs are tried in their order. Validations
+ * count as inputs too, after those of their edge, if `with_validations` is not 0. Stores as many
+ * steps as there is room for, leaves the rest of the array unchanged, and stores the number of the
+ * chain's steps in `count`.
  * NX_DONE, NX_NOTHING if there is no chain, and from a file to itself, NX_BAD_NUMBER,
  * NX_OUT_OF_MEMORY.
  */
@@ -451,23 +454,23 @@ int32_t nx_path_between(nx_session *session, size_t from, size_t to, uint32_t wi
 /* ---- whole runs ---- */
 
 /*
- * Runs the program with the words of a text, over the files that were handed in. The words come
+ * Runs the program with the arguments of a text, over the supplied files. The arguments come
  * without the program's own name, and each ends before a zero byte or at the end of the text: as
- * "-t\0commands\0all", or with one zero byte more. What the program would write is kept in the
- * session until the next run; nx_run_output and nx_run_errors give it. The exit status is the
- * program's: 0 if all was found and written, 1 after a fault, 2 for words that are no request, 3 if
- * --take stopped the run, which then names the mark for --resume. What was loaded and listed stays.
- * NX_DONE, with the exit status; NX_WANTED as for nx_load: hand the files in, or record that they
+ * "-t\0commands\0all", or with one more zero byte. The program's output is kept in the session
+ * until the next run; nx_run_output and nx_run_errors return it. The exit status is the program's:
+ * 0 on success, 1 after a fault, 2 for arguments that are not a valid request, 3 if --take stopped
+ * the run, which then names the mark for --resume. The graph and the lists stay the same.
+ * NX_DONE, with the exit status; NX_WANTED as for nx_load: supply the files, or record that they
  * are absent, and run again; NX_NOT_UTF8; NX_OUT_OF_MEMORY. After all but NX_DONE both outputs are
  * empty, and files are wanted only after NX_WANTED. An allocation that fails while the program runs
  * may also end as a fault of the run.
  */
 int32_t nx_run(nx_session *session, const void *words, size_t words_length, int32_t *exit);
 
-/* What the last run wrote to its output. NX_DONE or NX_SHORT. */
+/* The standard output of the last run. NX_DONE or NX_SHORT. */
 int32_t nx_run_output(nx_session *session, void *buffer, size_t size, size_t *needed);
 
-/* What the last run wrote to its error output. NX_DONE or NX_SHORT. */
+/* The standard error of the last run. NX_DONE or NX_SHORT. */
 int32_t nx_run_errors(nx_session *session, void *buffer, size_t size, size_t *needed);
 
 #ifdef __cplusplus

@@ -30,7 +30,7 @@ count b = cond b 0 1
 counted : (b c : Bool) → b ≡ c → count b ≡ count c
 counted b c same = ap count same
 
--- ---- one number more
+-- ---- one more number
 
 module _ (marks : List ℕ) (round : ℕ) (numbers : List ℕ) (number : ℕ) (below : number < length marks) (held : AreMarked marks round numbers) (unset : nat_eq (get_or marks number 0) round ≡ false) where
   tells : (n : ℕ) → n < length (set marks number round) → nat_eq (get_or (set marks number round) n 0) round ≡ has (numbers ++ number ∷ []) n

@@ -1,4 +1,4 @@
--- What opening a session, handing in files and loading do.
+-- Opening a session, supplying files, and loading.
 use Rattle.std.specs.Prelude.{◌≡◌, ◌≢◌, ◌⊎◌, ℕ, ℤ, Bool, true, false, ◌&&◌, not, if◌then◌else◌, List, [], ◌∷◌, map, bytes_eq, Option, Some, None, is_some, MatchOption, Result, Ok, Err}
 use Rattle.std.specs.List.{filter, filter_map}
 use Rattle.std.specs.Str.{is_utf8}
@@ -16,11 +16,11 @@ use Rattle.nj_c.specs.declared.status.Status.TheVariants.{Done, Fault, Wanted, N
 use Rattle.nj_c.specs.Statuses.{code_of}
 use Rattle.nj_c.specs.HandedIn.{Handed, handed_in, handed_state, wanted_paths, ReadsAsHanded, SameFiles, SetsFile}
 
--- a status was returned, of which this is so
+-- a status was returned, with this property
 abbrev pub Returns : ℤ → (Status → Type 0) → Type 0
 Returns result is = (status : Status) × (result ≡ code_of status) × is status
 
--- an open session stays open and does this, by its status; one that is not open stays so
+-- an open session stays open and does this, by its status; one that is not open remains closed
 abbrev pub Changes : (before after : Option Kept) → ℤ → ((before after : Kept) → Status → Type 0) → Type 0
 Changes before after result does = MatchOption before ((after ≡ None) × (result ≡ code_of NotOpen))
     (λ kept. (new : Kept) × (after ≡ Some new) × Returns result (does kept new))
@@ -29,12 +29,12 @@ Changes before after result does = MatchOption before ((after ≡ None) × (resu
 abbrev pub ListsNothing : Kept → Type 0
 ListsNothing kept = (kept.found.items ≡ []) × (kept.mark.items ≡ [])
 
--- what the last run wrote is kept as it is
+-- the output of the last run is kept unchanged
 pub record SameRun (before after : Kept) : Type 0 where
   pub output : after.output ≡ before.output
   pub errors : after.errors ≡ before.errors
 
--- an open session to which nothing was handed in, and which has neither a graph nor a fault
+-- an open session to which nothing was supplied, and which has neither a graph nor a fault
 pub record IsEmpty (kept : Kept) : Type 0 where
   pub files : kept.files ≡ record { paths = []; files = []; read = [] }
   pub wanted : kept.wanted.items ≡ []
@@ -44,13 +44,13 @@ pub record IsEmpty (kept : Kept) : Type 0 where
   pub output : kept.output.bytes ≡ []
   pub errors : kept.errors.bytes ≡ []
 
--- a session was opened anew; or an allocation failed, and it is as it was
+-- a session was opened anew; or an allocation failed, and it is unchanged
 abbrev pub Opens : (before after : Option Kept) → ℤ → Type 0
 Opens before after result =
     ((kept : Kept) × (result ≡ code_of Done) × (after ≡ Some kept) × IsEmpty kept)
     ⊎ ((result ≡ code_of OutOfMemory) × (after ≡ before))
 
--- the file at a path was set; or an allocation failed, and what was handed in is as it was
+-- the file at a path was set; or an allocation failed, and the supplied files are unchanged
 abbrev pub TakesFile : (before after : Handed) → (path : List ℕ) → (file : Option (List ℕ)) → Status → Type 0
 TakesFile before after path file Done = SetsFile before after path file
 TakesFile before after path file OutOfMemory = after ≡ before
@@ -61,9 +61,9 @@ abbrev pub TakesPath : (before after : Kept) → (path : List ℕ) → (file : O
 TakesPath before after path file status =
     (files : Handed) × (after ≡ record before { files = files }) × TakesFile before.files files path file status
 
--- ---- what a load reads and wants
+-- ---- the files that a load reads and wants
 
--- the files that were handed in, of which nothing was read yet
+-- the supplied files, before any reading
 abbrev pub unread : Handed → Handed
 unread h = record { paths = h.paths; files = h.files; read = [] }
 
@@ -71,11 +71,11 @@ unread h = record { paths = h.paths; files = h.files; read = [] }
 abbrev pub dyndeps_of : GraphModel → List (List ℕ)
 dyndeps_of g = filter_map (λ a. a.dyndep) g.built.assigned
 
--- nothing was handed in for a path; one that is not UTF-8 is never asked for
+-- nothing was supplied for a path; one that is not UTF-8 is never read
 abbrev pub is_lacking : Handed → (path : List ℕ) → Bool
 is_lacking h path = is_utf8 path && not (is_some (handed_in h path))
 
--- the dyndep files that are to be joined and were not handed in, each once
+-- the dyndep files that are to be joined and were not supplied, without duplicates
 abbrev pub lacking_dyndeps : Handed → (joins : Bool) → GraphModel → List (List ℕ)
 lacking_dyndeps h joins g = if joins then each_once bytes_eq (filter (is_lacking h) (dyndeps_of g)) else []
 
@@ -83,8 +83,8 @@ abbrev pub paths_or : (paths others : List (List ℕ)) → List (List ℕ)
 paths_or [] others = others
 paths_or (path ∷ paths) others = path ∷ paths
 
--- The paths that are wanted once a main file and what it includes are loaded: those that were read and not handed in; where
--- there are none of these, all dyndep files that are to be joined and were not handed in.
+-- The paths that are wanted once a main file and all that it includes are loaded: those that were read and not supplied;
+-- where there are none of these, all dyndep files that are to be joined and were not supplied.
 abbrev pub paths_to_load : Handed → (joins : Bool) → Result LoadedModel GraphFault → List (List ℕ)
 paths_to_load h joins (Ok loaded) = paths_or (wanted_paths h) (lacking_dyndeps h joins loaded.graph)
 paths_to_load h joins (Err fault) = wanted_paths h
@@ -95,7 +95,7 @@ abbrev pub graph_loaded : Result LoadedModel GraphFault → Result GraphModel Gr
 graph_loaded (Ok loaded) = Ok loaded.graph
 graph_loaded (Err fault) = Err fault
 
--- the graph of what was loaded, to which its dyndep files are joined if that is asked for
+-- the graph of a load, to which its dyndep files are joined if that is requested
 abbrev pub JoinsGraph : (between after : SourceState) → (joins : Bool) → LoadedModel → Result GraphModel GraphFault → Type 0
 JoinsGraph between after false loaded result = (after ≡ between) × (result ≡ Ok loaded.graph)
 JoinsGraph between after true loaded result =
@@ -106,8 +106,8 @@ abbrev pub GivesGraph : (between after : SourceState) → (joins : Bool) → Res
 GivesGraph between after joins (Ok loaded) result = JoinsGraph between after joins loaded result
 GivesGraph between after joins (Err fault) result = (after ≡ between) × (result ≡ Err fault)
 
--- A main file was loaded from what was handed in, and nothing was wanted; so all that was read then, dyndep files among it, was
--- handed in.
+-- A main file was loaded from the supplied files, and nothing was wanted; so all files read then, dyndep files among them, were
+-- supplied.
 pub record LoadsFiles (before after : Handed) (main : List ℕ) (joins : Bool) (result : Result GraphModel GraphFault) : Type 0 where
   pub between : Handed
   pub loaded : Result LoadedModel GraphFault
@@ -117,7 +117,7 @@ pub record LoadsFiles (before after : Handed) (main : List ℕ) (joins : Bool) (
   pub found : ReadsAsHanded after
   pub none_wanted : wanted_paths after ≡ []
 
--- A main file was loaded from what was handed in, and paths are wanted, which are listed.
+-- A main file was loaded from the supplied files, and paths are wanted, which are listed.
 pub record WantsFiles (before after : Kept) (main : List ℕ) (joins : Bool) : Type 0 where
   pub loaded : Result LoadedModel GraphFault
   pub loads : Loads main (handed_state (unread before.files)) (handed_state after.files) loaded
@@ -125,7 +125,7 @@ pub record WantsFiles (before after : Kept) (main : List ℕ) (joins : Bool) : T
   pub are : map (λ p. p.items) after.wanted.items ≡ paths_to_load after.files joins loaded
   pub some : paths_to_load after.files joins loaded ≢ []
 
--- the paths that were read and not handed in are listed
+-- the paths that were read and not supplied are listed
 abbrev pub ListsWanted : Kept → Type 0
 ListsWanted kept = map (λ p. p.items) kept.wanted.items ≡ wanted_paths kept.files
 
@@ -135,7 +135,7 @@ pub record KeepsNothing (kept : Kept) : Type 0 where
   pub fault : kept.fault ≡ None
   pub wanted : kept.wanted.items ≡ []
 
--- what a load leaves, by its status
+-- the session after a load, by its status
 abbrev pub LoadsAs : (before after : Kept) → (main : List ℕ) → (joins : Bool) → Status → Type 0
 LoadsAs before after main joins Done =
     (graph : GraphModel) × (after.graph ≡ Some graph) × (after.fault ≡ None) × (after.wanted.items ≡ [])
@@ -148,7 +148,7 @@ LoadsAs before after main joins NotUtf8 = KeepsNothing after × (is_utf8 main �
 LoadsAs before after main joins OutOfMemory = KeepsNothing after
 LoadsAs before after main joins other = ⊥
 
--- What was handed in stays as it is in a load, and what was listed of an earlier graph is gone.
+-- The supplied files stay the same in a load, and lists of an earlier graph are gone.
 abbrev pub LoadsKept : (before after : Kept) → (main : List ℕ) → (joins : Bool) → Status → Type 0
 LoadsKept before after main joins status =
     SameFiles before.files after.files × ListsNothing after × SameRun before after × LoadsAs before after main joins status

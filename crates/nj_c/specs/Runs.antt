@@ -1,4 +1,4 @@
--- Runs of the program over the files that were handed in.
+-- Runs of the program over the supplied files.
 use Rattle.std.specs.Prelude.{◌≡◌, ◌≢◌, ◌==◌, ℕ, ℤ, pos, Bool, false, List, [], ◌∷◌, ◌++◌, All, Some}
 use Rattle.std.specs.List.{flat_map, slice_split}
 use Rattle.std.specs.Str.{is_utf8}
@@ -19,7 +19,7 @@ use Rattle.nj_c.specs.Loading.{unread, ListsWanted}
 abbrev pub is_zero : ℕ → Bool
 is_zero byte = byte == 0
 
--- what comes after the last zero byte is a word only if it is not empty
+-- the text after the last zero byte is an argument only if it is not empty
 abbrev pub last_word : List ℕ → List (List ℕ)
 last_word [] = []
 last_word (byte ∷ bytes) = (byte ∷ bytes) ∷ []
@@ -29,7 +29,7 @@ without_empty_last [] = []
 without_empty_last (word ∷ []) = last_word word
 without_empty_last (word ∷ next ∷ words) = word ∷ without_empty_last (next ∷ words)
 
--- the words that a text gives, each of which ends before a zero byte or at the end of the text
+-- the arguments in a text; each ends before a zero byte or at the end of the text
 abbrev pub given_words : List ℕ → List (List ℕ)
 given_words text = without_empty_last (slice_split is_zero text)
 
@@ -38,37 +38,39 @@ abbrev pub AllWordsCanBeGiven : Type 0
 AllWordsCanBeGiven = (words : List (List ℕ)) → All (All (λ byte. is_zero byte ≡ false)) words
     → given_words (flat_map (λ word. word ++ 0 ∷ []) words) ≡ words
 
--- ---- what a run does
+-- ---- a run
 
--- a sink that was asked for nothing yet
+-- a sink that was not used yet
 abbrev pub untouched : SinkState
 untouched = record { taken = Some []; failures = 0; took_since_failure = false }
 
--- The program ran with these words over the files that were handed in, and wrote this to its two outputs, neither of which failed.
+-- The program ran with these arguments over the supplied files, and wrote this to standard output and standard error, without a
+-- failure.
 pub record HasRun (begun after : Handed) (words : List (List ℕ)) (output errors : Memory) (ended : run.Status) : Type 0 where
   pub runs : RunsWords words (around (handed_state begun) untouched untouched)
       (around (handed_state after) (state_of output) (state_of errors)) ended
   pub found : ReadsAsHanded after
   pub no_failures : (output.failures ≡ 0) × (errors.failures ≡ 0)
 
--- So it never ends as a run whose output could not be written.
+-- So it never ends as a run whose standard output could not be written.
 abbrev pub OutputsNeverFail : Type 0
 OutputsNeverFail = (begun after : Handed) (words : List (List ℕ)) (output errors : Memory) (ended : run.Status)
     → HasRun begun after words output errors ended → ended ≢ OutputFailed
 
--- nothing is kept of what a run wrote
+-- nothing is kept of a run's output
 pub record KeepsNoOutput (after : Kept) : Type 0 where
   pub output : after.output.bytes ≡ []
   pub errors : after.errors.bytes ≡ []
 
--- what was loaded and listed stays as it is
+-- the load and the lists stay the same
 pub record SameLoad (before after : Kept) : Type 0 where
   pub graph : after.graph ≡ before.graph
   pub fault : after.fault ≡ before.fault
   pub found : after.found ≡ before.found
   pub mark : after.mark ≡ before.mark
 
--- What a run with these words leaves, by its status. All files that it read were handed in, unless some are wanted.
+-- The session after a run with these arguments, by its status. All files that it read were supplied, unless some are
+-- wanted.
 abbrev pub LeavesRun : (begun : Handed) → (after : Kept) → (words : List (List ℕ)) → (exit_before exit_after : ℤ) → Status → Type 0
 LeavesRun begun after words exit_before exit_after Done =
     (ended : run.Status) × (exit_after ≡ pos (exit_code ended)) × HasRun begun after.files words after.output after.errors ended
@@ -88,7 +90,7 @@ LeavesRunOfText before after text exit_before exit_after NotUtf8 =
 LeavesRunOfText before after text exit_before exit_after status =
     LeavesRun (unread before.files) after (given_words text) exit_before exit_after status
 
--- What was handed in and what was loaded stay as they are in a run.
+-- The supplied files and the load stay the same in a run.
 abbrev pub RunsKept : (before after : Kept) → (text : List ℕ) → (exit_before exit_after : ℤ) → Status → Type 0
 RunsKept before after text exit_before exit_after status =
     SameFiles before.files after.files × SameLoad before after × LeavesRunOfText before after text exit_before exit_after status

@@ -1,4 +1,4 @@
-//! Runs of the program, over the files that were handed in.
+//! Runs of the program, over the supplied files.
 
 ghost use Rattle.std.specs.Prelude.{◌≡◌, false, [], map, string_bytes};
 ghost use Rattle.nj_c.specs.Asking.{GivesText, IfOpen, KeptUnlessDone};
@@ -19,10 +19,10 @@ use nj_tools::MemorySink;
 use std::alloc::Global;
 use std::mem;
 
-/// Runs the program with the words of a text, over the files that were handed in: as
-/// `ninja-explain` does, with its exit status, but both outputs are kept in the session. Each word
-/// ends before a zero byte or at the end of the text. If files are wanted that were not handed in,
-/// `nx_wanted` gives their paths, and nothing is kept of the outputs.
+/// Runs the program with the arguments of a text, over the supplied files: as `ninja-explain` does,
+/// with its exit status, but standard output and standard error are kept in the session. Each
+/// argument ends before a zero byte or at the end of the text. If files are wanted that were not
+/// supplied, `nx_wanted` returns their paths, and nothing is kept of the two outputs.
 #[unsafe(no_mangle)]
 pub extern "C" fn nx_run(alloc: Global, session: &mut Session, words: &[u8], exit: &mut i32) -> i32
     ensures { Changes session.old.kept session.new.kept result (λ kept after.
@@ -31,7 +31,7 @@ pub extern "C" fn nx_run(alloc: Global, session: &mut Session, words: &[u8], exi
     change!(session, alloc, seal => run_in(alloc, seal, words, exit))
 }
 
-/// What the last run wrote to its output.
+/// The standard output of the last run.
 #[unsafe(no_mangle)]
 pub extern "C" fn nx_run_output(
     alloc: Global,
@@ -47,7 +47,7 @@ pub extern "C" fn nx_run_output(
     ask!(session, alloc, kept => copy_text(kept.output.bytes(), buffer, needed))
 }
 
-/// What the last run wrote to its error output.
+/// The standard error of the last run.
 #[unsafe(no_mangle)]
 pub extern "C" fn nx_run_errors(
     alloc: Global,
@@ -81,7 +81,7 @@ fn run_text(alloc: Global, kept: &mut Kept, text: &[u8], exit: &mut i32) -> Stat
     }
 }
 
-// Forgets what was read, and what the last run wrote.
+// Forgets the readings, and the output of the last run.
 fn forget_run(alloc: Global, kept: &mut Kept)
     ensures files { kept.new.files ≡ unread kept.old.files }
     ensures wanted { kept.new.wanted.items ≡ [] }
@@ -100,7 +100,7 @@ fn forget_outputs(alloc: Global, kept: &mut Kept)
     drop(mem::replace(&mut kept.errors, MemorySink::new(alloc, None)));
 }
 
-// Runs the program with these words, and keeps what it wrote.
+// Runs the program with these arguments, and keeps its output.
 fn run_over(alloc: Global, kept: &mut Kept, words: &[String], exit: &mut i32) -> Status
     requires wanted { kept.old.wanted.items ≡ [] }
     requires run { NoRun kept.old }
@@ -135,7 +135,7 @@ fn run_program(alloc: Global, kept: &mut Kept, words: &[String]) -> nj_cli::Stat
     )
 }
 
-// Keeps what a run wrote, unless an allocation failed or files are wanted.
+// Keeps the output of a run, unless an allocation failed or files are wanted.
 fn finish_run(alloc: Global, kept: &mut Kept) -> Status
     requires { kept.old.wanted.items ≡ [] }
     ensures files { kept.new.files ≡ kept.old.files }
@@ -162,7 +162,7 @@ fn has_failed(kept: &Kept) -> bool
     kept.output.failures() > 0 || kept.errors.failures() > 0
 }
 
-// Keeps the paths that a run wanted, and if there are any, nothing of what it wrote.
+// Keeps the paths that a run wanted, and if there are any, nothing of its output.
 fn keep_wanted(alloc: Global, kept: &mut Kept, wanted: Vec<Vec<u8>>) -> Status
     requires { map (λ p. p.items) wanted.items ≡ wanted_paths kept.old.files }
     ensures files { kept.new.files ≡ kept.old.files }

@@ -16,7 +16,7 @@ use nj_graph::{Cause, EdgeNo, Graph, GraphFault, Loaded};
 use nj_scope::FileSource;
 use std::alloc::{AllocError, Global};
 
-/// The paths that are wanted after the main file was loaded, with what it includes.
+/// The paths that are wanted after the main file was loaded, with all that it includes.
 pub(crate) fn wanted_after(
     alloc: Global,
     files: &HandedIn,
@@ -34,7 +34,7 @@ pub(crate) fn wanted_after(
     }
 }
 
-// Where a fault ended the load: the paths that were read and not handed in.
+// Where a fault ended the load: the paths that were read and not supplied.
 fn wanted_with_fault(
     alloc: Global,
     files: &HandedIn,
@@ -71,7 +71,7 @@ fn wanted_with(
     Ok(wanted)
 }
 
-// The dyndep files to which edges are bound and that were not handed in, each once.
+// The dyndep files to which edges are bound and that were not supplied, without duplicates.
 fn dyndeps_to_load(
     alloc: Global,
     files: &HandedIn,
@@ -102,7 +102,7 @@ fn lacking_dyndeps(alloc: Global, files: &HandedIn, graph: &Graph) -> Result<Fil
     Ok(lacking)
 }
 
-// Names a path that was not handed in.
+// Names a path that was not supplied.
 fn name_if_lacking(files: &HandedIn, path: &[u8], lacking: &mut Files) -> Result<(), AllocError>
     ensures { OnOk result (lacking.new
         ≡ (if is_lacking files.now path.now then with_name lacking.old path.now
@@ -114,7 +114,7 @@ fn name_if_lacking(files: &HandedIn, path: &[u8], lacking: &mut Files) -> Result
     Ok(())
 }
 
-// Whether nothing was handed in for a path; one that is not UTF-8 is never asked for.
+// Whether nothing was supplied for a path; one that is not UTF-8 is never read.
 fn is_lacking(files: &HandedIn, path: &[u8]) -> bool
     ensures { result ≡ is_lacking files.now path.now }
 {

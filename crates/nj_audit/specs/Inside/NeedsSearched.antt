@@ -1,4 +1,4 @@
--- How what an edge needs is searched.
+-- How the edges that an edge needs are searched.
 use Rattle.std.specs.Prelude.{◌≡◌, ◌↔◌, ℕ, ◌<◌, ◌≤◌, Bool, true, false, Some, List, map, length, slice_index, All, Contains}
 use Rattle.nj_names.specs.declared.files.FileNo.{FileNo}
 use Rattle.nj_names.specs.Files.{path_at}
@@ -20,8 +20,8 @@ AreStarts edges edge starts = (e : ℕ) → Contains starts e ↔ Needs (makers_
 abbrev pub IsReached : List EdgePaths → (starts : List ℕ) → (edge : ℕ) → Type 0
 IsReached edges starts edge = (s : ℕ) × Contains starts s × IsOrNeeds edges s edge
 
--- between two turns: found are the edges with which the search starts, and some that these need; among them is what those before a place
--- need directly
+-- between two turns: found are the edges with which the search starts, and some that these need; among them are those that the ones
+-- before a place need directly
 pub record IsSearched (edges : List EdgePaths) (starts : List ℕ) (found : NumberSetModel) (place : ℕ) : Type 0 where
   pub limit : found.limit ≡ length edges
   pub within : place ≤ length found.numbers

@@ -1,4 +1,4 @@
--- How a session keeps what a run wrote.
+-- How a session keeps the output of a run.
 use Rattle.std.specs.Prelude.{◌≡◌, ◌≢◌, ℕ, false, List, [], None, ⊤}
 use Rattle.std.specs.Str.{is_utf8}
 use Rattle.nj_tools.specs.MemorySinks.{Memory, state_of}
@@ -36,7 +36,7 @@ pub record NoFailures (kept : Kept) : Type 0 where
   pub output : kept.output.failures ≡ 0
   pub errors : kept.errors.failures ≡ 0
 
--- what was written is kept, unless files are wanted
+-- the output is kept, unless files are wanted
 abbrev pub KeepsRun : (before after : Kept) → Status → Type 0
 KeepsRun before after Done = SameRun before after × (wanted_paths after.files ≡ []) × (after.wanted.items ≡ [])
 KeepsRun before after Wanted = NoRun after × (wanted_paths after.files ≢ []) × ListsWanted after
