@@ -18,6 +18,7 @@ pub mod MakerLemmas
 pub mod MarkLemmas
 pub mod NamedLemmas
 pub mod NeededLemmas
+pub mod NeedsLemmas
 mod NeededRows
 pub mod NumberLemmas
 pub mod Passing

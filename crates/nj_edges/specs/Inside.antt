@@ -6,6 +6,7 @@ pub mod GraphHeld
 pub mod JoiningHeld
 pub mod MakersHeld
 pub mod MarksHeld
+pub mod NeedsSearched
 pub mod RootsHeld
 pub mod RowsHeld
 pub mod SearchHeld

@@ -12,9 +12,11 @@ mod list_parts;
 mod makers;
 mod more_inputs;
 mod needed;
+mod needs_search;
 mod number_ranges;
 mod roots;
 mod rows;
+mod search_state;
 mod users;
 
 pub use affected::affected_law;
@@ -23,5 +25,6 @@ pub use dyndep_edges::JoiningEdges;
 pub use edges::{EdgeNo, Edges, Kind, KindEnds};
 pub use graph::{CycleEdge, EdgeGraph, Finished};
 pub use more_inputs::JoiningInputs;
+pub use needs_search::NeedsSearch;
 pub use nj_names::{FileNo, Files, HashKeys};
 pub use number_ranges::{EdgeNumbers, FileNumbers};

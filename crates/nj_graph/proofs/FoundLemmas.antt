@@ -20,7 +20,6 @@ use Rattle.nj_statements.proofs.OnceLemmas.{once-known, once-new}
 use Rattle.nj_graph.specs.Undeclared.{AreThose, InputOfEdge, IsUndeclared, input_of_edge, inputs_of_edge}
 use Rattle.nj_graph.specs.Undeclared.AreThose.{none, has_it, lacks_it}
 use Rattle.nj_graph.specs.Inside.UndeclaredFound.{AddsFile, FindsAt, IsFound, IsKnownInput, IsListed}
-use Rattle.nj_graph.specs.Inside.NeedsSearched.{IsSearch}
 use Rattle.nj_graph.specs.declared.found_inputs.FoundInputs.{FoundInputs}
 use Rattle.nj_graph.specs.declared.undeclared.UndeclaredInput.{UndeclaredInput}
 
@@ -219,11 +218,11 @@ finds-none g edge before f empty those = record {
 
 -- ---- the numbers are those of the graph
 
-pub known-added : (g : EdgeGraph) (input : UndeclaredInput) (f after : FoundInputs) → f.files.limit ≡ length g.files → IsSearch g.edges f.search → All (IsKnownInput g) f.inputs.items
+pub known-added : (g : EdgeGraph) (input : UndeclaredInput) (f after : FoundInputs) → f.files.limit ≡ length g.files → f.search ≡ g.edges → All (IsKnownInput g) f.inputs.items
     → input.edge.0 < length g.edges → input.file.0 < length g.files → AddsFile input f after → IsFound g after
 known-added g input f after limit search known edge file adds = record {
   limit = adds.limit ∙ limit;
-  search = subst (IsSearch g.edges) (sym adds.search) search;
+  search = adds.search ∙ search;
   known = subst (All (IsKnownInput g)) (sym adds.inputs) (by (has f.files.numbers input.file.0));
 }
   where

@@ -25,7 +25,6 @@ pub mod LogRows
 pub mod MadeLemmas
 pub mod MainFiles
 pub mod NameLemmas
-pub mod NeedsLemmas
 pub mod Naming
 pub mod Openings
 pub mod OpenScopes
@@ -38,7 +37,6 @@ pub mod ResponseRows
 pub mod ParsedLemmas
 pub mod PickedTargets
 pub mod Positions
-pub mod RoundLemmas
 pub mod SortLemmas
 pub mod Stated
 pub mod TargetLaws

@@ -2,9 +2,7 @@
 pub mod GraphHeld
 pub mod JoiningContracts
 pub mod LogSteps
-pub mod NeedsSearched
 pub mod OriginsHeld
 pub mod PathsReached
 pub mod ReaderContracts
-pub mod RoundsHeld
 pub mod UndeclaredFound

@@ -9,31 +9,33 @@ ghost use Rattle.nj_graph.specs.Undeclared.{AreThose, InputOfEdge, IsUndeclared,
 ghost use Rattle.nj_graph.specs.Inside.UndeclaredFound.{AddsFile, AreMade, FindsAt, IsFound, IsKnownIfAny, MadeIs};
 
 use crate::made_files::MadeFile;
-use crate::needs_search::NeedsSearch;
-use crate::round_set::RoundSet;
 use crate::undeclared::UndeclaredInput;
-use nj_edges::{EdgeGraph, EdgeNo};
+use nj_edges::{EdgeGraph, EdgeNo, NeedsSearch};
+use nj_names::RoundSet;
 use std::alloc::{AllocError, Global};
 
 /// Undeclared inputs that were found, and the search for the next ones.
 #[derive(Drop)]
-pub(crate) struct FoundInputs {
+pub(crate) struct FoundInputs<'a> {
     pub(crate) inputs: Vec<UndeclaredInput>,
     // the files of those of one edge
     files: RoundSet,
-    search: NeedsSearch,
+    search: NeedsSearch<'a>,
 }
 
-impl FoundInputs {
+impl<'a> FoundInputs<'a> {
     /// None of the edges and files of a graph.
-    pub(crate) fn none_in(alloc: Global, graph: &EdgeGraph) -> Result<FoundInputs, AllocError>
+    pub(crate) fn none_in(
+        alloc: Global,
+        graph: &'a EdgeGraph,
+    ) -> Result<FoundInputs<'a>, AllocError>
         ensures found { IfOk result (IsFound graph.now) }
         ensures none { IfOk result (λ found. found.inputs.items ≡ []) }
     {
         Ok(FoundInputs {
             inputs: Vec::new(alloc),
             files: RoundSet::none_below(alloc, graph.file_count())?,
-            search: NeedsSearch::among(alloc, graph.edge_count())?,
+            search: NeedsSearch::new(alloc, graph),
         })
     }
 
@@ -103,7 +105,7 @@ impl FoundInputs {
             → MadeIs graph.now path (Some made) → FindsAt graph.now edge.0 before paths self.old
             → OnOk result (FindsAt graph.now edge.0 before (paths ++ path ∷ []) self.new) }
     {
-        let is_declared = self.search.is_or_needs(graph, edge, made.maker)?;
+        let is_declared = self.search.is_or_needs(edge, made.maker)?;
         if is_declared {
             return Ok(());
         }

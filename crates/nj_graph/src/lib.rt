@@ -16,13 +16,11 @@ mod graph_edges;
 mod laws;
 mod loading;
 mod made_files;
-mod needs_search;
 mod opened_files;
 mod origins;
 mod pools;
 mod reader;
 mod response_files;
-mod round_set;
 mod rules;
 mod scopes;
 mod targets;
@@ -37,7 +35,9 @@ pub use laws::{
     statements_up_to_the_first_fault, words_mean_targets,
 };
 pub use loading::{Loaded, load};
-pub use nj_edges::{EdgeGraph, EdgeNo, EdgeNumbers, FileNo, FileNumbers, Kind, Step};
+pub use nj_edges::{
+    EdgeGraph, EdgeNo, EdgeNumbers, FileNo, FileNumbers, Kind, NeedsSearch, Step,
+};
 pub use nj_faults::{Cause, GraphFault, Name, Place, PlaceRef};
 pub use nj_manifest::{Spot, SyntaxCause, Wanted};
 pub use nj_scope::{

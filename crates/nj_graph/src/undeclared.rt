@@ -57,7 +57,7 @@ pub fn undeclared_inputs(
 
 // Adds the undeclared inputs of all edges, by the numbers under which a log has their first outputs.
 fn add_edges(
-    found: &mut FoundInputs,
+    found: &mut FoundInputs<'_>,
     graph: &EdgeGraph,
     log: &DepsLog,
     numbers: &[Option<usize>],

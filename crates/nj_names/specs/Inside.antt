@@ -1,3 +1,4 @@
 -- How the code meets the definitions beside this directory. No contract of a public call needs these.
 pub mod NamesHeld
 pub mod NumbersHeld
+pub mod RoundsHeld

@@ -8,6 +8,7 @@ mod hash_keys;
 mod name_hasher;
 mod number_set;
 mod plain_hasher;
+mod round_set;
 mod short;
 mod table;
 
@@ -16,5 +17,6 @@ pub use hash_keys::HashKeys;
 pub use name_hasher::NameHasher;
 pub use number_set::NumberSet;
 pub use plain_hasher::PlainHasher;
+pub use round_set::RoundSet;
 pub use short::short_number;
 pub use table::Names;

@@ -9,7 +9,6 @@ use Rattle.nj_edges.specs.Edges.{is_among, maker_of}
 use Rattle.nj_edges.specs.Repeats.{each_once}
 use Rattle.nj_deps.specs.Logs.{LogModel}
 use Rattle.nj_graph.specs.Undeclared.{AreThose, InputOfEdge, IsUndeclared, input_of_edge, inputs_of_edge, paths_of_output}
-use Rattle.nj_graph.specs.Inside.NeedsSearched.{IsSearch}
 use Rattle.nj_graph.specs.declared.found_inputs.FoundInputs.{FoundInputs}
 use Rattle.nj_graph.specs.declared.made_files.MadeFile.{MadeFile}
 use Rattle.nj_graph.specs.declared.undeclared.UndeclaredInput.{UndeclaredInput}
@@ -37,7 +36,7 @@ IsKnownInput g input = (input.edge.0 < length g.edges) × (input.file.0 < length
 
 pub record IsFound (g : EdgeGraph) (f : FoundInputs) : Type 0 where
   pub limit : f.files.limit ≡ length g.files
-  pub search : IsSearch g.edges f.search
+  pub search : f.search ≡ g.edges
   pub known : All (IsKnownInput g) f.inputs.items
 
 -- a file is an undeclared input of an edge, at one of these paths
