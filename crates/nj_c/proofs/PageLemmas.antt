@@ -1,25 +1,19 @@
 -- Numbers of files, and pages.
-use Rattle.std.proofs.Common.{◌≡◌, ◌<◌, ◌+◌, ◌-◌, inl, inr, ℕ, zero, suc, true, Option, Some, None, Result, Ok, Err, List, [], ◌∷◌, ◌++◌, All, MatchOption, length, map, take, drop, get_or, refl, sym, ap, subst, ◌∙◌, arith}
-use Rattle.std.specs.List.{last_or}
-use Rattle.std.proofs.lemmas.List.{append_assoc, map_more, get_or-map, length-map, length_push, map_push, take_more}
+use Rattle.std.proofs.Common.{◌≡◌, ◌<◌, ◌+◌, inl, inr, ℕ, Some, Result, Ok, Err, List, [], ◌∷◌, ◌++◌, All, length, map, take, get_or, refl, sym, ap, subst, ◌∙◌}
+use Rattle.std.proofs.lemmas.List.{map_more, get_or-map, length-map, take_more}
 use Rattle.std.proofs.lemmas.List.Elements.{All-push}
 use Rattle.nj_names.specs.declared.files.FileNo.{FileNo}
-use Rattle.nj_edges.specs.declared.edges.EdgeNo.{EdgeNo}
 use Rattle.nj_edges.specs.EdgeGraphs.{EdgeGraph}
 use Rattle.nj_needs.specs.declared.mark_fault.MarkFault.{MarkFault}
 use Rattle.nj_needs.specs.declared.mark_fault.MarkFault.TheVariants as fault
-use Rattle.nj_needs.specs.Graphs.{count_of, makers_of, row_of}
-use Rattle.nj_needs.specs.Marks.{is_valid, IsFirstPlace}
-use Rattle.nj_needs.specs.Pages.{IsMarkAfter}
-use Rattle.nj_needs.specs.Walks.{WalkState, BeginsAt, IsFirstPlaceOf}
 use Rattle.nj_names.specs.Files.{path_at}
 use Rattle.nj_graph.specs.Graph.{GraphModel, edges_of, files_of}
 use Rattle.nj_c.specs.declared.session_state.Kept.{Kept}
 use Rattle.nj_c.specs.declared.pages.Page.{Page}
 use Rattle.nj_c.specs.declared.status.Status.{Status}
 use Rattle.nj_c.specs.declared.status.Status.TheVariants.{Done, Nothing, Short, Fault, Wanted, NotLoaded, BadNumber, NotUtf8, NotOpen, BadMark, OutOfMemory, BadLog}
-use Rattle.nj_c.specs.Pages.{mark_of, numbered, paths_of_files, AreBelow, AreKnown, IsBadMark, IsNeededList, IsPage, ListsPage}
-use Rattle.nj_c.specs.Inside.PagesHeld.{mark_status, numbers_of, EndsAt, MarkRefused, PageAfter, PageAt, PageFrom, PageOf, Returned}
+use Rattle.nj_c.specs.Pages.{mark_of, numbered, paths_of_files, AreBelow, AreKnown, IsBadMark, IsNeededList, ListsPage}
+use Rattle.nj_c.specs.Inside.PagesHeld.{mark_status, MarkRefused, PageAfter, PageAt, PageFrom, PageOf}
 
 abbrev pub as_file : ℕ → FileNo
 as_file n = record { 0 = n }
@@ -48,77 +42,7 @@ needed_list g graph numbers files found is are held =
     subst (λ fs. IsNeededList (edges_of g) (map (path_at (files_of g)) fs) found) are
     (subst (λ (e : EdgeGraph). IsNeededList e.edges (map (path_at e.files) files) found) is held)
 
--- ---- the edges of a page
-
-take-next : (limit : ℕ) (e : ℕ) (left : List ℕ) → 0 < limit → take limit (e ∷ left) ≡ e ∷ take (limit - 1) left
-take-next zero e left some = let none : ⊥ = omega (arith, some) in absurd none
-take-next (suc more) e left some = let is : suc more - 1 ≡ more = omega arith in ap (λ n. e ∷ take n left) (sym is)
-
-drop-next : (limit : ℕ) (e : ℕ) (left : List ℕ) → 0 < limit → drop limit (e ∷ left) ≡ drop (limit - 1) left
-drop-next zero e left some = let none : ⊥ = omega (arith, some) in absurd none
-drop-next (suc more) e left some = let is : suc more - 1 ≡ more = omega arith in ap (λ n. drop n left) (sym is)
-
-last-push : (o : Option ℕ) (edges : List ℕ) (e : ℕ) → last_or o (edges ++ e ∷ []) ≡ Some e
-last-push o [] e = refl
-last-push o (x ∷ edges) e = last-push (Some x) edges e
-
-IsMarkAfter-last : (makers : ℕ → List (Option ℕ)) (count : ℕ) (targets : List (Option ℕ)) (begun edges : List ℕ) (e : ℕ) (mark : List ℕ)
-    → IsFirstPlace makers count targets mark e → IsMarkAfter makers count targets begun (edges ++ e ∷ []) mark
-IsMarkAfter-last makers count targets begun edges e mark first =
-    subst (λ (o : Option ℕ). MatchOption o (mark ≡ begun) (λ x. IsFirstPlace makers count targets mark x)) (sym (last-push None edges e)) first
-
--- one edge more
-module _ (limit : ℕ) (all left after : List ℕ) (old new : List EdgeNo) (edge : EdgeNo) (under : length old < limit) (first : left ≡ edge.0 ∷ after)
-    (more : new ≡ old ++ edge ∷ []) where
-  counts : limit - length new ≡ limit - length old - 1
-  counts = let longer = ap length more ∙ length_push old edge in omega (arith, under, longer)
-
-  some-left : 0 < limit - length old
-  some-left = omega (arith, under)
-
-  numbers : numbers_of new ≡ numbers_of old ++ edge.0 ∷ []
-  numbers = ap numbers_of more ∙ map_push (λ (e : EdgeNo). e.0) old edge
-
-  pub written-more : take limit all ≡ numbers_of old ++ take (limit - length old) left → take limit all ≡ numbers_of new ++ take (limit - length new) after
-  written-more is =
-      is ∙ ap (λ t. numbers_of old ++ t) (ap (take (limit - length old)) first ∙ take-next (limit - length old) edge.0 after some-left)
-      ∙ sym (append_assoc (numbers_of old) (edge.0 ∷ []) (take (limit - length old - 1) after))
-      ∙ sym (ap (λ es. es ++ take (limit - length old - 1) after) numbers) ∙ ap (λ n. numbers_of new ++ take n after) (sym counts)
-
-  pub left-more : (rest : List ℕ) → rest ≡ drop (limit - length old) left → rest ≡ drop (limit - length new) after
-  left-more rest is = is ∙ ap (drop (limit - length old)) first ∙ drop-next (limit - length old) edge.0 after some-left ∙ ap (λ n. drop n after) (sym counts)
-
-  pub mark-more : (before next : WalkState) → next.graph ≡ before.graph → next.targets ≡ before.targets → IsFirstPlaceOf next.graph next.targets next.mark edge.0
-      → IsMarkAfter (makers_of before.graph) (count_of before.graph) (row_of before.graph before.targets) before.mark (numbers_of new) next.mark
-  mark-more before next graph targets place =
-      subst (λ es. IsMarkAfter (makers_of before.graph) (count_of before.graph) (row_of before.graph before.targets) before.mark es next.mark) (sym numbers)
-      (IsMarkAfter-last (makers_of before.graph) (count_of before.graph) (row_of before.graph before.targets) before.mark (numbers_of old) edge.0 next.mark
-      (subst (λ g. IsFirstPlaceOf g before.targets next.mark edge.0) graph (subst (λ t. IsFirstPlaceOf next.graph t next.mark edge.0) targets place)))
-
 -- ---- pages
-
-pub page-is : (g : EdgeGraph) (targets : List FileNo) (mark : List ℕ) (limit : ℕ) (old new : WalkState) (edges text : List ℕ)
-    → is_valid (makers_of g) (row_of g targets) mark ≡ true → BeginsAt g targets mark old → Returned limit old new edges → EndsAt new text
-    → IsPage g targets mark limit edges text
-page-is g targets mark limit old new edges text valid begins r (inl (none, empty)) =
-    (valid, (old, begins, sym r.returned, (None, empty, r.left ∙ none)))
-page-is g targets mark limit old new edges text valid begins r (inr (some, is, reads)) = (
-  valid,
-  (
-    old,
-    begins,
-    sym r.returned,
-    (
-      Some new.mark,
-      is,
-      (
-        (λ none. some (sym r.left ∙ none)),
-        subst (λ es. IsMarkAfter (makers_of old.graph) (count_of old.graph) (row_of old.graph old.targets) old.mark es new.mark) (sym r.returned) r.mark,
-        reads,
-      ),
-    ),
-  ),
-)
 
 pub from-fault : (g : EdgeGraph) (targets : List FileNo) (mark : List ℕ) (limit : ℕ) (fault : MarkFault) → PageAfter g targets mark limit (Err fault)
     → PageFrom g targets mark limit (Err (mark_status fault))

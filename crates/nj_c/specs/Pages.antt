@@ -91,12 +91,16 @@ abbrev pub end_text : Option (List ℕ) → List ℕ
 end_text None = []
 end_text (Some mark) = mark_text mark
 
--- At most `limit` of the edges that the targets need and that are left after a mark, and the text of the mark at which they end.
+-- at most `limit` of the edges that are left to a walk, and the text of the mark at which they end
+abbrev pub IsPageOf : WalkState → (limit : ℕ) → (edges : List ℕ) → (end : List ℕ) → Type 0
+IsPageOf walk limit edges end =
+    (edges ≡ written (Some limit) walk.left) × ((after : Option (List ℕ)) × (end ≡ end_text after) × StopsAt walk (Some limit) after)
+
+-- the same of those that the targets need and that are left after a mark
 abbrev pub IsPage : EdgeGraph → (targets : List FileNo) → (mark : List ℕ) → (limit : ℕ) → (edges : List ℕ) → (end : List ℕ) → Type 0
 IsPage g targets mark limit edges end =
     (is_valid (makers_of g) (row_of g targets) mark ≡ true)
-    × ((walk : WalkState) × BeginsAt g targets mark walk × (edges ≡ written (Some limit) walk.left)
-    × ((after : Option (List ℕ)) × (end ≡ end_text after) × StopsAt walk (Some limit) after))
+    × ((walk : WalkState) × BeginsAt g targets mark walk × IsPageOf walk limit edges end)
 
 -- the text gives no mark
 abbrev pub IsNoMark : (text : List ℕ) → Type 0

@@ -2,13 +2,12 @@
 //! that targets need.
 
 ghost use Rattle.std.specs.Prelude.{◌≡◌, ◌<◌, Some, map, length, slice_get, All, IfErr, IfOk, IfSome, MatchOption};
-ghost use Rattle.nj_needs.specs.declared.mark_fault.MarkFault.TheVariants.{OutOfMemory};
 ghost use Rattle.nj_graph.specs.Graph.{edges_of, files_of};
 ghost use Rattle.nj_c.specs.Asking.{GivesItem, GivesMark, IfOpen, KeptUnlessDone};
 ghost use Rattle.nj_c.specs.Loading.{Changes};
-ghost use Rattle.nj_c.specs.Pages.{mark_of, numbered, paths_of_files, AreBelow, AreKnown, IsNeededList, IsReached, ListsNeeded, ListsPage, ListsReached};
+ghost use Rattle.nj_c.specs.Pages.{end_text, mark_of, numbered, paths_of_files, AreBelow, AreKnown, IsNeededList, IsPageOf, IsReached, ListsNeeded, ListsPage, ListsReached};
 ghost use Rattle.nj_c.specs.Statuses.{code_of};
-ghost use Rattle.nj_c.specs.Inside.PagesHeld.{mark_status, numbers_of, EndsAt, MarkRefused, PageAfter, PageAt, PageFrom, PageOf, Returned};
+ghost use Rattle.nj_c.specs.Inside.PagesHeld.{mark_status, numbers_of, MarkRefused, PageAfter, PageAt, PageFrom, PageOf};
 
 use crate::asking::{ask, change};
 use crate::buffers::copy_text;
@@ -306,35 +305,31 @@ fn page_after(
     ensures { PageAfter graph.now.built.graph targets.now mark.now take result }
 {
     let mut needs = Needs::resume(alloc, graph.edge_graph(), targets, mark)?;
-    let edges = next_edges(alloc, &mut needs, take)?;
-    let mark = end_mark(alloc, &mut needs)?;
-    Ok(Page { edges, mark })
-}
-
-// The text of the mark at which a walk is; empty if no edge is left to it.
-fn end_mark(alloc: Global, needs: &mut Needs<'_>) -> Result<Vec<u8>, MarkFault>
-    ensures ends { IfOk result (λ text. EndsAt needs.old text.items) }
-    ensures refused { IfErr result (λ fault. fault ≡ OutOfMemory) }
-{
-    let mark = needs.mark(alloc)?;
-    if needs.next().is_none() {
-        return Ok(Vec::new(alloc));
-    }
-    let text = mark.to_text(alloc)?;
-    Ok(text.into_bytes())
+    let page = next_page(alloc, &mut needs, take)?;
+    Ok(page)
 }
 
 // At most `take` of the edges that are left to a walk.
-fn next_edges(alloc: Global, needs: &mut Needs<'_>, take: usize) -> Result<Vec<EdgeNo>, AllocError>
-    ensures { IfOk result (λ edges.
-        Returned take needs.old needs.new (numbers_of edges.items)) }
+fn next_page(alloc: Global, needs: &mut Needs<'_>, take: usize) -> Result<Page, AllocError>
+    ensures { IfOk result (λ page.
+        IsPageOf needs.old take (numbers_of page.edges.items) page.mark.items) }
 {
     let mut edges = Vec::new(alloc);
-    'edges: while edges.as_slice().len() < take {
-        let Some(edge) = needs.next() else {
-            return Ok(edges);
-        };
+    let mut room = Some(take as u64);
+    'edges: while let Some(edge) = needs.next_on_page(&mut room) {
         edges.push(edge)?;
     }
-    Ok(edges)
+    let mark = needs.mark_after_page(alloc, room)?;
+    let mark = end_text(alloc, mark)?;
+    Ok(Page { edges, mark })
+}
+
+// The text of the mark at which a page ends; empty if no edge is left after it.
+fn end_text(alloc: Global, mark: Option<Mark>) -> Result<Vec<u8>, AllocError>
+    ensures { IfOk result (λ text. text.items ≡ end_text mark) }
+{
+    match mark {
+        Some(mark) => Ok(mark.to_text(alloc)?.into_bytes()),
+        None => Ok(Vec::new(alloc)),
+    }
 }

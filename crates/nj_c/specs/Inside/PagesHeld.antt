@@ -1,17 +1,13 @@
 -- How pages are made.
-use Rattle.std.specs.Prelude.{◌≡◌, ◌≢◌, ◌⊎◌, ℕ, false, List, [], map, Some, Result, Ok, Err, ⊤}
+use Rattle.std.specs.Prelude.{◌≡◌, ℕ, false, List, map, Some, Result, Ok, Err, ⊤}
 use Rattle.nj_edges.specs.declared.edges.EdgeNo.{EdgeNo}
 use Rattle.nj_names.specs.declared.files.FileNo.{FileNo}
 use Rattle.nj_edges.specs.EdgeGraphs.{EdgeGraph}
 use Rattle.nj_needs.specs.declared.mark_fault.MarkFault.{MarkFault}
 use Rattle.nj_needs.specs.declared.mark_fault.MarkFault.TheVariants as fault
-use Rattle.nj_needs.specs.MarkTexts.{mark_text, ReadsBack}
-use Rattle.nj_needs.specs.Graphs.{count_of, makers_of, row_of}
+use Rattle.nj_needs.specs.Graphs.{makers_of, row_of}
 use Rattle.nj_needs.specs.Marks.{is_valid}
-use Rattle.nj_needs.specs.Pages.{IsMarkAfter}
-use Rattle.nj_needs.specs.Walks.{WalkState}
 use Rattle.nj_graph.specs.Graph.{GraphModel}
-use Rattle.nj_needs.specs.PageWalks.{left_after, written}
 use Rattle.nj_c.specs.declared.pages.Page.{Page}
 use Rattle.nj_c.specs.declared.status.Status.{Status}
 use Rattle.nj_c.specs.declared.status.Status.TheVariants.{BadNumber, BadMark, OutOfMemory}
@@ -19,14 +15,6 @@ use Rattle.nj_c.specs.Pages.{mark_of, numbered, AreKnown, IsBadMark, IsNoMark, I
 
 abbrev pub numbers_of : List EdgeNo → List ℕ
 numbers_of edges = map (λ e. e.0) edges
-
--- these were returned of the edges that were left to a walk, at most so many
-pub record Returned (limit : ℕ) (old new : WalkState) (edges : List ℕ) : Type 0 where
-  pub returned : written (Some limit) old.left ≡ edges
-  pub left : left_after (Some limit) old.left ≡ new.left
-  pub mark : IsMarkAfter (makers_of old.graph) (count_of old.graph) (row_of old.graph old.targets) old.mark edges new.mark
-  pub graph : new.graph ≡ old.graph
-  pub targets : new.targets ≡ old.targets
 
 -- why a text gives no mark
 abbrev pub MarkRefused : (text : List ℕ) → Status → Type 0
@@ -45,12 +33,6 @@ PageAfter g targets mark limit (Ok page) = IsPage g targets mark limit (numbers_
 PageAfter g targets mark limit (Err fault.MarkOutOfRange) = is_valid (makers_of g) (row_of g targets) mark ≡ false
 PageAfter g targets mark limit (Err fault.OutOfMemory) = ⊤
 PageAfter g targets mark limit (Err fault.BadMark) = ⊥
-
--- where a walk ends: no edge is left to it, or its mark has this text
-abbrev pub EndsAt : WalkState → (text : List ℕ) → Type 0
-EndsAt walk text =
-    ((walk.left ≡ []) × (text ≡ []))
-    ⊎ ((walk.left ≢ []) × (text ≡ mark_text walk.mark) × ReadsBack walk.mark)
 
 abbrev pub PageFrom : EdgeGraph → (targets : List FileNo) → (mark : List ℕ) → (limit : ℕ) → Result Page Status → Type 0
 PageFrom g targets mark limit (Ok page) = IsPage g targets mark limit (numbers_of page.edges.items) page.mark.items
