@@ -4,8 +4,8 @@
 
    It loads build.ninja from the files that are named, which it reads from the disk; with `run` it
    runs `-t commands` on them instead, and copies the output. With `calls` it then makes calls for
-   all edges and files, and prints a line for each kind: its name, how many calls were made, and the
-   nanoseconds for each, the least of five rounds. */
+   all edges and files, and prints a line for each kind: its name, how many calls were made, or how
+   many items came of nx_inputs, and the nanoseconds for each, the least of five rounds. */
 #define _POSIX_C_SOURCE 200809L
 #include <ninja_explain.h>
 #include <stdio.h>
@@ -13,7 +13,7 @@
 #include <string.h>
 #include <time.h>
 
-enum { ROUNDS = 5, SIZE = 1 << 20 };
+enum { ROUNDS = 5, SIZE = 1 << 20, MANY = 256 };
 
 static nx_session session = NX_SESSION_CLOSED;
 static size_t edge_count, file_count;
@@ -95,6 +95,20 @@ static size_t all_inputs(void)
     return count + edge_count;
 }
 
+/* The same, many at a time. */
+static size_t all_inputs_in_bulk(void)
+{
+    static size_t files[MANY];
+    static int32_t kinds[MANY];
+    size_t count, all = 0;
+    for (size_t edge = 0; edge < edge_count; edge++) {
+        for (size_t from = count = 0; from == 0 || from < count; from += MANY)
+            check(nx_inputs(&session, edge, from, files, MANY, kinds, MANY, &count));
+        all += count;
+    }
+    return all;
+}
+
 static size_t all_commands(void)
 {
     size_t needed;
@@ -118,6 +132,15 @@ static size_t all_affected(void)
 {
     size_t file = file_count / 2;
     check(nx_affected(&session, &file, 1));
+    return 1;
+}
+
+/* What the first root needs. */
+static size_t all_needed(void)
+{
+    size_t file;
+    check(nx_root(&session, 0, &file));
+    check(nx_needed(&session, &file, 1));
     return 1;
 }
 
@@ -168,9 +191,11 @@ int main(int count, char **words)
         measure("nx_file_named", all_names);
         measure("nx_maker", all_makers);
         measure("nx_input", all_inputs);
+        measure("nx_inputs", all_inputs_in_bulk);
         measure("nx_command", all_commands);
         measure("nx_page", one_page);
         measure("nx_affected", all_affected);
+        measure("nx_needed", all_needed);
     }
     check(nx_close(&session));
     return 0;
