@@ -181,6 +181,12 @@ typedef struct nx_step {
     int32_t kind;
 } nx_step;
 
+/* An input of an edge. */
+typedef struct nx_edge_input {
+    size_t edge;
+    size_t file;
+} nx_edge_input;
+
 /* A session: all that one graph needs. It owns its memory, which nx_close frees. */
 typedef struct nx_session {
     void *kept;
@@ -450,6 +456,22 @@ int32_t nx_page_mark(nx_session *session, void *buffer, size_t size, size_t *nee
  */
 int32_t nx_path_between(nx_session *session, size_t from, size_t to, uint32_t with_validations,
                         nx_step *steps, size_t room, size_t *count);
+
+/* ---- undeclared inputs ---- */
+
+/*
+ * The inputs that edges use without declaring them, by the bytes of a deps log as nx_join_deps takes
+ * them: the log names a file for the first output of an edge whose value of `deps` is not empty, another
+ * edge makes that file, and the edge needs that maker through no chain of inputs, so it may run before
+ * the file is made. They come by edge and then in the order of the log, without duplicates. An edge for
+ * which the log names `build.ninja`, by that very path, is left out: that says only that it is to run
+ * again after the manifest was made anew. Nothing is joined; ask before nx_join_deps, after which what
+ * the log names are inputs. Gives as many as there is room for, the rest of which remains unchanged, and
+ * through `count` how many there are. Each call reads the log anew.
+ * NX_DONE, NX_BAD_LOG, NX_OUT_OF_MEMORY.
+ */
+int32_t nx_undeclared(nx_session *session, const void *log, size_t log_length, nx_edge_input *inputs,
+                      size_t room, size_t *count);
 
 /* ---- whole runs ---- */
 

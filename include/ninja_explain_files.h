@@ -270,6 +270,20 @@ static inline int32_t nx_files_load(nx_session *session, const char *main, uint3
     return status;
 }
 
+/* Reads the deps log at a path of the folder into memory that the caller frees. NX_NOTHING without one. */
+static inline int32_t nx_files_deps_log(const char *path, char **bytes, size_t *length,
+                                        struct nx_files *files)
+{
+    int32_t status = nx_files_content(files, path, bytes, length);
+    if (status < 0) {
+        nx_files_clear(files);
+        files->failed = (char *)malloc(strlen(path) + 1);
+        if (files->failed)
+            strcpy(files->failed, path);
+    }
+    return status;
+}
+
 /*
  * As nx_join_deps, with the deps log at a path of the directory, as ".ninja_deps". Returns its status or one
  * of `enum nx_files_status`; NX_NOTHING if there is no such file.
@@ -278,16 +292,23 @@ static inline int32_t nx_files_join_deps(nx_session *session, const char *path, 
 {
     char *bytes;
     size_t length;
-    int32_t status = nx_files_content(files, path, &bytes, &length);
+    int32_t status = nx_files_deps_log(path, &bytes, &length, files);
     if (status == NX_DONE)
         status = nx_join_deps(session, bytes, length);
     free(bytes);
-    if (status < 0) {
-        nx_files_clear(files);
-        files->failed = (char *)malloc(strlen(path) + 1);
-        if (files->failed)
-            strcpy(files->failed, path);
-    }
+    return status;
+}
+
+/* As nx_undeclared, with such a deps log. The same. */
+static inline int32_t nx_files_undeclared(nx_session *session, const char *path, nx_edge_input *inputs,
+                                          size_t room, size_t *count, struct nx_files *files)
+{
+    char *bytes;
+    size_t length;
+    int32_t status = nx_files_deps_log(path, &bytes, &length, files);
+    if (status == NX_DONE)
+        status = nx_undeclared(session, bytes, length, inputs, room, count);
+    free(bytes);
     return status;
 }
 

@@ -5,7 +5,8 @@
    For each project it makes every call of ninja_explain.h on a session that is closed, open,
    loaded, loaded again, opened again and closed twice: with numbers that no edge or file has,
    buffers that are too small, null pointers of length 0, and words and marks that mean nothing.
-   A call that gives many items has to give what was given one at a time.
+   A call that gives many items has to give what was given one at a time. What files need, chains of
+   inputs and undeclared inputs have to be those that searches of its own find.
    Each status has to be one that the header names for the call and the state of the session, a
    buffer may only be written where a text goes, and after the last close no block of memory may be
    left. With `refused` it does so again and again, and refuses one allocation after the other,
@@ -820,6 +821,8 @@ static int32_t load(const char *main, uint32_t joins)
 
 /* ---- deps logs ---- */
 
+enum { MOST_NAME = 1 << 10 };
+
 /* A deps log that is made, record by record. */
 static uint8_t made_log[1 << 16];
 static size_t made_length;
@@ -872,14 +875,112 @@ static int find_with_deps(size_t *edge)
     return 0;
 }
 
+static nx_edge_input undeclared[MOST_MANY + GUARD];
+static const nx_edge_input no_input = { NO_ITEM, NO_ITEM };
+
+/* Asks for the inputs that the log has and no edge declares, with room for some. All but these stay as
+   they are. */
+static int32_t ask_undeclared(size_t room, size_t *count, unsigned statuses)
+{
+    for (size_t at = 0; at < room + GUARD; at++)
+        undeclared[at] = no_input;
+    int32_t status = IF_LOADED(statuses, nx_undeclared(&session, made_log, made_length,
+                                                       room > 0 ? undeclared : NULL, room, count));
+    size_t written = status == NX_DONE ? fitting(*count, 0, room) : 0;
+    for (size_t at = 0; at < room + GUARD; at++) {
+        int is_kept = undeclared[at].edge == NO_ITEM && undeclared[at].file == NO_ITEM;
+        expect(is_kept == (at >= written), "nx_undeclared", "input at", (long long)at);
+    }
+    return status;
+}
+
+/* Asks for them, and each has to be made by another edge than its own, which has no such input. Returns
+   how many there are, or 0 if these are too many. */
+static size_t list_undeclared(unsigned statuses)
+{
+    size_t count = 0, same = 0, maker = 0;
+    unsigned either = OF(DONE) | OF(OUT_OF_MEMORY);
+    if (ask_undeclared(0, &count, statuses) != NX_DONE || count > MOST_MANY)
+        return 0;
+    if (ask_undeclared(1, &same, either) != NX_DONE || ask_undeclared(count, &same, either) != NX_DONE)
+        return 0;
+    expect(same == count, "nx_undeclared", "inputs then", (long long)same);
+    for (size_t at = 0; at < count; at++) {
+        size_t edge = undeclared[at].edge, file = undeclared[at].file;
+        int is_made = nx_maker(&session, file, &maker) == NX_DONE && maker != edge;
+        int is_after = at == 0 || undeclared[at - 1].edge <= edge;
+        expect(is_made && is_after && edge < edge_count, "nx_undeclared", "input at", (long long)at);
+        for (int32_t kind = NX_EXPLICIT; kind <= NX_ORDER_ONLY; kind++)
+            expect(!is_input(edge, file, kind), "nx_undeclared", "declared at", (long long)at);
+    }
+    return count;
+}
+
+/* Joins the log. What it has and no edge declares is an input then. */
 static int32_t join(unsigned statuses)
 {
+    unsigned asked = (statuses & OF(FAULT) ? statuses | OF(DONE) : statuses) & ~OF(FAULT);
+    size_t count = list_undeclared(asked);
     int32_t status = IF_LOADED(statuses, nx_join_deps(&session, made_log, made_length));
     if (state == LOADED && (status == NX_FAULT || status == NX_OUT_OF_MEMORY))
         state = OPEN;
     if (status == NX_FAULT)
         try_fault(1);
+    for (size_t at = 0; status == NX_DONE && at < count; at++)
+        expect(is_input(undeclared[at].edge, undeclared[at].file, NX_IMPLICIT), "nx_undeclared",
+               "no input after joining, at", (long long)at);
+    if (status == NX_DONE)
+        expect(list_undeclared(OF(DONE) | OF(OUT_OF_MEMORY)) == 0, "nx_undeclared", "after joining",
+               (long long)count);
     return status;
+}
+
+/* Makes a log that names some files for the first output of an edge, one of them twice. Puts those of
+   them into `many` that the edge does not declare, by a search of our own, and returns how many they
+   are; FAR if that cannot be known. */
+static size_t name_files(size_t edge)
+{
+    size_t output, maker, needed, numbers = 0, count = 0;
+    int is_left_out = 0;
+    if (nx_output(&session, edge, 0, &output) != NX_DONE || measure(output, 0) == FAR)
+        return FAR;
+    begin_log(4);
+    if (TEXT(if_loaded, nx_path, output, OF(DONE)) != NX_DONE || given_length > MOST_NAME)
+        return FAR;
+    put_path((struct text){ given, given_length }, 0);
+    for (size_t at = 0; at < numbers_of(file_count); at++) {
+        size_t file = number_at(at, file_count);
+        if (nx_path(&session, file, NULL, 0, &needed) != NX_SHORT || needed > MOST_NAME)
+            continue;
+        if (file != output && TEXT(if_loaded, nx_path, file, OF(DONE)) == NX_DONE) {
+            put_path((struct text){ given, given_length }, (uint32_t)numbers + 1);
+            numbers++;
+            is_left_out |= given_length == 11 && memcmp(given, "build.ninja", 11) == 0;
+            if (nx_maker(&session, file, &maker) == NX_DONE && distance[maker] == FAR)
+                many[count++] = file;
+        }
+    }
+    if (numbers == 0)
+        return FAR;
+    put_word((uint32_t)(4 * (numbers + 4)) | (uint32_t)1 << 31);
+    for (size_t word = 0; word < 3; word++)
+        put_word(word == 1);
+    for (size_t at = 0; at <= numbers; at++)
+        put_word((uint32_t)(at % numbers) + 1);
+    return is_left_out ? 0 : count;
+}
+
+/* Asks by a log that names files for an edge with `deps`. */
+static void try_named(size_t edge)
+{
+    size_t wanted = name_files(edge), count = 0;
+    if (wanted == FAR || ask_undeclared(wanted + 1, &count, OF(DONE) | OF(OUT_OF_MEMORY)) != NX_DONE)
+        return;
+    expect(count == wanted, "nx_undeclared", "inputs", (long long)count);
+    for (size_t at = 0; at < wanted && at < count; at++) {
+        int is_same = undeclared[at].edge == edge && undeclared[at].file == many[at];
+        expect(is_same, "nx_undeclared", "another input at", (long long)at);
+    }
 }
 
 /* Joins logs that mean nothing, and one that names a header for an edge with `deps`. */
@@ -889,15 +990,20 @@ static void try_logs(void)
     static const char clean[] = "new/header.h";
     size_t edge = 0, file = 0, before = 0, after = 0;
     unsigned joined = OF(DONE) | OF(OUT_OF_MEMORY);
-    IF_LOADED(OF(BAD_LOG) | OF(OUT_OF_MEMORY), nx_join_deps(&session, NULL, 0));
+    unsigned bad = OF(BAD_LOG) | OF(OUT_OF_MEMORY);
+    IF_LOADED(bad, nx_undeclared(&session, NULL, 0, NULL, 0, &edge));
+    IF_LOADED(bad, nx_join_deps(&session, NULL, 0));
     if (state == LOADED && nx_edge_count(&session, &edge) == NX_NOT_LOADED)
         state = OPEN;
     begin_log(3);
-    join(OF(BAD_LOG) | OF(OUT_OF_MEMORY));
+    join(bad);
     begin_log(4);
     join(joined);
     if (state != LOADED || !find_with_deps(&edge))
         return;
+    try_named(edge);
+    find_with_deps(&edge);
+    begin_log(4);
     nx_inputs(&session, edge, 0, NULL, 0, NULL, 0, &before);
     put_path((struct text){ given, given_length }, 0);
     put_path(header, 1);

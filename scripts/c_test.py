@@ -4,7 +4,8 @@
 The example examples/c and the Python package python/ have to give what the program gives: on examples/project, on what CMake writes for examples/cmake, and on a manifest of 2,000 included
 files; whole, in pages, and where there is a fault. So have runs of the program's words by the
 library, tool by tool. Names that collide under a known key may take at most four times as long as
-others. A deps log that Ninja wrote has to give the inputs that are known of it. c_calls.c makes every call on N manifests with changes (lib/strangers.py makes them), and while
+others. A deps log that Ninja wrote has to give the inputs that are known of it, and the undeclared ones
+that Ninja reports. c_calls.c makes every call on N manifests with changes (lib/strangers.py makes them), and while
 allocations are refused, with 256 KB of stack. Where valgrind is installed, it may find nothing in
 the C example, nor in some of these cases.
 
@@ -29,7 +30,7 @@ from lib.projects import MAIN, PROJECTS, as_bytes, write_cmake, write_files
 from lib.strangers import Maker
 from lib.sweeps import Sweep
 from lint import header
-from smoke import deps, flood
+from smoke import deps, flood, missing
 
 LIBRARY = ROOT / "lib/libninja_explain.so.1"
 ARCHIVE = ROOT / "lib/libninja_explain.a"
@@ -107,6 +108,7 @@ class Tests:
         self.shared = self.compiled("shared", source, LIBRARY, f"-Wl,-rpath,{LIBRARY.parent}")
         self.driver = self.compiled("driver", driver, ARCHIVE, *WRAPPED)
         self.why = self.compiled("why", ROOT / "examples/c/why.c", ARCHIVE)
+        self.undeclared = self.compiled("undeclared", ROOT / "examples/c/undeclared.c", ARCHIVE)
         self.loads = self.compiled("loads", ROOT / "scripts/c_loads.c", ARCHIVE)
 
     def compiled(self, name, *words):
@@ -278,7 +280,7 @@ def recipes(tests):
 
 def try_recipes(tests, name, folder, paths, chains):
     """Compares what the recipes write with what programs do."""
-    database, affected, pages, sources, chain, users = recipes(tests)
+    database, affected, pages, sources, chain, _, users = recipes(tests)
     python = Program(sys.executable)
     wanted = tests.program.run(["-t", "compdb", "--directory", os.path.realpath(folder)], folder)
     found = python.run([str(database)], folder)
@@ -387,6 +389,32 @@ def try_deps_log(tests):
         except ninja_explain.BadDepsLog:
             is_log = False
         tests.expect("deps logs", f"cut off at {size}", is_log, size >= 16)
+
+
+# ---- undeclared inputs
+
+
+# What the project of smoke/missing.py lacks, by hand, as examples/c/undeclared.c and the recipe write it.
+LACKING = b"third.o uses gen/kind.h\n"
+
+
+def try_undeclared(tests):
+    """Compares the undeclared inputs by a deps log that Ninja wrote with those that `ninja -t missingdeps`
+    reports, and with what is known by hand; from C and from Python, for the log cut off at each byte."""
+    folder, copy = tests.folder / "lacking", tests.folder / "cut"
+    log = missing.built_by_hand(folder)
+    recipe = [path for path in recipes(tests) if path.stem == "inputs"]
+    found = tests.undeclared.run([], folder)
+    tests.expect("undeclared inputs", "C", found, Ending(missing.REPORTED, LACKING, b""))
+    found = Program(sys.executable).run([str(recipe[0])], folder)
+    tests.expect("undeclared inputs", "recipe", found, Ending(missing.REPORTED, LACKING, b""))
+    write_files(copy, {MAIN: missing.BY_HAND[MAIN]})
+    outputs = missing.outputs_of(copy)
+    with Graph.load(folder=copy) as graph:
+        for size in range(16, len(log) + 1):
+            pairs = {(it.edge.outputs[0].path, it.file.path) for it in graph.undeclared(log[:size])}
+            wanted = missing.missing_by_ninja(log[:size], copy, outputs)
+            tests.expect("undeclared inputs", f"cut off at {size}", pairs, wanted)
 
 
 # ---- the package
@@ -722,8 +750,9 @@ def main():
         try_flood(tests)
         if shutil.which("ninja"):
             try_deps_log(tests)
+            try_undeclared(tests)
         else:
-            print("c_test: ninja is not installed, so no deps log was joined")
+            print("c_test: ninja is not installed, so no deps log was joined or looked through")
         try_package(tests)
         if shutil.which("valgrind"):
             try_valgrind(tests)

@@ -13,7 +13,19 @@ and commands are strings, in which bytes that are not UTF-8 are lone surrogates
 """
 
 from ninja_explain._errors import BadDepsLog, BadMark, Fault, FaultKind
-from ninja_explain._graph import Edge, File, Graph, Input, Kind, Page, Place, Run, Step, run
+from ninja_explain._graph import (
+    Edge,
+    File,
+    Graph,
+    Input,
+    Kind,
+    Page,
+    Place,
+    Run,
+    Step,
+    UndeclaredInput,
+    run,
+)
 
 __all__ = [
     "BadDepsLog",
@@ -29,5 +41,6 @@ __all__ = [
     "Place",
     "Run",
     "Step",
+    "UndeclaredInput",
     "run",
 ]

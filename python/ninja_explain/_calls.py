@@ -32,6 +32,10 @@ class _Step(ctypes.Structure):
     _fields_ = [("edge", c_size_t), ("file", c_size_t), ("kind", c_int32)]
 
 
+class _EdgeInput(ctypes.Structure):
+    _fields_ = [("edge", c_size_t), ("file", c_size_t)]
+
+
 _NUMBER, _KIND = POINTER(c_size_t), POINTER(c_int32)
 _TEXT, _NUMBERS = [c_char_p, c_size_t], [POINTER(c_size_t), c_size_t]
 _BUFFER = [c_char_p, c_size_t, _NUMBER]
@@ -75,6 +79,7 @@ _CALLS: dict[str, Sequence[Any]] = {
     "nx_affected": _NUMBERS,
     "nx_needed": _NUMBERS,
     "nx_path_between": [c_size_t, c_size_t, c_uint32, POINTER(_Step), c_size_t, _NUMBER],
+    "nx_undeclared": [*_TEXT, POINTER(_EdgeInput), c_size_t, _NUMBER],
     "nx_page": [*_NUMBERS, *_TEXT, c_size_t],
     "nx_page_mark": _BUFFER,
     "nx_run": [*_TEXT, _KIND],
@@ -240,6 +245,16 @@ class Session:
                 return None
             if count.value <= room:
                 return [(step.edge, step.file, step.kind) for step in given[: count.value]]
+            room = count.value
+
+    def undeclared(self, log: bytes) -> list[tuple[int, int]]:
+        """The inputs that a deps log has and no edge declares, each an edge and a file."""
+        count, room = c_size_t(), 256
+        while True:
+            given = (_EdgeInput * room)()
+            self.call("nx_undeclared", log, len(log), given, room, ctypes.byref(count))
+            if count.value <= room:
+                return [(each.edge, each.file) for each in given[: count.value]]
             room = count.value
 
     def texts(self, name: str) -> list[str]:

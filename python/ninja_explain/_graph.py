@@ -247,6 +247,13 @@ class Step(NamedTuple):
     kind: Kind | None
 
 
+class UndeclaredInput(NamedTuple):
+    """An edge, and a file that it uses without declaring it."""
+
+    edge: Edge
+    file: File
+
+
 class Page(NamedTuple):
     """Some of the edges that targets need, and the mark at which the next ones begin, which is None
     if no edge is left."""
@@ -439,6 +446,22 @@ class Graph:
     def _step(self, edge: int, file: int, kind: int) -> Step:
         of = None if kind == _VALIDATION else _KINDS[kind]
         return Step(Edge._of(self, edge), File._of(self, file), of)
+
+    def undeclared(self, log: bytes) -> list[UndeclaredInput]:
+        """The inputs that edges use without declaring them, by the bytes of a deps log.
+
+        The log names the file for the first output of the edge, whose value of `deps` is not empty,
+        another edge makes it, and the edge needs that maker through no chain of inputs, so that it may
+        run before the file is made. They come by edge, then in the order of the log, without
+        duplicates; an edge for which the log names `build.ninja` is left out. Nothing is joined: ask
+        a graph that was loaded without `deps_log`, which makes inputs of all that the log names.
+
+        Raises BadDepsLog for other bytes, and MemoryError.
+        """
+        if not isinstance(log, bytes):
+            raise TypeError(f"the bytes of a deps log are needed, not {type(log).__name__}")
+        found = self._session.undeclared(log)
+        return [UndeclaredInput(Edge._of(self, edge), File._of(self, file)) for edge, file in found]
 
     def commands(self, targets: Iterable[File]) -> list[Edge]:
         """The edges with commands that the targets need, each after all that it needs: those whose

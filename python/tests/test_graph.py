@@ -170,9 +170,34 @@ class DepsLogs(unittest.TestCase):
             self.assertEqual(inputs, wanted)
             self.assertEqual(graph.affected([graph.target("a.in")]), [graph.edges[0], graph.edges[1]])
 
+    def test_undeclared(self) -> None:
+        log = deps_log(4, "a.o", "./x/../a.h", "a.c", "b.h", "a.h")
+        with graph_of(DEPS) as graph:
+            found = graph.undeclared(log)
+            self.assertEqual([(it.edge, it.file) for it in found], [(graph.edges[0], graph.target("a.h"))])
+            self.assertEqual(len(graph.edges[0].inputs), 1)
+            for bad in b"", deps_log(3, "a.o", "a.h"):
+                with self.assertRaises(BadDepsLog):
+                    graph.undeclared(bad)
+            with self.assertRaises(TypeError):
+                graph.undeclared(".ninja_deps")  # type: ignore[arg-type]
+        for declared in " | a.h", " || all", " | b.o":
+            text = f"{DEPS.replace('cc a.c', f'cc a.c{declared}')}build all: phony a.h\nbuild b.o: cc b.c || all\n"
+            with graph_of(text) as graph:
+                self.assertEqual(graph.undeclared(log), [])
+        with Graph.from_files({"build.ninja": DEPS}, deps_log=log) as graph:
+            self.assertEqual(graph.undeclared(log), [])
+
+    def test_many_undeclared(self) -> None:
+        """More than one call gives at first."""
+        names = [f"{number}.h" for number in range(1000)]
+        with graph_of(DEPS + "".join(f"build {name}: phony\n" for name in names)) as graph:
+            found = graph.undeclared(deps_log(4, "a.o", *names))
+            self.assertEqual(paths([each.file for each in found]), names)
+
     def test_cycle(self) -> None:
         with self.assertRaises(Fault) as caught:
-            Graph.from_files({"build.ninja": DEPS}, deps_log=deps_log(4, "a.o", "a.o"))
+            Graph.from_files({"build.ninja": DEPS}, deps_log=deps_log(4, "a.o", "./a.o"))
         self.assertEqual(caught.exception.kind, FaultKind.CYCLE)
 
     def test_no_log(self) -> None:

@@ -31,6 +31,7 @@ ARGUMENTS = {
     "&mut [usize]": ["size_t *", "size_t"],
     "&mut [i32]": ["int32_t *", "size_t"],
     "&mut [PathStep]": ["nx_step *", "size_t"],
+    "&mut [EdgeInput]": ["nx_edge_input *", "size_t"],
     "&mut usize": ["size_t *"],
     "&mut i32": ["int32_t *"],
     "&mut u64": ["uint64_t *"],
@@ -133,15 +134,19 @@ def numbers_are_the_same():
 
 # ---- structs
 
-STEP = {"usize": "size_t", "i32": "int32_t"}
+# Each struct that is passed in arrays: its name in the crate, and the file that has it.
+STRUCTS = {"nx_step": ("PathStep", "paths.rt"), "nx_edge_input": ("EdgeInput", "undeclared_inputs.rt")}
+MEMBERS = {"usize": "size_t", "i32": "int32_t"}
 
 
 @check
-def steps_are_the_same():
-    text = re.search(r"pub struct PathStep \{(.*?)\n\}", (SOURCES / "paths.rt").read_text(), re.S)[1]
-    wanted = [(STEP[kind], word) for word, kind in re.findall(r"pub (\w+): (\w+),", text)]
-    header = re.search(r"typedef struct nx_step \{(.*?)\}", without_comments(HEADER.read_text()), re.S)[1]
-    yield from expect("nx_step", re.findall(r"(\w+) (\w+);", header), wanted)
+def structs_are_the_same():
+    header = without_comments(HEADER.read_text())
+    for name, (kind, file) in STRUCTS.items():
+        text = re.search(rf"pub struct {kind} \{{(.*?)\n\}}", (SOURCES / file).read_text(), re.S)[1]
+        wanted = [(MEMBERS[of], word) for word, of in re.findall(r"pub (\w+): (\w+),", text)]
+        found = re.search(rf"typedef struct {name} \{{(.*?)\}}", header, re.S)[1]
+        yield from expect(name, re.findall(r"(\w+) (\w+);", found), wanted)
 
 
 # ---- compiling

@@ -2,9 +2,6 @@
 use Rattle.std.proofs.Common.{◌≡◌, ◌<◌, ◌+◌, ◌-◌, min, ℕ, ℤ, pos, Some, List, [], ◌∷◌, ◌++◌, length, map, take, drop, set, get_or, slice_get, sym, ap, ◌∙◌, append_assoc, arith}
 use Rattle.std.proofs.lemmas.List.{drop_more, drop_min, get_or-drop, get_or-map, length-drop, length-map, length-take-le, set_at, take_min, take_more}
 use Rattle.std.proofs.lemmas.List.FromFn.{get_or-map-range_with_len, length-map-range_with_len}
-use Rattle.nj_edges.specs.declared.chains.Step.{Step}
-use Rattle.nj_c.specs.declared.paths.PathStep.{PathStep}
-use Rattle.nj_c.specs.Paths.{numbered_step}
 use Rattle.nj_names.specs.declared.files.FileNo.{FileNo}
 use Rattle.nj_edges.specs.Edges.{EdgePaths, inputs_of, kind_at}
 use Rattle.nj_names.specs.Files.{AreFiles}
@@ -62,20 +59,20 @@ pub numbers-all : {A : Type 0} (number : A → ℕ) (list : List A) (before buff
 numbers-all number list before buffer from n fits held =
     rest-all (map number list) before buffer from n (fits ∙ ap (λ m. min (m - from) (length before)) (sym (length-map list number))) held
 
--- ---- steps
+-- ---- structs, each of which is made from an item
 
-pub step-more : (list : List Step) (before buffer : List PathStep) (at : ℕ) (d : Step) (x : PathStep) → at < length list → at < length before
-    → x ≡ numbered_step (get_or list at d) → buffer ≡ written_up_to at (map numbered_step list) before
-    → set buffer at x ≡ written_up_to (at + 1) (map numbered_step list) before
-step-more list before buffer at d x inside room is held =
-    let count : length (map numbered_step list) ≡ length list = length-map list numbered_step in
-    written-more (map numbered_step list) before buffer at x (numbered_step d) (omega (arith, count, inside)) room
-    (is ∙ sym (get_or-map numbered_step list at d (numbered_step d) inside)) held
+pub made-more : {A B : Type 0} (make : A → B) (list : List A) (before buffer : List B) (at : ℕ) (d : A) (x : B) → at < length list → at < length before
+    → x ≡ make (get_or list at d) → buffer ≡ written_up_to at (map make list) before
+    → set buffer at x ≡ written_up_to (at + 1) (map make list) before
+made-more make list before buffer at d x inside room is held =
+    let count : length (map make list) ≡ length list = length-map list make in
+    written-more (map make list) before buffer at x (make d) (omega (arith, count, inside)) room
+    (is ∙ sym (get_or-map make list at d (make d) inside)) held
 
-pub steps-all : (list : List Step) (before buffer : List PathStep) (n : ℕ) → n ≡ min (length list) (length before)
-    → buffer ≡ written_up_to n (map numbered_step list) before → buffer ≡ filled (map numbered_step list) before
-steps-all list before buffer n fits held =
-    written-all (map numbered_step list) before buffer n (fits ∙ ap (λ m. min m (length before)) (sym (length-map list numbered_step))) held
+pub made-all : {A B : Type 0} (make : A → B) (list : List A) (before buffer : List B) (n : ℕ) → n ≡ min (length list) (length before)
+    → buffer ≡ written_up_to n (map make list) before → buffer ≡ filled (map make list) before
+made-all make list before buffer n fits held =
+    written-all (map make list) before buffer n (fits ∙ ap (λ m. min m (length before)) (sym (length-map list make))) held
 
 -- ---- kinds of inputs
 

@@ -10,5 +10,6 @@ pub mod Runs
 pub mod Targets
 pub mod JoinedLogs
 pub mod Paths
+pub mod UndeclaredInputs
 -- how a session keeps what it owns
 pub mod Inside

@@ -29,6 +29,7 @@ mod sessions;
 mod status;
 mod supplied_files;
 mod taken_box;
+mod undeclared_inputs;
 mod values;
 mod wanted_files;
 
@@ -50,4 +51,5 @@ pub use program_runs::{nx_run, nx_run_errors, nx_run_output};
 pub use rule_and_target_lists::{nx_default, nx_root, nx_rule_name_at};
 pub use session::Session;
 pub use sessions::{nx_add_absent, nx_add_file, nx_close, nx_open, nx_version};
+pub use undeclared_inputs::{EdgeInput, nx_undeclared};
 pub use values::{nx_command, nx_variable};
