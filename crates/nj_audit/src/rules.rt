@@ -7,7 +7,7 @@ ghost use Rattle.nj_audit.specs.Audit.{is_used_rule, unused_rule, unused_rules};
 
 use crate::findings::Findings;
 use crate::kinds::Kind;
-use nj_graph::{EdgeNo, Graph};
+use nj_graph::{EdgeNo, Graph, RuleNo};
 use std::alloc::{AllocError, Global};
 
 /// Appends the rules that no edge uses.
@@ -21,21 +21,21 @@ pub fn find_unused_rules<'a>(
     let used = used_rules(alloc, graph)?;
     'rules: for rule in 0..graph.rules().len() {
         if !used[rule] {
-            push_rule(graph, rule, found)?;
+            push_rule(graph, RuleNo(rule), found)?;
         }
     }
     Ok(())
 }
 
 /// Appends a rule that no edge uses. No statement declares `phony`.
-fn push_rule<'a>(graph: &'a Graph, rule: usize, found: &mut Findings<'a>) -> Result<(), AllocError>
-    requires within { rule < length graph.now.declarations.rules }
-    requires unused { is_used_rule graph.now rule ≡ false }
+fn push_rule<'a>(graph: &'a Graph, rule: RuleNo, found: &mut Findings<'a>) -> Result<(), AllocError>
+    requires within { rule.0 < length graph.now.declarations.rules }
+    requires unused { is_used_rule graph.now rule.0 ≡ false }
     ensures { OnOk result (found.new
-        ≡ found.old ++ cons_option (unused_rule graph.entry.now rule) []) }
+        ≡ found.old ++ cons_option (unused_rule graph.entry.now rule.0) []) }
 {
     match graph.rule_place(rule) {
-        Some(place) => found.push(place, Kind::UnusedRule, graph.rules()[rule].name()),
+        Some(place) => found.push(place, Kind::UnusedRule, graph.rules()[rule.0].name()),
         None => Ok(()),
     }
 }
@@ -49,7 +49,7 @@ fn used_rules(alloc: Global, graph: &Graph) -> Result<Vec<bool>, AllocError>
 {
     let mut used = vec![in alloc; false; graph.rules().len()]?;
     'edges: for number in 0..graph.edge_count() {
-        used[graph.edge_rule(EdgeNo(number))] = true;
+        used[graph.edge_rule(EdgeNo(number)).0] = true;
     }
     Ok(used)
 }

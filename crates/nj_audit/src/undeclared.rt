@@ -197,7 +197,7 @@ fn is_twin(graph: &Graph, edge: EdgeNo, other: EdgeNo) -> bool
     requires other { other.0 < length (edges_of graph.now) }
     ensures { IsTrue result ↔ IsTwin graph.now edge.0 other.0 }
 {
-    if graph.edge_rule(edge) != graph.edge_rule(other) {
+    if graph.edge_rule(edge).0 != graph.edge_rule(other).0 {
         return false;
     }
     have_same_paths(graph.edge_graph(), graph.inputs(edge), graph.inputs(other))

@@ -29,7 +29,7 @@ pub fn find_unused_variables<'a>(
     let references = references_of_rules(alloc, graph.rules())?;
     'edges: for number in 0..graph.edge_count() {
         let edge = EdgeNo(number);
-        push_unused_variables(graph, edge, &references[graph.edge_rule(edge)], found)?;
+        push_unused_variables(graph, edge, &references[graph.edge_rule(edge).0], found)?;
     }
     Ok(())
 }

@@ -1,7 +1,7 @@
 //! The declarations of the files of a run.
 
 use crate::printer::{put_part, put_shown};
-use nj_graph::{EdgeNo, Graph, Rule};
+use nj_graph::{EdgeNo, Graph, Rule, ScopeNo};
 use nj_scope::LateValue;
 use std::alloc::{AllocError, Global};
 
@@ -13,7 +13,7 @@ pub(crate) fn put_rule_lines(
     graph: &Graph,
 ) -> Result<(), AllocError> {
     'rules: for rule in graph.rules() {
-        text.extend_from_slice(format!(in alloc; "{} ", rule.scope())?.as_bytes())?;
+        text.extend_from_slice(format!(in alloc; "{} ", rule.scope().0)?.as_bytes())?;
         text.extend_from_slice(rule.name())?;
         put_lines(alloc, text, rule)?;
         text.push(b'\n')?;
@@ -40,7 +40,7 @@ pub(crate) fn put_edge_rules(
 ) -> Result<(), AllocError> {
     'edges: for number in 0..graph.edge_count() {
         let edge = EdgeNo(number);
-        let (rule, scope) = (graph.edge_rule(edge), graph.edge_scope(edge));
+        let (rule, scope) = (graph.edge_rule(edge).0, graph.edge_scope(edge).0);
         text.extend_from_slice(format!(in alloc; "{rule} in {scope}\n")?.as_bytes())?;
     }
     Ok(())
@@ -50,7 +50,7 @@ pub(crate) fn put_edge_rules(
 pub(crate) fn put_values(text: &mut Vec<u8>, graph: &Graph, name: &[u8]) -> Result<(), AllocError> {
     'scopes: for scope in 0..graph.scope_count() {
         text.push(b'[')?;
-        text.extend_from_slice(graph.scope_value(scope, name).unwrap_or(b"-".as_slice()))?;
+        text.extend_from_slice(graph.scope_value(ScopeNo(scope), name).unwrap_or(b"-".as_slice()))?;
         text.push(b']')?;
     }
     text.push(b'\n')?;
@@ -68,7 +68,7 @@ pub(crate) fn put_written(
     'rules: for rule in rules {
         text.extend_from_slice(rule.name())?;
         text.extend_from_slice(b" in ")?;
-        put_shown(alloc, text, &rule.scope())?;
+        put_shown(alloc, text, &rule.scope().0)?;
         text.extend_from_slice(b": ")?;
         match rule.value(key) {
             Some(value) => put_late(alloc, text, value)?,

@@ -4,7 +4,7 @@ ghost use Rattle.std.specs.Prelude.{◌<◌, length, All};
 ghost use Rattle.nj_graph.specs.Graph.{edges_of, files_of};
 
 use crate::declared::{put_edge_rules, put_rule_lines, put_values, put_written};
-use nj_graph::{EdgeNo, FileNo, Graph, GraphFault, Kind, PlaceRef, pick_target};
+use nj_graph::{EdgeNo, FileNo, Graph, GraphFault, Kind, PlaceRef, RuleNo, pick_target};
 use std::alloc::{AllocError, Global};
 
 /// Appends the part of a graph for a row of this kind.
@@ -235,7 +235,7 @@ fn put_declared(alloc: Global, text: &mut Vec<u8>, graph: &Graph) -> Result<(), 
     'rules: for (number, rule) in graph.rules().iter().enumerate() {
         text.extend_from_slice(rule.name())?;
         text.push(b' ')?;
-        put_place(alloc, text, graph.rule_place(number))?;
+        put_place(alloc, text, graph.rule_place(RuleNo(number)))?;
     }
     put_pools(alloc, text, graph)
 }
@@ -257,7 +257,7 @@ fn put_openings(alloc: Global, text: &mut Vec<u8>, graph: &Graph) -> Result<(), 
     'openings: for index in 0..graph.opening_count() {
         if let Some(opening) = graph.opening(index) {
             text.extend_from_slice(opening.path)?;
-            let scope = opening.scope;
+            let scope = opening.scope.0;
             text.extend_from_slice(format!(in alloc; " in {scope} ")?.as_bytes())?;
             put_place(alloc, text, opening.named_at)?;
         }

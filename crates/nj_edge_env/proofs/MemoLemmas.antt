@@ -121,7 +121,7 @@ module _ (quoting : Bool) (e : LateEdge) (depth : ℕ) (old : List ℕ) where
       record {
         grows = (slice_range old t.start t.end, now);
         text = λ entries around by scope.
-            let n = late_names e (value_after entries (e.scope ∷ around)) in
+            let n = late_names e (value_after entries (e.scope.0 ∷ around)) in
             now ∙ ap (λ xs. old ++ xs) (text.text entries around by scope ∙ ap (late_in (suc t.height) quoting n) is.is ∙ sym (late_settled quoting n (suc t.height) (suc depth) name (omega (arith, k.1)) settled));
         strings = key_strings_kept quoting e known old new (slice_range old t.start t.end, now) are;
         settles = (let low = k.1 in omega arith, settled);
@@ -139,7 +139,7 @@ module _ (quoting : Bool) (e : LateEdge) (depth : ℕ) (old : List ℕ) where
   parts_bytes value i part bytes known before after height here is so more = record {
     grows = grows_on old before after so.grows (bytes, more);
     text = λ entries around by scope.
-        let n = late_names e (value_after entries (e.scope ∷ around)) in
+        let n = late_names e (value_after entries (e.scope.0 ∷ around)) in
         text_turn (late_in depth quoting n) value i part bytes old before after here is (so.text entries around by scope) more;
     strings = key_strings_kept quoting e known before after (bytes, more) so.strings;
     settles = by height so.settles;
@@ -162,7 +162,7 @@ module _ (quoting : Bool) (e : LateEdge) (depth : ℕ) (old : List ℕ) where
   parts_name value i part name known more_known before after height below here is so more = record {
     grows = grows_on old before after so.grows more.grows;
     text = λ entries around by scope.
-        let n = late_names e (value_after entries (e.scope ∷ around)) in
+        let n = late_names e (value_after entries (e.scope.0 ∷ around)) in
         name_turn (late_in depth quoting n) value i part name old before after here is (so.text entries around by scope) (more.text entries around by scope);
     strings = more.strings;
     settles = by height below so.settles more.settles;
@@ -219,7 +219,7 @@ module _ (quoting : Bool) (e : LateEdge) (depth : ℕ) (old : List ℕ) where
 
       text : ForEdge e (λ n. new ≡ old ++ late_in (suc depth) quoting n name)
       text = λ entries around by scope.
-          let n = late_names e (value_after entries (e.scope ∷ around)) in
+          let n = late_names e (value_after entries (e.scope.0 ∷ around)) in
           so.text entries around by scope ∙ ap (λ bytes. old ++ bytes) (sym (once_rule (late_in depth quoting n) quoting n name value gives))
 
       settles : (height : Option ℕ) → IfSome height (λ d. (d ≤ depth) × ((other : List ℕ) → refers value other ≡ true → SettlesIn e d other)) → IfSome height (λ d. (d < suc depth) × SettlesIn e (suc d) name)
@@ -241,7 +241,7 @@ module _ (quoting : Bool) (e : LateEdge) (depth : ℕ) (old : List ℕ) where
             to = omega arith;
             settles = subst (SettlesIn e (suc d)) (sym called.1.is) settled.1;
             text = λ entries around by scope.
-                let n = late_names e (value_after entries (e.scope ∷ around)) in
+                let n = late_names e (value_after entries (e.scope.0 ∷ around)) in
                 let t = text entries around by scope in
                 ap (λ k. slice_range new k end) before ∙ ap (λ k. slice_range new (length old) k) ends ∙ ap (λ bytes. slice_range bytes (length old) (length bytes)) t
                 ∙ range_appended old (late_in (suc depth) quoting n name)

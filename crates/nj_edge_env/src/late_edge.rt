@@ -4,7 +4,7 @@ ghost use Rattle.std.specs.Prelude.{◌<◌, length, All};
 
 use crate::block_values::Blocks;
 use nj_names::{FileNo, Files};
-use nj_scope::{Declarations, Rule};
+use nj_scope::{Declarations, Rule, ScopeNo};
 
 /// An edge, for the values of its names: the files of its explicit inputs and outputs, its number
 /// in the blocks, its rule, and the scope that has it.
@@ -25,8 +25,8 @@ pub struct LateEdge<'a> {
     /// The declarations of the files.
     pub declarations: &'a Declarations,
     /// The number of the scope that has the edge.
-    pub scope: usize,
+    pub scope: ScopeNo,
     ghost inputs_known: { All (λ file. file.0 < length files.now) inputs.now },
     ghost outputs_known: { All (λ file. file.0 < length files.now) outputs.now },
-    ghost scope_known: { scope < length declarations.now.scopes },
+    ghost scope_known: { scope.0 < length declarations.now.scopes },
 }

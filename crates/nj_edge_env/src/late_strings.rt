@@ -31,10 +31,10 @@ impl<'a> LateEdge<'a> {
     pub fn append_late_text(&self, out: &mut Vec<u8>, asked: &[u8]) -> Result<(), AllocError>
         ensures appended { (entries : List ReadStatement) (around : List ℕ)
             → DeclaredBy self.now.declarations.now entries
-            → IsScope (parent_at self.now.declarations.now.scopes) self.now.scope
-            (self.now.scope ∷ around)
+            → IsScope (parent_at self.now.declarations.now.scopes) self.now.scope.0
+            (self.now.scope.0 ∷ around)
             → OnOk result (out.new.items ≡ out.old.items ++ asked_text
-            (late_names self.now (value_after entries (self.now.scope ∷ around))) asked.now) }
+            (late_names self.now (value_after entries (self.now.scope.0 ∷ around))) asked.now) }
         ensures refused { OnErr result (out.new.items ≡ out.old.items) }
     {
         if self.gives_nothing(asked) {
@@ -56,10 +56,10 @@ impl<'a> LateEdge<'a> {
     fn gives_nothing(&self, name: &[u8]) -> bool
         ensures { (entries : List ReadStatement) (around : List ℕ)
             → DeclaredBy self.now.declarations.now entries
-            → IsScope (parent_at self.now.declarations.now.scopes) self.now.scope
-            (self.now.scope ∷ around)
+            → IsScope (parent_at self.now.declarations.now.scopes) self.now.scope.0
+            (self.now.scope.0 ∷ around)
             → result ≡ true → asked_text
-            (late_names self.now (value_after entries (self.now.scope ∷ around))) name.now ≡ [] }
+            (late_names self.now (value_after entries (self.now.scope.0 ∷ around))) name.now ≡ [] }
     {
         if names_paths(name) || self.rule.key_number(name).is_some() {
             return false;
@@ -190,10 +190,10 @@ impl<'a> LateEdge<'a> {
     fn file_value(&self, name: &[u8]) -> &[u8]
         ensures { (entries : List ReadStatement) (around : List ℕ)
             → DeclaredBy self.now.declarations.now entries
-            → IsScope (parent_at self.now.declarations.now.scopes) self.now.scope
-            (self.now.scope ∷ around)
+            → IsScope (parent_at self.now.declarations.now.scopes) self.now.scope.0
+            (self.now.scope.0 ∷ around)
             → result.now ≡ file_value
-            (late_names self.now (value_after entries (self.now.scope ∷ around))) name.now }
+            (late_names self.now (value_after entries (self.now.scope.0 ∷ around))) name.now }
     {
         if self.rule.name() == b"phony".as_slice() && is_of_command(name) {
             return &[];

@@ -141,9 +141,9 @@ same-grows before after same = let count = same.count in record { count = omega 
 -- a statement at a place of an open file
 pub placed-entry : (file : OpenFile) (place : PlaceRef) (spot : Spot) (around : List ℕ) (depth : ℕ) (item : StatementModel)
     → place.file.now ≡ file.name.now → place.spot ≡ spot
-    → entry_at_place place file.scope around depth item ≡ entry_at (site_of file around depth) (record { spot = spot; item = item })
+    → entry_at_place place file.scope.0 around depth item ≡ entry_at (site_of file around depth) (record { spot = spot; item = item })
 placed-entry file place spot around depth item file_is spot_is =
-    ap (λ (name : List ℕ). entry_at (record { file = name; depth = depth; scope = file.scope; around = around }) (record { spot = place.spot; item = item })) file_is
+    ap (λ (name : List ℕ). entry_at (record { file = name; depth = depth; scope = file.scope.0; around = around }) (record { spot = place.spot; item = item })) file_is
     ∙ ap (λ (s : Spot). entry_at (site_of file around depth) (record { spot = s; item = item })) spot_is
 
 -- and the place itself

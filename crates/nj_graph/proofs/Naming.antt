@@ -19,6 +19,7 @@ use Rattle.nj_faults.specs.declared.fault.GraphFault.{GraphFault}
 use Rattle.nj_graph.specs.declared.file_statements.Naming.{Naming}
 use Rattle.nj_graph.specs.declared.file_statements.Naming.TheVariants as naming
 use Rattle.nj_graph.specs.declared.reader.Reader.{Reader}
+use Rattle.nj_scope.specs.declared.scopes.ScopeNo.{ScopeNo}
 use Rattle.nj_graph.specs.declared.reader.OpenFile.{OpenFile}
 use Rattle.nj_faults.specs.declared.fault.Place.{Place}
 use Rattle.nj_faults.specs.declared.fault.Cause.{Cause}
@@ -147,15 +148,15 @@ module _ (kind : Naming) (site : Site) (start : Spot) (entries : List ReadStatem
   named-read none opens = ap (λ f. unless_fault f entries (item_read opens names entries names.item)) (named-fault ∙ none) ∙ named-item opens
 
 -- a new scope for the file after `subninja`
-pub enters-new : {X : Type 0} (old : Reader) (new : DeclarationsModel) (file : OpenFile) (start : Spot) (word : WordModel) (entries : List ReadStatement) (around : List ℕ) (depth : ℕ) (result : Result ℕ X)
-    → IfOk result (λ n. n ≡ length old.declarations.scopes) → OnOk result (parent_at new.scopes (length old.declarations.scopes) ≡ Some file.scope)
+pub enters-new : {X : Type 0} (old : Reader) (new : DeclarationsModel) (file : OpenFile) (start : Spot) (word : WordModel) (entries : List ReadStatement) (around : List ℕ) (depth : ℕ) (result : Result ScopeNo X)
+    → IfOk result (λ n. n.0 ≡ length old.declarations.scopes) → OnOk result (parent_at new.scopes (length old.declarations.scopes) ≡ Some file.scope.0)
     → ((n : ℕ) → n < length old.declarations.scopes → parent_at new.scopes n ≡ parent_at old.declarations.scopes n) → OnOk result (length new.scopes ≡ length old.declarations.scopes + 1)
-    → OnOk result (TakesIn old.declarations new file.scope around (SubninjaModel word)) → DeclaredBy old.declarations entries → IsOpenIn old file around
-    → IfOk result (λ n. EntersScope (record { declarations = new; building = old.building; files = old.files; origins = old.origins }) n
+    → OnOk result (TakesIn old.declarations new file.scope.0 around (SubninjaModel word)) → DeclaredBy old.declarations entries → IsOpenIn old file around
+    → IfOk result (λ n. EntersScope (record { declarations = new; building = old.building; files = old.files; origins = old.origins }) n.0
     (named_site naming.Subninja (entry_at (site_of file around depth) (record { spot = start; item = SubninjaModel word })) entries word) (entry_at (site_of file around depth) (record { spot = start; item = SubninjaModel word })) entries)
 enters-new old new file start word entries around depth (Err e) number within others count opened declares inside = tt
 enters-new old new file start word entries around depth (Ok n) number within others count opened declares inside =
-    let grown = open-grown old.declarations.scopes new.scopes file.scope around (record { count = omega (arith, count); parents = others }) inside in
+    let grown = open-grown old.declarations.scopes new.scopes file.scope.0 around (record { count = omega (arith, count); parents = others }) inside in
     record {
       number_is = sym (number ∙ declares.scopes);
       scope = record {

@@ -19,6 +19,7 @@ use Rattle.nj_statements.proofs.DiscoverLemmas.{bounds-same, value_after-discove
 use Rattle.nj_statements.proofs.LoggedLemmas.{as_read-named}
 use Rattle.nj_graph.specs.declared.origins.HeldPlace.{HeldPlace}
 use Rattle.nj_graph.specs.declared.origins.HeldPool.{HeldPool}
+use Rattle.nj_scope.specs.declared.scopes.ScopeNo.{ScopeNo}
 use Rattle.nj_graph.specs.declared.origins.HeldOpening.{HeldOpening}
 use Rattle.nj_graph.specs.Origins.{place_of, PoolDetail, OpeningModel, OriginsModel, rule_place_given, rule_places, pool_detail_given, pool_details, opening_given, main_opening, openings_read, origins_read, main_of}
 use Rattle.nj_graph.specs.Inside.OriginsHeld.{place_held, pool_held, opening_held, origins_held, AreNamed, origins_with}
@@ -80,8 +81,8 @@ module _ (names later : List (List ℕ)) (grows : IsPrefix names later) (rules :
 
   opening-same : (o : HeldOpening) → OpeningBelow (length names) o → opening_held later o ≡ opening_held names o
   opening-same o is =
-      ap (λ (path : List ℕ). record { path = path; named_at = option_map (place_held later) o.named_at; scope = o.scope }) (name-grown names later grows o.file is.0)
-      ∙ ap (λ (at : Option Place). record { path = name_at names o.file; named_at = at; scope = o.scope }) (some-same o.named_at is.1)
+      ap (λ (path : List ℕ). record { path = path; named_at = option_map (place_held later) o.named_at; scope = o.scope.0 }) (name-grown names later grows o.file is.0)
+      ∙ ap (λ (at : Option Place). record { path = name_at names o.file; named_at = at; scope = o.scope.0 }) (some-same o.named_at is.1)
 
   pub origins-grown : origins_held later rules pools openings ≡ origins_held names rules pools openings
   origins-grown =
@@ -124,16 +125,16 @@ module _ (names later : List (List ℕ)) (grows : IsPrefix names later) (rules :
       openings_named = named-grown.openings_named;
     }
 
-    module _ (file : ℕ) (path : List ℕ) (gives : name_at later file ≡ path) (there : file < length later) (scope : ℕ) where
+    module _ (file : ℕ) (path : List ℕ) (gives : name_at later file ≡ path) (there : file < length later) (scope : ScopeNo) where
       abbrev opened : HeldOpening
       opened = record { file = file; named_at = Some p; scope = scope }
 
-      pub opening-added : origins_held later rules pools (openings ++ opened ∷ []) ≡ record held { openings = held.openings ++ record { path = path; named_at = Some place; scope = scope } ∷ [] }
+      pub opening-added : origins_held later rules pools (openings ++ opened ∷ []) ≡ record held { openings = held.openings ++ record { path = path; named_at = Some place; scope = scope.0 } ∷ [] }
       opening-added =
           ap (λ (os : List OpeningModel). record { rules = None ∷ map (λ q. Some (place_held later q)) rules; pools = map (pool_held later) pools; openings = os }) (map-append (opening_held later) openings (opened ∷ []))
-          ∙ ap (λ (o : OriginsModel). record o { openings = o.openings ++ record { path = name_at later file; named_at = Some (place_held later p); scope = scope } ∷ [] }) origins-grown
-          ∙ ap (λ (at : Place). record held { openings = held.openings ++ record { path = name_at later file; named_at = Some at; scope = scope } ∷ [] }) is
-          ∙ ap (λ (text : List ℕ). record held { openings = held.openings ++ record { path = text; named_at = Some place; scope = scope } ∷ [] }) gives
+          ∙ ap (λ (o : OriginsModel). record o { openings = o.openings ++ record { path = name_at later file; named_at = Some (place_held later p); scope = scope.0 } ∷ [] }) origins-grown
+          ∙ ap (λ (at : Place). record held { openings = held.openings ++ record { path = name_at later file; named_at = Some at; scope = scope.0 } ∷ [] }) is
+          ∙ ap (λ (text : List ℕ). record held { openings = held.openings ++ record { path = text; named_at = Some place; scope = scope.0 } ∷ [] }) gives
 
       pub opening-named : AreNamed later rules pools (openings ++ opened ∷ [])
       opening-named = record {

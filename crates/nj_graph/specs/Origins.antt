@@ -65,7 +65,7 @@ pub record OpeningModel : Type 0 where
 
 -- an opening whose strings are lent
 abbrev pub opening_model : Opening → OpeningModel
-opening_model o = record { path = o.path.now; named_at = option_map place_text o.named_at; scope = o.scope }
+opening_model o = record { path = o.path.now; named_at = option_map place_text o.named_at; scope = o.scope.0 }
 
 abbrev pub opening_by : ReadStatement → (before : List ReadStatement) → WordModel → (scope : ℕ) → OpeningModel
 opening_by e before word scope = record { path = expanded_in (scope_of e) before word; named_at = Some (place_of e); scope = scope }

@@ -20,7 +20,7 @@ impl Reader {
         spot: Spot,
         build: &Build<'_>,
     ) -> Result<(), GraphFault>
-        requires { file.scope < length self.old.declarations.scopes }
+        requires { file.scope.0 < length self.old.declarations.scopes }
         ensures declares { InFile self.old file.entry (λ main site entries.
             let e = entry_at site (record { spot = spot; item = build_model build.now }) in
             Declares main self.new e entries result) }
@@ -40,7 +40,7 @@ impl Reader {
         spot: Spot,
         words: &[Word<'_>],
     ) -> Result<(), GraphFault>
-        requires { file.scope < length self.old.declarations.scopes }
+        requires { file.scope.0 < length self.old.declarations.scopes }
         ensures declares { InFile self.old file.entry (λ main site entries.
             let item = DefaultModel (words_model words.now) in
             let e = entry_at site (record { spot = spot; item = item }) in

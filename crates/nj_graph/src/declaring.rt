@@ -25,7 +25,7 @@ impl Reader {
         name: &[u8],
         value: &Word<'_>,
     ) -> Result<(), GraphFault>
-        requires { file.scope < length self.old.declarations.scopes }
+        requires { file.scope.0 < length self.old.declarations.scopes }
         ensures declares { InFile self.old file.entry (λ main site entries.
             let item = BindingModel name.now (word_model value.now) in
             let e = entry_at site (record { spot = spot; item = item }) in
@@ -52,7 +52,7 @@ impl Reader {
         spot: Spot,
         rule: &Rule<'_>,
     ) -> Result<(), GraphFault>
-        requires { file.scope < length self.old.declarations.scopes }
+        requires { file.scope.0 < length self.old.declarations.scopes }
         ensures declares { InFile self.old file.entry (λ main site entries.
             let e = entry_at site (record { spot = spot; item = rule_model rule.now }) in
             Declares main self.new e entries result) }
@@ -78,7 +78,7 @@ impl Reader {
         spot: Spot,
         pool: &Pool<'_>,
     ) -> Result<(), GraphFault>
-        requires { file.scope < length self.old.declarations.scopes }
+        requires { file.scope.0 < length self.old.declarations.scopes }
         ensures declares { InFile self.old file.entry (λ main site entries.
             let e = entry_at site (record { spot = spot; item = pool_model pool.now }) in
             Declares main self.new e entries result) }
@@ -101,7 +101,7 @@ impl Reader {
         file: OpenFile<'_>,
         lines: &[Line<'_>],
     ) -> Result<u64, GraphFault>
-        requires { file.scope < length self.now.declarations.scopes }
+        requires { file.scope.0 < length self.now.declarations.scopes }
         ensures fault { InScope self.now file.entry (λ scope entries.
             Checks (depth_fault file.entry.name.now scope entries (lines_model lines.now)) result) }
         ensures depth { InScope self.now file.entry (λ scope entries.

@@ -54,7 +54,7 @@ impl Graph {
         ensures { slice_get self.now.declarations.rules
             (detail_at self.now.built.details edge.0).rule ≡ Some result.now }
     {
-        &self.declarations.rules()[self.built.rule(edge)]
+        &self.declarations.rules()[self.built.rule(edge).0]
     }
 
     /// The command of an edge, as it is passed to a shell. The command of a phony edge is its

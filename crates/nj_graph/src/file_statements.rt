@@ -12,7 +12,7 @@ ghost use Rattle.nj_graph.specs.Inside.ReaderContracts.{Has, InFile, IsOpenIn, S
 use crate::reader::{OpenFile, Opened, Reader};
 use nj_faults::{Cause, GraphFault, MOST_OPENED, Name, PlaceRef};
 use nj_manifest::{Spot, Word};
-use nj_scope::{FileSource, FileTable, SourceFault};
+use nj_scope::{FileSource, FileTable, ScopeNo, SourceFault};
 use std::alloc::{AllocError, Global};
 use std::rc::RcSlice;
 
@@ -35,13 +35,13 @@ impl Reader {
         naming: Naming,
         word: &Word<'_>,
     ) -> Result<Opened, GraphFault>
-        requires { file.scope < length self.old.declarations.scopes }
+        requires { file.scope.0 < length self.old.declarations.scopes }
         ensures opens { InFile self.old file.entry (λ main site entries.
             let item = named_item naming (word_model word.now) in
             OpensOrStops main (S.state source.old) (S.state source.new) self.old self.new
             file.entry.left (entry_at site (record { spot = spot; item = item })) entries result) }
         ensures left { OnOk result (0 < file.entry.left) }
-        ensures there { IfOk result (λ o. o.scope < length self.new.declarations.scopes) }
+        ensures there { IfOk result (λ o. o.scope.0 < length self.new.declarations.scopes) }
         ensures grows { OnOk result (ScopesGrow self.old self.new) }
     {
         let path = self.path(alloc, file, word)?;
@@ -53,7 +53,7 @@ impl Reader {
 
     // The path that a word gives.
     fn path(&self, alloc: Global, file: OpenFile<'_>, word: &Word<'_>) -> Result<String, GraphFault>
-        requires { file.scope < length self.now.declarations.scopes }
+        requires { file.scope.0 < length self.now.declarations.scopes }
         ensures { InFile self.now file.entry (λ main site entries.
             let path = expanded_in (site_scope site) entries (word_model word.now) in
             GivesPath (path_fault site.file word.now.spot path) path result) }
@@ -95,15 +95,15 @@ impl Reader {
     }
 
     // The number of the scope of a named file's statements.
-    fn scope_for(&mut self, file: OpenFile<'_>, naming: Naming) -> Result<usize, AllocError>
-        requires { file.scope < length self.old.declarations.scopes }
+    fn scope_for(&mut self, file: OpenFile<'_>, naming: Naming) -> Result<ScopeNo, AllocError>
+        requires { file.scope.0 < length self.old.declarations.scopes }
         ensures enters { (start : Spot) (word : WordModel)
             (entries : List ReadStatement) (around : List ℕ) (depth : ℕ)
             → DeclaredBy self.old.declarations entries → IsOpenIn self.old file.entry around
             → let site = site_of file.entry around depth in
             let e = entry_at site (record { spot = start; item = named_item naming word }) in
-            IfOk result (λ n. EntersScope self.new n (named_site naming e entries word) e entries) }
-        ensures there { IfOk result (λ n. n < length self.new.declarations.scopes) }
+            IfOk result (λ n. EntersScope self.new n.0 (named_site naming e entries word) e entries) }
+        ensures there { IfOk result (λ n. n.0 < length self.new.declarations.scopes) }
         ensures grows { OnOk result (ScopesGrow self.old self.new) }
         ensures building { self.new.building ≡ self.old.building }
         ensures files { self.new.files ≡ self.old.files }

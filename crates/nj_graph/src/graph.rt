@@ -116,7 +116,7 @@ fn rules_of_main(alloc: Global, rules: &[Rule]) -> Result<Vec<usize>, AllocError
 {
     let mut numbers = Vec::new(alloc);
     'rules: for (number, rule) in rules.iter().enumerate() {
-        if rule.scope() == MAIN_SCOPE {
+        if rule.scope().0 == MAIN_SCOPE.0 {
             numbers.push(number)?;
         }
     }

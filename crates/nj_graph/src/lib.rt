@@ -41,7 +41,8 @@ pub use nj_edges::{
 pub use nj_faults::{Cause, GraphFault, Name, Place, PlaceRef};
 pub use nj_manifest::{Spot, SyntaxCause, Wanted};
 pub use nj_scope::{
-    FileSource, FileTable, HashKeys, LateValue, MAIN_SCOPE, MemoryFiles, Rule, SourceFault,
+    FileSource, FileTable, HashKeys, LateValue, MAIN_SCOPE, MemoryFiles, Rule, RuleNo, ScopeNo,
+    SourceFault,
 };
 pub use nj_text::{Part, TextFault, clean_path, quote_into};
 pub use origins::Opening;

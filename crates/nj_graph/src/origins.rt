@@ -7,7 +7,7 @@ ghost use Rattle.nj_graph.specs.Inside.OriginsHeld.{place_held};
 
 use nj_faults::PlaceRef;
 use nj_names::{HashKeys, Names};
-use nj_scope::MAIN_SCOPE;
+use nj_scope::{MAIN_SCOPE, RuleNo, ScopeNo};
 use nj_text::Spot;
 use std::alloc::{AllocError, Global};
 use std::marker::Model;
@@ -21,7 +21,7 @@ pub struct Opening<'a> {
     /// The place of the `include` or `subninja` that names it; `None` for the main file.
     pub named_at: Option<PlaceRef<'a>>,
     /// The number of the scope of its statements.
-    pub scope: usize,
+    pub scope: ScopeNo,
 }
 
 // A place in a file whose name has a number.
@@ -43,7 +43,7 @@ pub(crate) struct HeldPool {
 pub(crate) struct HeldOpening {
     pub(crate) file: usize,
     pub(crate) named_at: Option<HeldPlace>,
-    pub(crate) scope: usize,
+    pub(crate) scope: ScopeNo,
 }
 
 /// Where the rules and the pools were declared that were read so far, and which statements opened
@@ -119,11 +119,11 @@ impl Origins {
         &mut self,
         place: PlaceRef<'_>,
         path: &str,
-        scope: usize,
+        scope: ScopeNo,
     ) -> Result<(), AllocError>
         ensures { OnOk result (self.new ≡ record self.old {
           openings = self.old.openings
-              ++ record { path = path.now; named_at = Some (place_text place.entry); scope = scope }
+              ++ record { path = path.now; named_at = Some (place_text place.entry); scope = scope.0 }
               ∷ [];
         }) }
     {
@@ -138,10 +138,10 @@ impl Origins {
     }
 
     /// The place of the statement that declares the rule of this number.
-    pub(crate) fn rule_place(&self, rule: usize) -> Option<PlaceRef<'_>>
-        ensures { option_map place_text result ≡ rule_place_at self.now.rules rule }
+    pub(crate) fn rule_place(&self, rule: RuleNo) -> Option<PlaceRef<'_>>
+        ensures { option_map place_text result ≡ rule_place_at self.now.rules rule.0 }
     {
-        let place = self.rules.get(rule.checked_sub(1)?)?;
+        let place = self.rules.get(rule.0.checked_sub(1)?)?;
         Some(lend_place(&self.names, *place))
     }
 

@@ -11,7 +11,7 @@ use crate::file_statements::{Naming, text_at};
 use crate::origins::Origins;
 use nj_faults::{Cause, GraphFault, MOST_OPEN, PlaceRef};
 use nj_manifest::{Parser, Placed, Spot, Statement};
-use nj_scope::{Declarations, FileSource, FileTable, HashKeys};
+use nj_scope::{Declarations, FileSource, FileTable, HashKeys, MAIN_SCOPE, ScopeNo};
 use nj_statements::Building;
 use std::alloc::{AllocError, Global};
 use std::rc::RcSlice;
@@ -22,7 +22,7 @@ use std::str;
 #[derive(Clone, Copy)]
 pub(crate) struct OpenFile<'a> {
     pub(crate) name: &'a str,
-    pub(crate) scope: usize,
+    pub(crate) scope: ScopeNo,
     pub(crate) left: usize,
 }
 
@@ -50,7 +50,7 @@ impl<'a> OpenFile<'a> {
 #[derive(Drop)]
 pub(crate) struct Opened {
     pub(crate) path: String,
-    pub(crate) scope: usize,
+    pub(crate) scope: ScopeNo,
     pub(crate) text: RcSlice<u8>,
 }
 
@@ -95,7 +95,7 @@ impl Reader {
         let text = text_at(alloc, source, &mut self.files, front, main)?;
         let file = OpenFile {
             name: main,
-            scope: 0,
+            scope: MAIN_SCOPE,
             left: MOST_OPEN - 1,
         };
         self.read_text(alloc, source, file, text.as_slice())
@@ -110,7 +110,7 @@ impl Reader {
         file: OpenFile<'_>,
         text: &[u8],
     ) -> Result<(), GraphFault>
-        requires { file.scope < length self.old.declarations.scopes }
+        requires { file.scope.0 < length self.old.declarations.scopes }
         ensures reads { InFile self.old file.entry (λ main site entries.
             ReadsOrStops main (S.state source.old) (S.state source.new) self.old self.new
             (λ files. text_read (opened_in files file.entry.left) site text.now entries) result) }
@@ -133,7 +133,7 @@ impl Reader {
         file: OpenFile<'_>,
         statement: &Placed<Statement<'_>>,
     ) -> Result<(), GraphFault>
-        requires { file.scope < length self.old.declarations.scopes }
+        requires { file.scope.0 < length self.old.declarations.scopes }
         ensures reads { InFile self.old file.entry (λ main site entries.
             ReadsOrStops main (S.state source.old) (S.state source.new) self.old self.new
             (λ files. statement_read (opened_in files file.entry.left)
@@ -161,13 +161,13 @@ impl Reader {
         file: OpenFile<'_>,
         statement: &Placed<Statement<'_>>,
     ) -> Result<Option<Opened>, GraphFault>
-        requires { file.scope < length self.old.declarations.scopes }
+        requires { file.scope.0 < length self.old.declarations.scopes }
         ensures reads { InFile self.old file.entry (λ main site entries.
             ReadsItem main (S.state source.old) (S.state source.new) self.old self.new
             file.entry.left (entry_at site (placed_model statement.now)) entries result) }
         ensures left { IfOk result (λ named. IfSome named (λ o. 0 < file.entry.left)) }
         ensures there { IfOk result (λ named.
-            IfSome named (λ o. o.scope < length self.new.declarations.scopes)) }
+            IfSome named (λ o. o.scope.0 < length self.new.declarations.scopes)) }
         ensures grows { OnOk result (ScopesGrow self.old self.new) }
     {
         match &statement.item {

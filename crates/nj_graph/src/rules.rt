@@ -9,7 +9,7 @@ ghost use Rattle.nj_graph.specs.Graph.{edges_of, IsGraphOf, rule_number_at};
 use crate::graph::Graph;
 use nj_edges::EdgeNo;
 use nj_faults::PlaceRef;
-use nj_scope::Rule;
+use nj_scope::{Rule, RuleNo};
 
 impl Graph {
     /// The rules of all scopes in the order of their numbers: `phony`, which is always there and
@@ -27,22 +27,22 @@ impl Graph {
     /// The place of the `rule` statement that declares the rule of this number, as in `rules`: its
     /// file, by the name under which it was opened, and its first byte there. `None` for `phony`,
     /// which no statement declares, and past the last rule.
-    pub fn rule_place(&self, rule: usize) -> Option<PlaceRef<'_>>
-        ensures held { option_map place_text result ≡ rule_place_at self.now.origins.rules rule }
+    pub fn rule_place(&self, rule: RuleNo) -> Option<PlaceRef<'_>>
+        ensures held { option_map place_text result ≡ rule_place_at self.now.origins.rules rule.0 }
         ensures stated { (entries : List ReadStatement) → IsGraphOf self.now entries
-            → option_map place_text result ≡ rule_place_at (rule_places entries) rule }
+            → option_map place_text result ≡ rule_place_at (rule_places entries) rule.0 }
     {
         self.origins.rule_place(rule)
     }
 
     /// The number of the rule of an edge, by which it is found in `rules`: of the rule that was in
     /// force before its statement.
-    pub fn edge_rule(&self, edge: EdgeNo) -> usize
+    pub fn edge_rule(&self, edge: EdgeNo) -> RuleNo
         requires { edge.0 < length (edges_of self.now) }
-        ensures there { result < length self.now.declarations.rules }
-        ensures held { result ≡ (detail_at self.now.built.details edge.0).rule }
+        ensures there { result.0 < length self.now.declarations.rules }
+        ensures held { result.0 ≡ (detail_at self.now.built.details edge.0).rule }
         ensures stated { (entries : List ReadStatement) → IsGraphOf self.now entries
-            → result ≡ rule_number_at entries edge.0 }
+            → result.0 ≡ rule_number_at entries edge.0 }
     {
         self.built.rule(edge)
     }

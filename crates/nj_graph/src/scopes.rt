@@ -9,6 +9,7 @@ ghost use Rattle.nj_graph.specs.Graph.{edges_of, IsGraphOf, scope_number_at};
 
 use crate::graph::Graph;
 use nj_edges::EdgeNo;
+use nj_scope::ScopeNo;
 
 impl Graph {
     /// How many scopes there are: the main file's, which has the number 0, and one more for each
@@ -23,12 +24,12 @@ impl Graph {
     }
 
     /// The number of the scope of an edge's build statement.
-    pub fn edge_scope(&self, edge: EdgeNo) -> usize
+    pub fn edge_scope(&self, edge: EdgeNo) -> ScopeNo
         requires { edge.0 < length (edges_of self.now) }
-        ensures there { result < length self.now.declarations.scopes }
-        ensures held { result ≡ (detail_at self.now.built.details edge.0).scope }
+        ensures there { result.0 < length self.now.declarations.scopes }
+        ensures held { result.0 ≡ (detail_at self.now.built.details edge.0).scope }
         ensures stated { (entries : List ReadStatement) → IsGraphOf self.now entries
-            → result ≡ scope_number_at entries edge.0 }
+            → result.0 ≡ scope_number_at entries edge.0 }
     {
         self.built.scope(edge)
     }
@@ -36,17 +37,17 @@ impl Graph {
     /// The value of a name, as `builddir`, in the scope of this number after all statements: what
     /// the scope itself binds it to last, else what the nearest scope around it does ("Evaluation
     /// and scoping" in the Ninja manual). `None` if none of them binds the name.
-    pub fn scope_value(&self, scope: usize, name: &[u8]) -> Option<&[u8]>
-        requires { scope < length self.now.declarations.scopes }
-        ensures main { (entries : List ReadStatement) → IsGraphOf self.now entries → scope ≡ 0
+    pub fn scope_value(&self, scope: ScopeNo, name: &[u8]) -> Option<&[u8]>
+        requires { scope.0 < length self.now.declarations.scopes }
+        ensures main { (entries : List ReadStatement) → IsGraphOf self.now entries → scope.0 ≡ 0
             → option_copied result ≡ value_if_bound entries (0 ∷ []) name.now }
         ensures stated { (entries : List ReadStatement) (e : ReadStatement)
-            → IsGraphOf self.now entries → Contains entries e → e.scope ≡ scope
+            → IsGraphOf self.now entries → Contains entries e → e.scope ≡ scope.0
             → option_copied result ≡ value_if_bound entries (scope_of e) name.now }
         ensures within { (entries : List ReadStatement) (around : List ℕ)
             → IsGraphOf self.now entries
-            → IsScope (parent_at self.now.declarations.scopes) scope (scope ∷ around)
-            → option_copied result ≡ value_if_bound entries (scope ∷ around) name.now }
+            → IsScope (parent_at self.now.declarations.scopes) scope.0 (scope.0 ∷ around)
+            → option_copied result ≡ value_if_bound entries (scope.0 ∷ around) name.now }
     {
         self.declarations.value_if_bound(scope, name)
     }

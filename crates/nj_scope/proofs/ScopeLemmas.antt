@@ -8,7 +8,9 @@ use Rattle.std.proofs.lemmas.Option.{slice_get-map, slice_get_read}
 use Rattle.std.proofs.lemmas.Slice.Eq.{bytes_eq-Decides}
 use Rattle.std.proofs.Math.Nat.{lt_irrefl}
 use Rattle.indexmap.specs.IndexMap.{insert_entry}
+use Rattle.nj_scope.specs.declared.rule.RuleNo.{RuleNo}
 use Rattle.nj_scope.specs.declared.scopes.Scope.{Scope}
+use Rattle.nj_scope.specs.declared.scopes.ScopeNo.{ScopeNo}
 use Rattle.nj_scope.specs.Scopes.{ScopeModel, at_scope, parent_at, bound_at, rule_at}
 use Rattle.nj_scope.specs.Inside.ScopesHeld.{scope_model, values_text, ParentsAreEarlier}
 
@@ -50,6 +52,11 @@ get-push_other (x ∷ xs) y (suc j) apart = get-push_other xs y j (suc_apart apa
 past : {X : Type 0} (xs : List X) → slice_get xs (length xs) ≡ None
 past [] = refl
 past (x ∷ xs) = past xs
+
+-- what is known of the number in it
+pub if_some-of_map : {X Y : Type 0} (f : X → Y) (P : Y → Type 0) (o : Option X) → IfSome (option_map f o) P → IfSome o (λ x. P (f x))
+if_some-of_map f P None h = tt
+if_some-of_map f P (Some x) h = h
 
 -- what a comparison of numbers means
 abbrev Compared : ℕ → ℕ → Type 0
@@ -161,12 +168,12 @@ module _ {V X : Type 0} (g : V → X) where
 
 -- ---- the same of a program's scopes
 
-pub pushed-text : (scopes items : List Scope) (p : ℕ) (new : Scope) → new.parent ≡ Some p → new.values.entries ≡ [] → new.rules.entries ≡ [] → items ≡ scopes ++ new ∷ [] → map scope_model items ≡ opened (map scope_model scopes) p
+pub pushed-text : (scopes items : List Scope) (p : ScopeNo) (new : Scope) → new.parent ≡ Some p → new.values.entries ≡ [] → new.rules.entries ≡ [] → items ≡ scopes ++ new ∷ [] → map scope_model items ≡ opened (map scope_model scopes) p.0
 pushed-text scopes items p new within no_values no_rules is =
     ap (map scope_model) is ∙ map_push scope_model scopes new
-    ∙ ap (λ q. map scope_model scopes ++ record { parent = q; values = (scope_model new).values; rules = (scope_model new).rules } ∷ []) within
-    ∙ ap (λ es. map scope_model scopes ++ record { parent = Some p; values = entries_text (λ v. v.items) es; rules = (scope_model new).rules } ∷ []) no_values
-    ∙ ap (λ es. map scope_model scopes ++ record { parent = Some p; values = []; rules = entries_text (λ v. v) es } ∷ []) no_rules
+    ∙ ap (λ q. map scope_model scopes ++ record { parent = option_map (λ n. n.0) q; values = (scope_model new).values; rules = (scope_model new).rules } ∷ []) within
+    ∙ ap (λ es. map scope_model scopes ++ record { parent = Some p.0; values = entries_text (λ v. v.items) es; rules = (scope_model new).rules } ∷ []) no_values
+    ∙ ap (λ es. map scope_model scopes ++ record { parent = Some p.0; values = []; rules = entries_text (λ v. v.0) es } ∷ []) no_rules
 
 module _ (items : List Scope) (i : ℕ) (s t : Scope) (inside : i < length (map scope_model items)) (read : s ≡ get_or items i s) where
   here-text : slice_get (map scope_model items) i ≡ Some (scope_model s)
@@ -178,7 +185,7 @@ module _ (items : List Scope) (i : ℕ) (s t : Scope) (inside : i < length (map 
   -- another scope in place of this one
   pub earlier-set_text : t.parent ≡ s.parent → ParentsAreEarlier (map scope_model items) → ParentsAreEarlier (map scope_model (slice_set items i t))
   earlier-set_text within earlier =
-      subst ParentsAreEarlier (sym (map-set scope_model items i t)) (earlier-set (map scope_model items) i (scope_model s) (scope_model t) here-text within earlier)
+      subst ParentsAreEarlier (sym (map-set scope_model items i t)) (earlier-set (map scope_model items) i (scope_model s) (scope_model t) here-text (ap (option_map (λ p. p.0)) within) earlier)
 
   pub kept-text : {X : Type 0} (f : ScopeModel → Option X) → f (scope_model t) ≡ f (scope_model s) → (n : ℕ) → at_scope f (map scope_model (slice_set items i t)) n ≡ at_scope f (map scope_model items) n
   kept-text f same n =
@@ -190,9 +197,9 @@ module _ (items : List Scope) (i : ℕ) (s t : Scope) (inside : i < length (map 
       ap (λ ss. bound_at ss n x) (map-set scope_model items i t)
       ∙ at_scope-bound (map scope_model items) i (scope_model s) (scope_model t) here-text (λ u. lookup (bytes_eq x) u.values) (bytes_eq x name) (Some v) (set x) n
 
-  pub declared-text : (k : Vec ℕ) (v : ℕ) → t.rules.entries ≡ insert_entry (same_key (λ (v : ℕ). v)) s.rules.entries k v
-      → (n : ℕ) (x : List ℕ) → rule_at (map scope_model (slice_set items i t)) n x ≡ cond (nat_eq n i && bytes_eq x k.items) (Some v) (rule_at (map scope_model items) n x)
+  pub declared-text : (k : Vec ℕ) (v : RuleNo) → t.rules.entries ≡ insert_entry (same_key (λ (v : RuleNo). v)) s.rules.entries k v
+      → (n : ℕ) (x : List ℕ) → rule_at (map scope_model (slice_set items i t)) n x ≡ cond (nat_eq n i && bytes_eq x k.items) (Some v.0) (rule_at (map scope_model items) n x)
   declared-text k v entries n x =
       ap (λ ss. rule_at ss n x) (map-set scope_model items i t)
-      ∙ at_scope-bound (map scope_model items) i (scope_model s) (scope_model t) here-text (λ u. lookup (bytes_eq x) u.rules) (bytes_eq x k.items) (Some v)
-      (ap (λ es. lookup (bytes_eq x) (entries_text (λ w. w) es)) entries ∙ lookup-inserted (λ w. w) s.rules.entries k v x) n
+      ∙ at_scope-bound (map scope_model items) i (scope_model s) (scope_model t) here-text (λ u. lookup (bytes_eq x) u.rules) (bytes_eq x k.items) (Some v.0)
+      (ap (λ es. lookup (bytes_eq x) (entries_text (λ w. w.0) es)) entries ∙ lookup-inserted (λ w. w.0) s.rules.entries k v x) n

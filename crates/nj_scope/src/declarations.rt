@@ -1,6 +1,6 @@
 //! What the statements of a run declare.
 
-ghost use Rattle.std.specs.Prelude.{◌≡◌, ℕ, ◌+◌, ◌<◌, List, [], ◌∷◌, ◌++◌, Some, None, true, false, length, not, slice_get, option_copied, IfOk, OnOk, OnErr, IfSome};
+ghost use Rattle.std.specs.Prelude.{◌≡◌, ℕ, ◌+◌, ◌<◌, List, [], ◌∷◌, ◌++◌, Some, None, true, false, length, not, slice_get, option_copied, option_map, IfOk, OnOk, OnErr, IfSome};
 ghost use Rattle.nj_text.specs.declared.spot.Spot.{Spot};
 ghost use Rattle.nj_text.specs.Words.{WordModel, word_model};
 ghost use Rattle.nj_manifest.specs.Contents.{lines_model};
@@ -12,8 +12,8 @@ ghost use Rattle.nj_scope.specs.ReadingList.{ReadStatement, value_after, value_i
 ghost use Rattle.nj_scope.specs.Inside.PoolOrDyndep.{is_pool_or_dyndep};
 
 use crate::pools::Pools;
-use crate::rule::Rule;
-use crate::scopes::Scopes;
+use crate::rule::{Rule, RuleNo};
+use crate::scopes::{ScopeNo, Scopes};
 use nj_manifest::Line;
 use nj_names::HashKeys;
 use nj_text::Word;
@@ -21,10 +21,10 @@ use std::alloc::{AllocError, Global};
 use std::marker::Model;
 
 /// The number of the main file's scope.
-pub const MAIN_SCOPE: usize = 0;
+pub const MAIN_SCOPE: ScopeNo = ScopeNo(0);
 
 /// The number of the rule `phony`.
-pub const PHONY: usize = 0;
+pub const PHONY: RuleNo = RuleNo(0);
 
 /// The scopes, rules and pools of a run, as the statements that were read so far declare them.
 #[derive(Drop)]
@@ -75,14 +75,14 @@ impl Declarations {
     pub fn bind(
         &mut self,
         alloc: Global,
-        scope: usize,
+        scope: ScopeNo,
         name: &[u8],
         value: &Word<'_>,
     ) -> Result<(), AllocError>
-        requires { scope < length self.old.scopes }
+        requires { scope.0 < length self.old.scopes }
         ensures bound { (around : List ℕ)
-            → IsScope (parent_at self.old.scopes) scope (scope ∷ around)
-            → OnOk result (TakesIn self.old self.new scope around
+            → IsScope (parent_at self.old.scopes) scope.0 (scope.0 ∷ around)
+            → OnOk result (TakesIn self.old self.new scope.0 around
             (BindingModel name.now (word_model value.now))) }
         ensures refused { OnErr result (Keeps self.old self.new) }
         ensures scopes { SameScopes self.old self.new }
@@ -99,15 +99,15 @@ impl Declarations {
     pub fn declare_rule(
         &mut self,
         alloc: Global,
-        scope: usize,
+        scope: ScopeNo,
         name: &[u8],
         lines: &[Line<'_>],
     ) -> Result<bool, AllocError>
-        requires { scope < length self.old.scopes }
+        requires { scope.0 < length self.old.scopes }
         ensures is_new { IfOk result (λ is_new.
-            is_new ≡ not (is_declared (rule_at self.old.scopes scope name.now) name.now)) }
+            is_new ≡ not (is_declared (rule_at self.old.scopes scope.0 name.now) name.now)) }
         ensures declared { (around : List ℕ) (spot : Spot) → IfOk result (λ is_new. is_new ≡ true
-            → TakesIn self.old self.new scope around
+            → TakesIn self.old self.new scope.0 around
             (RuleModel (record { spot = spot; name = name.now }) (lines_model lines.now))) }
         ensures kept { IfOk result (λ is_new. is_new ≡ false → self.new ≡ self.old) }
         ensures refused { OnErr result (Keeps self.old self.new) }
@@ -116,7 +116,7 @@ impl Declarations {
         if name == b"phony".as_slice() || self.scopes.own_rule(scope, name).is_some() {
             return Ok(false);
         }
-        let number = self.rules.len();
+        let number = RuleNo(self.rules.len());
         self.rules.push(Rule::new(alloc, scope, name, lines)?)?;
         if let Err(fault) = self.scopes.declare(scope, name, number) {
             self.rules.pop();
@@ -141,16 +141,16 @@ impl Declarations {
     }
 
     /// Opens a scope for a `subninja` in this one. Returns its number, which is the next one.
-    pub fn open(&mut self, parent: usize) -> Result<usize, AllocError>
-        requires { parent < length self.old.scopes }
-        ensures number { IfOk result (λ n. n ≡ length self.old.scopes) }
+    pub fn open(&mut self, parent: ScopeNo) -> Result<ScopeNo, AllocError>
+        requires { parent.0 < length self.old.scopes }
+        ensures number { IfOk result (λ n. n.0 ≡ length self.old.scopes) }
         ensures within { OnOk result
-            (parent_at self.new.scopes (length self.old.scopes) ≡ Some parent) }
+            (parent_at self.new.scopes (length self.old.scopes) ≡ Some parent.0) }
         ensures others { (n : ℕ) → n < length self.old.scopes
             → parent_at self.new.scopes n ≡ parent_at self.old.scopes n }
         ensures count { OnOk result (length self.new.scopes ≡ length self.old.scopes + 1) }
         ensures opened { (around : List ℕ) (word : WordModel)
-            → OnOk result (TakesIn self.old self.new parent around (SubninjaModel word)) }
+            → OnOk result (TakesIn self.old self.new parent.0 around (SubninjaModel word)) }
         ensures refused { OnErr result (self.new ≡ self.old) }
     {
         self.scopes.open(parent)
@@ -160,14 +160,14 @@ impl Declarations {
     pub fn expand(
         &self,
         alloc: Global,
-        scope: usize,
+        scope: ScopeNo,
         word: &Word<'_>,
     ) -> Result<Vec<u8>, AllocError>
-        requires { scope < length self.now.scopes }
+        requires { scope.0 < length self.now.scopes }
         ensures { (entries : List ReadStatement) (around : List ℕ) → DeclaredBy self.now entries
-            → IsScope (parent_at self.now.scopes) scope (scope ∷ around)
+            → IsScope (parent_at self.now.scopes) scope.0 (scope.0 ∷ around)
             → IfOk result (λ v. v.items
-            ≡ expanded (value_after entries (scope ∷ around)) (word_model word.now).parts) }
+            ≡ expanded (value_after entries (scope.0 ∷ around)) (word_model word.now).parts) }
     {
         self.scopes.expand(alloc, scope, word)
     }
@@ -175,25 +175,25 @@ impl Declarations {
     /// Appends to the text the value of the word in this scope, by what is bound so far.
     pub fn append_expanded(
         &self,
-        scope: usize,
+        scope: ScopeNo,
         word: &Word<'_>,
         text: &mut Vec<u8>,
     ) -> Result<(), AllocError>
-        requires { scope < length self.now.scopes }
+        requires { scope.0 < length self.now.scopes }
         ensures { (entries : List ReadStatement) (around : List ℕ) → DeclaredBy self.now entries
-            → IsScope (parent_at self.now.scopes) scope (scope ∷ around)
+            → IsScope (parent_at self.now.scopes) scope.0 (scope.0 ∷ around)
             → OnOk result (text.new.items ≡ text.old.items
-            ++ expanded (value_after entries (scope ∷ around)) (word_model word.now).parts) }
+            ++ expanded (value_after entries (scope.0 ∷ around)) (word_model word.now).parts) }
     {
         self.scopes.append_expanded(scope, word, text)
     }
 
     /// The value of the name in this scope, by what is bound so far. An unknown name is empty.
-    pub fn value(&self, scope: usize, name: &[u8]) -> &[u8]
-        requires { scope < length self.now.scopes }
+    pub fn value(&self, scope: ScopeNo, name: &[u8]) -> &[u8]
+        requires { scope.0 < length self.now.scopes }
         ensures { (entries : List ReadStatement) (around : List ℕ) → DeclaredBy self.now entries
-            → IsScope (parent_at self.now.scopes) scope (scope ∷ around)
-            → result.now ≡ value_after entries (scope ∷ around) name.now }
+            → IsScope (parent_at self.now.scopes) scope.0 (scope.0 ∷ around)
+            → result.now ≡ value_after entries (scope.0 ∷ around) name.now }
     {
         if !self.binds_pool_or_dyndep && is_pool_or_dyndep(name) {
             return &[];
@@ -203,11 +203,11 @@ impl Declarations {
 
     /// The value of the name in this scope, by what is bound so far: its value in the nearest
     /// scope, itself or around it, that binds the name. `None` if none does.
-    pub fn value_if_bound(&self, scope: usize, name: &[u8]) -> Option<&[u8]>
-        requires { scope < length self.now.scopes }
+    pub fn value_if_bound(&self, scope: ScopeNo, name: &[u8]) -> Option<&[u8]>
+        requires { scope.0 < length self.now.scopes }
         ensures { (entries : List ReadStatement) (around : List ℕ) → DeclaredBy self.now entries
-            → IsScope (parent_at self.now.scopes) scope (scope ∷ around)
-            → option_copied result ≡ value_if_bound entries (scope ∷ around) name.now }
+            → IsScope (parent_at self.now.scopes) scope.0 (scope.0 ∷ around)
+            → option_copied result ≡ value_if_bound entries (scope.0 ∷ around) name.now }
     {
         if !self.binds_pool_or_dyndep && is_pool_or_dyndep(name) {
             return None;
@@ -247,16 +247,16 @@ impl Declarations {
     /// The number of the rule that is in force under the name in this scope: its own, else the rule
     /// of the nearest scope around it that declares one. `phony` is always there. `None` if there
     /// is none.
-    pub fn rule(&self, scope: usize, name: &[u8]) -> Option<usize>
-        requires { scope < length self.now.scopes }
+    pub fn rule(&self, scope: ScopeNo, name: &[u8]) -> Option<RuleNo>
+        requires { scope.0 < length self.now.scopes }
         ensures in_force { (entries : List ReadStatement) (around : List ℕ)
             → DeclaredBy self.now entries
-            → IsScope (parent_at self.now.scopes) scope (scope ∷ around)
-            → result ≡ rule_in_force entries (scope ∷ around) name.now }
+            → IsScope (parent_at self.now.scopes) scope.0 (scope.0 ∷ around)
+            → option_map (λ r. r.0) result ≡ rule_in_force entries (scope.0 ∷ around) name.now }
         ensures within { (entries : List ReadStatement) (around : List ℕ)
             → DeclaredBy self.now entries
-            → IsScope (parent_at self.now.scopes) scope (scope ∷ around)
-            → IfSome result (λ n. n < length self.now.rules) }
+            → IsScope (parent_at self.now.scopes) scope.0 (scope.0 ∷ around)
+            → IfSome result (λ r. r.0 < length self.now.rules) }
     {
         if name == b"phony".as_slice() {
             return Some(PHONY);

@@ -18,6 +18,7 @@ pub use laws::{lists_by_reading_order, rules_in_force, values_by_reading_order};
 pub use memory_files::MemoryFiles;
 pub use nj_names::HashKeys;
 pub use pool_depths::is_depth;
-pub use rule::Rule;
+pub use rule::{Rule, RuleNo};
+pub use scopes::ScopeNo;
 pub use source::{FileSource, SourceFault};
 pub use table::FileTable;

@@ -7,9 +7,15 @@ ghost use Rattle.nj_scope.specs.Inside.KeysHeld.{line_held, AreIndexes, HasKeyAt
 ghost use Rattle.nj_manifest.specs.Contents.{line_model};
 
 use crate::deferred::LateValue;
+use crate::scopes::ScopeNo;
 use nj_manifest::Line;
 use std::alloc::{AllocError, Global};
 use std::marker::Model;
+
+/// The number of a rule in its run. `phony` is 0; the rules that are declared follow in reading
+/// order ("Rules" in the Ninja manual).
+#[derive(Clone, Copy, Debug, PartialEq, Eq)]
+pub struct RuleNo(pub usize);
 
 // A line of a rule's block, kept apart from its file.
 #[derive(Drop)]
@@ -22,7 +28,7 @@ struct RuleLine {
 /// are expanded when an edge uses them ("Rules" in the Ninja manual).
 #[derive(Drop)]
 pub struct Rule {
-    scope: usize,
+    scope: ScopeNo,
     name: Vec<u8>,
     lines: Vec<RuleLine>,
     // for each key the index of its last line, from the end
@@ -38,7 +44,7 @@ impl Model for Rule {
     ghost Value = { RuleModel };
 
     ghost view = { λ r. record {
-      scope = r.scope;
+      scope = r.scope.0;
       name = r.name.items;
       lines = map {B = RuleLineModel} line_held r.lines.items;
     } };
@@ -51,11 +57,11 @@ impl Rule {
     /// A rule of this name, with these lines, which the scope of this number declares.
     pub fn new(
         alloc: Global,
-        scope: usize,
+        scope: ScopeNo,
         name: &[u8],
         lines: &[Line<'_>],
     ) -> Result<Rule, AllocError>
-        ensures scope { IfOk result (λ r. r.scope ≡ scope) }
+        ensures scope { IfOk result (λ r. r.scope ≡ scope.0) }
         ensures name { IfOk result (λ r. r.name ≡ name.now) }
         ensures lines { IfOk result (λ r. r.lines ≡ map (λ l. line_kept (line_model l)) lines.now) }
     {
@@ -77,8 +83,8 @@ impl Rule {
     }
 
     /// The number of the scope that declares it.
-    pub fn scope(&self) -> usize
-        ensures { result ≡ self.now.scope }
+    pub fn scope(&self) -> ScopeNo
+        ensures { result.0 ≡ self.now.scope }
     {
         self.scope
     }

@@ -1,24 +1,30 @@
 //! The scopes of variables and rules.
 
-ghost use Rattle.std.specs.Prelude.{◌≡◌, ℕ, ◌+◌, ◌<◌, ◌&&◌, ◌==◌, ◌++◌, List, Option, Some, None, length, option_copied, IfSome, IfOk, OnOk, OnErr, if◌then◌else◌, bytes_eq};
+ghost use Rattle.std.specs.Prelude.{◌≡◌, ℕ, ◌+◌, ◌<◌, ◌&&◌, ◌==◌, ◌++◌, List, Option, Some, None, length, option_copied, option_map, IfSome, IfOk, OnOk, OnErr, if◌then◌else◌, bytes_eq};
 ghost use Rattle.nj_scope.specs.Scopes.{IsScope, first_given, value_in, expanded, parent_at, bound_at, rule_at};
 ghost use Rattle.std.specs.Map.{lookup};
 ghost use Rattle.nj_scope.specs.Inside.ScopesHeld.{values_text};
 ghost use Rattle.nj_text.specs.Words.{word_model};
 
 use crate::deferred::written_len;
+use crate::rule::RuleNo;
 use indexmap::IndexMap;
 use nj_names::HashKeys;
 use nj_text::{Part, Word};
 use std::alloc::{AllocError, Global};
 use std::marker::Model;
 
+/// The number of a scope in its run. The main file's is 0; each `subninja` opens the next one
+/// ("Evaluation and scoping" in the Ninja manual).
+#[derive(Clone, Copy, Debug, PartialEq, Eq)]
+pub struct ScopeNo(pub usize);
+
 // One scope: the number of the scope around it, and what it binds and declares itself.
 #[derive(Drop)]
 struct Scope {
-    parent: Option<usize>,
+    parent: Option<ScopeNo>,
     values: IndexMap<Vec<u8>, Vec<u8>, HashKeys>,
-    rules: IndexMap<Vec<u8>, usize, HashKeys>,
+    rules: IndexMap<Vec<u8>, RuleNo, HashKeys>,
 }
 
 /// The variables and rules of a run, by scope. The main file's scope has the number 0; each
@@ -72,18 +78,18 @@ impl Scopes {
     }
 
     /// Opens a scope within another. Returns its number, which is the next one.
-    pub fn open(&mut self, parent: usize) -> Result<usize, AllocError>
-        requires { parent < length self.old }
-        ensures number { IfOk result (λ n. n ≡ length self.old) }
+    pub fn open(&mut self, parent: ScopeNo) -> Result<ScopeNo, AllocError>
+        requires { parent.0 < length self.old }
+        ensures number { IfOk result (λ n. n.0 ≡ length self.old) }
         ensures count { OnOk result (length self.new ≡ length self.old + 1) }
-        ensures within { OnOk result (parent_at self.new (length self.old) ≡ Some parent) }
+        ensures within { OnOk result (parent_at self.new (length self.old) ≡ Some parent.0) }
         ensures others { (n : ℕ) → n < length self.old
             → parent_at self.new n ≡ parent_at self.old n }
         ensures bound { (n : ℕ) (x : List ℕ) → bound_at self.new n x ≡ bound_at self.old n x }
         ensures rules { (n : ℕ) (x : List ℕ) → rule_at self.new n x ≡ rule_at self.old n x }
         ensures refused { OnErr result (self.new ≡ self.old) }
     {
-        let number = self.scopes.len();
+        let number = ScopeNo(self.scopes.len());
         self.scopes.push(Scope {
             parent: Some(parent),
             values: IndexMap::with_hasher(self.alloc, self.keys),
@@ -93,10 +99,10 @@ impl Scopes {
     }
 
     /// Binds the name in this scope, in place of what it was bound to there before.
-    pub fn bind(&mut self, scope: usize, name: &[u8], value: Vec<u8>) -> Result<(), AllocError>
-        requires { scope < length self.old }
+    pub fn bind(&mut self, scope: ScopeNo, name: &[u8], value: Vec<u8>) -> Result<(), AllocError>
+        requires { scope.0 < length self.old }
         ensures bound { OnOk result ((n : ℕ) (x : List ℕ) → bound_at self.new n x
-            ≡ (if n == scope && bytes_eq x name.now
+            ≡ (if n == scope.0 && bytes_eq x name.now
             then Some value.items else bound_at self.old n x)) }
         ensures refused { OnErr result ((n : ℕ) (x : List ℕ)
             → bound_at self.new n x ≡ bound_at self.old n x) }
@@ -104,15 +110,15 @@ impl Scopes {
         ensures parents { (n : ℕ) → parent_at self.new n ≡ parent_at self.old n }
         ensures count { length self.new ≡ length self.old }
     {
-        set_value(self.alloc, &mut self.scopes[scope].values, name, value)
+        set_value(self.alloc, &mut self.scopes[scope.0].values, name, value)
     }
 
     /// Declares the rule of this number under a name for which this scope declares none yet.
-    pub fn declare(&mut self, scope: usize, name: &[u8], rule: usize) -> Result<(), AllocError>
-        requires scope { scope < length self.old }
-        requires new { rule_at self.old scope name.now ≡ None }
+    pub fn declare(&mut self, scope: ScopeNo, name: &[u8], rule: RuleNo) -> Result<(), AllocError>
+        requires scope { scope.0 < length self.old }
+        requires new { rule_at self.old scope.0 name.now ≡ None }
         ensures declared { OnOk result ((n : ℕ) (x : List ℕ) → rule_at self.new n x
-            ≡ (if n == scope && bytes_eq x name.now then Some rule else rule_at self.old n x)) }
+            ≡ (if n == scope.0 && bytes_eq x name.now then Some rule.0 else rule_at self.old n x)) }
         ensures refused { OnErr result ((n : ℕ) (x : List ℕ)
             → rule_at self.new n x ≡ rule_at self.old n x) }
         ensures bound { (n : ℕ) (x : List ℕ) → bound_at self.new n x ≡ bound_at self.old n x }
@@ -120,16 +126,17 @@ impl Scopes {
         ensures count { length self.new ≡ length self.old }
     {
         let key = Vec::from_slice(self.alloc, name)?;
-        self.scopes[scope].rules.insert(key, rule)?;
+        self.scopes[scope.0].rules.insert(key, rule)?;
         Ok(())
     }
 
     /// The number of the rule that this scope declares under the name, else the rule of the nearest
     /// scope around it that declares one.
-    pub fn rule(&self, scope: usize, name: &[u8]) -> Option<usize>
-        requires { scope < length self.now }
-        ensures { (around : List ℕ) → IsScope (parent_at self.now) scope around
-            → result ≡ first_given (λ s. rule_at self.now s name.now) around }
+    pub fn rule(&self, scope: ScopeNo, name: &[u8]) -> Option<RuleNo>
+        requires { scope.0 < length self.now }
+        ensures { (around : List ℕ) → IsScope (parent_at self.now) scope.0 around
+            → option_map (λ r. r.0) result
+            ≡ first_given (λ s. rule_at self.now s name.now) around }
     {
         let mut next = Some(scope);
         'scopes: while let Some(number) = next {
@@ -143,9 +150,9 @@ impl Scopes {
 
     /// The value of the name in this scope: its own, else its value in the nearest scope around it
     /// that binds the name. An unknown name is empty.
-    pub fn value(&self, scope: usize, name: &[u8]) -> &[u8]
-        requires { scope < length self.now }
-        ensures { (around : List ℕ) → IsScope (parent_at self.now) scope around
+    pub fn value(&self, scope: ScopeNo, name: &[u8]) -> &[u8]
+        requires { scope.0 < length self.now }
+        ensures { (around : List ℕ) → IsScope (parent_at self.now) scope.0 around
             → result.now ≡ value_in (bound_at self.now) around name.now }
     {
         match self.value_if_bound(scope, name) {
@@ -156,9 +163,9 @@ impl Scopes {
 
     /// The value of the name in this scope: its own, else its value in the nearest scope around it
     /// that binds the name. `None` if none does.
-    pub fn value_if_bound(&self, scope: usize, name: &[u8]) -> Option<&[u8]>
-        requires { scope < length self.now }
-        ensures { (around : List ℕ) → IsScope (parent_at self.now) scope around
+    pub fn value_if_bound(&self, scope: ScopeNo, name: &[u8]) -> Option<&[u8]>
+        requires { scope.0 < length self.now }
+        ensures { (around : List ℕ) → IsScope (parent_at self.now) scope.0 around
             → option_copied result ≡ first_given (λ s. bound_at self.now s name.now) around }
     {
         let mut next = Some(scope);
@@ -172,42 +179,42 @@ impl Scopes {
     }
 
     // The value that this scope itself binds to the name.
-    fn own_value(&self, scope: usize, name: &[u8]) -> Option<&[u8]>
-        requires { scope < length self.now }
-        ensures { option_copied result ≡ bound_at self.now scope name.now }
+    fn own_value(&self, scope: ScopeNo, name: &[u8]) -> Option<&[u8]>
+        requires { scope.0 < length self.now }
+        ensures { option_copied result ≡ bound_at self.now scope.0 name.now }
     {
-        match self.scopes[scope].values.get(name) {
+        match self.scopes[scope.0].values.get(name) {
             Some(value) => Some(value.as_slice()),
             None => None,
         }
     }
 
     /// The number of the rule that this scope itself declares under the name.
-    pub fn own_rule(&self, scope: usize, name: &[u8]) -> Option<usize>
-        requires { scope < length self.now }
-        ensures { result ≡ rule_at self.now scope name.now }
+    pub fn own_rule(&self, scope: ScopeNo, name: &[u8]) -> Option<RuleNo>
+        requires { scope.0 < length self.now }
+        ensures { option_map (λ r. r.0) result ≡ rule_at self.now scope.0 name.now }
     {
-        self.scopes[scope].rules.get(name).copied()
+        self.scopes[scope.0].rules.get(name).copied()
     }
 
     // The scope around this one.
-    fn parent(&self, scope: usize) -> Option<usize>
-        requires { scope < length self.now }
-        ensures parent { result ≡ parent_at self.now scope }
-        ensures earlier { IfSome result (λ p. p < scope) }
+    fn parent(&self, scope: ScopeNo) -> Option<ScopeNo>
+        requires { scope.0 < length self.now }
+        ensures parent { option_map (λ p. p.0) result ≡ parent_at self.now scope.0 }
+        ensures earlier { IfSome result (λ p. p.0 < scope.0) }
     {
-        self.scopes[scope].parent
+        self.scopes[scope.0].parent
     }
 
     /// The value of the word in this scope: its bytes, and the values of the names in it.
     pub fn expand(
         &self,
         alloc: Global,
-        scope: usize,
+        scope: ScopeNo,
         word: &Word<'_>,
     ) -> Result<Vec<u8>, AllocError>
-        requires { scope < length self.now }
-        ensures { (around : List ℕ) → IsScope (parent_at self.now) scope around
+        requires { scope.0 < length self.now }
+        ensures { (around : List ℕ) → IsScope (parent_at self.now) scope.0 around
             → IfOk result (λ v. v.items
             ≡ expanded (value_in (bound_at self.now) around) (word_model word.now).parts) }
     {
@@ -219,12 +226,12 @@ impl Scopes {
     /// Appends to the text the value of the word in this scope.
     pub fn append_expanded(
         &self,
-        scope: usize,
+        scope: ScopeNo,
         word: &Word<'_>,
         text: &mut Vec<u8>,
     ) -> Result<(), AllocError>
-        requires { scope < length self.now }
-        ensures { (around : List ℕ) → IsScope (parent_at self.now) scope around
+        requires { scope.0 < length self.now }
+        ensures { (around : List ℕ) → IsScope (parent_at self.now) scope.0 around
             → OnOk result (text.new.items ≡ text.old.items
             ++ expanded (value_in (bound_at self.now) around) (word_model word.now).parts) }
     {

@@ -161,14 +161,14 @@ names-by-numbers files held ins outs inputs outputs i o n held_is are_inputs are
 
 -- the dependencies of the names of the edge that is being read
 pub sees-late : (edge : LateEdge) (held : DeclarationsModel) (scope : ℕ) (entries : List ReadStatement) (around : List ℕ) (read paths : EdgePaths) (block : Block) (rule : RuleModel)
-    → edge.declarations.now ≡ held → edge.scope ≡ scope → ((file : Values) → late_names edge file ≡ names_read read block rule file) → read ≡ paths
+    → edge.declarations.now ≡ held → edge.scope.0 ≡ scope → ((file : Values) → late_names edge file ≡ names_read read block rule file) → read ≡ paths
     → DeclaredBy held entries → IsScope (parent_at held.scopes) scope (scope ∷ around)
     → SeesLate edge entries (names_read paths block rule (value_after entries (scope ∷ around)))
 sees-late edge held scope entries around read paths block rule held_is scope_is names read_is by within = record {
   around = around;
   declared = subst (λ h. DeclaredBy h entries) (sym held_is) by;
-  within = subst (λ h. IsScope (parent_at h.scopes) edge.scope (edge.scope ∷ around)) (sym held_is) (subst (λ s. IsScope (parent_at held.scopes) s (s ∷ around)) (sym scope_is) within);
-  are = sym (names (value_after entries (edge.scope ∷ around))
-      ∙ ap (λ p. names_read p block rule (value_after entries (edge.scope ∷ around))) read_is
+  within = subst (λ h. IsScope (parent_at h.scopes) edge.scope.0 (edge.scope.0 ∷ around)) (sym held_is) (subst (λ s. IsScope (parent_at held.scopes) s (s ∷ around)) (sym scope_is) within);
+  are = sym (names (value_after entries (edge.scope.0 ∷ around))
+      ∙ ap (λ p. names_read p block rule (value_after entries (edge.scope.0 ∷ around))) read_is
       ∙ ap (λ s. names_read paths block rule (value_after entries (s ∷ around))) scope_is);
 }

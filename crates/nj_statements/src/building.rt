@@ -26,7 +26,7 @@ use nj_edges::{Edges, FileNo};
 use nj_faults::{Cause, GraphFault, Name, PlaceRef};
 use nj_manifest::Build;
 use nj_names::Names;
-use nj_scope::{Declarations, HashKeys};
+use nj_scope::{Declarations, HashKeys, ScopeNo};
 use nj_text::Word;
 use std::alloc::Global;
 use std::marker::Model;
@@ -106,15 +106,15 @@ impl Building {
         alloc: Global,
         declarations: &Declarations,
         place: PlaceRef<'_>,
-        scope: usize,
+        scope: ScopeNo,
         build: &Build<'_>,
     ) -> Result<(), GraphFault>
-        requires { scope < length declarations.now.scopes }
+        requires { scope.0 < length declarations.now.scopes }
         ensures reads { (entries : List ReadStatement) (around : List ℕ) (depth : ℕ)
             → DeclaredBy declarations.now entries
-            → IsScope (parent_at declarations.now.scopes) scope (scope ∷ around)
+            → IsScope (parent_at declarations.now.scopes) scope.0 (scope.0 ∷ around)
             → HasEdges self.old entries
-            → let e = entry_at_place place.entry scope around depth (build_model build.now) in
+            → let e = entry_at_place place.entry scope.0 around depth (build_model build.now) in
             ReadsStatement self.new (build_fault e entries (outputs_model build.now)
             (used_rule build.now) (inputs_model build.now)
             (lines_model build.now.lines.items)) e entries result }
@@ -141,19 +141,19 @@ impl Building {
         alloc: Global,
         declarations: &Declarations,
         place: PlaceRef<'_>,
-        scope: usize,
+        scope: ScopeNo,
         build: &Build<'_>,
         rule: UsedRule<'_>,
     ) -> Result<(), GraphFault>
-        requires { scope < length declarations.now.scopes }
+        requires { scope.0 < length declarations.now.scopes }
         ensures reads { (entries : List ReadStatement) (around : List ℕ) (depth : ℕ)
             → DeclaredBy declarations.now entries
-            → IsScope (parent_at declarations.now.scopes) scope (scope ∷ around)
-            → rule_in_force entries (scope ∷ around) build.now.rule.now
-            ≡ Some rule.entry.number
-            → slice_get (rules_read entries) rule.entry.number ≡ Some rule.entry.rule.now
+            → IsScope (parent_at declarations.now.scopes) scope.0 (scope.0 ∷ around)
+            → rule_in_force entries (scope.0 ∷ around) build.now.rule.now
+            ≡ Some rule.entry.number.0
+            → slice_get (rules_read entries) rule.entry.number.0 ≡ Some rule.entry.rule.now
             → HasEdges self.old entries
-            → let e = entry_at_place place.entry scope around depth (build_model build.now) in
+            → let e = entry_at_place place.entry scope.0 around depth (build_model build.now) in
             let outputs = outputs_model build.now in
             let inputs = inputs_model build.now in
             let lines = lines_model build.now.lines.items in
@@ -212,16 +212,16 @@ impl Building {
         alloc: Global,
         declarations: &Declarations,
         place: PlaceRef<'_>,
-        scope: usize,
+        scope: ScopeNo,
         words: &[Word<'_>],
     ) -> Result<(), GraphFault>
-        requires { scope < length declarations.now.scopes }
+        requires { scope.0 < length declarations.now.scopes }
         ensures reads { (entries : List ReadStatement) (around : List ℕ) (depth : ℕ)
             → DeclaredBy declarations.now entries
-            → IsScope (parent_at declarations.now.scopes) scope (scope ∷ around)
+            → IsScope (parent_at declarations.now.scopes) scope.0 (scope.0 ∷ around)
             → HasEdges self.old entries
             → let item = DefaultModel (words_model words.now) in
-            let e = entry_at_place place.entry scope around depth item in
+            let e = entry_at_place place.entry scope.0 around depth item in
             ReadsStatement self.new (default_fault e entries (words_model words.now))
             e entries result }
         ensures refused { OnErr result (self.new ≡ self.old) }
@@ -286,16 +286,16 @@ fn add_targets(
 }
 
 // The rule that is in force under the name in this scope.
-fn rule_named<'a>(declarations: &'a Declarations, scope: usize, name: &[u8]) -> Option<UsedRule<'a>>
-    requires { scope < length declarations.now.scopes }
+fn rule_named<'a>(declarations: &'a Declarations, scope: ScopeNo, name: &[u8]) -> Option<UsedRule<'a>>
+    requires { scope.0 < length declarations.now.scopes }
     ensures number { (entries : List ReadStatement) (around : List ℕ)
         → DeclaredBy declarations.now entries
-        → IsScope (parent_at declarations.now.scopes) scope (scope ∷ around)
-        → option_map (λ r. r.number) result ≡ rule_in_force entries (scope ∷ around) name.now }
+        → IsScope (parent_at declarations.now.scopes) scope.0 (scope.0 ∷ around)
+        → option_map (λ r. r.number.0) result ≡ rule_in_force entries (scope.0 ∷ around) name.now }
     ensures rule { (entries : List ReadStatement) → DeclaredBy declarations.now entries
-        → IfSome result (λ r. slice_get (rules_read entries) r.number ≡ Some r.rule.now) }
+        → IfSome result (λ r. slice_get (rules_read entries) r.number.0 ≡ Some r.rule.now) }
 {
     let number = declarations.rule(scope, name)?;
-    let rule = declarations.rules().get(number)?;
+    let rule = declarations.rules().get(number.0)?;
     Some(UsedRule { number, rule })
 }

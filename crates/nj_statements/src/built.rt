@@ -17,6 +17,7 @@ use nj_edge_env::Blocks;
 use nj_edges::{EdgeGraph, EdgeNo, FileNo, Finished};
 use nj_faults::{Cause, GraphFault, Name, PlaceRef};
 use nj_names::Names;
+use nj_scope::{RuleNo, ScopeNo};
 use std::alloc::Global;
 use std::marker::Model;
 
@@ -212,19 +213,19 @@ impl Built {
     }
 
     /// The number of the scope that has the build statement of an edge.
-    pub fn scope(&self, edge: EdgeNo) -> usize
+    pub fn scope(&self, edge: EdgeNo) -> ScopeNo
         requires { edge.0 < length self.now.graph.edges }
-        ensures { result ≡ (detail_at self.now.details edge.0).scope }
+        ensures { result.0 ≡ (detail_at self.now.details edge.0).scope }
     {
-        self.details[edge.0].scope as usize
+        ScopeNo(self.details[edge.0].scope as usize)
     }
 
     /// The number of the rule of an edge.
-    pub fn rule(&self, edge: EdgeNo) -> usize
+    pub fn rule(&self, edge: EdgeNo) -> RuleNo
         requires { edge.0 < length self.now.graph.edges }
-        ensures { result ≡ (detail_at self.now.details edge.0).rule }
+        ensures { result.0 ≡ (detail_at self.now.details edge.0).rule }
     {
-        self.details[edge.0].rule as usize
+        RuleNo(self.details[edge.0].rule as usize)
     }
 
     /// The pool of an edge, by its name: the value of `pool` at its build statement ("Pools" in the

@@ -5,7 +5,7 @@ ghost use Rattle.nj_faults.specs.Faults.{IsFault, fault_at};
 
 use nj_edge_env::Blocks;
 use nj_faults::{Cause, GraphFault, PlaceRef};
-use nj_scope::Declarations;
+use nj_scope::{Declarations, ScopeNo};
 use nj_text::Spot;
 use std::alloc::Global;
 
@@ -16,11 +16,11 @@ use std::alloc::Global;
 pub(crate) struct Context<'a> {
     pub(crate) alloc: Global,
     pub(crate) place: PlaceRef<'a>,
-    pub(crate) scope: usize,
+    pub(crate) scope: ScopeNo,
     pub(crate) declarations: &'a Declarations,
     pub(crate) blocks: &'a Blocks,
     pub(crate) edge: usize,
-    ghost scope_known: { scope < length declarations.now.scopes },
+    ghost scope_known: { scope.0 < length declarations.now.scopes },
 }
 
 impl Context<'_> {

@@ -5,6 +5,7 @@ ghost use Rattle.nj_statements.specs.Inside.Details.{IsDetailOf, spot_of};
 
 use nj_edges::FileNo;
 use nj_names::short_number;
+use nj_scope::{RuleNo, ScopeNo};
 use nj_text::Spot;
 use std::alloc::AllocError;
 
@@ -38,17 +39,17 @@ impl Detail {
     pub(crate) fn new(
         file: u32,
         spot: Spot,
-        scope: usize,
-        rule: usize,
+        scope: ScopeNo,
+        rule: RuleNo,
     ) -> Result<Detail, AllocError>
-        ensures { IfOk result (IsDetailOf file spot scope rule) }
+        ensures { IfOk result (IsDetailOf file spot scope.0 rule.0) }
     {
         Ok(Detail {
             file,
             line: short_number(spot.line)?,
             column: short_number(spot.column)?,
-            scope: short_number(scope)?,
-            rule: short_number(rule)?,
+            scope: short_number(scope.0)?,
+            rule: short_number(rule.0)?,
             pool: 0,
             dyndep: 0,
         })

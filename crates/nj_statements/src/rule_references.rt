@@ -6,15 +6,15 @@ ghost use Rattle.nj_statements.specs.Answers.{HasReferences};
 ghost use Rattle.nj_statements.specs.Inside.EdgeSteps.{SameReferences};
 
 use nj_edge_env::KeyReferences;
-use nj_scope::Rule;
+use nj_scope::{Rule, RuleNo};
 use std::alloc::{AllocError, Global};
 
 /// The rule that a statement uses, and its number.
 #[derive(Clone, Copy)]
 pub(crate) struct UsedRule<'a> {
-    pub(crate) number: usize,
+    pub(crate) number: RuleNo,
     pub(crate) rule: &'a Rule,
-    ghost small: { number + 1 < 2 ^ 64 },
+    ghost small: { number.0 + 1 < 2 ^ 64 },
 }
 
 /// Keeps which keys of the rule refer to which, by its number, unless that is kept already.
@@ -24,24 +24,24 @@ pub(crate) fn keep_references(
     rule: UsedRule<'_>,
 ) -> Result<(), AllocError>
     ensures held { (rules : List RuleModel) → HasReferences kept.old.items rules
-        → slice_get rules rule.entry.number ≡ Some rule.entry.rule.now
+        → slice_get rules rule.entry.number.0 ≡ Some rule.entry.rule.now
         → OnOk result (HasReferences kept.new.items rules) }
-    ensures kept { OnOk result (is_some (slice_index_or kept.new.items rule.entry.number None)
+    ensures kept { OnOk result (is_some (slice_index_or kept.new.items rule.entry.number.0 None)
         ≡ true) }
 {
     if references_kept(kept, rule.number).is_some() {
         return Ok(());
     }
     let references = KeyReferences::new(alloc, rule.rule)?;
-    make_capacity(kept, rule.number + 1)?;
-    kept[rule.number] = Some(references);
+    make_capacity(kept, rule.number.0 + 1)?;
+    kept[rule.number.0] = Some(references);
     Ok(())
 }
 
 /// What is kept of the rule of this number; something must be kept of it.
-pub(crate) fn rule_references(kept: &[Option<KeyReferences>], number: usize) -> &KeyReferences
-    requires { is_some (slice_index_or kept.now number None) ≡ true }
-    ensures { slice_index_or kept.now number None ≡ Some result.now }
+pub(crate) fn rule_references(kept: &[Option<KeyReferences>], number: RuleNo) -> &KeyReferences
+    requires { is_some (slice_index_or kept.now number.0 None) ≡ true }
+    ensures { slice_index_or kept.now number.0 None ≡ Some result.now }
 {
     match references_kept(kept, number) {
         Some(references) => references,
@@ -50,10 +50,10 @@ pub(crate) fn rule_references(kept: &[Option<KeyReferences>], number: usize) -> 
 }
 
 // What is kept of the rule of this number.
-fn references_kept(kept: &[Option<KeyReferences>], number: usize) -> Option<&KeyReferences>
-    ensures { option_copied result ≡ slice_index_or kept.now number None }
+fn references_kept(kept: &[Option<KeyReferences>], number: RuleNo) -> Option<&KeyReferences>
+    ensures { option_copied result ≡ slice_index_or kept.now number.0 None }
 {
-    match kept.get(number) {
+    match kept.get(number.0) {
         Some(references) => references.as_ref(),
         None => None,
     }

@@ -13,7 +13,7 @@ ghost use Rattle.nj_statements.specs.EdgeList.{block_of, names_bound};
 use crate::scratch::only_bytes;
 use nj_edge_env::Blocks;
 use nj_manifest::Line;
-use nj_scope::Declarations;
+use nj_scope::{Declarations, ScopeNo};
 use nj_text::Word;
 use std::alloc::AllocError;
 
@@ -22,17 +22,17 @@ pub(crate) fn bind_block(
     blocks: &mut Blocks,
     text: &mut Vec<u8>,
     declarations: &Declarations,
-    scope: usize,
+    scope: ScopeNo,
     edge: usize,
     lines: &[Line<'_>],
 ) -> Result<(), AllocError>
-    requires scope { scope < length declarations.now.scopes }
+    requires scope { scope.0 < length declarations.now.scopes }
     requires last { blocks.old.last ≤ edge }
     ensures bound { (entries : List ReadStatement) (around : List ℕ)
         → DeclaredBy declarations.now entries
-        → IsScope (parent_at declarations.now.scopes) scope (scope ∷ around)
+        → IsScope (parent_at declarations.now.scopes) scope.0 (scope.0 ∷ around)
         → OnOk result ((e : ℕ) (name : List ℕ) → bound_in blocks.new e name
-        ≡ (if e == edge then option_or (block_of (value_after entries (scope ∷ around))
+        ≡ (if e == edge then option_or (block_of (value_after entries (scope.0 ∷ around))
         (lines_model lines.now) name) (bound_in blocks.old e name)
         else bound_in blocks.old e name)) }
     ensures others { (e : ℕ) (name : List ℕ) → e < edge
@@ -55,16 +55,16 @@ pub(crate) fn bind_block(
 // other is put into the text.
 fn value_of<'w>(
     declarations: &Declarations,
-    scope: usize,
+    scope: ScopeNo,
     word: &'w Word<'_>,
     text: &'w mut Vec<u8>,
 ) -> Result<&'w [u8], AllocError>
-    requires { scope < length declarations.now.scopes }
+    requires { scope.0 < length declarations.now.scopes }
     ensures { (entries : List ReadStatement) (around : List ℕ)
         → DeclaredBy declarations.now entries
-        → IsScope (parent_at declarations.now.scopes) scope (scope ∷ around)
+        → IsScope (parent_at declarations.now.scopes) scope.0 (scope.0 ∷ around)
         → IfOk result (λ value. value.now
-        ≡ expanded (value_after entries (scope ∷ around)) (word_model word.now).parts) }
+        ≡ expanded (value_after entries (scope.0 ∷ around)) (word_model word.now).parts) }
 {
     if let Some(bytes) = only_bytes(word) {
         return Ok(bytes);

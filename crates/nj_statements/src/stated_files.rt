@@ -302,9 +302,9 @@ fn late_edge<'a>(
     requires { EndWithin kinds (length edges.now.«open».outputs)
         (length edges.now.«open».inputs) }
     ensures declarations { result.declarations.now ≡ context.entry.declarations.now }
-    ensures scope { result.scope ≡ context.entry.scope }
+    ensures scope { result.scope.0 ≡ context.entry.scope.0 }
     ensures names { (file : Values) → late_names result file
-        ≡ names_read (edge_read edges.now.«open» kinds (rule.entry.number == 0))
+        ≡ names_read (edge_read edges.now.«open» kinds (rule.entry.number.0 == 0))
         (bound_by context.entry) rule.entry.rule.now file }
 {
     LateEdge {
@@ -351,7 +351,7 @@ pub(crate) fn add_edge(
     ensures clean { OnOk result (AreClean edges.new.files) }
     ensures refused { OnErr result (KeepsClean edges.old edges.new) }
 {
-    let is_phony = rule.number == PHONY;
+    let is_phony = rule.number.0 == PHONY.0;
     let kinds = add_files(context, capacity, edges, build, is_phony)?;
     let edge = late_edge(context, edges, kinds, rule);
     let assigned = context.check_late(edge, capacity, edges, strings, references)?;

@@ -1,7 +1,7 @@
 //! The declarations of files: rules, pools and variables.
 
 use crate::tour::lines::append_line;
-use nj_graph::{Graph, Rule};
+use nj_graph::{Graph, Rule, ScopeNo};
 use std::alloc::{AllocError, Global};
 
 /// Appends the rules of all scopes, with their lines as they are written.
@@ -34,8 +34,8 @@ pub fn append_pools(text: &mut Vec<u8>, graph: &Graph) -> Result<(), AllocError>
 
 /// Appends the value of `builddir` at the end of each scope that binds it, or one around it.
 pub fn append_build_folders(text: &mut Vec<u8>, graph: &Graph) -> Result<(), AllocError> {
-    for scope in 0..graph.scope_count() {
-        if let Some(folder) = graph.scope_value(scope, b"builddir") {
+    for number in 0..graph.scope_count() {
+        if let Some(folder) = graph.scope_value(ScopeNo(number), b"builddir") {
             append_line(text, &[b"builddir ", folder])?;
         }
     }

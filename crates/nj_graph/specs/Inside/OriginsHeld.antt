@@ -20,7 +20,7 @@ abbrev pub pool_held : (names : List (List ℕ)) → HeldPool → PoolDetail
 pool_held names p = record { place = place_held names p.place; depth = p.depth }
 
 abbrev pub opening_held : (names : List (List ℕ)) → HeldOpening → OpeningModel
-opening_held names o = record { path = name_at names o.file; named_at = option_map (place_held names) o.named_at; scope = o.scope }
+opening_held names o = record { path = name_at names o.file; named_at = option_map (place_held names) o.named_at; scope = o.scope.0 }
 
 abbrev pub origins_held : (names : List (List ℕ)) → List HeldPlace → List HeldPool → List HeldOpening → OriginsModel
 origins_held names rules pools openings = record {

@@ -68,11 +68,11 @@ abbrev pub ScopesGrow : (old held : Reader) → Type 0
 ScopesGrow old held = Grows old.declarations.scopes held.declarations.scopes
 
 abbrev pub site_of : OpenFile → (around : List ℕ) → (depth : ℕ) → Site
-site_of file around depth = record { file = file.name.now; depth = depth; scope = file.scope; around = around }
+site_of file around depth = record { file = file.name.now; depth = depth; scope = file.scope.0; around = around }
 
 -- the scope of an open file
 abbrev pub IsOpenIn : Reader → OpenFile → (around : List ℕ) → Type 0
-IsOpenIn held file around = IsOpenScope held.declarations.scopes file.scope around
+IsOpenIn held file around = IsOpenScope held.declarations.scopes file.scope.0 around
 
 -- The property is true of the main file, of the site at which the file is open, and of the statements that were read, whichever they are.
 abbrev pub InFile : Reader → OpenFile → ((main : List ℕ) → Site → List ReadStatement → Type 0) → Type 0
@@ -84,7 +84,7 @@ InFile held file P =
 abbrev pub InScope : Reader → OpenFile → ((scope : List ℕ) → List ReadStatement → Type 0) → Type 0
 InScope held file P =
     (entries : List ReadStatement) (around : List ℕ) → DeclaredBy held.declarations entries → IsOpenIn held file around
-    → P (file.scope ∷ around) entries
+    → P (file.scope.0 ∷ around) entries
 
 -- ---- a statement that names no file
 
@@ -184,8 +184,8 @@ pub record OpensNamed (main : List ℕ) (before after : SourceState) (old held :
 -- the file that a statement names, by the scope of its statements
 pub record IsOpened (held : Reader) (opened : Opened) (inner : Site) : Type 0 where
   pub file : inner.file ≡ string_bytes opened.path
-  pub number : inner.scope ≡ opened.scope
-  pub scope : IsOpenScope held.declarations.scopes opened.scope inner.around
+  pub number : inner.scope ≡ opened.scope.0
+  pub scope : IsOpenScope held.declarations.scopes opened.scope.0 inner.around
 
 -- a file is opened that the statement names, or the run stops there
 abbrev pub OpensOrStops : (main : List ℕ) → (before after : SourceState) → (old held : Reader) → (left : ℕ) → ReadStatement → List ReadStatement

@@ -1,5 +1,5 @@
 -- How scopes are held.
-use Rattle.std.specs.Prelude.{ℕ, ◌<◌, List, map, IfSome}
+use Rattle.std.specs.Prelude.{ℕ, ◌<◌, List, map, option_map, IfSome}
 use Rattle.std.specs.Global.{Vec}
 use Rattle.nj_scope.specs.declared.scopes.Scope.{Scope}
 use Rattle.nj_scope.specs.Scopes.{ScopeModel, parent_at}
@@ -9,9 +9,9 @@ values_text entries = map (λ e. (e.0.items, e.1.items)) entries
 
 abbrev pub scope_model : Scope → ScopeModel
 scope_model s = record {
-  parent = s.parent;
+  parent = option_map (λ p. p.0) s.parent;
   values = values_text s.values.entries;
-  rules = map (λ e. (e.0.items, e.1)) s.rules.entries;
+  rules = map (λ e. (e.0.items, e.1.0)) s.rules.entries;
 }
 
 -- each scope was opened after the one around it

@@ -51,7 +51,7 @@ abbrev pub bound_by : Context → Block
 bound_by c = bound_in c.blocks.now c.edge
 
 abbrev pub SeesNames : Context → Values → Type 0
-SeesNames c values = Sees c.declarations.now c.scope (bound_by c) values
+SeesNames c values = Sees c.declarations.now c.scope.0 (bound_by c) values
 
 abbrev pub with_outputs : EdgeTable → List (List ℕ) → EdgeTable
 with_outputs t [] = t
@@ -123,8 +123,8 @@ names_read paths block rule file = record {
 pub record SeesLate (edge : LateEdge) (entries : List ReadStatement) (n : LateNames) : Type 0 where
   pub around : List ℕ
   pub declared : DeclaredBy edge.declarations.now entries
-  pub within : IsScope (parent_at edge.declarations.now.scopes) edge.scope (edge.scope ∷ around)
-  pub are : n ≡ late_names edge (value_after entries (edge.scope ∷ around))
+  pub within : IsScope (parent_at edge.declarations.now.scopes) edge.scope.0 (edge.scope.0 ∷ around)
+  pub are : n ≡ late_names edge (value_after entries (edge.scope.0 ∷ around))
 
 -- the assignment of an edge whose names depend on these
 abbrev pub assigned_by : LateNames → AssignedModel

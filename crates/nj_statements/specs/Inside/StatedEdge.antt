@@ -15,12 +15,12 @@ use Rattle.nj_statements.specs.Inside.EdgeSteps.{SeesNames, bound_by, names_read
 
 -- the paths of its edge
 abbrev pub paths_meant : Build → UsedRule → Values → EdgePaths
-paths_meant build rule values = edge_paths (stated_paths values (outputs_model build) (inputs_model build) (rule.number == 0))
+paths_meant build rule values = edge_paths (stated_paths values (outputs_model build) (inputs_model build) (rule.number.0 == 0))
 
 -- the names of its edge
 abbrev pub names_meant : (context : Context) → Build → UsedRule → (values : Values) → SeesNames context values → LateNames
 names_meant context build rule values sees =
-    names_read (paths_meant build rule values) (bound_by context) rule.rule.now (value_after sees.entries (context.scope ∷ sees.around))
+    names_read (paths_meant build rule values) (bound_by context) rule.rule.now (value_after sees.entries (context.scope.0 ∷ sees.around))
 
 -- the first fault of its paths, and then of its names, after these edges
 abbrev pub edge_fault : (context : Context) → Build → UsedRule → (values : Values) → SeesNames context values → (earlier : List EdgePaths)

@@ -15,7 +15,7 @@ edges-preserved c =
     let len = c.edges.invariant.len in
     let there = c.edge_rule.ensures.there in
     record {
-      len = length-set used c.edge_rule.result true ∙ len;
+      len = length-set used c.edge_rule.result.0 true ∙ len;
       used = λ rule below.
           ap (λ r. get_or (set used r true) rule false) held
           ∙ mark-more used (rule_number g) n rule (omega (arith, held, len, there)) (c.edges.invariant.used rule below);

@@ -8,17 +8,17 @@ use Rattle.nj_scope.specs.Rules.{rules_in}
 use Rattle.nj_graph.specs.Graph.{rule_name}
 use Rattle.nj_graph.proofs.ListedLemmas.{listed-rule, passed-rule, sorted-held, comes_before}
 use Rattle.nj_graph.proofs.graph.rules_of_main.Goals as goal
-use Rattle.nj_graph.proofs.graph.rules_of_main.Goals.{then-scope-eq-MAIN_SCOPE+in_ok-push, else-scope-eq-MAIN_SCOPE}
+use Rattle.nj_graph.proofs.graph.rules_of_main.Goals.{then-scope+in_ok-push, else-scope}
 
 pub rules-preserved : goal.rules-preserved
 rules-preserved c =
-    elim c.if-scope-eq-MAIN_SCOPE.branch [
-      | then-scope-eq-MAIN_SCOPE+in_ok-push w ↦
+    elim c.if-scope.branch [
+      | then-scope+in_ok-push w ↦
           ap (λ v. map (slice_get c.args.rules.now) v.items) w.numbers-is ∙ ap (map (slice_get c.args.rules.now)) w.in_ok-push.ensures.items
-          ∙ listed-rule c.args.rules.now c.rules.numbers.items c.rules.number c.index-rules-number.result c.rules-test.true c.index-rules-number.is c.rules.invariant (sym c.scope.ensures ∙ w.if-scope-eq-MAIN_SCOPE.true)
-      | else-scope-eq-MAIN_SCOPE w ↦
+          ∙ listed-rule c.args.rules.now c.rules.numbers.items c.rules.number c.index-rules-number.result c.rules-test.true c.index-rules-number.is c.rules.invariant (sym c.scope.ensures ∙ w.if-scope.true)
+      | else-scope w ↦
           ap (λ v. map (slice_get c.args.rules.now) v.items) w.numbers-is
-          ∙ passed-rule c.args.rules.now c.rules.numbers.items c.rules.number c.index-rules-number.result c.rules-test.true c.index-rules-number.is c.rules.invariant (λ h. w.if-scope-eq-MAIN_SCOPE.false (c.scope.ensures ∙ h))
+          ∙ passed-rule c.args.rules.now c.rules.numbers.items c.rules.number c.index-rules-number.result c.rules-test.true c.index-rules-number.is c.rules.invariant (λ h. w.if-scope.false (c.scope.ensures ∙ h))
     ]
 
 pub returns : goal.returns

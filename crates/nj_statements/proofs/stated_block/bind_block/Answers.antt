@@ -28,7 +28,7 @@ lines-preserved c = record {
       ∙ ap (λ b. if b && not (is_some (bound_in c.lines.blocks c.args.edge c.line-item.result.name.now)) then names_in c.lines.blocks e ++ c.line-item.result.name.now ∷ [] else names_in c.lines.blocks e) other
       ∙ c.lines.invariant.other_names e other;
   bound = λ entries around declared within e name.
-      let values : Values = value_after entries (c.args.scope ∷ around) in
+      let values : Values = value_after entries (c.args.scope.0 ∷ around) in
       let bound = c.in_ok-bind.ensures.bound e name in
       block-turn values c.args.edge e (line_model c.line-item.result) (lines_model (drop (c.lines.line-index + 1) c.args.lines.now)) name (bound_in c.bind.new.self e name) (bound_in c.lines.blocks e name)
       (bound ∙ ap (λ value. if e == c.args.edge && bytes_eq name c.line-item.result.name.now then Some value else bound_in c.lines.blocks e name) (c.in_ok-value.ensures entries around declared within))
@@ -48,7 +48,7 @@ returns-clause-names c = λ none empty.
 
 pub returns-clause-bound : goal.returns-clause-bound
 returns-clause-bound c = λ entries around declared within e name.
-    let values : Values = value_after entries (c.args.scope ∷ around) in
+    let values : Values = value_after entries (c.args.scope.0 ∷ around) in
     sym (at_drop_all (λ (ls : List Line). if e == c.args.edge then option_or (block_of values (lines_model ls) name) (bound_in c.lines.blocks e name) else bound_in c.lines.blocks e name) c.args.lines.now c.lines.line-index c.lines-test.false ∙ by (e == c.args.edge))
     ∙ c.lines.invariant.bound entries around declared within e name
   where

@@ -22,11 +22,11 @@ returns-in_err-assigned-clause-fault c = λ values sees none tells.
     let inputs = inputs_model c.args.build.now in
     let block = bound_by c.args.context in
     let open_edge = c.add_files.new.edges.«open» in
-    let paths : EdgePaths = edge_paths (stated_paths values outputs inputs (c.args.rule.number == 0)) in
-    let n : LateNames = names_read paths block c.args.rule.rule.now (value_after sees.entries (c.args.context.scope ∷ sees.around)) in
+    let paths : EdgePaths = edge_paths (stated_paths values outputs inputs (c.args.rule.number.0 == 0)) in
+    let n : LateNames = names_read paths block c.args.rule.rule.now (value_after sees.entries (c.args.context.scope.0 ∷ sees.around)) in
     let named = c.in_ok-kinds.ensures.named values sees none in
-    let inputs_are : inputs_of paths ≡ open_edge.inputs = sym (ap inputs_of named) ∙ inputs-read open_edge c.in_ok-kinds.kinds (c.args.rule.number == 0) (length open_edge.outputs) c.in_ok-kinds.ensures.within in
-    let late : SeesLate c.late_edge-edge.result sees.entries n = sees-late c.late_edge-edge.result c.args.context.declarations.now c.args.context.scope sees.entries sees.around (edge_read open_edge c.in_ok-kinds.kinds (c.args.rule.number == 0)) paths block c.args.rule.rule.now
+    let inputs_are : inputs_of paths ≡ open_edge.inputs = sym (ap inputs_of named) ∙ inputs-read open_edge c.in_ok-kinds.kinds (c.args.rule.number.0 == 0) (length open_edge.outputs) c.in_ok-kinds.ensures.within in
+    let late : SeesLate c.late_edge-edge.result sees.entries n = sees-late c.late_edge-edge.result c.args.context.declarations.now c.args.context.scope.0 sees.entries sees.around (edge_read open_edge c.in_ok-kinds.kinds (c.args.rule.number.0 == 0)) paths block c.args.rule.rule.now
     c.late_edge-edge.ensures.declarations c.late_edge-edge.ensures.scope c.late_edge-edge.ensures.names named sees.declared sees.within in
     let f = c.in_err-assigned.field-0.0 in
     let before = paths_fault file values c.args.edges.now.edges outputs inputs in
@@ -43,18 +43,18 @@ returns-clause-fault c = λ values sees none tells.
     let inputs = inputs_model c.args.build.now in
     let block = bound_by c.args.context in
     let open_edge = c.add_files.new.edges.«open» in
-    let paths : EdgePaths = edge_paths (stated_paths values outputs inputs (c.args.rule.number == 0)) in
-    let n : LateNames = names_read paths block c.args.rule.rule.now (value_after sees.entries (c.args.context.scope ∷ sees.around)) in
+    let paths : EdgePaths = edge_paths (stated_paths values outputs inputs (c.args.rule.number.0 == 0)) in
+    let n : LateNames = names_read paths block c.args.rule.rule.now (value_after sees.entries (c.args.context.scope.0 ∷ sees.around)) in
     let named = c.in_ok-kinds.ensures.named values sees none in
-    let inputs_are : inputs_of paths ≡ open_edge.inputs = sym (ap inputs_of named) ∙ inputs-read open_edge c.in_ok-kinds.kinds (c.args.rule.number == 0) (length open_edge.outputs) c.in_ok-kinds.ensures.within in
-    let late : SeesLate c.late_edge-edge.result sees.entries n = sees-late c.late_edge-edge.result c.args.context.declarations.now c.args.context.scope sees.entries sees.around (edge_read open_edge c.in_ok-kinds.kinds (c.args.rule.number == 0)) paths block c.args.rule.rule.now
+    let inputs_are : inputs_of paths ≡ open_edge.inputs = sym (ap inputs_of named) ∙ inputs-read open_edge c.in_ok-kinds.kinds (c.args.rule.number.0 == 0) (length open_edge.outputs) c.in_ok-kinds.ensures.within in
+    let late : SeesLate c.late_edge-edge.result sees.entries n = sees-late c.late_edge-edge.result c.args.context.declarations.now c.args.context.scope.0 sees.entries sees.around (edge_read open_edge c.in_ok-kinds.kinds (c.args.rule.number.0 == 0)) paths block c.args.rule.rule.now
     c.late_edge-edge.ensures.declarations c.late_edge-edge.ensures.scope c.late_edge-edge.ensures.names named sees.declared sees.within in
     both-none (paths_fault file values c.args.edges.now.edges outputs inputs) (names_fault file spot (pools sees.entries) (inputs_of paths) n) (c.in_ok-kinds.ensures.fault values sees none)
     (subst (λ is. names_fault file spot (pools sees.entries) is n ≡ None) (sym inputs_are) (c.in_ok-assigned.ensures.fault sees.entries n late tells))
 
 pub returns-clause-added : goal.returns-clause-added
 returns-clause-added c = λ values sees none.
-    adds-edge c.args.edges.now c.add_files.new.edges c.end_edge.new.self c.in_ok-kinds.kinds (c.args.rule.number == 0) (edge_paths (stated_paths values (outputs_model c.args.build.now) (inputs_model c.args.build.now) (c.args.rule.number == 0)))
+    adds-edge c.args.edges.now c.add_files.new.edges c.end_edge.new.self c.in_ok-kinds.kinds (c.args.rule.number.0 == 0) (edge_paths (stated_paths values (outputs_model c.args.build.now) (inputs_model c.args.build.now) (c.args.rule.number.0 == 0)))
     c.in_ok-kinds.ensures.keeps.read (c.in_ok-kinds.ensures.named values sees none) c.in_ok-end_edge.ensures.ended
 
 pub returns-clause-dyndep : goal.returns-clause-dyndep
@@ -63,10 +63,10 @@ returns-clause-dyndep c = λ values sees none.
     let inputs = inputs_model c.args.build.now in
     let block = bound_by c.args.context in
     let open_edge = c.add_files.new.edges.«open» in
-    let paths : EdgePaths = edge_paths (stated_paths values outputs inputs (c.args.rule.number == 0)) in
-    let n : LateNames = names_read paths block c.args.rule.rule.now (value_after sees.entries (c.args.context.scope ∷ sees.around)) in
+    let paths : EdgePaths = edge_paths (stated_paths values outputs inputs (c.args.rule.number.0 == 0)) in
+    let n : LateNames = names_read paths block c.args.rule.rule.now (value_after sees.entries (c.args.context.scope.0 ∷ sees.around)) in
     let named = c.in_ok-kinds.ensures.named values sees none in
-    let late : SeesLate c.late_edge-edge.result sees.entries n = sees-late c.late_edge-edge.result c.args.context.declarations.now c.args.context.scope sees.entries sees.around (edge_read open_edge c.in_ok-kinds.kinds (c.args.rule.number == 0)) paths block c.args.rule.rule.now
+    let late : SeesLate c.late_edge-edge.result sees.entries n = sees-late c.late_edge-edge.result c.args.context.declarations.now c.args.context.scope.0 sees.entries sees.around (edge_read open_edge c.in_ok-kinds.kinds (c.args.rule.number.0 == 0)) paths block c.args.rule.rule.now
     c.late_edge-edge.ensures.declarations c.late_edge-edge.ensures.scope c.late_edge-edge.ensures.names named sees.declared sees.within in
     subst (λ t. IsFileGiven t.files c.in_ok-assigned.assigned.file (file_given (asked_text n (codes "dyndep")))) (sym c.in_ok-end_edge.ensures.ended) (c.in_ok-assigned.ensures.file sees.entries n late)
 
@@ -76,10 +76,10 @@ returns-clause-assigned c = λ values sees none.
     let inputs = inputs_model c.args.build.now in
     let block = bound_by c.args.context in
     let open_edge = c.add_files.new.edges.«open» in
-    let paths : EdgePaths = edge_paths (stated_paths values outputs inputs (c.args.rule.number == 0)) in
-    let n : LateNames = names_read paths block c.args.rule.rule.now (value_after sees.entries (c.args.context.scope ∷ sees.around)) in
+    let paths : EdgePaths = edge_paths (stated_paths values outputs inputs (c.args.rule.number.0 == 0)) in
+    let n : LateNames = names_read paths block c.args.rule.rule.now (value_after sees.entries (c.args.context.scope.0 ∷ sees.around)) in
     let named = c.in_ok-kinds.ensures.named values sees none in
-    let late : SeesLate c.late_edge-edge.result sees.entries n = sees-late c.late_edge-edge.result c.args.context.declarations.now c.args.context.scope sees.entries sees.around (edge_read open_edge c.in_ok-kinds.kinds (c.args.rule.number == 0)) paths block c.args.rule.rule.now
+    let late : SeesLate c.late_edge-edge.result sees.entries n = sees-late c.late_edge-edge.result c.args.context.declarations.now c.args.context.scope.0 sees.entries sees.around (edge_read open_edge c.in_ok-kinds.kinds (c.args.rule.number.0 == 0)) paths block c.args.rule.rule.now
     c.late_edge-edge.ensures.declarations c.late_edge-edge.ensures.scope c.late_edge-edge.ensures.names named sees.declared sees.within in
     c.in_ok-assigned.ensures.assigned sees.entries n late
 

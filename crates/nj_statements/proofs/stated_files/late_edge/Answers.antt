@@ -17,5 +17,5 @@ invariant_of-result c = record {
 pub returns-clause-names : goal.returns-clause-names
 returns-clause-names c = λ file.
     names-by-numbers c.args.edges.now.files c.files.result.now c.open_input_files.result.now c.open_output_files.result.now c.args.edges.now.«open».inputs c.args.edges.now.«open».outputs c.args.kinds.explicit_inputs c.args.kinds.explicit_outputs
-    (names_read (edge_read c.args.edges.now.«open» c.args.kinds (c.args.rule.number == 0)) (bound_by c.args.context) c.args.rule.rule.now file)
+    (names_read (edge_read c.args.edges.now.«open» c.args.kinds (c.args.rule.number.0 == 0)) (bound_by c.args.context) c.args.rule.rule.now file)
     c.files.ensures.files c.open_input_files.ensures c.open_output_files.ensures

@@ -6,7 +6,7 @@ use Rattle.nj_edge_env.proofs.late_edge.LateEdge.append_late_text.Goals as goal
 
 pub returns-in-Ok-clause-appended : goal.returns-in-Ok-clause-appended
 returns-in-Ok-clause-appended c = λ entries around by scope.
-    let n = late_names c.args.self.now (value_after entries (c.args.self.now.scope ∷ around)) in
+    let n = late_names c.args.self.now (value_after entries (c.args.self.now.scope.0 ∷ around)) in
     let old = c.args.out.now.items in
     let asked = c.args.asked.now in
     c.in-Ok.ensures.appended.text entries around by scope

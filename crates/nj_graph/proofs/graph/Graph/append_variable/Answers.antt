@@ -20,7 +20,7 @@ returns-clause-appended c = λ entries is.
     let rule = c.rule.result.now in
     let e = edge g entries is n c.requires in
     let edges : c.edge_graph-edges.result.now ≡ g.built.graph = c.edge_graph-edges.ensures in
-    let number = c.scope.result in
+    let number = c.scope.result.0 in
     let scope = c.scope.ensures ∙ ap (λ (b : BuiltModel). (detail_at b.details n).scope) built in
     let same = names-same g entries is n c.requires c.files.result.now c.explicit_input_files.result.now c.explicit_output_files.result.now c.blocks-2.result.now rule number
     (c.files.ensures ∙ ap (λ (v : EdgeGraph). v.files) edges)

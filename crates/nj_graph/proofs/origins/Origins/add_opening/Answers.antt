@@ -49,4 +49,4 @@ returns c =
     let there = slice_get_within later file c.args.path.now at in
     ap (λ (openings : List HeldOpening). origins_held later i.rules.items i.pools.items openings) c.in_ok-push.ensures.items
     ∙ opening-added i.names later grows i.rules.items i.pools.items i.openings.items c.self.invariant p place held below file c.args.path.now gives there c.args.scope
-    ∙ ap (λ (o : OriginsModel). record o { openings = o.openings ++ record { path = c.args.path.now; named_at = Some place; scope = c.args.scope } ∷ [] }) c.self.view_is
+    ∙ ap (λ (o : OriginsModel). record o { openings = o.openings ++ record { path = c.args.path.now; named_at = Some place; scope = c.args.scope.0 } ∷ [] }) c.self.view_is

@@ -21,7 +21,7 @@ read_statement-returns-in-Some-clause-reads g t c = λ main entries around depth
     let e = entry_at (site_of c.args.file around depth) (placed_model c.args.statement.now) in
     let reads = subst (λ o. ReadsItem main before mid c.args.self.now opened c.args.file.left e entries (Ok o)) c.in-Some.is (c.in_ok-read_item.ensures.reads main entries around depth has inside) in
     let inner : Site = reads.0 in
-    let at = site-same inner c.as_str.result.now named.scope (reads.1.file ∙ sym c.as_str.ensures.value) reads.1.number in
+    let at = site-same inner c.as_str.result.now named.scope.0 (reads.1.file ∙ sym c.as_str.ensures.value) reads.1.number in
     let nested = c.read_text.ensures.reads main (e ∷ entries) inner.around inner.depth reads.2.has reads.1.scope in
     let same = subst (λ i. ReadsOrStops main mid after opened c.read_text.new.self (λ all. text_read (opened_in all (c.args.file.left - 1)) i c.as_slice.result.now (e ∷ entries)) c.read_text.result) (sym at) nested in
     reads-named main before mid after c.args.self.now opened c.read_text.new.self c.args.file.left inner (rc_slice_items named.text) e entries reads.2 c.read_text.result
@@ -70,7 +70,7 @@ read_text-returns-in_err-read_statement-clause-reads g t c = λ main entries aro
     let after = g.S.FileSource.state c.read_statement.new.source in
     let next = next-some c.args.file.name.now c.statements.parser c.next_statement.new.parser c.statements.invariant.1 c.in_ok-statement.field-0 c.in-Some.statement c.statements.invariant.2 c.in-Some.is c.in_ok-statement.ensures in
     let u = c.statements.invariant.3 main entries around depth has inside in
-    let there = open-grown c.args.self.now.declarations.scopes c.statements.self.declarations.scopes c.args.file.scope around c.statements.invariant.0 inside in
+    let there = open-grown c.args.self.now.declarations.scopes c.statements.self.declarations.scopes c.args.file.scope.0 around c.statements.invariant.0 inside in
     let fault = c.in_err-read_statement.field-0.0 in
     rw (handed fault c.from_residual-in_err-read_statement.result c.from_residual-in_err-read_statement.ensures)
     (turn-stops main before mid c.args.self.now c.statements.self c.args.file.left (site_of c.args.file around depth) c.args.text.now entries c.statements.invariant.1
@@ -93,7 +93,7 @@ read_text-statements-preserved g t c =
       c.reuse.ensures ∙ next.2,
       λ main entries around depth has inside.
           let u = c.statements.invariant.3 main entries around depth has inside in
-          let there = open-grown c.args.self.now.declarations.scopes c.statements.self.declarations.scopes c.args.file.scope around c.statements.invariant.0 inside in
+          let there = open-grown c.args.self.now.declarations.scopes c.statements.self.declarations.scopes c.args.file.scope.0 around c.statements.invariant.0 inside in
           turn main before mid c.args.self.now c.statements.self c.args.file.left (site_of c.args.file around depth) c.args.text.now entries c.statements.invariant.1
           after c.read_statement.new.self (placed_model c.in-Some.statement) next.0 next.1 u
           (c.in_ok-read_statement.ensures.reads main u.now around depth u.has there),

@@ -6,7 +6,7 @@ use Rattle.nj_graph.proofs.reader.Reader.depth.Goals as goal
 
 pub lines-preserved : goal.lines-preserved
 lines-preserved c = λ entries around by inside.
-    let scope = c.args.file.scope ∷ around in
+    let scope = c.args.file.scope.0 ∷ around in
     let lines = c.args.lines.now in
     let i = c.lines.line-index in
     let line = c.line-item.result in

@@ -92,9 +92,9 @@ returns-clause-opens g c = λ main entries around depth has inside.
     let after = g.S.FileSource.state c.open_file.new.source in
     let old : OriginsModel = c.args.self.now.origins in
     let held : Reader = record { declarations = c.scope_for.new.self.declarations; building = c.scope_for.new.self.building; files = c.scope_for.new.self.files; origins = c.add_opening.new.self } in
-    let number = c.in_ok-scope.scope in
+    let number = c.in_ok-scope.scope.0 in
     let same : c.open_file.new.self.declarations ≡ c.args.self.now.declarations = c.in_ok-text.ensures.declarations in
-    let enters = c.in_ok-scope.ensures.enters start word entries around depth (subst (λ d. DeclaredBy d entries) (sym same) has.declares) (subst (λ d. IsOpenScope d.scopes c.args.file.scope around) (sym same) inside) in
+    let enters = c.in_ok-scope.ensures.enters start word entries around depth (subst (λ d. DeclaredBy d entries) (sym same) has.declares) (subst (λ d. IsOpenScope d.scopes c.args.file.scope.0 around) (sym same) inside) in
     let origins =
     c.in_ok-add_opening.ensures
     ∙ ap (λ (o : OriginsModel). record o { openings = o.openings ++ record { path = c.deref-2.result.now; named_at = Some (place_text c.place.result); scope = number } ∷ [] }) (c.in_ok-scope.ensures.origins ∙ c.in_ok-text.ensures.origins)

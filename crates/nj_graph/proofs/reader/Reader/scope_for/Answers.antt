@@ -8,7 +8,7 @@ returns-in-Include-clause-enters c = λ start word entries around depth declares
     rw (c.in-Include.is) (record {
       number_is = refl;
       scope = inside;
-      declares = takes-include c.args.self.now.declarations c.args.file.scope around word entries c.args.file.name.now start depth declares;
+      declares = takes-include c.args.self.now.declarations c.args.file.scope.0 around word entries c.args.file.name.now start depth declares;
     })
 
 pub returns-in-Subninja-clause-enters : goal.returns-in-Subninja-clause-enters

@@ -10,12 +10,12 @@ pub returns-clause-bound : goal.returns-clause-bound
 returns-clause-bound c = λ around scope. at_ok c.bind.result c.bind.ensures.bound (λ bound entries file spot depth by.
     with-binding (record { scopes = c.self.inside.scopes; rules = c.self.inside.rules.items; pools = c.self.inside.pools })
     (record { scopes = c.bind.new.self; rules = c.self.inside.rules.items; pools = c.self.inside.pools })
-    entries (record { file = file; spot = spot; depth = depth; scope = c.args.scope; around = around; item = BindingModel c.args.name.now (word_model c.args.value.now); was_joined = false; discovered = None })
+    entries (record { file = file; spot = spot; depth = depth; scope = c.args.scope.0; around = around; item = BindingModel c.args.name.now (word_model c.args.value.now); was_joined = false; discovered = None })
     c.args.name.now c.in_ok-value.value.items (word_model c.args.value.now)
     (subst (λ held. DeclaredBy held entries) (sym c.self.view_is) by)
     (c.in_ok-value.ensures.items ∙ c.deref.ensures.value
-    ∙ c.in_ok-append_expanded.ensures (c.args.scope ∷ around) (subst (λ held. IsScope (parent_at held.scopes) c.args.scope (c.args.scope ∷ around)) (sym c.self.view_is) scope)
-    ∙ ap (λ front. front ++ expanded (value_in (bound_at c.self.inside.scopes) (c.args.scope ∷ around)) (word_model c.args.value.now).parts) c.clear.ensures.items)
+    ∙ c.in_ok-append_expanded.ensures (c.args.scope.0 ∷ around) (subst (λ held. IsScope (parent_at held.scopes) c.args.scope.0 (c.args.scope.0 ∷ around)) (sym c.self.view_is) scope)
+    ∙ ap (λ front. front ++ expanded (value_in (bound_at c.self.inside.scopes) (c.args.scope.0 ∷ around)) (word_model c.args.value.now).parts) c.clear.ensures.items)
     bound c.bind.ensures.rules c.bind.ensures.count refl refl)
 
 pub returns-clause-refused : goal.returns-clause-refused

@@ -16,12 +16,12 @@ kept-twice (l ∷ lines) = ap (λ ls. line_kept (line_model l) ∷ ls) (kept-twi
 pub returns-clause-declared : goal.returns-clause-declared
 returns-clause-declared c = λ around spot new entries file at depth by.
     with-rule (record { scopes = c.self.inside.scopes; rules = c.self.inside.rules.items; pools = c.self.inside.pools }) (record { scopes = c.declare.new.self; rules = c.push.new.self.items; pools = c.self.inside.pools })
-    entries (record { file = file; spot = at; depth = depth; scope = c.args.scope; around = around; item = RuleModel (record { spot = spot; name = c.args.name.now }) (lines_model c.args.lines.now); was_joined = false; discovered = None })
+    entries (record { file = file; spot = at; depth = depth; scope = c.args.scope.0; around = around; item = RuleModel (record { spot = spot; name = c.args.name.now }) (lines_model c.args.lines.now); was_joined = false; discovered = None })
     (record { spot = spot; name = c.args.name.now }) (lines_model c.args.lines.now) (subst (λ held. DeclaredBy held entries) (sym c.self.view_is) by)
     (λ n x.
     c.in_default.ensures.declared n x
-    ∙ ap (λ k. if n == c.args.scope && bytes_eq x c.args.name.now then Some k else rule_at c.self.inside.scopes n x) (let e : c.len-number.result ≡ length c.self.inside.rules.items = grind (arith, common_steps) in e)) c.declare.ensures.bound c.declare.ensures.count
+    ∙ ap (λ k. if n == c.args.scope.0 && bytes_eq x c.args.name.now then Some k else rule_at c.self.inside.scopes n x) (let e : c.len.result ≡ length c.self.inside.rules.items = grind (arith, common_steps) in e)) c.declare.ensures.bound c.declare.ensures.count
     (c.in_ok-push.ensures.items
     ∙ ap (λ scope. c.self.inside.rules.items ++ record { scope = scope; name = c.in_ok-new.field-0.name; lines = c.in_ok-new.field-0.lines } ∷ []) c.in_ok-new.ensures.scope
-    ∙ ap (λ name. c.self.inside.rules.items ++ record { scope = c.args.scope; name = name; lines = c.in_ok-new.field-0.lines } ∷ []) c.in_ok-new.ensures.name
-    ∙ ap (λ lines. c.self.inside.rules.items ++ record { scope = c.args.scope; name = c.args.name.now; lines = lines } ∷ []) (c.in_ok-new.ensures.lines ∙ kept-twice c.args.lines.now)) refl
+    ∙ ap (λ name. c.self.inside.rules.items ++ record { scope = c.args.scope.0; name = name; lines = c.in_ok-new.field-0.lines } ∷ []) c.in_ok-new.ensures.name
+    ∙ ap (λ lines. c.self.inside.rules.items ++ record { scope = c.args.scope.0; name = c.args.name.now; lines = lines } ∷ []) (c.in_ok-new.ensures.lines ∙ kept-twice c.args.lines.now)) refl

@@ -16,8 +16,8 @@ returns-clause-reads c = λ entries around depth by within has.
     let lines = lines_model c.args.build.now.lines.items in
     let outputs = outputs_model c.args.build.now in
     let inputs = inputs_model c.args.build.now in
-    let e = entry_at_place c.args.place c.args.scope around depth (build_model c.args.build.now) in
-    let rule_is : rule_in_force entries (c.args.scope ∷ around) c.args.build.now.rule.now ≡ Some c.in-Some.rule.number = sym (c.rule_named.ensures.number entries around by within) ∙ ap (option_map (λ (r : UsedRule). r.number)) c.in-Some.is in
+    let e = entry_at_place c.args.place c.args.scope.0 around depth (build_model c.args.build.now) in
+    let rule_is : rule_in_force entries (c.args.scope.0 ∷ around) c.args.build.now.rule.now ≡ Some c.in-Some.rule.number.0 = sym (c.rule_named.ensures.number entries around by within) ∙ ap (option_map (λ (r : UsedRule). r.number.0)) c.in-Some.is in
     let other = option_or (paths_fault c.args.place.file.now (line_values e entries lines) (paths_of_edges (edges_read entries)) outputs inputs)
     (late_fault entries (edge_of_build e entries outputs (used_rule c.args.build.now) inputs lines)) in
     subst (λ o. ReadsStatement c.read_edge.new.self (option_or o other) e entries c.read_edge.result)

@@ -32,8 +32,8 @@ returns-in_err-assigned-clause-reads c = λ entries around depth by within rule_
     let outputs = outputs_model c.args.build.now in
     let inputs = inputs_model c.args.build.now in
     let rule_text : NameModel = used_rule c.args.build.now in
-    let e = entry_at_place c.args.place c.args.scope around depth (build_model c.args.build.now) in
-    let scope_values : Values = value_after entries (c.args.scope ∷ around) in
+    let e = entry_at_place c.args.place c.args.scope.0 around depth (build_model c.args.build.now) in
+    let scope_values : Values = value_after entries (c.args.scope.0 ∷ around) in
     let block : Block = block_of scope_values lines in
     let values : Values = on_line scope_values block in
     let old : BuildingModel = record { table = c.self.inside.edges; blocks = c.self.inside.block_values; names = c.self.inside.names; details = map detail_model c.self.inside.details.items; defaults = c.self.inside.defaults.items; dyndeps = c.self.inside.dyndeps.items; references = c.self.inside.references.items } in
@@ -43,14 +43,14 @@ returns-in_err-assigned-clause-reads c = λ entries around depth by within rule_
     let bound = subst (λ ls. (n : ℕ) (name : List ℕ) → bound_in c.bind_block.new.blocks n name ≡ if n == edge then option_or (block_of scope_values (lines_model ls) name) (bound_in c.self.inside.block_values n name) else bound_in c.self.inside.block_values n name) c.as_slice.ensures.value
     (c.in_ok-bind_block.ensures.bound entries around by within) in
     let block_is = open-block old entries block c.bind_block.new.blocks edge held count bound in
-    let sees : Sees c.args.declarations.now c.args.scope (bound_in c.bind_block.new.blocks edge) values = record { entries = entries; around = around; declared = by; within = within; are = λ name. ap (λ o. unwrap_or o (scope_values name)) (sym (block_is name)) } in
-    let late = late-fault e entries outputs rule_text inputs lines c.args.rule.number c.args.rule.rule.now (bound_in c.bind_block.new.blocks edge) rule_is there block_is in
+    let sees : Sees c.args.declarations.now c.args.scope.0 (bound_in c.bind_block.new.blocks edge) values = record { entries = entries; around = around; declared = by; within = within; are = λ name. ap (λ o. unwrap_or o (scope_values name)) (sym (block_is name)) } in
+    let late = late-fault e entries outputs rule_text inputs lines c.args.rule.number.0 c.args.rule.rule.now (bound_in c.bind_block.new.blocks edge) rule_is there block_is in
     let late_is = late_fault entries (edge_of_build e entries outputs rule_text inputs lines) in
-    let paths = edge_paths (stated_paths values outputs inputs (c.args.rule.number == 0)) in
+    let paths = edge_paths (stated_paths values outputs inputs (c.args.rule.number.0 == 0)) in
     let meant = names_fault c.args.place.file.now c.args.place.spot (pools entries) (inputs_of paths) (names_read paths (bound_in c.bind_block.new.blocks edge) c.args.rule.rule.now scope_values) in
     let kept = c.in_ok-keep_references.ensures.held (rules_read entries) held.references there in
-    let own = kept c.args.rule.number c.rule_references-references.result.now (ap (λ kept. slice_index_or kept c.args.rule.number None) (sym c.deref-2.ensures.value) ∙ c.rule_references-references.ensures) in
-    let tells : TellsCycles c.args.rule.rule.now.lines c.rule_references-references.result.now = subst (λ (r : RuleModel). TellsCycles r.lines c.rule_references-references.result.now) (same-rule (rules_read entries) c.args.rule.number own.0 c.args.rule.rule.now own.1 there) own.2 in
+    let own = kept c.args.rule.number.0 c.rule_references-references.result.now (ap (λ kept. slice_index_or kept c.args.rule.number.0 None) (sym c.deref-2.ensures.value) ∙ c.rule_references-references.ensures) in
+    let tells : TellsCycles c.args.rule.rule.now.lines c.rule_references-references.result.now = subst (λ (r : RuleModel). TellsCycles r.lines c.rule_references-references.result.now) (same-rule (rules_read entries) c.args.rule.number.0 own.0 c.args.rule.rule.now own.1 there) own.2 in
     reads-err _ (option_or (paths_fault c.args.place.file.now values (paths_of_edges (edges_read entries)) outputs inputs) late_is) e entries c.from_residual-in_err-assigned.result c.in_err-assigned.field-0.0 c.from_residual-in_err-assigned.ensures.1
     (subst (λ o. IsFault (option_or (paths_fault c.args.place.file.now values (paths_of_edges (edges_read entries)) outputs inputs) o) c.in_err-assigned.field-0.0) late
     (subst (λ es. IsFault (option_or (paths_fault c.args.place.file.now values es outputs inputs) meant) c.in_err-assigned.field-0.0) held.edges (c.in_err-assigned.ensures.fault values sees held.none_open tells)))
@@ -61,8 +61,8 @@ returns-clause-reads c = λ entries around depth by within rule_is there has.
     let outputs = outputs_model c.args.build.now in
     let inputs = inputs_model c.args.build.now in
     let rule_text : NameModel = used_rule c.args.build.now in
-    let e = entry_at_place c.args.place c.args.scope around depth (build_model c.args.build.now) in
-    let scope_values : Values = value_after entries (c.args.scope ∷ around) in
+    let e = entry_at_place c.args.place c.args.scope.0 around depth (build_model c.args.build.now) in
+    let scope_values : Values = value_after entries (c.args.scope.0 ∷ around) in
     let block : Block = block_of scope_values lines in
     let values : Values = on_line scope_values block in
     let old : BuildingModel = record { table = c.self.inside.edges; blocks = c.self.inside.block_values; names = c.self.inside.names; details = map detail_model c.self.inside.details.items; defaults = c.self.inside.defaults.items; dyndeps = c.self.inside.dyndeps.items; references = c.self.inside.references.items } in
@@ -72,17 +72,17 @@ returns-clause-reads c = λ entries around depth by within rule_is there has.
     let bound = subst (λ ls. (n : ℕ) (name : List ℕ) → bound_in c.bind_block.new.blocks n name ≡ if n == edge then option_or (block_of scope_values (lines_model ls) name) (bound_in c.self.inside.block_values n name) else bound_in c.self.inside.block_values n name) c.as_slice.ensures.value
     (c.in_ok-bind_block.ensures.bound entries around by within) in
     let block_is = open-block old entries block c.bind_block.new.blocks edge held count bound in
-    let sees : Sees c.args.declarations.now c.args.scope (bound_in c.bind_block.new.blocks edge) values = record { entries = entries; around = around; declared = by; within = within; are = λ name. ap (λ o. unwrap_or o (scope_values name)) (sym (block_is name)) } in
-    let late = late-fault e entries outputs rule_text inputs lines c.args.rule.number c.args.rule.rule.now (bound_in c.bind_block.new.blocks edge) rule_is there block_is in
+    let sees : Sees c.args.declarations.now c.args.scope.0 (bound_in c.bind_block.new.blocks edge) values = record { entries = entries; around = around; declared = by; within = within; are = λ name. ap (λ o. unwrap_or o (scope_values name)) (sym (block_is name)) } in
+    let late = late-fault e entries outputs rule_text inputs lines c.args.rule.number.0 c.args.rule.rule.now (bound_in c.bind_block.new.blocks edge) rule_is there block_is in
     let late_is = late_fault entries (edge_of_build e entries outputs rule_text inputs lines) in
-    let paths = edge_paths (stated_paths values outputs inputs (c.args.rule.number == 0)) in
+    let paths = edge_paths (stated_paths values outputs inputs (c.args.rule.number.0 == 0)) in
     let meant = names_fault c.args.place.file.now c.args.place.spot (pools entries) (inputs_of paths) (names_read paths (bound_in c.bind_block.new.blocks edge) c.args.rule.rule.now scope_values) in
     let kept = c.in_ok-keep_references.ensures.held (rules_read entries) held.references there in
-    let own = kept c.args.rule.number c.rule_references-references.result.now (ap (λ kept. slice_index_or kept c.args.rule.number None) (sym c.deref-2.ensures.value) ∙ c.rule_references-references.ensures) in
-    let tells : TellsCycles c.args.rule.rule.now.lines c.rule_references-references.result.now = subst (λ (r : RuleModel). TellsCycles r.lines c.rule_references-references.result.now) (same-rule (rules_read entries) c.args.rule.number own.0 c.args.rule.rule.now own.1 there) own.2 in
+    let own = kept c.args.rule.number.0 c.rule_references-references.result.now (ap (λ kept. slice_index_or kept c.args.rule.number.0 None) (sym c.deref-2.ensures.value) ∙ c.rule_references-references.ensures) in
+    let tells : TellsCycles c.args.rule.rule.now.lines c.rule_references-references.result.now = subst (λ (r : RuleModel). TellsCycles r.lines c.rule_references-references.result.now) (same-rule (rules_read entries) c.args.rule.number.0 own.0 c.args.rule.rule.now own.1 there) own.2 in
     let given = c.in_ok-assigned.assigned in
     let grows = c.in_ok-assigned.ensures.grows in
-    let names_are = names-of-edge e entries outputs rule_text inputs lines c.args.rule.number c.args.rule.rule.now (bound_in c.bind_block.new.blocks edge) rule_is there block_is in
+    let names_are = names-of-edge e entries outputs rule_text inputs lines c.args.rule.number.0 c.args.rule.rule.now (bound_in c.bind_block.new.blocks edge) rule_is there block_is in
     let detail : Detail = record c.in_ok-detail.detail { pool = given.pool; dyndep = given.dyndep } in
     let kept_as = c.in_ok-detail.ensures in
     let new : BuildingModel = record { table = c.add_edge.new.edges; blocks = c.bind_block.new.blocks; names = c.add_edge.new.strings; details = map detail_model c.push_reserved.new.self.items; defaults = old.defaults; dyndeps = c.push_dyndep.new.dyndeps.items; references = c.keep_references.new.kept.items } in (
@@ -99,7 +99,7 @@ returns-clause-reads c = λ entries around depth by within rule_is there has.
           (assigned-numbers new.names given detail refl refl _ (subst (λ n. AreNumbersOf new.names given (assigned_by n)) (sym names_are) (c.in_ok-assigned.ensures.assigned values sees held.none_open)))
           refl
           (c.push_dyndep.ensures ∙ ap (with_dyndep edge c.in_ok-assigned.assigned.file) c.in_ok-reserve-2.ensures.items ∙ ap (λ n. with_dyndep n c.in_ok-assigned.assigned.file old.dyndeps) count)
-          (subst (λ n. IsFileGiven new.table.files c.in_ok-assigned.assigned.file (file_given (asked_text n (codes "dyndep")))) (sym (names-of-edge e entries outputs rule_text inputs lines c.args.rule.number c.args.rule.rule.now (bound_in c.bind_block.new.blocks edge) rule_is there block_is))
+          (subst (λ n. IsFileGiven new.table.files c.in_ok-assigned.assigned.file (file_given (asked_text n (codes "dyndep")))) (sym (names-of-edge e entries outputs rule_text inputs lines c.args.rule.number.0 c.args.rule.rule.now (bound_in c.bind_block.new.blocks edge) rule_is there block_is))
           (c.in_ok-assigned.ensures.dyndep values sees held.none_open))
           kept,
     )
