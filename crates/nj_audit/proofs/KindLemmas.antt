@@ -8,6 +8,7 @@ use Rattle.nj_scope.specs.ReadingList.{ReadStatement}
 use Rattle.nj_graph.specs.Edges.{inputs_of, is_among, outputs_of}
 use Rattle.nj_graph.specs.Graph.{GraphModel, files_of}
 use Rattle.nj_graph.specs.Origins.{PoolDetail, rule_place_at}
+use Rattle.nj_graph.specs.Undeclared.{InputOfEdge}
 use Rattle.nj_statements.specs.EdgeList.{block_names_at, edges_read}
 use Rattle.nj_audit.specs.declared.kinds.Kind.{Kind}
 use Rattle.nj_audit.specs.declared.kinds.Kind.TheVariants.{UnusedOutput, MissingSource, UnusedRule, UnusedPool, UnusedVariable, RepeatedCommand, DepfileWithoutDeps, RepeatedInput, UndeclaredInput}
@@ -15,8 +16,9 @@ use Rattle.nj_audit.specs.declared.kinds.Kinds.{Kinds}
 use Rattle.nj_audit.specs.Findings.{FindingModel, edge_finding}
 use Rattle.nj_audit.specs.Kinds.{AskFor, all_kinds, contains, is_asked_for}
 use Rattle.nj_audit.specs.Inside.ByKind.{asked_of, findings_of}
-use Rattle.nj_audit.specs.UndeclaredInputs.{AreUndeclared}
-use Rattle.nj_audit.specs.UndeclaredInputs.AreUndeclared.{no_edges, one_more}
+use Rattle.nj_audit.specs.LoggedInputs.{AreUndeclaredFindings, finding_of_input}
+use Rattle.nj_audit.specs.UnorderedFiles.{AreNamedUnordered}
+use Rattle.nj_audit.specs.UnorderedFiles.AreNamedUnordered.{no_edges, one_more}
 use Rattle.nj_audit.proofs.ListLemmas.{map-append}
 use Rattle.nj_audit.specs.Audit.{all_findings, findings_asked_for, edge_numbers, numbers, first_output_at, paths_at, path_of, unused_outputs, unused_outputs_at, is_unused_output, missing_source, missing_sources, user_of_missing, is_used_rule, rule_of_number, unused_rule, unused_rules, pools_of_edges, unused_pool, unused_pools, is_unused_variable, unused_variables, unused_variables_at, repeats_command, repeated_commands, has_depfile_without_deps, depfiles_without_deps, repeated_inputs, repeated_inputs_at, repeated_paths}
 
@@ -150,12 +152,20 @@ module _ (g : GraphModel) (entries : List ReadStatement) where
 pub of-none : AreOf UndeclaredInput []
 of-none asked = nothing (asked UndeclaredInput)
 
-pub of-undeclared : (g : GraphModel) (entries : List ReadStatement) (folder : List ℕ) {edges : List ℕ} {found : List FindingModel}
-    → AreUndeclared g entries folder edges found → AreOf UndeclaredInput found
-of-undeclared g entries folder no_edges asked = of-none asked
-of-undeclared g entries folder (one_more {found = found} {edge = edge} {paths = paths} before of_edge) asked =
-    of-append UndeclaredInput found (map (edge_finding g edge UndeclaredInput) paths) (of-undeclared g entries folder before)
+pub of-unordered : (g : GraphModel) (entries : List ReadStatement) (folder : List ℕ) {edges : List ℕ} {found : List FindingModel}
+    → AreNamedUnordered g entries folder edges found → AreOf UndeclaredInput found
+of-unordered g entries folder no_edges asked = of-none asked
+of-unordered g entries folder (one_more {found = found} {edge = edge} {paths = paths} before of_edge) asked =
+    of-append UndeclaredInput found (map (edge_finding g edge UndeclaredInput) paths) (of-unordered g entries folder before)
     (of-map UndeclaredInput (edge_finding g edge UndeclaredInput) (λ path. refl) paths) asked
+
+pub of-undeclared : (g : GraphModel) (entries : List ReadStatement) (folder : List ℕ) (logged : List InputOfEdge) (found : List FindingModel)
+    → AreUndeclaredFindings g entries folder logged found → AreOf UndeclaredInput found
+of-undeclared g entries folder logged found are asked =
+    ap (filter (λ (f : FindingModel). asked f.kind)) are.finds
+    ∙ of-append UndeclaredInput are.named (map (finding_of_input g) are.others) (of-unordered g entries folder are.are_named)
+    (of-map UndeclaredInput (finding_of_input g) (λ input. refl) are.others) asked
+    ∙ ap (λ (t : List FindingModel). cond (asked UndeclaredInput) t []) (sym are.finds)
 
 -- ---- all of them
 

@@ -1,10 +1,9 @@
 pub mod FileLemmas
-pub mod LateLemmas
+pub mod UnorderedLemmas
 pub mod ListLemmas
+pub mod LoggedLemmas
 pub mod NameLemmas
-mod NeedsLemmas
 mod QuotedWords
-mod RoundLemmas
 mod ServingLemmas
 pub mod MarkLemmas
 pub mod KindLemmas

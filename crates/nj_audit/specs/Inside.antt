@@ -1,8 +1,7 @@
 -- How the code meets the definitions beside this directory.
 pub mod ByKind
 pub mod FilesNamed
-pub mod LateFiles
-pub mod NeedsSearched
+pub mod UnorderedFound
+pub mod LoggedFound
 pub mod References
-pub mod RoundsHeld
 pub mod Served

@@ -4,9 +4,10 @@ pub mod Audits
 pub mod Findings
 pub mod Kinds
 pub mod Laws
+pub mod LoggedInputs
 pub mod NamedPaths
 pub mod Serving
 pub mod ShellWords
-pub mod UndeclaredInputs
+pub mod UnorderedFiles
 -- how the code does that
 pub mod Inside

@@ -1,44 +1,56 @@
 //! The findings of the kinds that are asked for.
 
-ghost use Rattle.std.specs.Prelude.{◌≡◌, ◌++◌, List, IfOk, OnOk};
+ghost use Rattle.std.specs.Prelude.{◌≡◌, ◌<◌, ◌++◌, List, IfOk, OnOk, length, map, All};
 ghost use Rattle.std.specs.List.{flat_map};
 ghost use Rattle.nj_scope.specs.ReadingList.{ReadStatement};
-ghost use Rattle.nj_graph.specs.Graph.{IsGraphOf};
+ghost use Rattle.nj_graph.specs.Graph.{IsGraphOf, edges_of, files_of};
+ghost use Rattle.nj_graph.specs.Undeclared.{input_of_edge};
 ghost use Rattle.nj_audit.specs.Audits.{IsAudit};
 ghost use Rattle.nj_audit.specs.Inside.ByKind.{asked_of, findings_of};
 ghost use Rattle.nj_audit.specs.Kinds.{all_kinds};
-ghost use Rattle.nj_audit.specs.UndeclaredInputs.{AreUndeclaredIf};
+ghost use Rattle.nj_audit.specs.LoggedInputs.{AreFoundIf};
 
 use crate::commands::find_repeated_commands;
 use crate::depfiles::find_depfiles_without_deps;
 use crate::findings::Findings;
 use crate::inputs::find_repeated_inputs;
 use crate::kinds::{Kind, Kinds};
+use crate::logged_inputs::find_undeclared_inputs;
 use crate::outputs::find_unused_outputs;
 use crate::pools::find_unused_pools;
 use crate::rules::find_unused_rules;
 use crate::serving::serving_edges;
 use crate::sources::find_missing_sources;
-use crate::undeclared::undeclared_inputs;
 use crate::variables::find_unused_variables;
-use nj_graph::Graph;
+use nj_graph::{Graph, UndeclaredInput};
 use std::alloc::{AllocError, Global};
 
 /// The findings of these kinds, kind by kind. `missing` has of each file whether it is missing on
 /// the disk; without `missing-source` it may be empty. Commands name files as seen from the folder,
 /// which is absolute; it may be empty, and then absolute names stay.
+///
+/// `logged` are the inputs that edges do not declare by a deps log
+/// ([`nj_graph::undeclared_inputs`]), in numbers of this graph, to which the log may be joined by
+/// now. They come after the inputs that commands name, and without those. Where many of them are
+/// unordered with their edges still, as without the log in the graph, each takes the time to read
+/// the command of its edge.
 pub fn audit<'a>(
     alloc: Global,
     graph: &'a Graph,
     missing: &[bool],
     folder: &[u8],
+    logged: &[UndeclaredInput],
     kinds: Kinds,
 ) -> Result<Findings<'a>, AllocError>
+    requires edges { All (λ input. input.edge.0 < length (edges_of graph.now)) logged.now }
+    requires files { All (λ input. input.file.0 < length (files_of graph.now)) logged.now }
     ensures { (entries : List ReadStatement) → IsGraphOf graph.now entries
-        → IfOk result (IsAudit graph.now entries missing.now folder.now kinds) }
+        → IfOk result (IsAudit graph.now entries missing.now folder.now
+        (map (input_of_edge (files_of graph.now)) logged.now) kinds) }
 {
     let edges = serving_edges(alloc, graph)?;
-    let undeclared = undeclared_if(alloc, graph, folder, kinds.contains(Kind::UndeclaredInput))?;
+    let is_asked = kinds.contains(Kind::UndeclaredInput);
+    let undeclared = undeclared_if(alloc, graph, folder, logged, is_asked)?;
     find_all(alloc, graph, missing, edges.flags(), &undeclared, kinds)
 }
 
@@ -69,13 +81,17 @@ fn undeclared_if<'a>(
     alloc: Global,
     graph: &'a Graph,
     folder: &[u8],
+    logged: &[UndeclaredInput],
     is_asked: bool,
 ) -> Result<Findings<'a>, AllocError>
+    requires edges { All (λ input. input.edge.0 < length (edges_of graph.now)) logged.now }
+    requires files { All (λ input. input.file.0 < length (files_of graph.now)) logged.now }
     ensures { (entries : List ReadStatement) → IsGraphOf graph.now entries
-        → IfOk result (AreUndeclaredIf is_asked graph.now entries folder.now) }
+        → IfOk result (AreFoundIf is_asked graph.now entries folder.now
+        (map (input_of_edge (files_of graph.now)) logged.now)) }
 {
     if is_asked {
-        undeclared_inputs(alloc, graph, folder)
+        find_undeclared_inputs(alloc, graph, folder, logged)
     } else {
         Ok(Findings::new(alloc))
     }

@@ -77,7 +77,7 @@ impl Kind {
             Kind::DepfileWithoutDeps => "an edge with a depfile and no deps",
             Kind::RepeatedInput => "an input that is given to its edge again",
             Kind::UndeclaredInput =>
-                "a file that a command names and that an edge makes it does not need",
+                "a file that a command or a deps log names and that an edge makes it does not need",
         }
     }
 

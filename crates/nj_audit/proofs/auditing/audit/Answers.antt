@@ -1,13 +1,14 @@
-use Rattle.std.proofs.Common.{sym, ap, subst, ◌∙◌}
+use Rattle.std.proofs.Common.{map, sym, ap, subst, ◌∙◌}
 use Rattle.std.proofs.lemmas.Result.{IfOk-weaker}
 use Rattle.nj_edges.proofs.ChangeLemmas.{flags-are}
-use Rattle.nj_graph.specs.Graph.{edges_of}
+use Rattle.nj_graph.specs.Graph.{edges_of, files_of}
+use Rattle.nj_graph.specs.Undeclared.{input_of_edge}
 use Rattle.nj_audit.specs.Serving.{ServesCommand}
 use Rattle.nj_audit.specs.Kinds.{contains}
-use Rattle.nj_audit.specs.UndeclaredInputs.{AreUndeclaredIf}
+use Rattle.nj_audit.specs.LoggedInputs.{AreFoundIf}
 use Rattle.nj_audit.specs.declared.kinds.Kind.TheVariants.{UndeclaredInput}
 use Rattle.nj_audit.proofs.KindLemmas.{asked-law}
-use Rattle.nj_audit.proofs.LateLemmas.{of-undeclared-if}
+use Rattle.nj_audit.proofs.LoggedLemmas.{of-undeclared-if}
 use Rattle.nj_audit.proofs.auditing.audit.Goals as goal
 
 pub returns : goal.returns
@@ -15,16 +16,17 @@ returns c entries graph =
     let g = c.args.graph.now in
     let missing = c.args.missing.now in
     let folder = c.args.folder.now in
+    let logged = map (input_of_edge (files_of g)) c.args.logged.now in
     let kinds = c.args.kinds in
     let serving = c.flags.result.now in
     let undeclared = c.in_ok-undeclared.undeclared in
-    let are = subst (λ b. AreUndeclaredIf b g entries folder undeclared) c.contains.ensures (c.in_ok-undeclared.ensures entries graph) in
+    let are = subst (λ b. AreFoundIf b g entries folder logged undeclared) c.contains-is_asked.ensures (c.in_ok-undeclared.ensures entries graph) in
     IfOk-weaker c.find_all.result _ _
     (λ found is. record {
       serving = serving;
       are_serving = flags-are serving c.in_ok-edges.edges.numbers (ServesCommand (edges_of g)) c.flags.ensures.flags c.in_ok-edges.ensures;
       undeclared = undeclared;
       are_undeclared = are;
-      finds = is ∙ asked-law g entries missing serving undeclared (of-undeclared-if (contains kinds UndeclaredInput) g entries folder undeclared are) kinds;
+      finds = is ∙ asked-law g entries missing serving undeclared (of-undeclared-if (contains kinds UndeclaredInput) g entries folder logged undeclared are) kinds;
     })
     (c.find_all.ensures entries graph)

@@ -1,7 +1,0 @@
-use Rattle.std.proofs.Common.{take}
-use Rattle.std.specs.Prelude.{Contains}
-use Rattle.nj_edges.specs.Inside.ChangesHeld.{FindsMore}
-use Rattle.nj_audit.proofs.needs_search.add_all.Given as goal
-
-abbrev pub invariant-numbers : goal.invariant-numbers
-invariant-numbers l = FindsMore (Contains (take l.number-index l.numbers)) l.fn.found l.found

@@ -1,0 +1,33 @@
+-- What is found of undeclared inputs: by what commands name, and by what a deps log names.
+use Rattle.std.specs.Prelude.{◌≡◌, ℕ, Bool, true, false, List, [], ◌++◌, map, Contains}
+use Rattle.nj_scope.specs.ReadingList.{ReadStatement}
+use Rattle.nj_graph.specs.Graph.{GraphModel}
+use Rattle.nj_graph.specs.Undeclared.{AreThose, InputOfEdge}
+use Rattle.nj_audit.specs.Audit.{edge_numbers, path_of}
+use Rattle.nj_audit.specs.Findings.{FindingModel, edge_finding}
+use Rattle.nj_audit.specs.UnorderedFiles.{AreNamedUnordered, IsUnordered, files_named}
+use Rattle.nj_audit.specs.declared.kinds.Kind.TheVariants.{UndeclaredInput}
+
+-- An edge or its response file names this input, which is unordered with the edge: so it is found by what the command names.
+pub record IsNamedUnordered (g : GraphModel) (entries : List ReadStatement) (folder : List ℕ) (input : InputOfEdge) : Type 0 where
+  pub named : Contains (map (path_of g) (files_named g entries folder input.edge)) input.path
+  pub is_unordered : IsUnordered g input.edge input.path
+
+abbrev pub finding_of_input : GraphModel → InputOfEdge → FindingModel
+finding_of_input g input = edge_finding g input.edge UndeclaredInput input.path
+
+-- The findings about undeclared inputs: those by what commands name, and after them those by what a log names, without what was found
+-- by the command. What a log names is in the order in which it is given.
+pub record AreUndeclaredFindings (g : GraphModel) (entries : List ReadStatement) (folder : List ℕ) (logged : List InputOfEdge)
+    (found : List FindingModel) : Type 0 where
+  pub named : List FindingModel
+  pub are_named : AreNamedUnordered g entries folder (edge_numbers g) named
+  pub others : List InputOfEdge
+  pub are_others : AreThose (λ input. ¬ IsNamedUnordered g entries folder input) logged others
+  pub finds : found ≡ named ++ map (finding_of_input g) others
+
+-- They are looked for only if they are asked for.
+abbrev pub AreFoundIf : (asked : Bool) → GraphModel → List ReadStatement → (folder : List ℕ) → (logged : List InputOfEdge)
+    → List FindingModel → Type 0
+AreFoundIf true g entries folder logged found = AreUndeclaredFindings g entries folder logged found
+AreFoundIf false g entries folder logged found = found ≡ []

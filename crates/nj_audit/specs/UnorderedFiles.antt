@@ -1,0 +1,65 @@
+-- Files that the commands of edges name, and that other edges make, unordered with them.
+use Rattle.std.specs.Prelude.{◌≡◌, ℕ, ◌==◌, Bool, true, false, if◌then◌else◌, Some, List, [], ◌∷◌, ◌++◌, codes, length, map}
+use Rattle.std.specs.List.{filter_map, flat_map}
+use Rattle.nj_scope.specs.ReadingList.{ReadStatement}
+use Rattle.nj_edges.specs.Changes.{IsOrNeeds}
+use Rattle.nj_graph.specs.Edges.{inputs_of, is_among, maker_of}
+use Rattle.nj_graph.specs.Graph.{GraphModel, edges_of, files_of, late_text_of}
+use Rattle.nj_audit.specs.Audit.{command_of, edge_numbers, has_command, path_of, paths_at, rule_number}
+use Rattle.nj_audit.specs.Findings.{FindingModel, edge_finding}
+use Rattle.nj_audit.specs.NamedPaths.{number_at, paths_named}
+use Rattle.nj_audit.specs.declared.kinds.Kind.TheVariants.{UndeclaredInput}
+
+-- ---- files that an edge names
+
+-- the contents of an edge's response file, if it has a name
+abbrev pub response_of : List ReadStatement → (edge : ℕ) → List ℕ
+response_of entries edge =
+    if length (late_text_of entries edge (codes "rspfile")) == 0 then [] else late_text_of entries edge (codes "rspfile_content")
+
+-- the files that the command of an edge and its response file may name, as seen from the directory
+abbrev pub files_named : GraphModel → List ReadStatement → (folder : List ℕ) → (edge : ℕ) → List ℕ
+files_named g entries folder edge =
+    if has_command g edge
+    then filter_map (number_at (files_of g)) (paths_named folder (command_of entries edge) ++ paths_named folder (response_of entries edge))
+    else []
+
+-- ---- which of them are unordered
+
+-- an edge has the rule and the inputs of another one
+pub record IsTwin (g : GraphModel) (edge other : ℕ) : Type 0 where
+  pub rule : rule_number g edge ≡ rule_number g other
+  pub inputs : inputs_of (paths_at g edge) ≡ inputs_of (paths_at g other)
+
+-- an edge has a command, and is no twin
+pub record IsOther (g : GraphModel) (edge other : ℕ) : Type 0 where
+  pub is_no_phony : (paths_at g other).is_phony ≡ false
+  pub is_no_twin : ¬ IsTwin g edge other
+
+-- A file is unordered with an edge, so that it may come too late: another edge makes it that has a command and is no twin, and neither of
+-- the two needs the other through any chain of inputs.
+pub record IsUnordered (g : GraphModel) (edge : ℕ) (path : List ℕ) : Type 0 where
+  pub maker : ℕ
+  pub made : maker_of (edges_of g) path ≡ Some maker
+  pub is_other : IsOther g edge maker
+  pub is_unneeded : ¬ IsOrNeeds (edges_of g) edge maker
+  pub is_no_user : ¬ IsOrNeeds (edges_of g) maker edge
+
+-- Of these files, the paths of those that are unordered with an edge, without duplicates, in their order.
+pub data AreUnordered (g : GraphModel) (edge : ℕ) : (files : List ℕ) → (paths : List (List ℕ)) → Type 0 where
+  none : AreUnordered g edge [] []
+  unordered : {files : List ℕ} {paths : List (List ℕ)} (file : ℕ) → AreUnordered g edge files paths
+      → IsUnordered g edge (path_of g file) → is_among paths (path_of g file) ≡ false
+      → AreUnordered g edge (files ++ file ∷ []) (paths ++ path_of g file ∷ [])
+  again : {files : List ℕ} {paths : List (List ℕ)} (file : ℕ) → AreUnordered g edge files paths
+      → is_among paths (path_of g file) ≡ true → AreUnordered g edge (files ++ file ∷ []) paths
+  ordered : {files : List ℕ} {paths : List (List ℕ)} (file : ℕ) → AreUnordered g edge files paths
+      → ¬ IsUnordered g edge (path_of g file) → AreUnordered g edge (files ++ file ∷ []) paths
+
+-- The findings about the files that these edges name and that are unordered with them, edge by edge.
+pub data AreNamedUnordered (g : GraphModel) (entries : List ReadStatement) (folder : List ℕ) :
+    (edges : List ℕ) → List FindingModel → Type 0 where
+  no_edges : AreNamedUnordered g entries folder [] []
+  one_more : {edges : List ℕ} {found : List FindingModel} {edge : ℕ} {paths : List (List ℕ)} → AreNamedUnordered g entries folder edges found
+      → AreUnordered g edge (files_named g entries folder edge) paths
+      → AreNamedUnordered g entries folder (edges ++ edge ∷ []) (found ++ map (edge_finding g edge UndeclaredInput) paths)
