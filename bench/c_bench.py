@@ -89,7 +89,7 @@ MANY = 3_796, 925_141, 23_800
 
 
 def write_many(file):
-    """Writes edges with all these inputs, of which the first one is explicit."""
+    """Writes edges with all these inputs, the first one explicit."""
     edges, inputs, sources = MANY
     file.write("rule cc\n  command = cc -c $in -o $out\n")
     for edge in range(edges):

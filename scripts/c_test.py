@@ -1,15 +1,15 @@
 #!/usr/bin/env python3
-"""Tests the library for C in lib/: c_test.py [--cases N] PROGRAM AFFECTED_TESTS
+"""Tests the library for C in lib/: c_test.py [--cases N] PROGRAM GRAPH_PROGRAM
 
 The example examples/c and the Python package python/ have to give what the program gives: on examples/project, on what CMake writes for examples/cmake, and on a manifest of 2,000 included
-files; whole, in pages, and where there is a fault. So have runs of the program's words by the
+files; whole, in pages, and where there is a fault. So have runs of the program's arguments by the
 library, tool by tool. Names that collide under a known key may take at most four times as long as
 others. A deps log that Ninja wrote has to give the inputs that are known of it, and the undeclared ones
-that Ninja reports. c_calls.c makes every call on N manifests with changes (lib/strangers.py makes them), and while
+that Ninja reports. c_calls.c makes every call on N manifests with changes (`lib/strangers.py` makes them), and while
 allocations are refused, with 256 KB of stack. Where valgrind is installed, it may find nothing in
 the C example, nor in some of these cases.
 
-Prints how much was tried, and what is wrong. The status is 1 if anything is wrong.
+Prints how much was tried, and the problems. The status is 1 if anything is wrong.
 """
 
 import argparse
@@ -46,7 +46,7 @@ COMPILER = ["cc", "-std=c11", "-Wall", "-Wextra", "-Werror", "-O1", "-g", f"-I{R
 WRAPPED = ["-Wl,--wrap=malloc", "-Wl,--wrap=realloc", "-Wl,--wrap=free"]
 VALGRIND = ["valgrind", "-q", "--leak-check=full", "--show-leak-kinds=all"]
 VALGRIND += ["--errors-for-leak-kinds=all", "--error-exitcode=9"]
-# What docs/C.md asks for, in KB.
+# The stack that docs/C.md requires, in KB.
 LITTLE_STACK = ["sh", "-c", 'ulimit -s 256; exec "$0" "$@"']
 COMMANDS = ["-t", "commands"]
 FILES, PER_GROUP, MOST_DEEP = 2000, 40, 32
@@ -97,7 +97,7 @@ BOUND = f"{RULE}build a: r i || d\n  dyndep = d\n"
 
 
 class Tests:
-    """What was built for the tests, and what was found."""
+    """The built files for the tests, and the results."""
 
     def __init__(self, folder, program, graph, cases):
         self.sweep, self.folder = Sweep("c_test"), Path(folder)
@@ -199,7 +199,7 @@ def pages_of(graph, targets, size):
 
 
 def query(graph, word):
-    """What the tool `query` writes about a file."""
+    """The output of the tool `query` for a file."""
     file, signs = graph.target(word), ["", "| ", "|| "]
     yield f"{file.path}:"
     if maker := file.maker:
@@ -215,7 +215,7 @@ def query(graph, word):
 
 
 def try_facts(tests, name, folder):
-    """Compares what is known of each file and edge."""
+    """Compares the known facts of each file and edge."""
     with Graph.load(folder=folder) as graph:
         words = [file.path for file in graph.files]
         for at in range(0, len(words), PER_QUERY):
@@ -279,7 +279,7 @@ def recipes(tests):
 
 
 def try_recipes(tests, name, folder, paths, chains):
-    """Compares what the recipes write with what programs do."""
+    """Compares the output of the recipes with that of programs."""
     database, affected, pages, sources, chain, _, users = recipes(tests)
     python = Program(sys.executable)
     wanted = tests.program.run(["-t", "compdb", "--directory", os.path.realpath(folder)], folder)
@@ -351,7 +351,7 @@ def user_count(listed):
 # ---- deps logs
 
 
-# What examples/c/why.c writes there, by hand.
+# The output of examples/c/why.c there, by hand.
 WHY = {
     ("b c.o", "sub/b.h"): (DONE, b"b c.o\n  sub/b.h (implicit)\nof 1 needed edges\n"),
     ("a.o", "gen/count.h"): (DONE, b"a.o\n  gen/count.h (order-only)\nof 2 needed edges\n"),
@@ -450,7 +450,7 @@ def try_package(tests):
 
 
 def many_files():
-    """A main file that includes 50 files, each of which includes 39 more."""
+    """A main file that includes 50 files, each including 39 more."""
     groups = range(FILES // PER_GROUP)
     opening = [f"{'include' if group % 3 else 'subninja'} g{group}/0.ninja\n" for group in groups]
     files = {MAIN: f"x = top\nrule mk\n  command = mk $x $in $out\n{''.join(opening)}"}
@@ -517,7 +517,7 @@ def nested(count):
 
 
 def many_dyndeps(count):
-    """Edges each of which is bound to a dyndep file of its own."""
+    """Edges, each bound to a dyndep file of its own."""
     names = [f"o{number}" for number in range(count)]
     edges = "".join(bound_edge(name, f"{name}.dd") for name in names)
     return {MAIN: RULE + edges} | {f"{name}.dd": dyndep(name) for name in names}
@@ -533,7 +533,7 @@ def included_dyndeps(count):
 
 
 def named_in_turn(count):
-    """Files each of which binds the name of the next one."""
+    """Files, each binding the name of the next one."""
     opening = "include $next\n" * count
     files = {f"{number}.ninja": f"next = {number + 1}.ninja\n" for number in range(1, count)}
     return {MAIN: f"next = 1.ninja\n{opening}"} | files | {f"{count}.ninja": ""}
@@ -555,7 +555,7 @@ LOADS = {
 
 
 def python_loads(folder, joins):
-    """How many loads a folder takes by Python, how many files are handed in, and which file is still
+    """How many loads a directory takes by Python, how many files are supplied, and which file is still
     wanted then."""
     calls, call = [], Session.call
 
@@ -594,8 +594,8 @@ def dyndep_count(files):
 
 
 def try_wanted(tests):
-    """Dyndep files are wanted in the order of their first edges, each once, but for those that were
-    handed in; and only when no other file is."""
+    """Dyndep files are wanted in the order of their first edges, without duplicates, but for those that
+    were supplied; and only when no other file is."""
     edges = [bound_edge(name, file) for name, file in zip("abcd", ["2", "1", "2", "3"])]
     session = Session()
     supply(session, MAIN, f"{RULE}include 0\n{''.join(edges)}")
@@ -684,7 +684,7 @@ def changed(maker, seed):
 
 
 def run_driver(driver, task):
-    """Runs c_calls.c on some projects. Returns the counts, and what is wrong."""
+    """Runs c_calls.c on some projects. Returns the counts, and the problems."""
     name, mode, valgrind, given = task
     words = [*(VALGRIND if valgrind else LITTLE_STACK), driver.path, mode]
     how = {"stdout": subprocess.PIPE, "stderr": subprocess.STDOUT}

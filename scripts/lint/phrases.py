@@ -11,17 +11,6 @@ PAGES = "*.md", "docs/*.md", "crates/*/README.md", "man/*.1"
 SOURCES = "crates/*/src/**/*.rt", "crates/*/specs/**/*.antt", "crates/*/proofs/**/*.antt"
 SCRIPTS = "bench/*.py", "scripts/**/*.py", "examples/**/*.py", "python/**/*.py", "include/*.h"
 
-# Files with comments that are not yet as they should be.
-LATER = {
-    "crates/nj_audit/specs/Audits.antt",
-    "crates/nj_audit/src/auditing.rt",
-    "crates/nj_c/proofs/PageLemmas.antt",
-    "crates/nj_graph/src/needs_search.rt",
-    "crates/nj_graph/src/round_set.rt",
-    "crates/nj_scope/proofs/ScopeLemmas.antt",
-    "scripts/c_test.py",
-}
-
 
 def pages():
     found = {file for kind in (*PAGES, *SOURCES, *SCRIPTS) for file in ROOT.glob(kind)}
@@ -39,7 +28,7 @@ def refused(name, text):
 def pages_have_none():
     for page in pages():
         name = str(page.relative_to(ROOT))
-        for line, found in () if name in LATER else refused(name, page.read_text()):
+        for line, found in refused(name, page.read_text()):
             yield f"{name}:{line}: {found}"
 
 

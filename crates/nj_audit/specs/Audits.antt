@@ -1,4 +1,4 @@
--- What an audit finds.
+-- The findings of an audit.
 use Rattle.std.specs.Prelude.{◌≡◌, ℕ, Bool, List}
 use Rattle.nj_scope.specs.ReadingList.{ReadStatement}
 use Rattle.nj_graph.specs.Graph.{GraphModel, edges_of}
@@ -12,7 +12,7 @@ use Rattle.nj_audit.specs.declared.kinds.Kind.TheVariants.{UndeclaredInput}
 use Rattle.nj_audit.specs.declared.kinds.Kinds.{Kinds}
 
 -- The findings of these kinds about a manifest, where `missing` has of each file whether it is missing, commands name files as seen
--- from the folder, and a deps log names these inputs that edges do not declare.
+-- from the directory, and a deps log names these inputs that edges do not declare.
 pub record IsAudit (g : GraphModel) (entries : List ReadStatement) (missing : List Bool) (folder : List ℕ) (logged : List InputOfEdge)
     (kinds : Kinds) (found : List FindingModel) : Type 0 where
   pub serving : List Bool

@@ -1,4 +1,4 @@
-//! The findings of the kinds that are asked for.
+//! The findings of the requested kinds.
 
 ghost use Rattle.std.specs.Prelude.{◌≡◌, ◌<◌, ◌++◌, List, IfOk, OnOk, length, map, All};
 ghost use Rattle.std.specs.List.{flat_map};
@@ -26,8 +26,8 @@ use nj_graph::{Graph, UndeclaredInput};
 use std::alloc::{AllocError, Global};
 
 /// The findings of these kinds, kind by kind. `missing` has of each file whether it is missing on
-/// the disk; without `missing-source` it may be empty. Commands name files as seen from the folder,
-/// which is absolute; it may be empty, and then absolute names stay.
+/// the disk; without `missing-source` it may be empty. Commands name files as seen from the
+/// directory, which is absolute; it may be empty, and then absolute names stay.
 ///
 /// `logged` are the inputs that edges do not declare by a deps log
 /// ([`nj_graph::undeclared_inputs`]), in numbers of this graph, to which the log may be joined by
@@ -76,7 +76,7 @@ fn find_all<'a>(
     Ok(found)
 }
 
-/// The undeclared inputs if they are asked for.
+/// The undeclared inputs if they are requested.
 fn undeclared_if<'a>(
     alloc: Global,
     graph: &'a Graph,

@@ -55,8 +55,7 @@ fn push_logged<'a>(
     let mut makers = NeedsSearch::new(alloc, graph.edge_graph());
     let mut users = NeedsSearch::new(alloc, graph.edge_graph());
     'inputs: for input in logged {
-        let is_found =
-            is_named_unordered(alloc, graph, folder, *input, &mut makers, &mut users)?;
+        let is_found = is_named_unordered(alloc, graph, folder, *input, &mut makers, &mut users)?;
         push_unless(graph, *input, is_found, found)?;
     }
     Ok(())

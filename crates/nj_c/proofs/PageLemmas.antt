@@ -33,7 +33,7 @@ all-numbered count numbers held k d within =
     let below = subst (λ n. k < n) (length-map numbers as_file) within in
     subst (λ n. n < count) (ap (λ f. f.0) (sym (get_or-map as_file numbers k 0 d below))) (held k 0 below)
 
--- ---- what files need
+-- ---- the edges that files need
 
 pub needed_list : (g : GraphModel) (graph : EdgeGraph) (numbers : List ℕ) (files : List FileNo) (found : List ℕ)
     → graph ≡ g.built.graph → files ≡ numbered numbers → IsNeededList graph.edges (map (path_at graph.files) files) found
@@ -97,7 +97,7 @@ of-numbers g numbers targets text limit (Err NotUtf8) known are at = absurd at
 of-numbers g numbers targets text limit (Err NotOpen) known are at = absurd at
 of-numbers g numbers targets text limit (Err BadLog) known are at = absurd at
 
--- ---- what a session keeps of them
+-- ---- the part that a session keeps of them
 
 pub lists-page : (before : Kept) (g : GraphModel) (targets text : List ℕ) (limit : ℕ) (page : Page) → before.graph ≡ Some g → PageOf g targets text limit (Ok page)
     → ListsPage before (record before { found = page.edges; mark = page.mark }) targets text limit Done

@@ -1,4 +1,4 @@
--- what must be believed
+-- the definitions to believe
 pub mod Statuses
 pub mod HandedIn
 pub mod Asking
@@ -11,5 +11,5 @@ pub mod Targets
 pub mod JoinedLogs
 pub mod Paths
 pub mod UndeclaredInputs
--- how a session keeps what it owns
+-- how a session keeps its contents
 pub mod Inside

@@ -50,7 +50,11 @@ pub(crate) fn put_edge_rules(
 pub(crate) fn put_values(text: &mut Vec<u8>, graph: &Graph, name: &[u8]) -> Result<(), AllocError> {
     'scopes: for scope in 0..graph.scope_count() {
         text.push(b'[')?;
-        text.extend_from_slice(graph.scope_value(ScopeNo(scope), name).unwrap_or(b"-".as_slice()))?;
+        text.extend_from_slice(
+            graph
+                .scope_value(ScopeNo(scope), name)
+                .unwrap_or(b"-".as_slice()),
+        )?;
         text.push(b']')?;
     }
     text.push(b'\n')?;

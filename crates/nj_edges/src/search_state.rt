@@ -1,4 +1,4 @@
-//! The search for what an edge needs.
+//! The search for the edges that an edge needs.
 
 ghost use Rattle.std.specs.Prelude.{◌≡◌, ◌<◌, List, Some, true, length, map, slice_index, All, Contains, IfOk, OnOk};
 ghost use Rattle.nj_edges.specs.Changes.{IsOrNeeds};
@@ -18,7 +18,7 @@ use std::mem;
 /// edge, and goes on from there next time, also for another edge whose inputs the same edges make.
 #[derive(Drop)]
 pub(crate) struct SearchState {
-    // the edge for which it was asked last
+    // the edge of the last query
     edge: Option<EdgeNo>,
     // the edges that make its inputs
     starts: Vec<usize>,
@@ -81,7 +81,7 @@ impl SearchState {
         Ok(())
     }
 
-    // Whether it was asked last for this edge.
+    // Whether the last query was for this edge.
     fn is_at(&self, edge: EdgeNo) -> bool
         ensures { result ≡ true → self.now.edge ≡ Some edge }
     {
@@ -91,7 +91,8 @@ impl SearchState {
         }
     }
 
-    // Starts with the edges in the buffer. Where these are the same as before, what was found stays.
+    // Starts with the edges in the buffer. Where these are the same as before, the edges found
+    // stay.
     fn start_with_next(&mut self) -> Result<(), AllocError>
         requires { All (λ edge. edge < self.old.found.limit) self.old.next.items }
         ensures { (edges : List EdgePaths)
@@ -179,7 +180,7 @@ fn add(found: &mut RoundSet, edge: EdgeNo) -> Result<(), AllocError>
     Ok(())
 }
 
-// Puts the edges that make these files in place of what is there.
+// Puts the edges that make these files in place of those that are there.
 fn put_makers(edges: &mut Vec<usize>, graph: &EdgeGraph, files: &[FileNo]) -> Result<(), AllocError>
     requires { All (λ file. file.0 < length graph.now.files) files.now }
     ensures { OnOk result (AreMakers graph.now files.now edges.new.items) }

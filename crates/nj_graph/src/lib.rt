@@ -35,9 +35,7 @@ pub use laws::{
     statements_up_to_the_first_fault, words_mean_targets,
 };
 pub use loading::{Loaded, load};
-pub use nj_edges::{
-    EdgeGraph, EdgeNo, EdgeNumbers, FileNo, FileNumbers, Kind, NeedsSearch, Step,
-};
+pub use nj_edges::{EdgeGraph, EdgeNo, EdgeNumbers, FileNo, FileNumbers, Kind, NeedsSearch, Step};
 pub use nj_faults::{Cause, GraphFault, Name, Place, PlaceRef};
 pub use nj_manifest::{Spot, SyntaxCause, Wanted};
 pub use nj_scope::{

@@ -1,4 +1,4 @@
-//! The scopes of a graph, and what they bind after all statements.
+//! The scopes of a graph, and their bindings after all statements.
 
 ghost use Rattle.std.specs.Prelude.{◌≡◌, ◌<◌, ℕ, List, [], ◌∷◌, length, option_copied};
 ghost use Rattle.std.specs.List.{Contains};
@@ -34,9 +34,9 @@ impl Graph {
         self.built.scope(edge)
     }
 
-    /// The value of a name, as `builddir`, in the scope of this number after all statements: what
-    /// the scope itself binds it to last, else what the nearest scope around it does ("Evaluation
-    /// and scoping" in the Ninja manual). `None` if none of them binds the name.
+    /// The value of a name, as `builddir`, in the scope of this number after all statements: the
+    /// last binding of the scope itself, else that of the nearest scope around it ("Evaluation and
+    /// scoping" in the Ninja manual). `None` if none of them binds the name.
     pub fn scope_value(&self, scope: ScopeNo, name: &[u8]) -> Option<&[u8]>
         requires { scope.0 < length self.now.declarations.scopes }
         ensures main { (entries : List ReadStatement) → IsGraphOf self.now entries → scope.0 ≡ 0

@@ -58,7 +58,7 @@ pub if_some-of_map : {X Y : Type 0} (f : X → Y) (P : Y → Type 0) (o : Option
 if_some-of_map f P None h = tt
 if_some-of_map f P (Some x) h = h
 
--- what a comparison of numbers means
+-- the meaning of a comparison of numbers
 abbrev Compared : ℕ → ℕ → Type 0
 Compared n m = ((nat_eq n m ≡ true) × (n ≡ m)) ⊎ ((nat_eq n m ≡ false) × (n ≢ m))
 
@@ -74,7 +74,7 @@ module _ (scopes : List ScopeModel) (p : ℕ) where
   pub parent_at-other : (n : ℕ) → n < length scopes → parent_at (opened scopes p) n ≡ parent_at scopes n
   parent_at-other n h = ap (option_and_then (λ s. s.parent)) (get-push_other scopes (record { parent = Some p; values = []; rules = [] }) n (λ e. lt_irrefl n (subst (λ m. n < m) (sym e) h)))
 
-  -- what is not there in a new scope is where it was
+  -- a value that a new scope lacks is where it was
   at_scope-opened : {X : Type 0} (f : ScopeModel → Option X) → f (record { parent = Some p; values = []; rules = [] }) ≡ None → (n : ℕ) → at_scope f (opened scopes p) n ≡ at_scope f scopes n
   at_scope-opened f nothing n = by (eqb_tells n (length scopes))
     where
@@ -114,7 +114,7 @@ module _ (scopes : List ScopeModel) (i : ℕ) (s t : ScopeModel) (here : slice_g
       by (inl (p, e)) = ap (λ b. cond b (f t) (at_scope f scopes n)) p ∙ same ∙ sym (ap (at_scope f scopes) e ∙ ap (option_and_then f) here)
       by (inr (f', apart)) = ap (λ b. cond b (f t) (at_scope f scopes n)) f'
 
-  -- one name more, or another meaning of it
+  -- one more name, or another meaning of it
   pub at_scope-bound : {X : Type 0} (f : ScopeModel → Option X) (b : Bool) (x : Option X) → f t ≡ cond b x (f s) → (n : ℕ) → at_scope f (slice_set scopes i t) n ≡ cond (nat_eq n i && b) x (at_scope f scopes n)
   at_scope-bound f b x bound n = at_scope-set f n ∙ by (eqb_tells n i)
     where

@@ -1,4 +1,4 @@
-//! What the statements of a run declare.
+//! The declarations of a run's statements.
 
 ghost use Rattle.std.specs.Prelude.{◌≡◌, ℕ, ◌+◌, ◌<◌, List, [], ◌∷◌, ◌++◌, Some, None, true, false, length, not, slice_get, option_copied, option_map, IfOk, OnOk, OnErr, IfSome};
 ghost use Rattle.nj_text.specs.declared.spot.Spot.{Spot};
@@ -156,7 +156,7 @@ impl Declarations {
         self.scopes.open(parent)
     }
 
-    /// The value of the word in this scope, by what is bound so far.
+    /// The value of the word in this scope, by the bindings so far.
     pub fn expand(
         &self,
         alloc: Global,
@@ -172,7 +172,7 @@ impl Declarations {
         self.scopes.expand(alloc, scope, word)
     }
 
-    /// Appends to the text the value of the word in this scope, by what is bound so far.
+    /// Appends to the text the value of the word in this scope, by the bindings so far.
     pub fn append_expanded(
         &self,
         scope: ScopeNo,
@@ -188,7 +188,7 @@ impl Declarations {
         self.scopes.append_expanded(scope, word, text)
     }
 
-    /// The value of the name in this scope, by what is bound so far. An unknown name is empty.
+    /// The value of the name in this scope, by the bindings so far. An unknown name is empty.
     pub fn value(&self, scope: ScopeNo, name: &[u8]) -> &[u8]
         requires { scope.0 < length self.now.scopes }
         ensures { (entries : List ReadStatement) (around : List ℕ) → DeclaredBy self.now entries
@@ -201,8 +201,8 @@ impl Declarations {
         self.scopes.value(scope, name)
     }
 
-    /// The value of the name in this scope, by what is bound so far: its value in the nearest
-    /// scope, itself or around it, that binds the name. `None` if none does.
+    /// The value of the name in this scope, by the bindings so far: its value in the nearest scope,
+    /// itself or around it, that binds the name. `None` if none does.
     pub fn value_if_bound(&self, scope: ScopeNo, name: &[u8]) -> Option<&[u8]>
         requires { scope.0 < length self.now.scopes }
         ensures { (entries : List ReadStatement) (around : List ℕ) → DeclaredBy self.now entries

@@ -19,7 +19,7 @@ use std::marker::Model;
 #[derive(Clone, Copy, Debug, PartialEq, Eq)]
 pub struct ScopeNo(pub usize);
 
-// One scope: the number of the scope around it, and what it binds and declares itself.
+// One scope: the number of the scope around it, and its own bindings and rules.
 #[derive(Drop)]
 struct Scope {
     parent: Option<ScopeNo>,
@@ -28,8 +28,8 @@ struct Scope {
 }
 
 /// The variables and rules of a run, by scope. The main file's scope has the number 0; each
-/// `subninja` opens one more, which sees what the scopes around it bind and declare, and may shadow
-/// it ("Evaluation and scoping" in the Ninja manual).
+/// `subninja` opens another, which sees the bindings and rules of the scopes around it, and may
+/// shadow them ("Evaluation and scoping" in the Ninja manual).
 #[derive(Drop)]
 pub(crate) struct Scopes {
     alloc: Global,
@@ -98,7 +98,7 @@ impl Scopes {
         Ok(number)
     }
 
-    /// Binds the name in this scope, in place of what it was bound to there before.
+    /// Binds the name in this scope, in place of an earlier value there.
     pub fn bind(&mut self, scope: ScopeNo, name: &[u8], value: Vec<u8>) -> Result<(), AllocError>
         requires { scope.0 < length self.old }
         ensures bound { OnOk result ((n : ℕ) (x : List ℕ) → bound_at self.new n x

@@ -286,7 +286,11 @@ fn add_targets(
 }
 
 // The rule that is in force under the name in this scope.
-fn rule_named<'a>(declarations: &'a Declarations, scope: ScopeNo, name: &[u8]) -> Option<UsedRule<'a>>
+fn rule_named<'a>(
+    declarations: &'a Declarations,
+    scope: ScopeNo,
+    name: &[u8],
+) -> Option<UsedRule<'a>>
     requires { scope.0 < length declarations.now.scopes }
     ensures number { (entries : List ReadStatement) (around : List ℕ)
         → DeclaredBy declarations.now entries

@@ -38,7 +38,7 @@ pub(crate) fn keep_references(
     Ok(())
 }
 
-/// What is kept of the rule of this number; something must be kept of it.
+/// The references kept for the rule of this number, which must be there.
 pub(crate) fn rule_references(kept: &[Option<KeyReferences>], number: RuleNo) -> &KeyReferences
     requires { is_some (slice_index_or kept.now number.0 None) ≡ true }
     ensures { slice_index_or kept.now number.0 None ≡ Some result.now }
@@ -49,7 +49,7 @@ pub(crate) fn rule_references(kept: &[Option<KeyReferences>], number: RuleNo) ->
     }
 }
 
-// What is kept of the rule of this number.
+// The references kept for the rule of this number.
 fn references_kept(kept: &[Option<KeyReferences>], number: RuleNo) -> Option<&KeyReferences>
     ensures { option_copied result ≡ slice_index_or kept.now number.0 None }
 {
@@ -59,7 +59,7 @@ fn references_kept(kept: &[Option<KeyReferences>], number: RuleNo) -> Option<&Ke
     }
 }
 
-// Makes capacity for what is kept of this many rules.
+// Makes capacity for the references of this many rules.
 fn make_capacity(kept: &mut Vec<Option<KeyReferences>>, count: usize) -> Result<(), AllocError>
     ensures capacity { OnOk result (count ≤ length kept.new.items) }
     ensures same { SameReferences kept.old.items kept.new.items }
