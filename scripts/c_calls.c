@@ -1002,7 +1002,8 @@ static void try_logs(void)
     if (state != LOADED || !find_with_deps(&edge))
         return;
     try_named(edge);
-    find_with_deps(&edge);
+    if (!find_with_deps(&edge))
+        return;
     begin_log(4);
     nx_inputs(&session, edge, 0, NULL, 0, NULL, 0, &before);
     put_path((struct text){ given, given_length }, 0);
