@@ -71,7 +71,7 @@ fn write_findings(
 ) -> Result<Status, Failure> {
     let missing = missing_files(rt, graph, kinds)?;
     let folder = working_folder(rt)?;
-    let found = audit(rt.alloc(), graph, &missing, &folder, kinds)?;
+    let found = audit(rt.alloc(), graph, &missing, &folder, &[], kinds)?;
     let lines = finding_lines(rt.alloc(), &found, is_json)?;
     write_whole(&mut WriteSink::new(rt.stdout()), &lines)?;
     if found.as_slice().is_empty() {

@@ -26,7 +26,7 @@ pub record AreUndeclaredFindings (g : GraphModel) (entries : List ReadStatement)
   pub are_others : AreThose (λ input. ¬ IsNamedUnordered g entries folder input) logged others
   pub finds : found ≡ named ++ map (finding_of_input g) others
 
--- They are looked for only if they are asked for.
+-- They are looked for only if they are requested.
 abbrev pub AreFoundIf : (asked : Bool) → GraphModel → List ReadStatement → (folder : List ℕ) → (logged : List InputOfEdge)
     → List FindingModel → Type 0
 AreFoundIf true g entries folder logged found = AreUndeclaredFindings g entries folder logged found
