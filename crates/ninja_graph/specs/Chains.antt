@@ -43,7 +43,8 @@ chain_lines g from (step ∷ steps) = chain_line g from step ++ chain_lines g st
 
 -- Standard output took the lines of the requested chain; or there is none, and it took nothing; or it failed within them, or memory ran out
 -- before the first.
-abbrev pub WritesChain : (IsPath : Option (List Step) → Type 0) → (lines : List Step → List ℕ) → (out new : SinkState) → Result Status Error → Type 0
+abbrev pub WritesChain : (IsPath : Option (List Step) → Type 0) → (lines : List Step → List ℕ) → (out new : SinkState)
+    → Result Status Error → Type 0
 WritesChain IsPath lines out new (Ok Done) = (steps : List Step) × IsPath (Some steps) × Takes out new (lines steps)
 WritesChain IsPath lines out new (Ok Look) = IsPath None × (new ≡ out)
 WritesChain IsPath lines out new (Ok Fault) = ⊥

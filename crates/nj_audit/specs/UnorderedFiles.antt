@@ -1,11 +1,11 @@
 -- Files that the commands of edges name, and that other edges make, unordered with them.
-use Rattle.std.specs.Prelude.{◌≡◌, ℕ, ◌==◌, Bool, true, false, if◌then◌else◌, Some, List, [], ◌∷◌, ◌++◌, codes, length, map}
-use Rattle.std.specs.List.{filter_map, flat_map}
+use Rattle.std.specs.Prelude.{◌≡◌, ℕ, ◌==◌, true, false, if◌then◌else◌, Some, List, [], ◌∷◌, ◌++◌, codes, length, map}
+use Rattle.std.specs.List.{filter_map}
 use Rattle.nj_scope.specs.ReadingList.{ReadStatement}
 use Rattle.nj_edges.specs.Changes.{IsOrNeeds}
 use Rattle.nj_graph.specs.Edges.{inputs_of, is_among, maker_of}
 use Rattle.nj_graph.specs.Graph.{GraphModel, edges_of, files_of, late_text_of}
-use Rattle.nj_audit.specs.Audit.{command_of, edge_numbers, has_command, path_of, paths_at, rule_number}
+use Rattle.nj_audit.specs.Audit.{command_of, has_command, path_of, paths_at, rule_number}
 use Rattle.nj_audit.specs.Findings.{FindingModel, edge_finding}
 use Rattle.nj_audit.specs.NamedPaths.{number_at, paths_named}
 use Rattle.nj_audit.specs.declared.kinds.Kind.TheVariants.{UndeclaredInput}
@@ -60,6 +60,7 @@ pub data AreUnordered (g : GraphModel) (edge : ℕ) : (files : List ℕ) → (pa
 pub data AreNamedUnordered (g : GraphModel) (entries : List ReadStatement) (folder : List ℕ) :
     (edges : List ℕ) → List FindingModel → Type 0 where
   no_edges : AreNamedUnordered g entries folder [] []
-  one_more : {edges : List ℕ} {found : List FindingModel} {edge : ℕ} {paths : List (List ℕ)} → AreNamedUnordered g entries folder edges found
+  one_more : {edges : List ℕ} {found : List FindingModel} {edge : ℕ} {paths : List (List ℕ)}
+      → AreNamedUnordered g entries folder edges found
       → AreUnordered g edge (files_named g entries folder edge) paths
       → AreNamedUnordered g entries folder (edges ++ edge ∷ []) (found ++ map (edge_finding g edge UndeclaredInput) paths)

@@ -102,7 +102,8 @@ JoinsGraph between after true loaded result =
     (joined : Result LoadedModel GraphFault) × (result ≡ graph_loaded joined)
     × ((stated : List ReadStatement) → IsGraphOf loaded.graph stated → Joins stated loaded.files between after joined)
 
-abbrev pub GivesGraph : (between after : SourceState) → (joins : Bool) → Result LoadedModel GraphFault → Result GraphModel GraphFault → Type 0
+abbrev pub GivesGraph : (between after : SourceState) → (joins : Bool) → Result LoadedModel GraphFault
+    → Result GraphModel GraphFault → Type 0
 GivesGraph between after joins (Ok loaded) result = JoinsGraph between after joins loaded result
 GivesGraph between after joins (Err fault) result = (after ≡ between) × (result ≡ Err fault)
 

@@ -20,9 +20,11 @@ use Rattle.nj_cli.specs.Targets.{edges_by_path, NoEdgeNeedsItself, targets_of}
 -- any chain of inputs; without duplicates; each after all others that it needs through any chain; in the order in which they are first
 -- completed from left to right, as `needed_commands` defines it.
 pub record AreNeeded (edges : List EdgePaths) (targets : List (List ℕ)) (numbers : List ℕ) : Type 0 where
-  pub reached : (e : ℕ) → Contains numbers e ↔ (Reached (makers_of_inputs edges) (row_of_paths edges targets) e × (is_phony_in edges e ≡ false))
+  pub reached : (e : ℕ) → Contains numbers e
+      ↔ (Reached (makers_of_inputs edges) (row_of_paths edges targets) e × (is_phony_in edges e ≡ false))
   pub once : IsDistinct nat_eq numbers
-  pub after : (e f : ℕ) → Contains numbers e → NeedsByChain (makers_of_inputs edges) e f → is_phony_in edges f ≡ false → ComesBefore numbers f e
+  pub after : (e f : ℕ) → Contains numbers e → NeedsByChain (makers_of_inputs edges) e f → is_phony_in edges f ≡ false
+      → ComesBefore numbers f e
   pub order : numbers ≡ needed_commands (makers_of_inputs edges) (length edges) (is_phony_in edges) (row_of_paths edges targets)
 
 -- A run from the start that finishes writes a line for each of the needed edges: its command. If it follows validations, the targets are
@@ -63,7 +65,8 @@ PageStringsJoin = (entries : List ReadStatement) (words : List (List ℕ)) (vali
 -- A run that stopped can be resumed: the text that it wrote after `mark ` is one for `--resume`, and a run without a limit from there
 -- finishes.
 abbrev pub StoppedRunsContinue : Type 0
-StoppedRunsContinue = (entries : List ReadStatement) (words : List (List ℕ)) (validations : Bool) → NoEdgeNeedsItself (edges_by_path entries)
+StoppedRunsContinue =
+    (entries : List ReadStatement) (words : List (List ℕ)) (validations : Bool) → NoEdgeNeedsItself (edges_by_path entries)
     → (take : Option ℕ) (start mark : List ℕ) → EndsWith entries (commands words validations take start) (stopped mark)
     → (next : ActionModel) × IsRun words validations None (Some (run_mark_text validations mark)) next × EndsWith entries next finished
 

@@ -74,7 +74,8 @@ pub data Denotes (quoting : Bool) (n : LateNames) : List ℕ → List ℕ → Ty
   by_paths : {name text : List ℕ} → text_of_paths quoting n.inputs n.outputs name ≡ Some text → Denotes quoting n name text
   by_block : {name text : List ℕ} → names_paths name ≡ false → n.block name ≡ Some text → Denotes quoting n name text
   by_rule : {name : List ℕ} → (parts : List PartModel) → (value : List ℕ → List ℕ) → rule_value n.block n.lines name ≡ Some parts
-      → ((other : List ℕ) → refers parts other ≡ true → Denotes quoting n other (value other)) → Denotes quoting n name (expanded value parts)
+      → ((other : List ℕ) → refers parts other ≡ true → Denotes quoting n other (value other))
+      → Denotes quoting n name (expanded value parts)
   by_file : {name : List ℕ} → names_paths name ≡ false → n.block name ≡ None → value_given n.lines name ≡ None
       → Denotes quoting n name (file_value n name)
 

@@ -25,7 +25,8 @@ pub record IsStep (g : EdgeGraph) (with_validations : Bool) (step : Step) : Type
 abbrev pub Lead : EdgeGraph → (with_validations : Bool) → (from : List ℕ) → List Step → (to : List ℕ) → Type 0
 Lead g with_validations from [] to = from ≡ to
 Lead g with_validations from (step ∷ steps) to =
-    (maker_of g.edges from ≡ Some step.edge.0) × IsStep g with_validations step × Lead g with_validations (path_at g.files step.file) steps to
+    (maker_of g.edges from ≡ Some step.edge.0) × IsStep g with_validations step
+    × Lead g with_validations (path_at g.files step.file) steps to
 
 -- a chain from a file to another: steps that lead there, one at least
 abbrev pub IsChain : EdgeGraph → (with_validations : Bool) → (from : List ℕ) → List Step → (to : List ℕ) → Type 0

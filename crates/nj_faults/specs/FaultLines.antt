@@ -23,7 +23,8 @@ cause_text shown cause.EmptyPath = codes "empty path"
 cause_text shown cause.BadDepth = codes "invalid pool depth"
 cause_text shown (cause.DuplicateRule name) = codes "duplicate rule '" ++ shown name ++ codes "'"
 cause_text shown (cause.DuplicatePool name) = codes "duplicate pool '" ++ shown name ++ codes "'"
-cause_text shown (cause.VersionTooNew version) = codes "ninja_required_version " ++ shown version ++ codes " is newer than " ++ reader_version_text
+cause_text shown (cause.VersionTooNew version) =
+    codes "ninja_required_version " ++ shown version ++ codes " is newer than " ++ reader_version_text
 cause_text shown (cause.Missing path) = codes "cannot find '" ++ shown path ++ codes "'"
 cause_text shown cause.PathNotText = codes "path is not UTF-8"
 cause_text shown cause.TooDeep = codes "more than " ++ decimal most_open ++ codes " files open"
@@ -35,7 +36,8 @@ cause_text shown (cause.UnknownTarget path) = codes "unknown target '" ++ shown 
 cause_text shown (cause.RuleVariableCycle key) = codes "cycle in rule variables at '" ++ shown key ++ codes "'"
 cause_text shown (cause.UnknownPool name) = codes "unknown pool name '" ++ shown name ++ codes "'"
 cause_text shown (cause.DyndepNotInput path) = codes "dyndep '" ++ shown path ++ codes "' is not an input"
-cause_text shown (cause.DyndepNoStatement path file) = codes "'" ++ shown path ++ codes "' not mentioned in its dyndep file '" ++ shown file ++ codes "'"
+cause_text shown (cause.DyndepNoStatement path file) =
+    codes "'" ++ shown path ++ codes "' not mentioned in its dyndep file '" ++ shown file ++ codes "'"
 cause_text shown (cause.DyndepTwice path) = codes "multiple statements for '" ++ shown path ++ codes "'"
 cause_text shown (cause.DyndepExtra path) = codes "'" ++ shown path ++ codes "' has no dyndep binding for this file"
 cause_text shown (cause.Cycle path) = codes "dependency cycle through '" ++ shown path ++ codes "'"

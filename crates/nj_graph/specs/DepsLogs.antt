@@ -38,7 +38,8 @@ inputs_logged log number = map clean_path_of (paths_logged log (option_and_then 
 -- already.
 abbrev pub with_log : LogModel → List ReadStatement → List ReadStatement
 with_log log entries =
-    with_inputs_named (λ edge. new_inputs (edge_at (paths_of_edges (edges_read entries)) edge) (inputs_logged log (number_logged log entries edge)))
+    with_inputs_named (λ edge.
+    new_inputs (edge_at (paths_of_edges (edges_read entries)) edge) (inputs_logged log (number_logged log entries edge)))
     entries
 
 -- The graph of the statements with the files of the log; where these have a dependency cycle, its fault; or memory ran

@@ -11,7 +11,8 @@ use Rattle.nj_graph.specs.declared.error.Error.TheVariants.{Graph, EmptyPath, Ou
 
 -- a fault of files or of their graph is the error of its own, but for lack of memory
 abbrev pub TakesFault : GraphFault → Error → Type 0
-TakesFault fault error = ((fault.cause ≡ cause.OutOfMemory) × (error ≡ OutOfMemory)) ⊎ (¬ (fault.cause ≡ cause.OutOfMemory) × (error ≡ Graph fault))
+TakesFault fault error =
+    ((fault.cause ≡ cause.OutOfMemory) × (error ≡ OutOfMemory)) ⊎ (¬ (fault.cause ≡ cause.OutOfMemory) × (error ≡ Graph fault))
 
 -- so is one of a path
 abbrev pub error_of_text : TextFault → Error

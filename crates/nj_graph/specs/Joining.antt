@@ -32,7 +32,8 @@ entries_of text = after_version (suc (length text)) (version_next (text_lines te
 -- ---- one file
 
 -- Its entries, one after the other: the statements as they were read, and with the additions so far.
-unfoldable pub entries_joined : (file : List ℕ) → (stated : List ReadStatement) → List EntryModel → Option Fault → (joined : List ReadStatement)
+unfoldable pub entries_joined : (file : List ℕ) → (stated : List ReadStatement) → List EntryModel → Option Fault
+    → (joined : List ReadStatement)
     → ReadingModel
 entries_joined file stated [] fault joined =
     record { entries = joined; end = end_by (option_or (option_map (fault_in file) fault) (lacking_fault file joined)) }
@@ -66,7 +67,8 @@ abbrev pub continued : End → Pending → List ReadStatement → (List ReadStat
 continued Whole p joined others = record { read = (others joined).read; paths = path_asked p ++ (others joined).paths }
 continued end p joined others = record { read = record { entries = joined; end = end }; paths = path_asked p }
 
-unfoldable pub files_joined : (files : List Reading) → (stated : List ReadStatement) → List Pending → (joined : List ReadStatement) → ReachedModel
+unfoldable pub files_joined : (files : List Reading) → (stated : List ReadStatement) → List Pending
+    → (joined : List ReadStatement) → ReachedModel
 files_joined files stated [] joined = record { read = record { entries = joined; end = Whole }; paths = [] }
 files_joined files stated (p ∷ others) joined =
     let file = file_joined files stated p joined in
@@ -89,7 +91,8 @@ joined_after old stated files = reached_after (paths_of old) (all_joined files s
 
 -- Dyndep files are joined to the statements of a run that has read the old files; files that were read before are not
 -- read again.
-abbrev pub Joins : (stated : List ReadStatement) → (old : List Reading) → (before after : SourceState) → Result LoadedModel GraphFault → Type 0
+abbrev pub Joins : (stated : List ReadStatement) → (old : List Reading) → (before after : SourceState)
+    → Result LoadedModel GraphFault → Type 0
 Joins stated old before after result = LoadsAfter old before after (joined_after old stated) result
 
 -- ---- laws

@@ -17,7 +17,8 @@ pub record LoadedModel : Type 0 where
 
 -- By these files the reading goes to its end: these statements, without a fault. The files are those at the paths that it reaches.
 -- The source did not fail.
-pub record IsWhole (before after : SourceState) (files : List Reading) (reading : List Reading → ReachedModel) (entries : List ReadStatement)
+pub record IsWhole (before after : SourceState) (files : List Reading) (reading : List Reading → ReachedModel)
+    (entries : List ReadStatement)
     : Type 0 where
   pub read : (reading files).read ≡ record { entries = entries; end = Whole }
   pub came_to : (reading files).paths ≡ paths_of files

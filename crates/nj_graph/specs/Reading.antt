@@ -145,7 +145,8 @@ abbrev pub statement_read : Opens → ReadStatement → (before : List ReadState
 statement_read opens e before = continued (end_by (own_fault e before)) before (λ _. item_read opens e before e.item)
 
 -- the statements of a file, one after the other
-unfoldable pub statements_read : Opens → Site → (statements : List PlacedModel) → Option Fault → (before : List ReadStatement) → ReadingModel
+unfoldable pub statements_read : Opens → Site → (statements : List PlacedModel) → Option Fault
+    → (before : List ReadStatement) → ReadingModel
 statements_read opens site [] fault before = record { entries = before; end = end_by (option_map (fault_in site.file) fault) }
 statements_read opens site (s ∷ others) fault before =
     and_then (statement_read opens (entry_at site s) before) (λ entries. statements_read opens site others fault entries)
@@ -161,11 +162,13 @@ abbrev pub found_read : (path : List ℕ) → Place → (before : List ReadState
 found_read path place before reads text = option_map_or reads text (stopped before place (Missing path))
 
 -- by the result of the table for that path
-abbrev pub outcome_read : (path : List ℕ) → Place → (before : List ReadStatement) → (List ℕ → ReadingModel) → Option table.Reading → ReadingModel
+abbrev pub outcome_read : (path : List ℕ) → Place → (before : List ReadStatement) → (List ℕ → ReadingModel)
+    → Option table.Reading → ReadingModel
 outcome_read path place before reads found =
     option_map_or (λ r. found_read path place before reads r.bytes) found (record { entries = before; end = Lacking path place })
 
-abbrev pub if_capacity : Bool → (within : Opens) → (files : List table.Reading) → Site → Place → ReadStatement → (before : List ReadStatement) → ReadingModel
+abbrev pub if_capacity : Bool → (within : Opens) → (files : List table.Reading) → Site → Place → ReadStatement
+    → (before : List ReadStatement) → ReadingModel
 if_capacity false within files site place e before = stopped before place TooManyOpenings
 if_capacity true within files site place e before =
     outcome_read site.file place before (λ text. text_read within site text (e ∷ before)) (reading_of files site.file)
@@ -187,7 +190,8 @@ main_place main = record { file = main; spot = record { line = 1; column = 1 } }
 -- the main file, and all that it includes
 unfoldable pub main_read : (files : List table.Reading) → (main : List ℕ) → ReadingModel
 main_read files main =
-    outcome_read main (main_place main) [] (λ text. text_read (opened_in files most_within) (main_site main) text []) (reading_of files main)
+    outcome_read main (main_place main) [] (λ text. text_read (opened_in files most_within) (main_site main) text [])
+    (reading_of files main)
 
 -- ---- the paths that a reading reaches
 

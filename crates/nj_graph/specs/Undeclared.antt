@@ -36,7 +36,8 @@ inputs_of_edge edge paths = map (λ path. record { edge = edge; path = path }) p
 -- the files that a log names for the first outputs of edges with `deps`: by edge, and then as above
 abbrev pub inputs_named : LogModel → List ReadStatement → List InputOfEdge
 inputs_named log entries =
-    flat_map (λ edge. inputs_of_edge edge (paths_of_output log (number_logged log entries edge))) (range_with_len 0 (length (edges_read entries)))
+    flat_map (λ edge. inputs_of_edge edge (paths_of_output log (number_logged log entries edge)))
+    (range_with_len 0 (length (edges_read entries)))
 
 -- those of some items that have a property, in their order
 pub data AreThose {A : Type 0} (P : A → Type 0) : (items those : List A) → Type 0 where

@@ -102,7 +102,8 @@ abbrev pub Needs : List EdgePaths → (e f : ℕ) → Type 0
 Needs edges e f = Contains (input_makers edges e) (Some f)
 
 -- The key of an edge is the SHA-256 of the text of its fields, where each edge that makes an input has its key.
-pub data IsKey (folders : List (List ℕ)) (edges : List EdgePaths) (entries : List ReadStatement) : (edge : ℕ) → (key : List ℕ) → Type 0 where
+pub data IsKey (folders : List (List ℕ)) (edges : List EdgePaths) (entries : List ReadStatement) :
+    (edge : ℕ) → (key : List ℕ) → Type 0 where
   digest : {e : ℕ} (keys : ℕ → List ℕ) → ((f : ℕ) → Needs edges e f → IsKey folders edges entries f (keys f))
       → IsKey folders edges entries e (sha256 (fields_text (fields_of folders edges entries keys e)))
 
@@ -113,7 +114,8 @@ abbrev pub line : List EdgePaths → (edge : ℕ) → (key : List ℕ) → List 
 line edges edge key = encode_lower key ++ 32 ∷ unwrap_or (first_output (edge_at edges edge)) [] ++ 10 ∷ []
 
 -- The text has a line for each of these edges, in their order, with its key.
-pub data ListsKeys (folders : List (List ℕ)) (edges : List EdgePaths) (entries : List ReadStatement) : (numbers : List ℕ) → (text : List ℕ) → Type 0 where
+pub data ListsKeys (folders : List (List ℕ)) (edges : List EdgePaths) (entries : List ReadStatement) :
+    (numbers : List ℕ) → (text : List ℕ) → Type 0 where
   none : ListsKeys folders edges entries [] []
   last : {numbers text : List ℕ} {e : ℕ} {key : List ℕ} → ListsKeys folders edges entries numbers text → IsKey folders edges entries e key
       → ListsKeys folders edges entries (numbers ++ e ∷ []) (text ++ line edges e key)

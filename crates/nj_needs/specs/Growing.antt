@@ -17,7 +17,8 @@ validations_of edges numbers = flat_map (λ e. (edge_at edges e).validations) nu
 abbrev pub targets_after : List EdgePaths → (targets : List (List ℕ)) → (rounds : ℕ) → List (List ℕ)
 targets_after edges targets zero = targets
 targets_after edges targets (suc rounds) =
-    targets ++ validations_of edges (order (makers_of_inputs edges) (length edges) (row_of_paths edges (targets_after edges targets rounds)))
+    targets ++ validations_of edges
+    (order (makers_of_inputs edges) (length edges) (row_of_paths edges (targets_after edges targets rounds)))
 
 -- the targets after all rounds that add something
 abbrev pub grown_targets : List EdgePaths → (targets : List (List ℕ)) → List (List ℕ)

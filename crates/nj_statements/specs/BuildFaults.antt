@@ -72,7 +72,8 @@ late_fault before edge =
     (dyndep_not_input edge.file edge.spot (inputs_of edge.paths) (asked_text n (codes "dyndep"))))
 
 -- its rule, its outputs from left to right, its inputs, its validations; then the variables of the rule, the pool, the dyndep file
-abbrev pub build_fault : ReadStatement → (before : List ReadStatement) → OutputsModel → NameModel → InputsModel → List LineModel → Option GraphFault
+abbrev pub build_fault : ReadStatement → (before : List ReadStatement) → OutputsModel → NameModel → InputsModel
+    → List LineModel → Option GraphFault
 build_fault e before outputs rule inputs lines =
     option_or (unknown_rule e before rule)
     (option_or (paths_fault e.file (line_values e before lines) (paths_of_edges (edges_read before)) outputs inputs)

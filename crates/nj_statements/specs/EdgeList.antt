@@ -109,7 +109,8 @@ with_discovered (Some found) e = record e {
 
 -- The edge of a build statement, by the statements before it, the last read first. It loses its own outputs as
 -- inputs before discovered files are added.
-abbrev pub edge_of_build : ReadStatement → (before : List ReadStatement) → OutputsModel → NameModel → InputsModel → List LineModel → EdgeModel
+abbrev pub edge_of_build : ReadStatement → (before : List ReadStatement) → OutputsModel → NameModel → InputsModel
+    → List LineModel → EdgeModel
 edge_of_build e before outputs rule inputs lines = record {
   file = e.file;
   spot = e.spot;

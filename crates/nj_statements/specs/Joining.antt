@@ -30,7 +30,8 @@ also_discovered found e = record e { discovered = Some (and_found e.discovered f
 unfoldable pub discover : (edge : ℕ) → Discovered → List ReadStatement → List ReadStatement
 discover edge found [] = []
 discover edge found (e ∷ before) =
-    if is_some (edge_given e before e.item) && length (edges_read before) == edge then record (also_discovered found e) { was_joined = true } ∷ before
+    if is_some (edge_given e before e.item) && length (edges_read before) == edge
+    then record (also_discovered found e) { was_joined = true } ∷ before
     else e ∷ discover edge found before
 
 -- the additions of an entry to the outputs and the inputs of its build statement

@@ -94,6 +94,7 @@ pub record JoinsNothing (before after : JoiningModel) : Type 0 where
   pub assigned : after.assigned ≡ before.assigned
 
 -- the entry has no fault and is joined, or its fault is answered
-abbrev pub JoinsEntry : (after : JoiningModel) → Option GraphFault → (stated joined : List ReadStatement) → Result (Unit {0}) GraphFault → Type 0
+abbrev pub JoinsEntry : (after : JoiningModel) → Option GraphFault → (stated joined : List ReadStatement)
+    → Result (Unit {0}) GraphFault → Type 0
 JoinsEntry after expected stated joined (Ok done) = (expected ≡ None) × HasJoined after stated joined
 JoinsEntry after expected stated joined (Err fault) = IsFault expected fault

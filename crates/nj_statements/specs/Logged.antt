@@ -19,14 +19,16 @@ and_inputs found (path ∷ paths) = Some (and_found found (record { outputs = []
 -- the statements with the inputs that are named for the edges of build statements
 unfoldable pub with_inputs_named : (named : (edge : ℕ) → List (List ℕ)) → List ReadStatement → List ReadStatement
 with_inputs_named named [] = []
-with_inputs_named named (e ∷ before) = record e { discovered = and_inputs e.discovered (inputs_named named before e.item) } ∷ with_inputs_named named before
+with_inputs_named named (e ∷ before) =
+    record e { discovered = and_inputs e.discovered (inputs_named named before e.item) } ∷ with_inputs_named named before
 
 -- ---- laws
 
 -- The inputs that are named for an edge are added to it, and nothing else changes: an edge still waits for the same dyndep
 -- file.
 pub record AddsToEachEdge (named : (edge : ℕ) → List (List ℕ)) (entries : List ReadStatement) : Type 0 where
-  pub edges : paths_of_edges (edges_read (with_inputs_named named entries)) ≡ with_inputs_added named 0 (paths_of_edges (edges_read entries))
+  pub edges : paths_of_edges (edges_read (with_inputs_named named entries))
+      ≡ with_inputs_added named 0 (paths_of_edges (edges_read entries))
   pub pending : pending_read (with_inputs_named named entries) ≡ pending_read entries
 
 abbrev pub NamedInputsAreAdded : Type 0

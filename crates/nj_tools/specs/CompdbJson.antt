@@ -18,6 +18,7 @@ objects_of directory (c ∷ others) = item (object_of directory c) (objects_of d
 
 -- Where JSON can contain the strings of all listed edges, the output reads as one array: the objects of these edges, in their order.
 abbrev pub CompdbIsJson : Type 0
-CompdbIsJson = (entries : List ReadStatement) (directory : List ℕ) (rules : List (List ℕ)) (expand : Bool) → unheld_edge entries rules expand ≡ None
+CompdbIsJson =
+    (entries : List ReadStatement) (directory : List ℕ) (rules : List (List ℕ)) (expand : Bool) → unheld_edge entries rules expand ≡ None
     → document (compdb_text entries directory rules expand)
     ≡ Some (array (objects_of directory (map (compilation_of entries expand) (listed_edges entries rules))))

@@ -18,4 +18,5 @@ pub record FindsServing (edges : List EdgePaths) (found : NumberSetModel) (place
   pub within : place ≤ length found.numbers
   pub sound : (e : ℕ) → Contains found.numbers e → ServesCommand edges e
   pub begun : (e : ℕ) → HasCommand edges e → Contains found.numbers e
-  pub closed : (i e : ℕ) → i < place → MakesOneOf edges (inputs_of (edge_at edges (slice_index found.numbers i))) e → Contains found.numbers e
+  pub closed : (i e : ℕ) → i < place → MakesOneOf edges (inputs_of (edge_at edges (slice_index found.numbers i))) e
+      → Contains found.numbers e

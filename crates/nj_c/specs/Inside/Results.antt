@@ -40,6 +40,7 @@ KeepsLoad before after joins loaded wanted status =
 abbrev pub FinishesLoad : (before after : Kept) → (joins : Bool) → Result LoadedModel GraphFault → Status → Type 0
 FinishesLoad before after joins loaded status =
     ((wanted : Vec (Vec ℕ))
-    × ((entries : List ReadStatement) → AreStatements loaded entries → map (λ p. p.items) wanted.items ≡ paths_to_load before.files joins loaded)
+    × ((entries : List ReadStatement) → AreStatements loaded entries
+    → map (λ p. p.items) wanted.items ≡ paths_to_load before.files joins loaded)
     × ReadsAsHanded before.files × KeepsLoad before after joins loaded wanted status)
     ⊎ ((status ≡ OutOfMemory) × (after ≡ before))

@@ -23,7 +23,8 @@ Settles block lines (suc depth) name = (other : List ℕ) → RefersTo block lin
 -- for all statements whose declarations are held
 abbrev pub ForEdge : LateEdge → (LateNames → Type 0) → Type 0
 ForEdge e P = (entries : List ReadStatement) (around : List ℕ) → DeclaredBy e.declarations.now entries
-    → IsScope (parent_at e.declarations.now.scopes) e.scope.0 (e.scope.0 ∷ around) → P (late_names e (value_after entries (e.scope.0 ∷ around)))
+    → IsScope (parent_at e.declarations.now.scopes) e.scope.0 (e.scope.0 ∷ around)
+    → P (late_names e (value_after entries (e.scope.0 ∷ around)))
 
 -- the same by the block and the rule of an edge
 abbrev pub SettlesIn : LateEdge → (depth : ℕ) → (name : List ℕ) → Type 0

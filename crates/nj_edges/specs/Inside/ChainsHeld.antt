@@ -45,7 +45,8 @@ MakesInputBefore g with_validations index user edge =
 
 -- it makes one of them
 abbrev pub MakesInput : EdgeGraph → (with_validations : Bool) → (user edge : ℕ) → Type 0
-MakesInput g with_validations user edge = Contains (map (maker_of g.edges) (inputs_with with_validations (edge_at g.edges user))) (Some edge)
+MakesInput g with_validations user edge =
+    Contains (map (maker_of g.edges) (inputs_with with_validations (edge_at g.edges user))) (Some edge)
 
 abbrev pub IsReachedFrom : EdgeGraph → (with_validations : Bool) → (first steps edge : ℕ) → Type 0
 IsReachedFrom g with_validations first steps edge = IsReachedIn (λ e. e ≡ first) (MakesInput g with_validations) steps edge
@@ -74,8 +75,10 @@ pub record IsArrival (g : EdgeGraph) (with_validations : Bool) (numbers : List �
   pub made : maker_of g.edges (path_at g.files arrival.step.file) ≡ Some (slice_index numbers place)
 
 -- its distance is one more; nothing came to the first edge
-abbrev pub Arrives : EdgeGraph → (with_validations : Bool) → (first : ℕ) → (distance : ℕ → ℕ) → (numbers : List ℕ) → (place : ℕ) → Option Arrival → Type 0
-Arrives g with_validations first distance numbers place None = (slice_index numbers place ≡ first) × (distance (slice_index numbers place) ≡ 0)
+abbrev pub Arrives : EdgeGraph → (with_validations : Bool) → (first : ℕ) → (distance : ℕ → ℕ) → (numbers : List ℕ)
+    → (place : ℕ) → Option Arrival → Type 0
+Arrives g with_validations first distance numbers place None =
+    (slice_index numbers place ≡ first) × (distance (slice_index numbers place) ≡ 0)
 Arrives g with_validations first distance numbers place (Some arrival) =
     IsArrival g with_validations numbers place arrival
     × (distance (slice_index numbers place) ≡ suc (distance (slice_index numbers arrival.place)))

@@ -15,7 +15,8 @@ pub record IsSearched (begins : ℕ → Type 0) (step : ℕ → ℕ → Type 0) 
   pub near : (i j : ℕ) → i < length numbers → place ≤ j → j < length numbers
       → distance (slice_index numbers i) ≤ suc (distance (slice_index numbers j))
   pub begun : (e : ℕ) → begins e → Contains numbers e × (distance e ≡ 0)
-  pub closed : (i e : ℕ) → i < place → step (slice_index numbers i) e → Contains numbers e × (distance e ≤ suc (distance (slice_index numbers i)))
+  pub closed : (i e : ℕ) → i < place → step (slice_index numbers i) e → Contains numbers e
+      × (distance e ≤ suc (distance (slice_index numbers i)))
 
 -- the edges that files need are searched up to a place
 pub record FindsNeeded (edges : List EdgePaths) (files : List (List ℕ)) (found : NumberSetModel) (place : ℕ) : Type 0 where

@@ -32,7 +32,8 @@ pub record IsPart (numbers : List ℕ) (start end : ℕ) (users : List ℕ) : Ty
 
 -- the users of each file are between its start and the start of the next one
 abbrev pub AreParts : (starts numbers : List ℕ) → (users : ℕ → List ℕ) → Type 0
-AreParts starts numbers users = (n : ℕ) → n + 1 < length starts → IsPart numbers (slice_index_or starts n 0) (slice_index_or starts (n + 1) 0) (users n)
+AreParts starts numbers users =
+    (n : ℕ) → n + 1 < length starts → IsPart numbers (slice_index_or starts n 0) (slice_index_or starts (n + 1) 0) (users n)
 
 pub record HaveUsers (count : ℕ) (starts numbers : List ℕ) (users : ℕ → List ℕ) : Type 0 where
   pub count_is : length starts ≡ count + 1
@@ -94,7 +95,8 @@ pub record ArePlaced (all uses : ℕ → List ℕ) (places marks : List ℕ) (ed
   pub count_is : length edges ≡ users_before all (length places)
   pub starts_are : (n : ℕ) → n < length places → users_before all n ≤ slice_index_or places n 0
   pub ends_are : (n : ℕ) → n < length places → slice_index_or places n 0 + length (uses n) ≡ users_before all (n + 1)
-  pub edges_are : (n i : ℕ) → n < length places → i < length (uses n) → number_at edges (slice_index_or places n 0 + i) ≡ slice_index_or (uses n) i 0
+  pub edges_are : (n i : ℕ) → n < length places → i < length (uses n)
+      → number_at edges (slice_index_or places n 0 + i) ≡ slice_index_or (uses n) i 0
   pub marks_are : AreMarks marks uses
 
 -- no file has more of these uses than of all

@@ -50,13 +50,15 @@ NextEntryIs file before after result = NextEntryOf file (entry_of before) after 
 -- ---- a text
 
 -- All entries are joined. It remains to check whether an edge is still pending on the file.
-pub record TextJoined (file : List ℕ) (stated : List ReadStatement) (text : List ℕ) (joined : List ReadStatement) (held : JoiningModel) : Type 0 where
+pub record TextJoined (file : List ℕ) (stated : List ReadStatement) (text : List ℕ) (joined : List ReadStatement)
+    (held : JoiningModel) : Type 0 where
   pub now : List ReadStatement
   pub has : HasJoined held stated now
   pub joins : text_joined file stated text joined ≡ record { entries = now; end = end_by (lacking_fault file now) }
 
 -- an entry is refused, or the text is
-pub record TextRefused (file : List ℕ) (stated : List ReadStatement) (text : List ℕ) (joined : List ReadStatement) (fault : GraphFault) : Type 0 where
+pub record TextRefused (file : List ℕ) (stated : List ReadStatement) (text : List ℕ) (joined : List ReadStatement)
+    (fault : GraphFault) : Type 0 where
   pub now : List ReadStatement
   pub joins : text_joined file stated text joined ≡ record { entries = now; end = Refused fault }
 

@@ -89,7 +89,8 @@ InScope held file P =
 -- ---- a statement that names no file
 
 -- the statement has no fault and is held, or its fault is answered
-abbrev pub Declares : (main : List ℕ) → (after : Reader) → ReadStatement → (before : List ReadStatement) → Result (Unit {0}) GraphFault → Type 0
+abbrev pub Declares : (main : List ℕ) → (after : Reader) → ReadStatement → (before : List ReadStatement)
+    → Result (Unit {0}) GraphFault → Type 0
 Declares main after e before (Ok done) = (own_fault e before ≡ None) × Has main after (e ∷ before)
 Declares main after e before (Err fault) = IsFault (own_fault e before) fault
 
@@ -188,7 +189,8 @@ pub record IsOpened (held : Reader) (opened : Opened) (inner : Site) : Type 0 wh
   pub scope : IsOpenScope held.declarations.scopes opened.scope.0 inner.around
 
 -- a file is opened that the statement names, or the run stops there
-abbrev pub OpensOrStops : (main : List ℕ) → (before after : SourceState) → (old held : Reader) → (left : ℕ) → ReadStatement → List ReadStatement
+abbrev pub OpensOrStops : (main : List ℕ) → (before after : SourceState) → (old held : Reader) → (left : ℕ)
+    → ReadStatement → List ReadStatement
     → Result Opened GraphFault → Type 0
 OpensOrStops main before after old held left e entries (Ok opened) =
     (inner : Site) × IsOpened held opened inner
@@ -197,7 +199,8 @@ OpensOrStops main before after old held left e entries (Err fault) =
     StopsAt main before after old.files (λ all. statement_read (opened_in all left) e entries) fault
 
 -- a statement is read, or the file is opened that it names, or the run stops there
-abbrev pub ReadsItem : (main : List ℕ) → (before after : SourceState) → (old held : Reader) → (left : ℕ) → ReadStatement → List ReadStatement
+abbrev pub ReadsItem : (main : List ℕ) → (before after : SourceState) → (old held : Reader) → (left : ℕ)
+    → ReadStatement → List ReadStatement
     → Result (Option Opened) GraphFault → Type 0
 ReadsItem main before after old held left e entries (Ok None) = ReadsOne main before after old held e entries
 ReadsItem main before after old held left e entries (Ok (Some opened)) =

@@ -48,7 +48,8 @@ pub record IsListed (g : EdgeGraph) (edge : ℕ) (paths : List (List ℕ)) (file
 
 -- found are those of some inputs that are undeclared, and after them those of an edge among these paths
 pub record FindsAt (g : EdgeGraph) (edge : ℕ) (before : List InputOfEdge) (paths : List (List ℕ)) (f : FoundInputs) : Type 0 where
-  pub those : AreThose (IsUndeclared g.edges) (before ++ inputs_of_edge edge (each_once bytes_eq paths)) (map (input_of_edge g.files) f.inputs.items)
+  pub those : AreThose (IsUndeclared g.edges) (before ++ inputs_of_edge edge (each_once bytes_eq paths))
+      (map (input_of_edge g.files) f.inputs.items)
   pub listed : (n : ℕ) → Contains f.files.numbers n ↔ IsListed g edge paths n
 
 -- a file is added, unless it is there, and then the input

@@ -86,7 +86,8 @@ named_after named Name = true
 
 abbrev pub all_stay : Bool → List (List ℕ) → Bool
 all_stay named [] = true
-all_stay named (component ∷ components) = stays named (component_of component) && all_stay (named_after named (component_of component)) components
+all_stay named (component ∷ components) =
+    stays named (component_of component) && all_stay (named_after named (component_of component)) components
 
 abbrev pub is_here : List ℕ → Bool
 is_here [] = false

@@ -64,7 +64,8 @@ NextUnitIs (unit.Ordinary b) bytes =
 NextUnitIs (unit.Join n spaces) bytes = (spot : Spot) → Begins spot bytes Join n (units_within (on_next_line spaces spot) (drop n bytes))
 NextUnitIs (unit.Escape byte) bytes =
     (b : ℕ) × (byte.now ≡ b ∷ []) × ((spot : Spot) → Begins spot bytes (Escape b) 2 (units_within (advance 2 spot) (drop 2 bytes)))
-NextUnitIs (unit.Reference name n) bytes = (spot : Spot) → Begins spot bytes (Reference name.now) n (units_within (advance n spot) (drop n bytes))
+NextUnitIs (unit.Reference name n) bytes =
+    (spot : Spot) → Begins spot bytes (Reference name.now) n (units_within (advance n spot) (drop n bytes))
 NextUnitIs (unit.LineEnd n) bytes = (spot : Spot) → Begins spot bytes LineEnd n (cut AtStart 0 (on_next_line 0 spot) (drop n bytes))
 NextUnitIs unit.BadByte bytes = (spot : Spot) → BeginsBadly spot bytes BadByte
 NextUnitIs unit.BadEscape bytes = (spot : Spot) → BeginsBadly spot bytes BadEscape
