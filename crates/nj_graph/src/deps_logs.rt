@@ -5,10 +5,11 @@ ghost use Rattle.std.specs.List.{AllByRecursion};
 ghost use Rattle.nj_text.specs.Paths.{clean_path_of};
 ghost use Rattle.nj_names.specs.NameTables.{name_at};
 ghost use Rattle.nj_scope.specs.ReadingList.{ReadStatement};
+ghost use Rattle.nj_scope.specs.Readings.{IsPrefix};
 ghost use Rattle.nj_edges.specs.Edges.{edge_at, first_output};
 ghost use Rattle.nj_edges.specs.MoreInputs.{with_new_input};
 ghost use Rattle.nj_statements.specs.Built.{ComesTo, IsBuiltOf};
-ghost use Rattle.nj_graph.specs.Graph.{edges_of, IsGraphOf};
+ghost use Rattle.nj_graph.specs.Graph.{edges_of, files_of, IsGraphOf};
 ghost use Rattle.nj_graph.specs.DepsLogs.{JoinsLog, inputs_logged, number_logged, with_log};
 ghost use Rattle.nj_graph.specs.Inside.LogSteps.{AreNumbersLogged, FinishesWithLog, joined_edges};
 
@@ -25,7 +26,8 @@ impl Graph {
     /// of an edge whose value of `deps` is not empty becomes an implicit input of the edge, after
     /// those that the edge has and in the log's order: each clean path once, unless it is an input
     /// of the edge already. Paths that no edge named become files. An edge that waits for a dyndep
-    /// file still waits for it. The same log again changes nothing.
+    /// file still waits for it. The same log again changes nothing. Edges and files keep their
+    /// numbers, and new files come after them.
     ///
     /// Takes time in proportion to the graph and to the files that the log names for its edges.
     ///
@@ -38,6 +40,8 @@ impl Graph {
             → JoinsLog log.now stated result }
         ensures declarations { IfOk result (λ graph. graph.declarations ≡ self.declarations) }
         ensures origins { IfOk result (λ graph. graph.origins ≡ self.origins) }
+        ensures edges { IfOk result (λ graph. length (edges_of graph) ≡ length (edges_of self)) }
+        ensures files { IfOk result (λ graph. IsPrefix (files_of self) (files_of graph)) }
     {
         let numbers = self.logged_numbers(alloc, log)?;
         let Graph {
@@ -121,6 +125,7 @@ fn join_built(
     ensures details { IfOk result (λ joined. joined.details ≡ built.details) }
     ensures count { IfOk result (λ joined.
         length joined.graph.edges ≡ length built.graph.edges) }
+    ensures files { IfOk result (λ joined. IsPrefix built.graph.files joined.graph.files) }
 {
     let (graph, records) = built.into_parts();
     match joined_graph(alloc, graph, log, numbers)? {

@@ -44,6 +44,15 @@ returns-in-Graph-clause-count c =
     ap (λ (b : BuiltModel). length b.graph.edges) c.with_graph.ensures ∙ ap (λ (g : EdgeGraph). length g.edges) done.finishes.0
     ∙ length-log log c.args.numbers.now graph.edges as_many ∙ sym (ap (λ (b : BuiltModel). length b.graph.edges) c.into_parts-graph.ensures.built)
 
+pub returns-in-Graph-clause-files : goal.returns-in-Graph-clause-files
+returns-in-Graph-clause-files c =
+    let graph = c.into_parts-graph.result.0 in
+    let done = subst (FinishesWithLog c.args.log.now c.args.numbers.now graph) c.in-Graph.is c.in_ok-joined.ensures in
+    let longer = subst (IsPrefix graph.files) (sym (ap (λ (g : EdgeGraph). g.files) done.finishes.0)) done.longer in
+    let before = ap (λ (b : BuiltModel). b.graph.files) c.into_parts-graph.ensures.built in
+    subst (λ (b : BuiltModel). IsPrefix c.args.built.graph.files b.graph.files) (sym c.with_graph.ensures)
+    (subst (λ files. IsPrefix files c.in-Graph.joined.files) (sym before) longer)
+
 pub returns-in-Cycle-clause-comes : goal.returns-in-Cycle-clause-comes
 returns-in-Cycle-clause-comes c = λ stated is are.
     let log = c.args.log.now in
