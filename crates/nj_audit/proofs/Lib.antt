@@ -8,5 +8,7 @@ mod ServingLemmas
 pub mod MarkLemmas
 pub mod KindLemmas
 mod KindRows
+mod PathLemmas
+mod PlainLemmas
 pub mod ShellLemmas
 mod ShellRows

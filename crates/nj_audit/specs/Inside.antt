@@ -4,4 +4,5 @@ pub mod FilesNamed
 pub mod UnorderedFound
 pub mod LoggedFound
 pub mod References
+pub mod PlainBytes
 pub mod Served

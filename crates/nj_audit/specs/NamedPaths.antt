@@ -1,5 +1,5 @@
 -- The paths that a command may name.
-use Rattle.std.specs.Prelude.{◌≡◌, ℕ, ◌+◌, ◌==◌, nat_eq, Bool, false, ◌||◌, not, if◌then◌else◌, Option, Some, None, option_map, unwrap_or, List, [], ◌∷◌, ◌++◌, codes, drop, length, position, bytes_eq}
+use Rattle.std.specs.Prelude.{ℕ, ◌+◌, ◌==◌, nat_eq, ◌||◌, not, if◌then◌else◌, Option, Some, None, option_map, unwrap_or, List, [], ◌∷◌, codes, drop, length, position, bytes_eq}
 use Rattle.std.specs.List.{cons_option, filter_map, flat_map, starts_with}
 use Rattle.nj_text.specs.Paths.{clean_path_of}
 use Rattle.nj_audit.specs.ShellWords.{words_of}

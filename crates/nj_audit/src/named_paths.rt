@@ -3,7 +3,7 @@
 ghost use Rattle.std.specs.Prelude.{◌≡◌, ℕ, ◌==◌, ◌<◌, length, position, IfOk, IfSome, option_copied};
 ghost use Rattle.nj_audit.specs.NamedPaths.{after_letter, after_sign, after_slash, path_named, without_folder};
 
-use nj_text::{TextFault, clean_into};
+use nj_text::{TextFault, clean_into, is_clean};
 use std::alloc::AllocError;
 
 /// The text after the first `=` of a word.
@@ -35,15 +35,18 @@ pub fn after_letter(word: &[u8]) -> Option<&[u8]>
     }
 }
 
-/// Puts the path of a name, as seen from the directory, into the buffer, and returns it; `None` for
-/// an empty name. Where no directory is given, absolute paths stay.
+/// The path of a name, as seen from the directory, in the buffer where it is another text; `None`
+/// for an empty name. Where no directory is given, absolute paths stay.
 pub fn path_named<'a>(
     buffer: &'a mut Vec<u8>,
     folder: &[u8],
-    name: &[u8],
+    name: &'a [u8],
 ) -> Result<Option<&'a [u8]>, AllocError>
     ensures { IfOk result (λ path. option_copied path ≡ path_named folder.now name.now) }
 {
+    if is_clean(name) {
+        return Ok(Some(without_folder(folder, name)));
+    }
     buffer.clear();
     match clean_into(buffer, name) {
         Ok(()) => Ok(Some(without_folder(folder, buffer.as_slice()))),

@@ -1,7 +1,10 @@
 //! The words of a command, as `sh` cuts them.
 
-ghost use Rattle.std.specs.Prelude.{◌≡◌, ◌∷◌, ◌++◌, [], IfOk, MatchOption, OnOk};
-ghost use Rattle.nj_audit.specs.ShellWords.{ends_at, is_cut, is_dropped, keeps_backslash, kept, next_quoting, words_of};
+ghost use Rattle.std.specs.Prelude.{◌≡◌, ◌≤◌, ◌∷◌, ◌++◌, [], IfOk, MatchOption, OnOk, length, position};
+ghost use Rattle.std.specs.List.{position_or_len};
+ghost use Rattle.nj_audit.specs.ShellWords.{ends_at, is_cut, is_dropped, keeps_backslash, kept, next_quoting, read_text, words_after, words_of};
+ghost use Rattle.nj_audit.specs.Inside.PlainBytes.{is_special};
+ghost use Rattle.nj_audit.specs.declared.shell_words.Quoting.TheVariants.{Bare};
 
 use std::alloc::AllocError;
 
@@ -28,7 +31,7 @@ pub fn take_word<'a>(word: &mut Vec<u8>, text: &'a [u8]) -> Result<Option<&'a [u
 {
     word.clear();
     let mut quoting = Quoting::Bare;
-    let mut rest = text;
+    let mut rest = push_plain(word, text)?;
     'bytes: while let Some((byte, after)) = rest.split_first() {
         rest = after;
         if ends_at(quoting, *byte) {
@@ -44,6 +47,41 @@ pub fn take_word<'a>(word: &mut Vec<u8>, text: &'a [u8]) -> Result<Option<&'a [u
         return Ok(None);
     }
     Ok(Some(b""))
+}
+
+/// Appends the bytes before the first one that ends a word or quotes others, and returns the rest.
+fn push_plain<'a>(word: &mut Vec<u8>, text: &'a [u8]) -> Result<&'a [u8], AllocError>
+    ensures { IfOk result (λ rest. words_after word.new.items (read_text Bare rest.now)
+        ≡ words_after word.old.items (read_text Bare text.now)) }
+{
+    let count = plain_count(text);
+    word.extend_from_slice(&text[..count])?;
+    Ok(&text[count..])
+}
+
+/// How many bytes come before the first one that ends a word or quotes others.
+fn plain_count(text: &[u8]) -> usize
+    ensures count { result ≡ position_or_len is_special text.now }
+    ensures fits { result ≤ length text.now }
+{
+    match special_position(text) {
+        Some(index) => index,
+        None => text.len(),
+    }
+}
+
+/// The position of the first byte that ends a word or quotes others.
+fn special_position(text: &[u8]) -> Option<usize>
+    ensures position { result ≡ position is_special text.now }
+{
+    text.iter().position(|byte| is_special(*byte))
+}
+
+/// Whether a byte outside quotes ends a word or quotes others.
+fn is_special(byte: u8) -> bool
+    ensures { result ≡ is_special byte }
+{
+    is_cut(byte) || is_dropped(Quoting::Bare, byte)
 }
 
 /// How the byte after one is read.

@@ -1,11 +1,13 @@
-use Rattle.std.proofs.Common.{◌≡◌, ◌==◌, true, false, ◌∷◌, ◌++◌, [], length, sym, ap, ◌∙◌}
+use Rattle.std.proofs.Common.{◌==◌, ◌∷◌, ◌++◌, [], length, sym, ap, ◌∙◌}
 use Rattle.nj_audit.specs.declared.shell_words.Quoting.TheVariants.{Bare}
-use Rattle.nj_audit.specs.ShellWords.{kept, next_quoting, read_text, words_after, words_of}
+use Rattle.nj_audit.specs.ShellWords.{kept, read_text, words_after, words_of}
 use Rattle.nj_audit.proofs.ShellLemmas.{no-length, no-words, with-none, with-some, words-begin, words-empty, words-end, words-inside, words-last}
 use Rattle.nj_audit.proofs.shell_words.take_word.Goals as goal
 
 pub bytes-init : goal.bytes-init
-bytes-init c = ap (λ w. words_after w (read_text Bare c.args.text.now)) c.clear.ensures.items ∙ words-begin c.args.text.now
+bytes-init c =
+    c.in_ok-rest.ensures ∙ ap (λ w. words_after w (read_text Bare c.args.text.now)) c.clear.ensures.items
+    ∙ words-begin c.args.text.now
 
 pub returns-then-not-is_empty : goal.returns-then-not-is_empty
 returns-then-not-is_empty c =
