@@ -1,11 +1,11 @@
 -- Files that are found one by one.
-use Rattle.std.proofs.Common.{◌≡◌, ◌<◌, ℕ, Option, Some, None, option_map, List, [], ◌∷◌, ◌++◌, map, length, position, bytes_eq, refl, sym, ap, subst, ◌∙◌, append-nil, append_assoc}
+use Rattle.std.proofs.Common.{◌≡◌, ◌<◌, ℕ, Option, Some, None, List, [], ◌∷◌, ◌++◌, map, length, refl, sym, ap, subst, ◌∙◌, append-nil, append_assoc}
 use Rattle.std.specs.Prelude.{option_and_then, All}
 use Rattle.std.specs.List.{cons_option, filter_map}
 use Rattle.std.proofs.lemmas.List.{map_push}
 use Rattle.std.proofs.lemmas.List.Elements.{All-push, filter_map-append}
 use Rattle.nj_names.specs.declared.files.FileNo.{FileNo}
-use Rattle.nj_audit.specs.NamedPaths.{after_letter, after_sign, names_in, number_at, path_named, paths_in}
+use Rattle.nj_audit.specs.NamedPaths.{after_letter, after_sign, number_at, path_named, paths_in}
 use Rattle.nj_audit.specs.Inside.FilesNamed.{AddsFiles, paths_of_name}
 
 -- ---- the names in a word

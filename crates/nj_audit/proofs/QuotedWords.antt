@@ -1,5 +1,5 @@
 -- Words of quoted paths.
-use Rattle.std.proofs.Common.{◌≡◌, ◌≢◌, ℕ, ◌==◌, Bool, true, false, cond, Option, Some, None, List, [], ◌∷◌, ◌++◌, map, refl, sym, ap, ◌∙◌, append-nil, append_assoc, true≢false, inl, inr}
+use Rattle.std.proofs.Common.{◌≡◌, ◌≢◌, ℕ, ◌==◌, Bool, true, false, cond, List, [], ◌∷◌, ◌++◌, map, refl, sym, ap, ◌∙◌, append-nil, append_assoc, true≢false, inl, inr}
 use Rattle.std.specs.Prelude.{◌&&◌, ◌||◌}
 use Rattle.std.specs.List.{AllByRecursion, flat_map, join_with_byte, list_all}
 use Rattle.std.proofs.lemmas.Bool.Decides.{eqb_tells}
@@ -7,7 +7,7 @@ use Rattle.nj_text.specs.Quotes.{in_quotes, is_plain_byte, is_quote, quoted, wit
 use Rattle.nj_audit.specs.Laws.{QuotedPathsAreWords}
 use Rattle.nj_audit.specs.declared.shell_words.Quoting.{Quoting}
 use Rattle.nj_audit.specs.declared.shell_words.Quoting.TheVariants.{Bare, Escaped, Single, Double}
-use Rattle.nj_audit.specs.ShellWords.{ends_at, is_cut, is_dropped, kept, next_quoting, read_text, with_word, words_after, words_of}
+use Rattle.nj_audit.specs.ShellWords.{is_cut, kept, next_quoting, read_text, with_word, words_after}
 use Rattle.nj_audit.proofs.ShellLemmas.{words-begin, words-end, words-inside, words-last}
 
 both-true : (s t : Bool) → (s && t) ≡ true → (s ≡ true) × (t ≡ true)

@@ -1,9 +1,9 @@
 -- Words of a command, byte by byte.
-use Rattle.std.proofs.Common.{◌≡◌, ℕ, ◌==◌, length, inl, inr, arith, true≢false, Bool, true, false, cond, Option, Some, None, List, [], ◌∷◌, ◌++◌, map, refl, sym, ap, ◌∙◌, append-nil, append_assoc}
+use Rattle.std.proofs.Common.{◌≡◌, ℕ, ◌==◌, length, inl, inr, arith, true≢false, true, false, cond, Option, Some, None, List, [], ◌∷◌, ◌++◌, map, refl, sym, ap, ◌∙◌, append-nil, append_assoc}
 use Rattle.std.proofs.lemmas.Bool.Decides.{eqb_tells}
 use Rattle.nj_audit.specs.declared.shell_words.Quoting.{Quoting}
 use Rattle.nj_audit.specs.declared.shell_words.Quoting.TheVariants.{Bare, Escaped, Single, Double, DoubleEscaped}
-use Rattle.nj_audit.specs.ShellWords.{ends_at, is_cut, kept, next_quoting, read_byte, read_text, with_word, words_after, words_of}
+use Rattle.nj_audit.specs.ShellWords.{ends_at, is_cut, kept, next_quoting, read_text, with_word, words_after, words_of}
 
 is-nothing : (text : List ℕ) → (length text == 0) ≡ true → text ≡ []
 is-nothing [] is = refl

@@ -1,7 +1,7 @@
 -- Words and paths of small commands, worked out on the definitions.
 use Rattle.std.proofs.Common.{◌≡◌, Some, [], ◌∷◌, ◌++◌, codes, refl}
 use Rattle.nj_text.specs.Paths.{clean_path_of, without_leftmost_pair}
-use Rattle.nj_audit.specs.NamedPaths.{path_named, paths_in, paths_named}
+use Rattle.nj_audit.specs.NamedPaths.{path_named, paths_in}
 use Rattle.nj_audit.specs.ShellWords.{read_text, words_after, words_of}
 
 blanks : words_of (codes "  cc -c  a.c  -o a.o ") ≡ codes "cc" ∷ codes "-c" ∷ codes "a.c" ∷ codes "-o" ∷ codes "a.o" ∷ []

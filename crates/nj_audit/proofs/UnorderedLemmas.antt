@@ -1,15 +1,14 @@
 -- Files that are unordered with an edge, one by one.
-use Rattle.std.proofs.Common.{◌≡◌, ◌≢◌, ◌<◌, ◌+◌, ◌↔◌, ◌||◌, inl, inr, ℕ, Bool, true, false, cond, not, Option, Some, None, option_map, List, [], ◌∷◌, ◌++◌, map, take, length, get_or, slice_get, bytes_eq, refl, sym, ap, subst, ◌∙◌, append-nil, append_assoc, true≢false}
+use Rattle.std.proofs.Common.{◌≡◌, ◌<◌, ◌+◌, ◌↔◌, ◌||◌, ℕ, Bool, true, false, cond, not, Option, Some, None, option_map, List, [], ◌∷◌, ◌++◌, map, take, length, get_or, slice_get, bytes_eq, refl, sym, ap, subst, ◌∙◌, append-nil, append_assoc, true≢false}
 use Rattle.std.proofs.lemmas.List.{map_push}
 use Rattle.std.proofs.lemmas.Option.{slice_get-get_or, slice_get-map}
 use Rattle.std.proofs.lemmas.Slice.Eq.{bytes_eq-Decides}
-use Rattle.nj_scope.specs.ReadingList.{ReadStatement}
 use Rattle.nj_edges.specs.Changes.{IsOrNeeds}
 use Rattle.nj_graph.specs.Edges.{is_among, maker_of}
 use Rattle.nj_graph.specs.Graph.{GraphModel, edges_of}
-use Rattle.nj_audit.specs.Audit.{edge_numbers, path_of}
+use Rattle.nj_audit.specs.Audit.{path_of}
 use Rattle.nj_audit.specs.Findings.{FindingModel, edge_finding}
-use Rattle.nj_audit.specs.UnorderedFiles.{AreUnordered, AreNamedUnordered, IsOther, IsUnordered}
+use Rattle.nj_audit.specs.UnorderedFiles.{IsOther, IsUnordered}
 use Rattle.nj_audit.specs.UnorderedFiles.AreUnordered.{none, unordered, again, ordered}
 use Rattle.nj_audit.specs.Inside.UnorderedFound.{AddsUnordered, AddsOnce, KnowsUnordered}
 use Rattle.nj_audit.specs.declared.kinds.Kind.TheVariants.{UndeclaredInput}

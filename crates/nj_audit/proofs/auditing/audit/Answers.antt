@@ -1,4 +1,4 @@
-use Rattle.std.proofs.Common.{map, sym, ap, subst, ◌∙◌}
+use Rattle.std.proofs.Common.{map, subst, ◌∙◌}
 use Rattle.std.proofs.lemmas.Result.{IfOk-weaker}
 use Rattle.nj_edges.proofs.ChangeLemmas.{flags-are}
 use Rattle.nj_graph.specs.Graph.{edges_of, files_of}

@@ -1,4 +1,3 @@
-use Rattle.std.proofs.Common.{subst, sym, ap, ◌∙◌, ◌++◌}
 use Rattle.nj_audit.proofs.logged_inputs.find_undeclared_inputs.Goals as goal
 
 pub returns : goal.returns

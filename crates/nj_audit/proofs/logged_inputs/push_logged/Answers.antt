@@ -1,4 +1,4 @@
-use Rattle.std.proofs.Common.{◌≡◌, [], ◌∷◌, ◌++◌, get_or, map, take, sym, ap, subst, ◌∙◌}
+use Rattle.std.proofs.Common.{get_or, map, take, subst}
 use Rattle.std.proofs.lemmas.List.{take_all}
 use Rattle.nj_graph.specs.Graph.{files_of}
 use Rattle.nj_graph.specs.Undeclared.{input_of_edge}

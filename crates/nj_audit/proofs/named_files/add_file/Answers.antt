@@ -1,4 +1,4 @@
-use Rattle.std.proofs.Common.{◌≡◌, Some, List, [], sym, ap, subst, ◌∙◌}
+use Rattle.std.proofs.Common.{[], sym, ap, subst, ◌∙◌}
 use Rattle.std.specs.Prelude.{option_and_then, option_copied}
 use Rattle.std.specs.List.{cons_option}
 use Rattle.nj_audit.specs.NamedPaths.{path_named}

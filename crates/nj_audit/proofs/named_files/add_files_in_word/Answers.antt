@@ -1,4 +1,4 @@
-use Rattle.std.proofs.Common.{◌≡◌, Some, List, [], ◌++◌, sym, ap, subst, ◌∙◌}
+use Rattle.std.proofs.Common.{Some, ◌++◌, sym, subst}
 use Rattle.nj_audit.specs.NamedPaths.{after_letter, after_sign}
 use Rattle.nj_audit.specs.Inside.FilesNamed.{AddsFiles, paths_of_name}
 use Rattle.nj_audit.proofs.FileLemmas.{adds-then, names-are}

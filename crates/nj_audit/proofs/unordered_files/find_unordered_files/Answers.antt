@@ -1,4 +1,4 @@
-use Rattle.std.proofs.Common.{◌≡◌, [], ◌++◌, ◌∷◌, length, map, arith, sym, ap, subst, ◌∙◌}
+use Rattle.std.proofs.Common.{◌≡◌, [], ◌++◌, ◌∷◌, length, map, arith, sym, subst}
 use Rattle.nj_graph.specs.Graph.{edges_of}
 use Rattle.nj_audit.specs.Audit.{numbers}
 use Rattle.nj_audit.specs.UnorderedFiles.{AreUnordered, AreNamedUnordered}

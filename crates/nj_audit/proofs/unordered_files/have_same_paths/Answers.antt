@@ -1,4 +1,4 @@
-use Rattle.std.proofs.Common.{◌≡◌, ◌<◌, length, get_or, true, false, true≢false, sym, ap, subst, ◌∙◌, arith}
+use Rattle.std.proofs.Common.{◌<◌, length, true≢false, sym, ◌∙◌, arith}
 use Rattle.nj_graph.specs.Files.{path_at}
 use Rattle.nj_audit.proofs.UnorderedLemmas.{same-at, same-more}
 use Rattle.nj_audit.proofs.unordered_files.have_same_paths.Goals as goal

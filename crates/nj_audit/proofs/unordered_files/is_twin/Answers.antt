@@ -1,4 +1,4 @@
-use Rattle.std.proofs.Common.{◌≡◌, unwrap_or, [], slice_get, sym, ap, subst, ◌∙◌}
+use Rattle.std.proofs.Common.{sym, ◌∙◌}
 use Rattle.nj_edges.proofs.ChangeLemmas.{files-paths}
 use Rattle.nj_graph.specs.Edges.{inputs_of}
 use Rattle.nj_graph.specs.Graph.{files_of}

@@ -1,4 +1,4 @@
-use Rattle.std.proofs.Common.{◌≡◌, List, true, false, true≢false, sym, ap, subst, ◌∙◌, option_map}
+use Rattle.std.proofs.Common.{List, true≢false, sym, ap, subst, ◌∙◌, option_map}
 use Rattle.nj_edges.specs.Changes.{IsOrNeeds}
 use Rattle.nj_graph.specs.Edges.{EdgePaths}
 use Rattle.nj_graph.specs.Files.{path_at}

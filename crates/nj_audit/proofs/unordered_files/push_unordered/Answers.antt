@@ -1,8 +1,8 @@
-use Rattle.std.proofs.Common.{◌≡◌, [], ◌∷◌, ◌++◌, get_or, map, take, true≢false, refl, sym, ap, subst, ◌∙◌}
+use Rattle.std.proofs.Common.{[], ◌∷◌, ◌++◌, get_or, map, take, true≢false, refl, sym, subst, ◌∙◌}
 use Rattle.nj_graph.specs.Edges.{is_among}
 use Rattle.nj_audit.specs.Audit.{path_of}
 use Rattle.nj_audit.specs.Inside.UnorderedFound.{KnowsUnordered}
-use Rattle.nj_audit.proofs.UnorderedLemmas.{unordered-begins, unordered-ends, unordered-more, unordered-none}
+use Rattle.nj_audit.proofs.UnorderedLemmas.{unordered-begins, unordered-more, unordered-none}
 use Rattle.nj_audit.proofs.ListLemmas.{mapped-more}
 use Rattle.nj_audit.proofs.unordered_files.push_unordered.Goals as goal
 use Rattle.nj_audit.proofs.unordered_files.push_unordered.Goals.{then-branch+in_ok-push_once, else-branch}

@@ -1,4 +1,4 @@
-use Rattle.std.proofs.Common.{◌≡◌, ◌==◌, [], cond, codes, length, sym, ap, ◌∙◌}
+use Rattle.std.proofs.Common.{◌==◌, [], cond, codes, length, sym, ap, ◌∙◌}
 use Rattle.nj_graph.specs.Graph.{late_text_of}
 use Rattle.nj_audit.proofs.unordered_files.response.Goals as goal
 
