@@ -16,7 +16,7 @@ from collections import Counter
 from lib.checks import check, expect
 from lib.programs import EXAMPLES
 from lib.projects import write_cmake, write_files
-from lib.random_builds import random_build, some
+from lib.random_builds import HEADERS, deps_log, random_build, some
 from smoke.graph import DONE, FAULT, LOOK, USAGE
 
 PROJECT = EXAMPLES / "project"
@@ -383,17 +383,17 @@ def of_edges(build, folder):
 
 
 def of_others(build):
-    """The findings about rules, pools and sources. No source is on the disk."""
+    """The findings about rules, pools and sources. Of these only the manifest is on the disk."""
     rules, pools = ({edge.rule for edge in build.edges}, {edge.bound.get("pool") for edge in build.edges})
     yield from (("unused rule", build.places["rule", it], it) for it in build.rules if it not in rules)
     yield from (("unused pool", build.places["pool", it], it) for it in build.pools if it not in pools)
     serving = {id(edge) for edge in build.edges if not edge.is_phony()}
     serving |= {id(it) for edge in build.edges if not edge.is_phony() for it in reached(build, edge).values()}
-    made, missing = build.makers(), set()
+    made, known = build.makers(), {"build.ninja"}
     for edge in build.edges:
         for path in edge.paths():
-            if id(edge) in serving and path not in made and path not in missing:
-                missing.add(path)
+            if id(edge) in serving and path not in made and path not in known:
+                known.add(path)
                 yield "missing source", edge.line, path
 
 
@@ -415,3 +415,93 @@ def generated(graph, folder):
         kinds += Counter(kind for kind, _, _ in wanted.elements())
     if fewer := [kind for kind in KINDS if kinds[kind.replace("-", " ")] < BUILDS // 10]:
         yield f"there are too few findings of {fewer}"
+
+
+# ---- deps logs
+
+
+def random_log(chance, build):
+    """The inputs of some outputs, some of them made by earlier edges."""
+    firsts, log = [edge.outputs[0] for edge in build.edges], {"gone": ["o0"]}
+    for index, edge in enumerate(build.edges):
+        earlier = [path for it in build.edges[:index] for path in it.outputs]
+        names = [*some(chance, HEADERS, 2), *some(chance, earlier, 3)]
+        names += ["build.ninja"] if chance.random() < 0.1 else []
+        if chance.random() < 0.8:
+            log[firsts[index]] = chance.sample(names, len(names)) + names[:1]
+    return log
+
+
+def logged_inputs(build, log):
+    """The edges with `deps`, each with the paths that the log names for its first output."""
+    for edge in build.edges:
+        if build.value(edge, "deps"):
+            yield edge, list(dict.fromkeys(log.get(edge.outputs[0], [])))
+
+
+def undeclared_by(build, log):
+    """The undeclared inputs by a log, by edge and in its order."""
+    makers = build.makers()
+    for edge, paths in logged_inputs(build, log):
+        for path in paths if "build.ninja" not in paths else []:
+            maker = makers.get(path, edge)
+            if maker is not edge and maker.outputs[0] not in reached(build, edge):
+                yield "undeclared input", edge.line, path
+
+
+def join(build, log):
+    for edge, paths in logged_inputs(build, log):
+        edge.inputs += [("|", path) for path in paths if path not in edge.paths()]
+
+
+@check
+def logged(graph, folder):
+    """All findings of random builds with a deps log: those that it names come last, in its order."""
+    found_by_log = 0
+    for seed in range(BUILDS):
+        chance = random.Random(seed)
+        build = random_build(chance, name_files(folder))
+        log = random_log(chance, build)
+        write_files(folder, {"build.ninja": build.text().encode(), "log": deps_log(log)})
+        others = list(undeclared_by(build, log))
+        join(build, log)
+        wanted = Counter([*of_edges(build, folder), *others, *of_others(build)])
+        ran = run(graph, folder, [*options(KINDS, []), "--deps-log-file", "log"])
+        lines = [LINE.fullmatch(line).groups() for line in ran.output.splitlines()]
+        found = [(kind, int(line), name) for _, line, _, kind, name in lines]
+        yield from expect(f"build {seed}", (ran.status, Counter(found)), (LOOK if wanted else DONE, wanted))
+        yield from expect(f"build {seed}, last", found[len(found) - len(others) :], others)
+        without = run(graph, folder, ["--except", "undeclared-input", "--deps-log-file=log"]).output
+        yield from expect(f"build {seed}, without", without.count("undeclared input"), 0)
+        found_by_log += len(others)
+    yield from expect("builds with some", found_by_log > BUILDS, True)
+
+
+GENERATED = """\
+rule gen
+  command = gen
+rule cc
+  command = cc $in
+  deps = gcc
+build a.h b.h: gen
+build c.h: gen x
+  command = gen c.h
+build a.o: cc a.c
+build b.o: cc b.c | b.h
+build c.o: cc c.c
+  command = cc c.c c.h
+"""
+
+
+@check
+def generated_headers(graph, folder):
+    """A header that the log names is found where the edge does not need its maker, and found once."""
+    log = deps_log({"a.o": ["a.c", "./a.h", "a.h"], "b.o": ["b.c", "a.h"], "c.o": ["c.c", "c.h"]})
+    files = dict.fromkeys(["a.c", "b.c", "c.c", "x"], b"")
+    write_files(folder, {**files, "build.ninja": GENERATED.encode(), ".ninja_deps": log})
+    declared = "build.ninja:11:1: undeclared input 'c.h'\n"
+    yield from expect("no log", run(graph, folder, []), (LOOK, declared, ""))
+    first = "build.ninja:9:1: undeclared input 'a.h'\n"
+    yield from expect("a log", run(graph, folder, ["--deps-log"]), (LOOK, first + declared, ""))
+    (folder / ".ninja_deps").unlink()
+    yield from expect("none there", run(graph, folder, ["--deps-log"]), (LOOK, declared, ""))

@@ -1,4 +1,5 @@
 mod LineLemmas
+mod LoggedLemmas
 mod FlagLemmas
 mod ManifestLemmas
 mod ReportLaws

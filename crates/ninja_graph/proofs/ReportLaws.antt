@@ -1,6 +1,6 @@
 -- The meaning of no warning; paths have one text of warnings; and which files are at paths.
-use Rattle.std.proofs.Common.{◌≡◌, ◌<◌, ℕ, ◌⊎◌, inl, inr, Option, Some, None, Result, Ok, Err, List, [], ◌∷◌, ◌++◌, map, length, get_or, zero, suc, reverse, refl, sym, ap, subst, ◌∙◌, arith}
-use Rattle.std.specs.Prelude.{Contains, codes, position, bytes_eq}
+use Rattle.std.proofs.Common.{◌≡◌, ◌<◌, ℕ, ◌⊎◌, inl, inr, Option, Some, None, Result, Ok, List, [], ◌∷◌, ◌++◌, map, length, get_or, zero, suc, reverse, refl, sym, ap, subst, ◌∙◌, arith}
+use Rattle.std.specs.Prelude.{Contains, codes, bytes_eq}
 use Rattle.std.specs.List.{All, cons_option, filter_map}
 use Rattle.std.proofs.lemmas.Bool.{false_from_ne_true}
 use Rattle.std.proofs.lemmas.List.{length_push, reverse-append, reverse-reverse}
@@ -20,7 +20,7 @@ use Rattle.ninja_graph.specs.Reports.HasWarnings.{none, last}
 use Rattle.ninja_graph.specs.Reports.IsWarning.{made_from, nothing, unknown}
 use Rattle.ninja_graph.specs.Reports.Reports.{quiet, warned, cut_off, unwarned, refused}
 use Rattle.ninja_graph.specs.declared.status.Status.{Status}
-use Rattle.ninja_graph.specs.declared.status.Status.TheVariants.{Done, Look}
+use Rattle.ninja_graph.specs.declared.status.Status.TheVariants.{Done}
 use Rattle.nj_tools.specs.Sinks.{SinkState}
 use Rattle.nj_tools.specs.declared.error.Error.{Error}
 

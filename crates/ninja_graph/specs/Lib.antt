@@ -2,6 +2,7 @@
 pub mod Affected
 pub mod Chains
 pub mod LogPaths
+pub mod LoggedGraphs
 pub mod Manifest
 pub mod Pages
 pub mod Quotes

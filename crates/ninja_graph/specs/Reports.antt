@@ -3,7 +3,7 @@ use Rattle.std.specs.Prelude.{◌≡◌, ◌≢◌, ℕ, false, Option, Some, No
 use Rattle.std.specs.List.{filter_map}
 use Rattle.nj_graph.specs.ReadingList.{ReadStatement}
 use Rattle.nj_graph.specs.Changes.{IsAffected}
-use Rattle.nj_graph.specs.Graph.{GraphModel, edges_of, files_of, IsGraphOf}
+use Rattle.nj_graph.specs.Graph.{GraphModel, edges_of, files_of}
 use Rattle.nj_tools.specs.Sinks.{SinkState, Takes}
 use Rattle.nj_tools.specs.Texts.{FailsWithin}
 use Rattle.nj_tools.specs.declared.error.Error.{Error}

@@ -1,8 +1,11 @@
 //! The subcommand `audit`: findings about the manifest.
 
+ghost use Rattle.std.specs.Prelude.{IfOk};
+ghost use Rattle.ninja_graph.specs.LoggedGraphs.{HasInputs};
+
 use crate::failure::Failure;
 use crate::findings::{finding_lines, kind_lines};
-use crate::reading::read_graph;
+use crate::reading::{LoggedGraph, read_graph, read_logged_graph};
 use crate::status::Status;
 use crate::words::{flag, repeated};
 use clap::{ArgMatches, Command};
@@ -45,11 +48,26 @@ pub fn answer(rt: HostRuntime, options: &ArgMatches<'_>) -> Result<Status, Failu
         return Ok(Status::Done);
     }
     let kinds = kinds_of(rt.alloc(), options)?;
-    let graph = read_graph(rt, options)?;
-    let written = write_findings(rt, &graph, kinds, options.get_flag("json"));
+    let logged = read_for(rt, kinds, options)?;
+    let written = write_findings(rt, &logged, kinds, options.get_flag("json"));
     // The process ends here, and its memory with it.
-    mem::forget(graph);
+    mem::forget(logged);
     written
+}
+
+/// The graph with the inputs of the requested deps log; those that edges do not declare are found if
+/// findings about them are requested.
+fn read_for(rt: HostRuntime, kinds: Kinds, options: &ArgMatches<'_>) -> Result<LoggedGraph, Failure>
+    ensures { IfOk result HasInputs }
+{
+    if kinds.contains(Kind::UndeclaredInput) {
+        return read_logged_graph(rt, options);
+    }
+    let graph = read_graph(rt, options)?;
+    Ok(LoggedGraph {
+        graph,
+        undeclared: Vec::new(rt.alloc()),
+    })
 }
 
 /// The kinds that `--only` and `--except` select.
@@ -65,13 +83,23 @@ fn kinds_of(alloc: Global, options: &ArgMatches<'_>) -> Result<Kinds, Failure> {
 /// Writes the findings of these kinds; if there is any, that is something to look at.
 fn write_findings(
     rt: HostRuntime,
-    graph: &Graph,
+    logged: &LoggedGraph,
     kinds: Kinds,
     is_json: bool,
-) -> Result<Status, Failure> {
+) -> Result<Status, Failure>
+    requires { HasInputs logged.now }
+{
+    let graph = &logged.graph;
     let missing = missing_files(rt, graph, kinds)?;
     let folder = working_folder(rt)?;
-    let found = audit(rt.alloc(), graph, &missing, &folder, &[], kinds)?;
+    let found = audit(
+        rt.alloc(),
+        graph,
+        &missing,
+        &folder,
+        &logged.undeclared,
+        kinds,
+    )?;
     let lines = finding_lines(rt.alloc(), &found, is_json)?;
     write_whole(&mut WriteSink::new(rt.stdout()), &lines)?;
     if found.as_slice().is_empty() {

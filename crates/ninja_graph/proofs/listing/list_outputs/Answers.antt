@@ -1,5 +1,4 @@
-use Rattle.std.proofs.Common.{[], map, ap, sym, ◌∙◌}
-use Rattle.std.specs.List.{flat_map}
+use Rattle.std.proofs.Common.{[], sym, ◌∙◌}
 use Rattle.std.proofs.lemmas.List.Folds.{flat_map-map}
 use Rattle.ninja_graph.specs.Affected.{asked_of, lines_of_outputs}
 use Rattle.ninja_graph.proofs.LineLemmas.{flat-all, flat-more}

@@ -1,4 +1,4 @@
-use Rattle.std.proofs.Common.{◌<◌, true, map, take, get_or, set, ap, subst}
+use Rattle.std.proofs.Common.{true, map, take, get_or, set, subst}
 use Rattle.std.proofs.lemmas.List.{take_all}
 use Rattle.nj_graph.specs.declared.FileNo.{FileNo}
 use Rattle.ninja_graph.specs.Inside.Flags.{AreFlags}

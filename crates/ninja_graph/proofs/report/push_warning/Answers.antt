@@ -1,7 +1,6 @@
-use Rattle.std.proofs.Common.{◌≡◌, Some, [], ◌∷◌, ◌++◌, option_map, true, false, sym, ap, subst, ◌∙◌, append-nil, true≢false}
+use Rattle.std.proofs.Common.{[], ◌∷◌, ◌++◌, option_map, sym, ap, subst, ◌∙◌, append-nil, true≢false}
 use Rattle.std.specs.Prelude.{option_copied}
 use Rattle.std.proofs.lemmas.Result.{on_ok_weaker}
-use Rattle.nj_graph.specs.Graph.{files_of}
 use Rattle.ninja_graph.specs.Reports.{HasWarnings}
 use Rattle.ninja_graph.specs.Reports.HasWarnings.{last}
 use Rattle.ninja_graph.specs.Reports.IsWarning.{made_from, nothing, unknown}

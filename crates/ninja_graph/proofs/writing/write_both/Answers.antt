@@ -1,4 +1,4 @@
-use Rattle.std.proofs.Common.{◌==◌, length, refl, sym, ap, ◌∙◌}
+use Rattle.std.proofs.Common.{refl, sym, ◌∙◌}
 use Rattle.ninja_graph.proofs.WritingLemmas.{ends-cut_off, ends-quiet, ends-unwarned, ends-warned}
 use Rattle.ninja_graph.proofs.writing.write_both.Goals as goal
 

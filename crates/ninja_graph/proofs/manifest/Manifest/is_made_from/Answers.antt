@@ -1,10 +1,5 @@
-use Rattle.std.proofs.Common.{rules, ◌≡◌, false, [], ◌∷◌, map, slice_index_or, sym, ap, subst, ◌∙◌}
-use Rattle.std.specs.Prelude.{◌↔◌, Contains}
+use Rattle.std.proofs.Common.{rules, ◌≡◌, false, map, slice_index_or, sym, ap, ◌∙◌}
 use Rattle.std.specs.List.{list_any}
-use Rattle.nj_graph.specs.Changes.{IsAffected}
-use Rattle.nj_graph.specs.Files.{path_at}
-use Rattle.nj_graph.specs.Graph.{edges_of, files_of}
-use Rattle.ninja_graph.specs.Manifest.{path_of}
 use Rattle.ninja_graph.proofs.ManifestLemmas.{tells-edges, tells-opened, tells-unreached}
 use Rattle.ninja_graph.proofs.manifest.Manifest.is_made_from.Goals as goal
 

@@ -1,4 +1,4 @@
-use Rattle.std.proofs.Common.{◌≡◌, ℕ, false, length, map, slice_index_or, sym, ap, subst, ◌∙◌}
+use Rattle.std.proofs.Common.{ℕ, false, length, map, slice_index_or, sym, ap, subst, ◌∙◌}
 use Rattle.std.specs.List.{filter_map, list_any}
 use Rattle.nj_graph.specs.declared.FileNo.{FileNo}
 use Rattle.nj_graph.specs.Edges.{maker_of}
