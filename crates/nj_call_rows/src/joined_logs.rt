@@ -94,11 +94,38 @@ fn put_line(alloc: Global, text: &mut Vec<u8>, fault: &GraphFault) -> Result<(),
     text.extend_from_slice(b"\n")
 }
 
-/// The graph with its dyndep files and these logs.
+/// The graph with its dyndep files and these logs. They are read first: a function that owned the
+/// graph while it read them would have to drop it at each of its ends, and proving that takes minutes.
 fn joined(alloc: Global, given: &Given, names: &str) -> Result<Graph, GraphFault> {
-    let mut graph = with_dyndeps(alloc, given)?;
-    'logs: for name in names.split(' ') {
-        graph = with_log(alloc, graph, given.bytes(name))?;
+    let logs = logs_of(alloc, given, names)?;
+    with_logs(alloc, with_dyndeps(alloc, given)?, &logs)
+}
+
+/// The logs of these files.
+fn logs_of(alloc: Global, given: &Given, names: &str) -> Result<Vec<DepsLog>, AllocError> {
+    let mut logs = Vec::new(alloc);
+    'names: for name in names.split(' ') {
+        push_log(alloc, &mut logs, given.bytes(name))?;
+    }
+    Ok(logs)
+}
+
+/// Appends the log of these parts, if it can be read.
+fn push_log(alloc: Global, logs: &mut Vec<DepsLog>, parts: &[u8]) -> Result<(), AllocError> {
+    let log = log_of(alloc, str::from_utf8(parts).unwrap_or("text not UTF-8"))?;
+    match DepsLog::read(alloc, &log) {
+        Ok(log) => logs.push(log)?,
+        Err(DepsLogFault::OutOfMemory) => return Err(AllocError),
+        Err(_) => {}
+    }
+    Ok(())
+}
+
+/// The graph with these logs, one after the other.
+fn with_logs(alloc: Global, graph: Graph, logs: &[DepsLog]) -> Result<Graph, GraphFault> {
+    let mut graph = graph;
+    'logs: for log in logs {
+        graph = graph.join_deps(alloc, log)?;
     }
     Ok(graph)
 }
@@ -108,14 +135,4 @@ fn with_dyndeps(alloc: Global, given: &Given) -> Result<Graph, GraphFault> {
     let mut files = given.source(alloc)?;
     let loaded = read_files(alloc, &mut files, "build.ninja")?;
     Ok(join_dyndeps(alloc, loaded, &mut files)?.into_graph())
-}
-
-/// The graph with the log of these parts. A log that cannot be read adds nothing.
-fn with_log(alloc: Global, graph: Graph, parts: &[u8]) -> Result<Graph, GraphFault> {
-    let log = log_of(alloc, str::from_utf8(parts).unwrap_or("text not UTF-8"))?;
-    match DepsLog::read(alloc, &log) {
-        Ok(log) => graph.join_deps(alloc, &log),
-        Err(DepsLogFault::OutOfMemory) => Err(GraphFault::out_of_memory()),
-        Err(_) => Ok(graph),
-    }
 }
