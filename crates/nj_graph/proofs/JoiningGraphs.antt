@@ -1,6 +1,6 @@
 -- The result of joining all dyndep files: the graph of the joined statements, a cycle, or where it
 -- stops.
-use Rattle.std.proofs.Common.{◌≡◌, ℕ, inl, inr, false, Ok, Err, List, [], ◌∷◌, length, append-nil, refl, sym, ap, subst, ◌∙◌, true≢false}
+use Rattle.std.proofs.Common.{◌≡◌, ℕ, inl, inr, false, Result, Ok, Err, List, [], ◌∷◌, length, append-nil, refl, sym, ap, subst, ◌∙◌, true≢false}
 use Rattle.nj_graph.proofs.FirstTimes.{joins}
 use Rattle.nj_graph.specs.Inside.PathsReached.{with_news, come_joined}
 use Rattle.std.specs.List.{AllByRecursion}
@@ -26,7 +26,7 @@ use Rattle.nj_graph.specs.Inside.GraphHeld.{IsKnown, IsGraph}
 use Rattle.nj_graph.specs.Runs.{ReachedModel}
 use Rattle.nj_graph.specs.Loads.{LoadedModel, IsWhole}
 use Rattle.nj_graph.specs.Joining.{all_joined, Joins}
-use Rattle.nj_graph.specs.Inside.JoiningContracts.{FilesJoined, FilesStop}
+use Rattle.nj_graph.specs.Inside.JoiningContracts.{FilesJoined, FilesStop, JoinsBuilt}
 use Rattle.nj_graph.proofs.Comes.{prefix-self, prefix-named}
 use Rattle.nj_graph.proofs.Tables.{read-nothing}
 use Rattle.nj_graph.proofs.OriginLemmas.{origins-discover}
@@ -91,6 +91,10 @@ module _ (stated : List ReadStatement) (before after : SourceState) (old : List 
       })),
     )
     joins-fault fault (inr cycle) = joins stated old before after (Err fault) (f.files, f.reads.reads, inr (record { entries = f.now; whole = whole; cycle = cycle }))
+
+    pub joins-built : (result : Result BuiltModel GraphFault) → ComesTo f.now result → JoinsBuilt stated before after old table result
+    joins-built (Ok built) comes = (held, f, comes)
+    joins-built (Err fault) comes = joins-fault fault comes
 
     -- ---- the graph
 

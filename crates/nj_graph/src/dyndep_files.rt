@@ -3,11 +3,12 @@
 ghost use Rattle.std.specs.Prelude.{◌≡◌, ◌<◌, List, Some, length, slice_get, IfOk, OnOk};
 ghost use Rattle.nj_scope.specs.Readings.{EachPathOnce, IsPrefix};
 ghost use Rattle.nj_scope.specs.ReadingList.{ReadStatement};
+ghost use Rattle.nj_statements.specs.Built.{IsBuiltOf};
 ghost use Rattle.nj_statements.specs.EdgeList.{Pending};
 ghost use Rattle.nj_statements.specs.JoiningHeld.{HasJoined};
 ghost use Rattle.nj_graph.specs.Graph.{IsGraphOf};
 ghost use Rattle.nj_graph.specs.Joining.{Joins};
-ghost use Rattle.nj_graph.specs.Inside.JoiningContracts.{NamesFile, JoinsText, JoinsFile, JoinsFiles, NextEntryIs};
+ghost use Rattle.nj_graph.specs.Inside.JoiningContracts.{NamesFile, JoinsText, JoinsFile, JoinsFiles, JoinsBuilt, NextEntryIs};
 
 use crate::file_statements::text_at;
 use crate::graph::Graph;
@@ -16,7 +17,7 @@ use nj_edges::FileNo;
 use nj_faults::{Cause, GraphFault, PlaceRef};
 use nj_manifest::{DyndepParser, Entry};
 use nj_scope::{FileSource, FileTable};
-use nj_statements::{DyndepFile, Joining};
+use nj_statements::{Built, DyndepFile, Joining};
 use std::alloc::Global;
 
 /// Joins the dyndep files to which edges are bound ("Dynamic Dependencies" in the Ninja manual):
@@ -49,9 +50,7 @@ pub fn join_dyndeps<S: FileSource>(
         origins,
         main_rules,
     } = graph;
-    let mut joining = built.join(alloc)?;
-    join_files(alloc, source, &mut files, &mut joining)?;
-    let built = joining.finish(alloc)?;
+    let built = join_built(alloc, source, &mut files, built)?;
     let graph = Graph {
         declarations,
         built,
@@ -59,6 +58,24 @@ pub fn join_dyndeps<S: FileSource>(
         main_rules,
     };
     Ok(Loaded { files, graph })
+}
+
+// The edges of a run, to which the dyndep files that they wait for are joined. It owns no more than
+// these, so that each of its ends drops little.
+fn join_built<S: FileSource>(
+    alloc: Global,
+    source: &mut S,
+    files: &mut FileTable,
+    built: Built,
+) -> Result<Built, GraphFault>
+    requires once { EachPathOnce files.old }
+    requires built { (stated : List ReadStatement) × IsBuiltOf built stated }
+    ensures { (stated : List ReadStatement) → IsBuiltOf built stated
+        → JoinsBuilt stated (S.state source.old) (S.state source.new) files.old files.new result }
+{
+    let mut joining = built.join(alloc)?;
+    join_files(alloc, source, files, &mut joining)?;
+    joining.finish(alloc)
 }
 
 // Joins all dyndep files.

@@ -17,12 +17,13 @@ use Rattle.nj_faults.specs.declared.fault.GraphFault.{GraphFault}
 use Rattle.nj_faults.specs.declared.fault.Cause.TheVariants.{PathNotText}
 use Rattle.nj_faults.specs.Faults.{fault_in, no_memory}
 use Rattle.nj_statements.specs.EdgeList.{Pending}
+use Rattle.nj_statements.specs.Built.{BuiltModel, ComesTo}
 use Rattle.nj_statements.specs.Joining.{lacking_fault}
 use Rattle.nj_statements.specs.JoiningHeld.{JoiningModel, HasJoined}
 use Rattle.nj_graph.specs.Reading.{End, Whole, Refused, end_by}
 use Rattle.nj_graph.specs.Runs.{IsRead, IsEnd, IsLacking, paths_with, Stops}
 use Rattle.nj_graph.specs.Inside.ReaderContracts.{ReadsAll}
-use Rattle.nj_graph.specs.Joining.{text_joined, path_asked, file_joined, all_joined}
+use Rattle.nj_graph.specs.Joining.{text_joined, path_asked, file_joined, all_joined, Joins}
 
 -- ---- the name of a file
 
@@ -127,3 +128,12 @@ abbrev pub JoinsFiles : (stated : List ReadStatement) → (before after : Source
     → Result (Unit {0}) GraphFault → Type 0
 JoinsFiles stated before after old table held (Ok done) = FilesJoined stated before after old table held
 JoinsFiles stated before after old table held (Err fault) = FilesStop stated before after old fault
+
+-- ---- the edges of a run
+
+-- the edges with the additions of all files, or why there are none
+abbrev pub JoinsBuilt : (stated : List ReadStatement) → (before after : SourceState) → (old table : List Reading)
+    → Result BuiltModel GraphFault → Type 0
+JoinsBuilt stated before after old table (Ok built) =
+    (held : JoiningModel) × (f : FilesJoined stated before after old table held) × ComesTo f.now (Ok built)
+JoinsBuilt stated before after old table (Err fault) = Joins stated old before after (Err fault)
