@@ -68,11 +68,13 @@ impl Reader {
     pub(crate) fn new(alloc: Global, keys: HashKeys, main: &str) -> Result<Reader, AllocError>
         ensures { IfOk result (λ r. IsNew main.now r) }
     {
+        let declarations = Declarations::new(alloc, keys)?;
+        let origins = Origins::new(alloc, keys, main)?;
         Ok(Reader {
-            declarations: Declarations::new(alloc, keys)?,
+            declarations,
             building: Building::new(alloc, keys),
             files: FileTable::new(alloc, keys),
-            origins: Origins::new(alloc, keys, main)?,
+            origins,
         })
     }
 
