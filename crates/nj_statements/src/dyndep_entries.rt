@@ -1,9 +1,9 @@
 //! The additions of dyndep files to the edges of a run.
 
-ghost use Rattle.std.specs.Prelude.{◌≡◌, ◌<◌, ◌==◌, List, [], Some, None, option_map, unwrap_or, length, slice_get, replicate, slice_index_or, IfOk, IfSome, OnOk, OnErr};
+ghost use Rattle.std.specs.Prelude.{◌≡◌, ◌<◌, ◌==◌, List, [], Some, None, option_map, unwrap_or, length, slice_get, replicate, slice_index_or, bytes_eq, IfOk, IfSome, OnOk, OnErr};
 ghost use Rattle.nj_scope.specs.Scopes.{first_given};
 ghost use Rattle.std.specs.Option.{option_or};
-ghost use Rattle.std.specs.List.{AllByRecursion};
+ghost use Rattle.std.specs.List.{AllByRecursion, IsDistinct};
 ghost use Rattle.nj_text.specs.Words.{word_model};
 ghost use Rattle.nj_manifest.specs.Contents.{words_model};
 ghost use Rattle.nj_manifest.specs.DyndepParsers.{entry_model};
@@ -11,7 +11,7 @@ ghost use Rattle.nj_scope.specs.Readings.{IsPrefix};
 ghost use Rattle.nj_scope.specs.ReadingList.{ReadStatement};
 ghost use Rattle.nj_edges.specs.Edges.{edge_at, first_output, first_edge, maker_of};
 ghost use Rattle.nj_names.specs.Files.{path_at};
-ghost use Rattle.nj_edges.specs.Joining.{none_added};
+ghost use Rattle.nj_edges.specs.Joining.{join_of, none_added};
 ghost use Rattle.nj_faults.specs.Faults.{IsFault, fault_at};
 ghost use Rattle.nj_statements.specs.EdgeList.{path_given, paths_given, pending_read};
 ghost use Rattle.nj_statements.specs.BuildFaults.{empty_path, outputs_fault};
@@ -26,7 +26,7 @@ use crate::built::{Built, cycle_fault, place_of};
 use crate::edge_record::Detail;
 use crate::scratch::Capacity;
 use nj_edge_env::Blocks;
-use nj_edges::{EdgeNo, FileNo, Finished, JoiningEdges};
+use nj_edges::{EdgeGraph, EdgeNo, FileNo, Finished, JoiningEdges};
 use nj_faults::{Cause, GraphFault, Name, PlaceRef};
 use nj_manifest::{Entry, Word};
 use nj_names::Names;
@@ -95,12 +95,12 @@ impl Built {
             defaults,
             dyndeps,
         } = self;
-        let bound = bound_files(alloc, graph.edge_count(), &dyndeps)?;
-        let edges = graph.join(alloc)?;
-        let Awaited {
+        let Start {
+            edges,
             dyndep_files,
+            bound,
             unjoined,
-        } = awaited_files(alloc, edges.files().count(), &dyndeps)?;
+        } = start_of(alloc, graph, &dyndeps)?;
         Ok(Joining {
             edges,
             blocks,
@@ -113,6 +113,44 @@ impl Built {
             capacity: Capacity::new(alloc),
         })
     }
+}
+
+// The edges before anything is joined to them, and the dyndep files that they wait for.
+#[derive(Drop)]
+struct Start {
+    edges: JoiningEdges,
+    dyndep_files: Vec<DyndepEdge>,
+    bound: Vec<Option<FileNo>>,
+    unjoined: Vec<usize>,
+}
+
+// The edges of a graph, and the dyndep files of some of them. It owns no more than the graph, so
+// that each of its ends drops little.
+fn start_of(alloc: Global, graph: EdgeGraph, dyndeps: &[DyndepEdge]) -> Result<Start, AllocError>
+    requires edges { AllByRecursion (λ d. d.edge < length graph.edges) dyndeps.now }
+    requires files { AllByRecursion (λ d. d.file.0 < length graph.files) dyndeps.now }
+    ensures edges { IfOk result (λ start. start.edges ≡ join_of graph) }
+    ensures once { IfOk result (λ start. IsDistinct bytes_eq graph.files) }
+    ensures bound { IfOk result (λ start. start.bound.items
+        ≡ bind_all dyndeps.now (replicate (length graph.edges) None)) }
+    ensures dyndep_files { IfOk result (λ start.
+        start.dyndep_files.items ≡ first_edges dyndeps.now) }
+    ensures count { IfOk result (λ start. length start.unjoined.items ≡ length graph.files) }
+    ensures unjoined { IfOk result (λ start. (file : FileNo)
+        → slice_index_or start.unjoined.items file.0 0 ≡ count_bound file dyndeps.now) }
+{
+    let bound = bound_files(alloc, graph.edge_count(), dyndeps)?;
+    let Awaited {
+        dyndep_files,
+        unjoined,
+    } = awaited_files(alloc, graph.files().count(), dyndeps)?;
+    let edges = graph.join(alloc)?;
+    Ok(Start {
+        edges,
+        dyndep_files,
+        bound,
+        unjoined,
+    })
 }
 
 // For each edge, the dyndep file to which it is bound.
