@@ -32,7 +32,7 @@ INSTALLED_HEADERS := $(DESTDIR)$(PREFIX)/include
 INSTALLED_LIBRARY := $(DESTDIR)$(PREFIX)/$(LIBRARY)
 INSTALLED_PC := $(DESTDIR)$(PREFIX)/lib/pkgconfig/ninja_explain.pc
 
-.PHONY: pages all c run test check gate lint smoke c-test sweep install install-c uninstall dist dist-check
+.PHONY: pages all c run test check edits gate lint smoke c-test sweep install install-c uninstall dist dist-check
 .PHONY: fuzz-c wheel save-proofs load-proofs clean
 
 # Proves and builds the programs as bin/ninja-explain and bin/ninja-graph. `rt all` proves a program and
@@ -94,10 +94,16 @@ test:
 check:
 	@python3 scripts/check_crate.py $(CRATE)
 
-# The gate: every proof from nothing, the must-fail edits, the tests and the stored runs, by `rt ci`,
-# and then `make smoke`. The program remains in $(BUILT).
+# Tries the must-fail edits of the crates that changed since theirs were refused, and writes where each
+# was refused in edits/refused. With CRATES='nj_text ..' it tries those of these crates, with ALL=1 all.
+edits:
+	@python3 scripts/edits.py $(if $(ALL),--all) $(CRATES)
+
+# The gate: every proof from nothing and the stored runs, by `rt ci`; the must-fail edits of the crates
+# that changed since theirs were refused, and of two others; and `make smoke`. With ALL=1 it tries all
+# edits. The program remains in $(BUILT).
 gate:
-	@scripts/gate.sh
+	@scripts/gate.sh $(if $(ALL),--all)
 
 # Writes the pages, and the parts of pages, that scripts read off the sources.
 pages:

@@ -2,7 +2,8 @@
 """Runs the checks that a change of one crate needs before a commit: check_crate.py CRATE
 
 Its check, its tests and stored run without proof, the tests that name it in crates.txt, the rows if
-they stand on it, its must-fail edits, and the layout of its files, which is only compared. Then the
+they stand on it, its must-fail edits, for which edits/refused is written, and the layout of its
+files, which is only compared. Then the
 crates above it are named, which the change reaches and which nothing here checks.
 
 The last line is `N passed, M failed`, and the status is 1 if anything failed.
@@ -15,6 +16,7 @@ import tempfile
 from pathlib import Path
 
 from gate_table import crates_below
+from lib.edits import edits_of
 from run_tests import has_tests
 
 TOP = Path(__file__).resolve().parent.parent
@@ -73,8 +75,9 @@ def main():
         script = [sys.executable, TOP / "scripts/run_tests.py", *runs]
         results.append(runs_well(f"tests and rows of {', '.join(runs)}", script, TOP))
     results.append(runs_well("check", ["rt", "check"], top))
-    if any(top.glob("must-fail/*.edit")):
-        results.append(runs_well("edits", ["rt", "must-fail", crate], TOP))
+    if edits_of(TOP, crate):
+        script = [sys.executable, TOP / "scripts/edits.py", crate]
+        results.append(runs_well("edits", script, TOP))
     reached = above(crate, below)
     print(f"Not checked, and above {crate}: {', '.join(reached) or 'no crate'}")
     print(f"{sum(results)} passed, {len(results) - sum(results)} failed")

@@ -15,6 +15,7 @@ import re
 import sys
 from pathlib import Path
 
+from lib.edits import edits_of
 from lib.programs import CRATES, ROOT
 
 PAGE = ROOT / "docs/ARCHITECTURE.md"
@@ -74,7 +75,7 @@ def table(head, rows):
 
 def crate_row(crate, uses):
     code = used_in_code(crate, uses)
-    edits = len(list((CRATES / crate).glob("must-fail/*.edit")))
+    edits = len(edits_of(ROOT, crate))
     counts = [
         lines(crate, "src/**/*.rt"),
         lines(crate, "specs/*.antt"),

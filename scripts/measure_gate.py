@@ -1,8 +1,8 @@
 #!/usr/bin/env python3
-"""Runs the gate and measures it: measure_gate.py [--table FILE] [--print] [WORD..]
+"""Runs the gate and measures it: measure_gate.py [--top FOLDER] [--table FILE] [--print] [WORD..]
 
-Runs `rt ci` with these arguments, as `--anew`, at the top of the repository, and follows the processes
-that it starts. Its output passes through, and the status is its own. A failure of the measuring
+Runs `rt ci` with these arguments, as `--anew`, at the top of the repository, or of the copy that is
+FOLDER, and follows the processes that it starts. Its output passes through, and the status is its own. A failure of the measuring
 changes neither; it is reported on standard error.
 
 --table writes to FILE, in Markdown, the CPU and wall-clock time of each step of each crate, the sums
@@ -52,11 +52,11 @@ def guarded(call, *given):
 class Gate:
     """`rt ci`, its output, and the meter that follows it."""
 
-    def __init__(self, words, holds_last):
+    def __init__(self, words, top, holds_last):
         self.meter = self.usage = None
         self.next_look = 0.0
         self.holds_last, self.last, self.is_read = holds_last, b"", True
-        self.run = subprocess.Popen(["rt", "ci", *words], cwd=TOP, stdout=subprocess.PIPE)
+        self.run = subprocess.Popen(["rt", "ci", *words], cwd=top, stdout=subprocess.PIPE)
 
     def measure(self, printed):
         """Looks at the processes if it is time, unless an earlier look failed."""
@@ -116,7 +116,7 @@ def end_as(code):
 
 def report(gate, machine, words):
     """Writes the table and prints the sums by crate."""
-    table = Table(gate.meter, gate.usage, machine, TOP)
+    table = Table(gate.meter, gate.usage, machine, words.top)
     if words.table:
         Path(words.table).parent.mkdir(parents=True, exist_ok=True)
         Path(words.table).write_text(table.whole(), encoding="utf-8")
@@ -128,6 +128,7 @@ def parsed():
     """The options of this script, and the arguments of `rt ci`."""
     layout = argparse.RawDescriptionHelpFormatter
     words = argparse.ArgumentParser(description=__doc__, formatter_class=layout, allow_abbrev=False)
+    words.add_argument("--top", metavar="FOLDER", type=Path, default=TOP)
     words.add_argument("--table", metavar="FILE")
     words.add_argument("--print", action="store_true")
     return words.parse_known_args()
@@ -139,13 +140,13 @@ def main():
     signal.signal(signal.SIGINT, lambda *_: None)
     machine = guarded(Machine)
     try:
-        gate = Gate(of_gate, words.print)
+        gate = Gate(of_gate, words.top, words.print)
     except OSError as error:
         print(f"measure_gate.py: rt does not start: {error}", file=sys.stderr)
         return 127
     for number in (signal.SIGTERM, signal.SIGHUP):
         signal.signal(number, lambda number, _: os.kill(gate.run.pid, number))
-    gate.meter = guarded(Meter, gate.run.pid, TOP)
+    gate.meter = guarded(Meter, gate.run.pid, words.top)
     code = gate.follow()
     if gate.meter and machine:
         guarded(report, gate, machine, words)

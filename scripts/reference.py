@@ -17,6 +17,7 @@ import sys
 from collections import Counter
 from dataclasses import dataclass, field
 
+from lib.edits import edits_of
 from lib.programs import CRATES, ROOT
 from map import crates, first_sentence, root_of
 
@@ -129,7 +130,7 @@ def types_in(file, public):
 
 def add_edits(crate, calls):
     """Notes for each must-fail edit of the crate which calls it changes."""
-    for edit in sorted((CRATES / crate).glob("must-fail/*.edit")):
+    for edit in edits_of(ROOT, crate):
         changes = re.findall(r"^file:\s*(\S+)\n(?:old:\s*(.*)\n)", edit.read_text(), re.M)
         for file, old in changes:
             for call in calls:

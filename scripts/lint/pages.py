@@ -54,7 +54,7 @@ def links_lead_somewhere():
 def declared():
     """The words of the sources, and the names of their files."""
     kinds = "crates/*/src/**/*.rt", "crates/*/specs/**/*.antt", "crates/*/proofs/**/*.antt"
-    kinds += "crates/*/must-fail/*.edit", "crates/*/data/*", "scripts/**/*.py", "bench/*.py"
+    kinds += "edits/*/*.edit", "crates/*/data/*", "scripts/**/*.py", "bench/*.py"
     kinds += "include/*", "Makefile", "examples/**/*.ninja", "python/**/*.py"
     files = {file for kind in kinds for file in ROOT.glob(kind) if file.is_file()}
     files.discard(Path(__file__))
