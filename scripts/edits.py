@@ -18,6 +18,7 @@ import contextlib
 import subprocess
 import sys
 import tempfile
+from datetime import date
 from pathlib import Path
 
 from lib import edits
@@ -120,6 +121,8 @@ def gate(everything, table, sources, record):
             elif at != known_at:
                 failures.append(f"{crate}/{name}: refused at {at}, and edits/refused says {known_at}")
             passed += bool(at) and at == known_at
+    if crates == known and not failures:
+        print(f"All {passed} edits were tried on {date.today()}, at {commit()}.")
     return summed(passed, failures)
 
 

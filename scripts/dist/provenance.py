@@ -1,5 +1,5 @@
-"""The origins of a release, as text: the commit, the toolchain, the logic that each binary names,
-and the verdict on each crate."""
+"""The origins of a release, as text: the commit, the toolchain, the logic that each binary names, the
+verdict on each crate, and when all must-fail edits were tried."""
 
 import re
 import subprocess
@@ -9,6 +9,8 @@ from lib import verdicts
 from lib.programs import ROOT
 
 LINE = re.compile(r"rattle-kit-\S+ logic ([0-9a-f]{16})")
+# How the gate says that it tried all must-fail edits.
+TRIED = re.compile(r"^All \d+ edits were tried on .*$", re.M)
 
 
 def output_of(*words):
@@ -42,6 +44,9 @@ def text(version, commit, toolchain, logics, sums, log):
     lines += [f"    {name:{width}}  {logic}" for name, logic in logics.items()]
     lines += ["", "The verdict on each crate:", ""]
     lines += [f"    {name:{width}}  {told.get(name, 'not kept')}" for name in packed_crates()]
+    tried = TRIED.search(log or "")
+    lines += ["", "Must-fail edits:", ""]
+    lines += [f"    {tried[0] if tried else 'the log of the gate does not say that all were tried'}"]
     lines += ["", "Checksums by SHA-256:", ""]
     lines += [f"    {line}" for line in sums.splitlines()]
     return "\n".join([*lines, ""])

@@ -24,8 +24,8 @@ RUN = ("stdin", "stdout", "args", "status", "data")
 # How `rt` tells of an edit, and how it names a goal that is open with it.
 TOLD = re.compile(r"^(?:rt: )?must-fail (\w+)/([\w.-]+)\.edit: (.*)$", re.M)
 REFUSED = "refused, as it must be"
-OPEN = re.compile(r"(\w+/\S+\.\w+):(\d+):\d+: (.*)")
-GOAL = re.compile(r"\(`([^`]+)`\)")
+OPEN = re.compile(r"((?:src|proofs|specs)/\S+)\.\w+:(\d+):\d+: (?:error: )?(.*)")
+GOAL = re.compile(r"^`([^`]+)`|\(`([^`]+)`\)")
 # `rt` cuts what it tells, at a place that depends on the number of the line.
 SURE = 60
 FUNCTION = re.compile(r"\bfn (\w+)")
@@ -98,16 +98,26 @@ def changed(edit, folder):
     return texts
 
 
+def function_at(file, line, edit, folder):
+    """The function in a line of the code, or the one whose proof has the line."""
+    part, *names = file.split("/")
+    if part == "proofs":
+        return "::".join(names[:-1])
+    path = f"{file}.rt"
+    text = changed(edit, folder).get(path) or Path(folder, path).read_text()
+    above = FUNCTION.findall("\n".join(text.split("\n")[:line]))
+    return "::".join([*names, *above[-1:]])
+
+
 def place_of(said, edit, folder):
-    """Where an edit was refused: the file, the function and the goal that `rt` names."""
+    """Where an edit was refused: the function and the goal that `rt` names, or else its words."""
     found = OPEN.search(said)
     if not found:
         return said.removeprefix(REFUSED).lstrip(" :")[:SURE] or "refused"
     file, line, words = found.groups()
-    text = changed(edit, folder).get(file) or Path(folder, file).read_text()
-    above = FUNCTION.findall("\n".join(text.split("\n")[: int(line)]))
     goal = GOAL.search(words)
-    return f"{file}, {above[-1] if above else 'no function'}: {goal[1] if goal else words[:SURE]}"
+    goal = next(filter(None, goal.groups())) if goal else words[:SURE]
+    return f"{function_at(file, int(line), edit, folder)}: {goal}"
 
 
 def copy_with_edits(sources, tried, to):
