@@ -8,7 +8,7 @@ use Rattle.std.proofs.lemmas.List.Folds.{drop_split}
 use Rattle.std.proofs.lemmas.Option.{slice_get_within, get_or_from_slice_get}
 use Rattle.std.proofs.Math.Path.{fun_ext}
 use Rattle.std.proofs.Math.Seq.{drop-length}
-use Rattle.nj_cycles.specs.Cycles.{AreEdges, IsFirstOnCycle, IsLeastOnCycle, Needs, Chain}
+use Rattle.nj_cycles.specs.Cycles.{AreEdges, IsAcyclic, IsFirstOnCycle, IsLeastOnCycle, Needs, Chain}
 use Rattle.nj_cycles.specs.Cycles.Chain.{one, more}
 use Rattle.nj_names.specs.declared.files.FileNo.{FileNo}
 use Rattle.nj_edges.specs.declared.edges.EdgeRow.{EdgeRow}
@@ -18,6 +18,7 @@ use Rattle.nj_edges.specs.Edges.{EdgePaths, edge_at, outputs_of, first_edge, mak
 use Rattle.nj_edges.specs.Inside.EdgesHeld.{paths_at, within, edge_of, edges_of, table_of, has_number, AreNumbers, RowIsWithin, output_rows, makers_in_rows, EdgesAreHeld}
 use Rattle.nj_edges.specs.EdgeTables.{EdgeTable, no_files}
 use Rattle.nj_names.specs.Files.{path_at, AreFiles}
+use Rattle.nj_edges.specs.Graph.{IsFirstCycle}
 use Rattle.nj_edges.specs.Inside.GraphHeld.{ends_of}
 use Rattle.nj_edges.specs.Needs.{makers_of_inputs}
 use Rattle.nj_edges.proofs.EdgeLemmas.{all-drop, all-get, all-take, first-more, get-path, maker-read, length-open, within-numbers}
@@ -148,6 +149,14 @@ module _ (files : List (List ℕ)) (makers : List (Option ℕ)) (outputs inputs 
 
 pub on-edge : (edges : List EdgePaths) (e : ℕ) → IsLeastOnCycle (makers_of_inputs edges) e → (e < length edges) × IsLeastOnCycle (makers_of_inputs edges) e
 on-edge edges e least = (chain-below edges e e least.0, least)
+
+pub acyclic-held : (files : List (List ℕ)) (outputs inputs validations : List FileNo) (rows : List EdgeRow) (starts : OpenStarts) (t : EdgeTable)
+    → table_of files outputs inputs validations rows starts ≡ t → IsFirstCycle t.edges None
+    → IsAcyclic (makers_of_inputs (edges_of files outputs inputs validations rows)) (length rows)
+acyclic-held files outputs inputs validations rows starts t is none =
+    let edges = edges_of files outputs inputs validations rows in
+    let count : length edges ≡ length rows = length-map rows (edge_of files outputs inputs validations) in
+    subst (λ n. IsAcyclic (makers_of_inputs edges) n) count (subst (λ es. IsAcyclic (makers_of_inputs es) (length es)) (sym (ap (λ u. u.edges) is)) none)
 
 pub same-first : (makers : List (Option ℕ)) (inputs ins : List FileNo) (rows : List EdgeRow) (found first : Option ℕ) → ins ≡ inputs → found ≡ first
     → IsFirstOnCycle (makers_in_rows ins rows makers) (length rows) found → IsFirstOnCycle (makers_in_rows inputs rows makers) (length rows) first

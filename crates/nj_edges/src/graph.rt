@@ -1,13 +1,14 @@
 //! The graph of all edges of a run.
 
-ghost use Rattle.std.specs.Prelude.{◌≡◌, ℕ, List, ◌+◌, ◌<◌, ◌≤◌, ◌^◌, None, Some, is_some, length, slice_get, option_map, position, bytes_eq, map, IfOk, All, IfSome, if◌then◌else◌, nat_lt};
-ghost use Rattle.std.specs.List.{IsDistinct, list_any};
+ghost use Rattle.std.specs.Prelude.{◌≡◌, ℕ, List, ◌+◌, ◌<◌, ◌≤◌, ◌^◌, None, Some, is_some, length, slice_get, option_map, position, bytes_eq, map, IfOk, All, IfSome, if◌then◌else◌, nat_lt, not};
+ghost use Rattle.std.specs.List.{AllByRecursion, IsDistinct, filter, list_any};
 ghost use Rattle.nj_cycles.specs.Cycles.{IsAcyclic};
 ghost use Rattle.nj_edges.specs.Edges.{edge_at, outputs_of, inputs_of, kind_at, is_named, maker_of, roots_of, users_of, validation_users_of};
-ghost use Rattle.nj_edges.specs.Inside.EdgesHeld.{AreNumbers, paths_at, within};
+ghost use Rattle.nj_edges.specs.Inside.EdgesHeld.{AreNumbers, IsWithin, has_number, paths_at, within};
+ghost use Rattle.nj_edges.specs.Inside.UsersHeld.{HaveUsers, HaveUsersIfAny, numbers_of, using_edges};
 ghost use Rattle.nj_edges.specs.EdgeTables.{no_files};
 ghost use Rattle.nj_names.specs.Files.{path_at, AreFiles};
-ghost use Rattle.nj_edges.specs.Graph.{FinishesAs};
+ghost use Rattle.nj_edges.specs.Graph.{FinishesAs, IsFirstCycle};
 ghost use Rattle.nj_edges.specs.Needs.{makers_of_inputs};
 
 use crate::edges::{EdgeNo, EdgeRow, Edges, Kind, KindEnds};
@@ -306,6 +307,17 @@ impl Edges {
         requires { self.«open» ≡ no_files }
         ensures { IfOk result (λ finished. FinishesAs self.files self.edges finished) }
     {
+        if let Some(cycle) = self.first_cycle(alloc)? {
+            return Ok(Finished::Cycle(cycle));
+        }
+        let lists = graph_lists(
+            alloc,
+            self.files.count(),
+            &self.outputs,
+            &self.inputs,
+            &self.validations,
+            &self.rows,
+        )?;
         let Edges {
             files,
             makers,
@@ -315,26 +327,6 @@ impl Edges {
             rows,
             ..
         } = self;
-        let held = InputMakers {
-            inputs: &inputs,
-            rows: &rows,
-            makers: &makers,
-        };
-        if let Some(edge) = first_on_cycle(alloc, &held)? {
-            let row = row_at(&rows, edge);
-            let cycle = cycle_edge(alloc, &files, &outputs, row, EdgeNo(edge))?;
-            return Ok(Finished::Cycle(cycle));
-        }
-        let count = files.count();
-        let roots = roots(alloc, count, &outputs, &inputs)?;
-        let users = users_of_files(alloc, count, &inputs, &rows, RowPart::Inputs)?;
-        let validation_users = users_if_any(
-            alloc,
-            count,
-            &validations,
-            &rows,
-            RowPart::Validations,
-        )?;
         Ok(Finished::Graph(EdgeGraph {
             files,
             makers,
@@ -342,11 +334,78 @@ impl Edges {
             inputs,
             validations,
             rows,
-            roots,
-            users,
-            validation_users,
+            roots: lists.roots,
+            users: lists.users,
+            validation_users: lists.validation_users,
         }))
     }
+
+    // The lowest-numbered edge on a dependency cycle, if any.
+    fn first_cycle(&self, alloc: Global) -> Result<Option<CycleEdge>, AllocError>
+        requires { self.now.«open» ≡ no_files }
+        ensures { IfOk result (λ cycle. IsFirstCycle self.now.edges cycle) }
+    {
+        let held = InputMakers {
+            inputs: &self.inputs,
+            rows: &self.rows,
+            makers: &self.makers,
+        };
+        match first_on_cycle(alloc, &held)? {
+            Some(edge) => {
+                let row = row_at(&self.rows, edge);
+                let cycle = cycle_edge(alloc, &self.files, &self.outputs, row, EdgeNo(edge))?;
+                Ok(Some(cycle))
+            }
+            None => Ok(None),
+        }
+    }
+}
+
+// What a graph keeps beside its edges: its roots, and the users of files.
+#[derive(Drop)]
+struct GraphLists {
+    roots: Vec<FileNo>,
+    users: Users,
+    validation_users: Option<Users>,
+}
+
+// The same of the edges of these rows.
+fn graph_lists(
+    alloc: Global,
+    file_count: usize,
+    outputs: &[FileNo],
+    inputs: &[FileNo],
+    validations: &[FileNo],
+    rows: &Rows,
+) -> Result<GraphLists, AllocError>
+    requires outputs { AreNumbers file_count outputs.now }
+    requires inputs { AreNumbers file_count inputs.now }
+    requires validations { AreNumbers file_count validations.now }
+    requires input_rows { AllByRecursion
+        (λ row. IsWithin row.inputs (length inputs.now)) rows.now }
+    requires validation_rows { AllByRecursion
+        (λ row. IsWithin row.validations (length validations.now)) rows.now }
+    ensures roots { IfOk result (λ lists. lists.roots.items
+        ≡ filter (λ file. not (has_number file.0 inputs.now)) outputs.now) }
+    ensures users { IfOk result (λ lists. HaveUsers file_count lists.users.starts.items
+        (numbers_of lists.users.edges.items) (using_edges inputs.now RowPart.Inputs 0 rows.now)) }
+    ensures validation_users { IfOk result (λ lists. HaveUsersIfAny file_count
+        lists.validation_users (using_edges validations.now RowPart.Validations 0 rows.now)) }
+{
+    let roots = roots(alloc, file_count, outputs, inputs)?;
+    let users = users_of_files(alloc, file_count, inputs, rows, RowPart::Inputs)?;
+    let validation_users = users_if_any(
+        alloc,
+        file_count,
+        validations,
+        rows,
+        RowPart::Validations,
+    )?;
+    Ok(GraphLists {
+        roots,
+        users,
+        validation_users,
+    })
 }
 
 // The edge of this row and number, with the path of its first output.
