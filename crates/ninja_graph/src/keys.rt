@@ -76,7 +76,7 @@ fn page_of(
 ) -> Result<Page, Error> {
     let targets = graph.pick_targets(alloc, options.get_strs("targets").unwrap_or(&[]))?;
     let take = options.get_one::<u64>("take");
-    page_from(alloc, graph, bases, &targets, mark, take)
+    Ok(page_from(alloc, graph, bases, &targets, mark, take)?)
 }
 
 /// The directories at these paths, which have to be absolute.

@@ -15,8 +15,7 @@ use crate::bases::Bases;
 use crate::fields::{Key, kept_key};
 use crate::keys::keep_key;
 use nj_graph::{EdgeNo, FileNo, Graph};
-use nj_needs::{Mark, Needs};
-use nj_tools::Error;
+use nj_needs::{Mark, MarkFault, Needs};
 use std::alloc::{AllocError, Global};
 
 /// Lines of commands, and the mark at which the rest can be had, if any are left.
@@ -41,12 +40,12 @@ pub fn page_from(
     targets: &[FileNo],
     mark: &Mark,
     take: Option<u64>,
-) -> Result<Page, Error>
+) -> Result<Page, MarkFault>
     requires { All (λ file. file.0 < length (files_of graph.now)) targets.now }
     ensures valid { IfOk result (λ _. is_valid (makers_of graph.now.built.graph)
         (row_of graph.now.built.graph targets.now) mark.now ≡ true) }
-    ensures refused { IfErr result (λ error. (error ≡ Error.OutOfMemory)
-        ⊎ ((error ≡ Error.MarkOutOfRange) × (is_valid (makers_of graph.now.built.graph)
+    ensures refused { IfErr result (λ fault. (fault ≡ MarkFault.OutOfMemory)
+        ⊎ ((fault ≡ MarkFault.MarkOutOfRange) × (is_valid (makers_of graph.now.built.graph)
         (row_of graph.now.built.graph targets.now) mark.now ≡ false))) }
     ensures lines { (entries : List ReadStatement) → IsGraphOf graph.now entries
         → IfOk result (λ page. ListsKeys bases.now (edges_of graph.now) entries
