@@ -2,10 +2,6 @@
 PROGRAM := crates/ninja_explain
 BUILT := $(PROGRAM)/out/ninja_explain
 GRAPH := crates/ninja_graph/out/ninja_graph
-# They run rows: `make sweep` refuses memory to the sinks of one, and `make smoke` has the other one
-# read deps logs.
-RUN_ROWS := crates/nj_run_rows/out/nj_run_rows
-CALL_ROWS := crates/nj_call_rows/out/nj_call_rows
 # The library for C as it is proved, and the archive of the toolchain with the object that calls
 # `malloc` and `free` for it.
 PROVED_C := crates/nj_c/out/libnj_c.a
@@ -85,9 +81,9 @@ endif
 	@echo "Nothing is proved yet: 'make' proves and builds the program, 'make gate' proves all."
 
 # Runs all rows and stored runs, with run-time checks and without any proof, and the checks that read
-# files alone.
+# files alone. With ROWS=loads it runs only the rows of that file, tests/*/data/loads.rows.
 test:
-	@python3 scripts/run_tests.py --jobs $(JOBS)
+	@python3 scripts/run_tests.py --jobs $(JOBS) $(if $(ROWS),--rows "$(ROWS)")
 
 # The checks of one crate before a commit, with CRATE=nj_text: its check, its edits, the tests
 # and rows on it, and the layout of its files. It names the crates above.
@@ -115,7 +111,7 @@ lint:
 
 # Runs the built programs on real files, and the short sweeps. With CHECKS='NAME..' it runs the checks
 # of these names alone, as lint and sweep do.
-smoke: $(BUILT) $(GRAPH) $(CALL_ROWS)
+smoke: $(BUILT) $(GRAPH)
 	@python3 scripts/smoke --jobs $(JOBS) $(CHECKS)
 
 # Runs the library for C and the examples on it beside the program, and on inputs that it must refuse.
@@ -133,16 +129,12 @@ fuzz-c:
 
 # Makes everything that can fail do so once, changes each byte of small projects, runs every tool on
 # 100,000 edges, and runs the program on 100,000 hostile manifests.
-sweep: $(BUILT) $(RUN_ROWS)
+sweep: $(BUILT) $(LIBRARY).so
 	@python3 scripts/sweep --jobs $(JOBS) $(CHECKS)
 
 # `make` and `make gate` build them.
 $(BUILT) $(GRAPH): $(wildcard crates/*/src/*.rt)
 	$(MAKE) all
-
-# `make gate` builds them.
-$(RUN_ROWS) $(CALL_ROWS): $(wildcard crates/*/src/*.rt)
-	cd $(dir $@).. && rt run > /dev/null
 
 # Installs the programs that `make` built, their man pages, and completions for three shells; and the
 # library for C where `make c` built it. Refuses files that name no logic in which they were proved.

@@ -2,7 +2,7 @@
 """Feeds the library for C with libFuzzer's mutations of seeds: fuzz_c.py [--seconds N] [--jobs N]
 
 fuzz_c.c describes the form of an input, and the conditions that have to hold. The seeds are the projects of examples/ and of
-lib/projects.py, and the rows of crates/nj_*_rows with the files that they run on; the dictionary
+lib/projects.py, and the rows of tests/ with the files that they run on; the dictionary
 has texts with a meaning in a manifest (`lib/strangers.py`), and the arguments of the program. New
 inputs are kept in lib/fuzz_c/corpus, from which the next run begins.
 
@@ -24,9 +24,11 @@ import time
 from dataclasses import dataclass
 from pathlib import Path
 
+from lib.composed import TESTS
 from lib.options import EVERY_TOOL, TOOLS
-from lib.programs import CRATES, EXAMPLES, ROOT
+from lib.programs import EXAMPLES, ROOT
 from lib.projects import MAIN, PROJECTS, RUNS, files_below
+from lib.rows import projects_of
 from lib.strangers import LINES, PIECES
 from lint import header
 
@@ -94,77 +96,6 @@ def build(clang, name, *options):
     return fuzzer
 
 
-# ---- rows
-
-
-INDENT = "    "
-FILES = "file", "unended", "repeat"
-# Of the lines that a row repeats, this many are taken.
-MOST_REPEATED = 40
-
-
-def blocks_of(text):
-    """The lines of a file of rows that are not indented, each with those that belong to it."""
-    blocks = []
-    for line in text.split("\n"):
-        if line.startswith(INDENT) and blocks:
-            blocks[-1][1].append(line.removeprefix(INDENT))
-        elif line and not line.startswith("#"):
-            blocks.append((line, []))
-    return blocks
-
-
-def plain(text):
-    """The bytes of a text in which some are written by their hexadecimal digits."""
-
-    def byte(found):
-        return bytes.fromhex((found[1] or b"").decode())
-
-    return re.sub(rb"<([0-9a-f]{2})?>", byte, text.encode())
-
-
-def content(lines):
-    return b"".join(plain(line) + b"\n" for line in lines)
-
-
-def repeated(words, lines):
-    """The files to which a row of this kind appends, with the texts."""
-    name, first, last = words[0], int(words[1]), int(words[2])
-    step = 1 if first <= last else -1
-    for number in range(first, last + step, step)[:MOST_REPEATED]:
-        texts = (it.replace("<n-1>", str(number - 1)) for it in (name, *lines))
-        own, *rest = (it.replace("<n>", str(number)) for it in texts)
-        yield plain(own), content(rest)
-
-
-def take_files(files, kind, words, lines):
-    """Changes the files as a row says."""
-    if kind == "repeat":
-        for name, added in repeated(words, lines):
-            files[name] = files.get(name, b"") + added
-    else:
-        text = content(lines)
-        files[plain(words[0])] = text if kind == "file" else text.removesuffix(b"\n")
-
-
-def projects_of(text):
-    """The projects of a file of rows: the files of each, and the rows that run on them."""
-    files, rows = {}, []
-    for line, lines in blocks_of(text):
-        kind, *words = line.split(" ")
-        if rows and kind in ("==", *FILES):
-            yield dict(files), rows
-            rows = []
-        if kind == "==":
-            files = {}
-        elif kind in FILES:
-            take_files(files, kind, words, lines)
-        else:
-            rows.append((kind, [plain(word) for word in words]))
-    if rows:
-        yield files, rows
-
-
 # ---- seeds
 
 ZERO = b"\0"
@@ -188,8 +119,8 @@ EACH += [b"m0", b"g1 0.0", b"d", b"0", b"nout", b"pout^", b"k", b"a0 1", b"xd", 
 EACH += [b"j", b"l1", b"j0"]
 FAILING = [b"z5", b"l0", b"q", b"z9 1", b"l1", b"r-t" + ZERO + b"commands", b"o7", b"z", b"l0"]
 FAILING += [b"s2 0 5", b"s4 0 9", b"s7 0 2", b"c", b"l0", b"q", b"o"]
-# How many rows a seed takes.
-ROWS = 6
+# How many rows a seed takes, and of what a row repeats how many.
+ROWS, MOST_REPEATED = 6, 40
 
 
 def seed(files, lines):
@@ -199,11 +130,11 @@ def seed(files, lines):
 
 
 def seeds_of_rows():
-    for path in sorted(CRATES.glob("nj_*_rows/data/*.rows")):
-        for files, rows in projects_of(path.read_text()):
-            rows = [row for row in rows if row[0] in CALLS]
+    for path in sorted(TESTS.glob("*/data/*.rows")):
+        for files, rows in projects_of(path.read_text(), MOST_REPEATED):
+            rows = [row for row in rows if row.kind in CALLS]
             for at in range(0, len(rows), ROWS):
-                lines = [line for kind, words in rows[at : at + ROWS] for line in CALLS[kind](words)]
+                lines = [line for row in rows[at : at + ROWS] for line in CALLS[row.kind](row.words())]
                 yield seed(files, [*lines, *LAST])
 
 

@@ -1,6 +1,6 @@
 #!/usr/bin/env python3
 """Writes the generated parts of docs/ARCHITECTURE.md: which crates there are, on what each stands,
-how long it is, and the subject of each of its files.
+how long it is, and the subject of each of its files; and the files of the crates in tests/.
 
     map.py            writes them, between the marks that name them
     map.py --check    ends with status 1 if they are out of date
@@ -15,6 +15,7 @@ import re
 import sys
 from pathlib import Path
 
+from lib.composed import TESTS, test_crates
 from lib.edits import edits_of
 from lib.programs import CRATES, ROOT
 
@@ -147,7 +148,17 @@ def of_files():
     return table(["File", "Subject"], rows)
 
 
-PARTS = {"crates": of_crates, "layers": of_layers, "files": of_files}
+def of_tests():
+    rows = []
+    for crate in reversed(test_crates()):
+        files = {file.stem: file for file in sorted((TESTS / crate / "src").glob("*.rs"))}
+        root = files.pop("lib", None) or files.pop("main")
+        rows.append([f"**`{crate}`**", first_sentence(root, "//!")])
+        rows += [[f"`{file.name}`", first_sentence(file, "//!")] for file in files.values()]
+    return table(["File", "Subject"], rows)
+
+
+PARTS = {"crates": of_crates, "layers": of_layers, "files": of_files, "tests": of_tests}
 
 
 def with_parts(page):

@@ -17,13 +17,15 @@ import sys
 from collections import Counter
 from dataclasses import dataclass, field
 
+from lib.composed import TESTS, test_crates
 from lib.edits import edits_of
 from lib.programs import CRATES, ROOT
 from map import crates, first_sentence, root_of
 
 PAGE = ROOT / "docs/REFERENCE.md"
-# The crates that make calls to show or test them.
-CALLERS = "nj_rows", "nj_call_rows", "nj_run_rows", "library_example"
+# The crates that make calls to show or test them, with their sources.
+CALLERS = {name: TESTS / name / "src" for name in test_crates()}
+CALLERS["library_example"] = CRATES / "library_example/src"
 HEAD = re.compile(r'^( *)pub (?:extern "C" |unsafe |const )*fn (\w+)', re.M)
 IMPL = re.compile(r"^impl\b(?:<[^{]*?>)? (?:[\w:<>, ']+ for )?(\w+)[^{]*\{", re.M)
 TYPE = re.compile(r"^pub (struct|enum|trait) (\w+)", re.M)
@@ -140,7 +142,7 @@ def add_edits(crate, calls):
 
 def callers():
     """The text of each crate that makes calls to show or test them."""
-    files = {name: sorted((CRATES / name).glob("src/**/*.rt")) for name in CALLERS}
+    files = {name: sorted(source.glob("**/*.r[ts]")) for name, source in CALLERS.items()}
     return {name: "\n".join(it.read_text() for it in of) for name, of in files.items()}
 
 

@@ -1,11 +1,13 @@
 #!/usr/bin/env python3
-"""Runs all tests and rows without any proof: run_tests.py [--jobs N] [CRATE..]
+"""Runs all tests and rows without any proof: run_tests.py [--jobs N] [--rows NAME] [CRATE..]
 
-Each crate with tests, and each program on the files that lie beside its `src/` (`args`, `stdin` and
-`data/`), is built with run-time checks and run by `rt try`, several side by side. A program has to
-write the text of its file `stdout` and to end with the status in its file `status`. Where it ends with
-the line `N rows, M differ`, each of its rows counts. Then comes `make lint`. With names of crates
-only these are run.
+The crates of the repository and of tests/ are copied to one directory (lib/composed.py). Each crate
+with tests, and each program on the files that lie beside its `src/` (`args`, `stdin` and `data/`), is
+built there with run-time checks and run by `rt try`, several side by side. A program has to write the
+text of its file `stdout` and to end with the status in its file `status`. Where it ends with the line
+`N rows, M differ`, each of its rows counts. The layout of the sources in tests/ is compared, and
+`make lint` runs. With names of crates only these are run, and with --rows only the rows of
+tests/*/data/NAME.rows. With --lay-out the sources in tests/ are laid out, as by `rt fmt`.
 
 A failure is told with the name of its test or row. A run that does not say how it ended fails. The
 last line is `N passed, M failed`, and the status is 1 if anything failed.
@@ -25,10 +27,9 @@ from dataclasses import dataclass, field
 from pathlib import Path
 
 from gate_processes import Family
-from gate_table import crates_below
+from lib.composed import TESTS, below_all, composed, laid_out, test_crates
 
 TOP = Path(__file__).resolve().parent.parent
-CRATES = TOP / "crates"
 # The script that reads files alone, and how it reports how much passed.
 LINT = "lint"
 LINTED = re.compile(r"^(\d+) checks passed, (\d+) failed")
@@ -69,18 +70,18 @@ def last_lines(text):
     return "\n".join(f"    {line}" for line in text.rstrip("\n").split("\n")[-MOST_LINES:])
 
 
-def tried(crate, *words, given=b""):
+def tried(folder, *words, given=b""):
     """Runs `rt try` in a crate's directory."""
-    how = {"cwd": CRATES / crate, "env": {"RT_SECONDS": SECONDS, **os.environ}}
+    how = {"cwd": folder, "env": {"RT_SECONDS": SECONDS, **os.environ}}
     ran = subprocess.run(["rt", "try", *words], input=given, capture_output=True, **how)
     return ran.returncode, ran.stdout, ran.stderr.decode(errors="replace")
 
 
-def run_tests(crate):
+def run_tests(folder):
     """Runs the tests of a crate."""
-    status, output, error = tried(crate, "--test")
+    status, output, error = tried(folder, "--test")
     text = output.decode(errors="replace")
-    outcome, said = Outcome(crate), f"{text}\n{error}"
+    outcome, said = Outcome(folder.name), f"{text}\n{error}"
     results = TEST.findall(said)
     outcome.passed = sum(result == "ok" for _, result in results)
     outcome.failures = [f"test {name}" for name, result in results if result != "ok"]
@@ -109,16 +110,15 @@ def first_difference(wanted, came):
     return f"the output has {len(came) - 1} lines, and not {len(wanted) - 1}"
 
 
-def run_program(crate):
+def run_program(folder):
     """Runs a program on its stored arguments and files."""
-    folder = CRATES / crate
     data = sorted(path for path in folder.glob("data/**/*") if path.is_file())
     data = [f"{path.relative_to(folder / 'data')}={path.relative_to(folder)}" for path in data]
     words = bytes_of(folder / "args").decode(errors="surrogateescape").splitlines()
     handed = [word for it in data for word in ("--data", it)]
-    _, output, error = tried(crate, *handed, "--", *words, given=bytes_of(folder / "stdin"))
+    _, output, error = tried(folder, *handed, "--", *words, given=bytes_of(folder / "stdin"))
     wanted, status = bytes_of(folder / "stdout"), int(bytes_of(folder / "status") or 0)
-    outcome = Outcome(crate)
+    outcome = Outcome(folder.name)
     ended = ENDED.search(error)
     if not ended:
         outcome.failures = [f"the run did not end\n{last_lines(error)}"]
@@ -138,26 +138,49 @@ def run_program(crate):
     return outcome
 
 
-def run_lint(name):
+def take_rows(folder, name):
+    """Leaves a program of rows those of one file alone, with their number."""
+    for file in (folder / "data").iterdir():
+        if file.name != name:
+            file.unlink()
+    counts = bytes_of(folder / "stdout").decode().splitlines()
+    count = next((it.partition(": ")[2] for it in counts if it.startswith(f"{name}: ")), "no rows")
+    (folder / "args").write_text(f"{name}\n")
+    (folder / "stdout").write_text(f"{name}: {count}\n{count}, 0 differ\n")
+
+
+def check_layout(folder):
+    """Compares the layout of the sources of each crate of tests/."""
+    outcome = Outcome("layout")
+    for crate in test_crates():
+        changed = [str(file.relative_to(folder)) for file, _ in laid_out(crate)]
+        outcome.passed += not changed
+        if changed:
+            why = f"{', '.join(changed)}: run python3 scripts/run_tests.py --lay-out"
+            outcome.failures.append(why)
+    return outcome
+
+
+def run_lint(script):
     """Runs the checks that read files alone."""
-    command = [sys.executable, TOP / "scripts" / name]
+    command = [sys.executable, script]
     ran = subprocess.run(command, cwd=TOP, capture_output=True, text=True)
     lines = [line for line in f"{ran.stdout}\n{ran.stderr}".split("\n") if line]
     ended = next(filter(None, map(LINTED.match, lines)), None)
-    outcome = Outcome(name, passed=int(ended[1]) if ended else 0)
+    outcome = Outcome(script.name, passed=int(ended[1]) if ended else 0)
     if ran.returncode or not ended:
         outcome.failures = [f"status {ran.returncode}\n{last_lines(chr(10).join(lines))}"]
         outcome.failures += ["another check"] * (int(ended[2]) - 1 if ended else 0)
     return outcome
 
 
-def timed(call, name):
+def timed(call, path):
     """The result of a run, also where it could not be started."""
     start = time.monotonic()
     try:
-        outcome = call(name)
-    except (OSError, ValueError) as error:
-        outcome = Outcome(name, failures=[f"it was not run: {error}"])
+        outcome = call(path)
+    except (OSError, RuntimeError, ValueError) as error:
+        outcome = Outcome(path.name, failures=[f"it was not run: {error}"])
     outcome.seconds = time.monotonic() - start
     return outcome
 
@@ -175,17 +198,17 @@ def end_hints(is_over):
                     os.kill(pid, signal.SIGKILL)
 
 
-def has_tests(crate):
-    """Whether a crate has a test in code."""
-    files = (CRATES / crate / "src").rglob("*.rt")
+def has_tests(folder):
+    """Whether the crate in a directory has a test in code."""
+    files = (folder / "src").rglob("*.rt")
     return any(b"#[test]" in file.read_bytes() for file in files)
 
 
-def work_for(names):
-    """The runs, as calls and names, the longest first."""
-    work = [(run_tests, name) for name in names if has_tests(name)]
-    work += [(run_program, name) for name in names if (CRATES / name / "src/main.rt").is_file()]
-    return sorted(work, key=lambda it: it[1] not in LONGEST)
+def work_for(folders):
+    """The runs, as calls and directories of crates, the longest first."""
+    work = [(run_tests, it) for it in folders if has_tests(it)]
+    work += [(run_program, it) for it in folders if (it / "src/main.rt").is_file()]
+    return sorted(work, key=lambda it: it[1].name not in LONGEST)
 
 
 def run_all(work, jobs):
@@ -205,21 +228,49 @@ def run_all(work, jobs):
     return passed, failed
 
 
+def crate_of_rows(name):
+    """The crate of tests/ that has the file of rows of this name."""
+    found = sorted(TESTS.glob(f"*/data/{name}.rows"))
+    if not found:
+        known = " ".join(sorted(file.stem for file in TESTS.glob("*/data/*.rows")))
+        raise SystemExit(f"there is no file of rows {name}; there are {known}")
+    return found[0].parent.parent.name
+
+
+def lay_out():
+    """Lays out the sources of the crates of tests/."""
+    for crate in test_crates():
+        for file, text in laid_out(crate):
+            file.write_bytes(text)
+            print(f"formatted {file.relative_to(TOP)}")
+    return 0
+
+
 def main():
     layout = argparse.RawDescriptionHelpFormatter
     words = argparse.ArgumentParser(description=__doc__, formatter_class=layout)
     words.add_argument("--jobs", type=int, default=len(os.sched_getaffinity(0)))
+    words.add_argument("--rows", metavar="NAME", help="of the rows, only those of this file")
+    words.add_argument("--lay-out", action="store_true", help="lay out the sources in tests/")
     words.add_argument("crates", nargs="*", metavar="CRATE")
     words = words.parse_args()
-    crates = [*crates_below(TOP)]
+    if words.lay_out:
+        return lay_out()
+    crates = [*below_all()]
     unknown = [name for name in words.crates if name not in crates]
     if unknown:
-        raise SystemExit(f"crates.txt names no crate {unknown[0]}")
-    work = work_for(words.crates or crates)
-    work += [] if words.crates else [(run_lint, LINT)]
+        raise SystemExit(f"crates.txt and tests/crates.list name no crate {unknown[0]}")
     is_over = threading.Event()
     threading.Thread(target=end_hints, args=[is_over], daemon=True).start()
-    passed, failed = run_all(work, words.jobs)
+    with composed() as top:
+        names = [crate_of_rows(words.rows)] if words.rows else words.crates or crates
+        folders = [top / "crates" / name for name in names]
+        if words.rows:
+            take_rows(folders[0], f"{words.rows}.rows")
+        work = work_for(folders)
+        if names == crates:
+            work += [(run_lint, TOP / "scripts" / LINT), (check_layout, TESTS)]
+        passed, failed = run_all(work, words.jobs)
     is_over.set()
     print("Nothing was proved: `make gate` proves, and runs what was proved.")
     print(f"{passed} passed, {failed} failed")

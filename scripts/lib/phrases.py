@@ -60,7 +60,7 @@ CODE = re.compile(
     re.M | re.S,
 )
 # How comments begin in a source.
-SIGNS = {".rt": "//", ".antt": "--", ".py": "#", ".sh": "#", ".c": "//", ".h": "*"}
+SIGNS = {".rt": "//", ".rs": "//", ".antt": "--", ".py": "#", ".sh": "#", ".c": "//", ".h": "*"}
 
 
 def blank(found):

@@ -1,8 +1,110 @@
-"""Runs over sinks in memory, each as a row that crates/nj_run_rows runs (CONTRIBUTING.md)."""
+"""Rows: how a file of them is read, and runs over sinks in memory as rows (CONTRIBUTING.md).
+
+tests/nj_rows reads them for the programs that run them, and this module for scripts.
+"""
 
 import re
+from dataclasses import dataclass
+from itertools import groupby
 
 from lib.programs import FAULT, Ending
+
+# ---- reading
+
+INDENT = "    "
+WANTED = b"<wanted>\n"
+MARKED = re.compile(rb"<([0-9a-fA-F]*)>")
+# The settings for one row alone.
+LIMITS = "reading-fails", "output-takes", "error-takes"
+
+
+def plain(text):
+    """The bytes that a text means: `<09>` is the byte with these hexadecimal digits, and `<>` is
+    nothing."""
+
+    def byte(found):
+        number = int(found[1] or b"0", 16)
+        return found[0] if number > 255 else bytes([number]) if found[1] else b""
+
+    return MARKED.sub(byte, text if isinstance(text, bytes) else text.encode())
+
+
+@dataclass
+class Block:
+    """A line that is not indented, with the bytes of the lines that belong to it; of a row with limits
+    also these."""
+
+    line: int
+    kind: str
+    rest: str
+    text: bytes = b""
+    limits: tuple = ()
+
+    def words(self):
+        """The arguments in the rest of the line."""
+        return [plain(word) for word in self.rest.split(" ") if word]
+
+    def wanted(self, files):
+        """The text that is wanted of a row over these files."""
+        first = files.get("wanted", b"") if self.text.startswith(WANTED) else b""
+        return first + self.text.removeprefix(WANTED)
+
+
+def blocks_of(text):
+    """The blocks of a file of rows."""
+    blocks = []
+    for number, line in enumerate(text.split("\n"), 1):
+        if line.startswith(INDENT) and blocks:
+            blocks[-1].text += plain(line.removeprefix(INDENT)) + b"\n"
+        elif line and not line.startswith("#"):
+            kind, _, rest = line.partition(" ")
+            blocks.append(Block(number, kind, rest))
+    return blocks
+
+
+def with_number(text, number):
+    """A text with a number in place of `<n>`, and the one before it in place of `<n-1>`."""
+    return text.replace(b"<n>", b"%d" % number).replace(b"<n-1>", b"%d" % max(number - 1, 0))
+
+
+def repeat(files, block, most):
+    """Appends the text of a block to files, once for each of its numbers, at most so often."""
+    name, first, last = block.rest.split(" ")
+    first, last = int(first), int(last)
+    step = 1 if first <= last else -1
+    for number in range(first, last + step, step)[:most]:
+        own = with_number(name.encode(), number).decode()
+        files[own] = files.get(own, b"") + with_number(block.text, number)
+
+
+def rows_of(text, most_repeated=None):
+    """The rows of a file of rows, each with the files of its section so far, by their names."""
+    files, limits = {}, []
+    for block in blocks_of(text):
+        if block.kind == "==":
+            files = {}
+        elif block.kind in ("file", "unended"):
+            is_whole = block.kind == "file"
+            files = {**files, block.rest: block.text if is_whole else block.text.removesuffix(b"\n")}
+        elif block.kind == "repeat":
+            files = dict(files)
+            repeat(files, block, most_repeated)
+        elif block.kind in LIMITS:
+            limits.append(block.kind)
+        else:
+            block.limits, limits = tuple(limits), []
+            yield files, block
+
+
+def projects_of(text, most_repeated):
+    """The projects of a file of rows: the files of each, and the rows that run on them."""
+    for _, rows in groupby(rows_of(text, most_repeated), lambda it: id(it[0])):
+        rows = list(rows)
+        files = {name.encode(): content for name, content in rows[0][0].items()}
+        yield files, [row for _, row in rows]
+
+
+# ---- runs over sinks in memory
 
 FILE = "run.rows"
 LINE_FEED = b"\n"

@@ -21,6 +21,7 @@ NAME = re.compile(r"\w*[a-z]\w*(?:::\w+)*")
 
 def pages():
     found = {*ROOT.glob("*.md"), *(ROOT / "docs").glob("*.md"), *CRATES.glob("*/README.md")}
+    found |= {*ROOT.glob("tests/*.md")}
     return sorted(found)
 
 
@@ -54,7 +55,7 @@ def links_lead_somewhere():
 def declared():
     """The words of the sources, and the names of their files."""
     kinds = "crates/*/src/**/*.rt", "crates/*/specs/**/*.antt", "crates/*/proofs/**/*.antt"
-    kinds += "edits/*/*.edit", "crates/*/data/*", "scripts/**/*.py", "bench/*.py"
+    kinds += "edits/*/*.edit", "tests/*/src/*.rs", "tests/*/data/*", "scripts/**/*.py", "bench/*.py"
     kinds += "include/*", "Makefile", "examples/**/*.ninja", "python/**/*.py"
     files = {file for kind in kinds for file in ROOT.glob(kind) if file.is_file()}
     files.discard(Path(__file__))

@@ -7,13 +7,14 @@ from lib.phrases import EXCEPT, NEVER, finds, prose
 from lib.programs import ROOT
 
 GENERATED = "REFERENCE.md", "HEADLINE.md"
-PAGES = "*.md", "docs/*.md", "crates/*/README.md", "man/*.1"
+PAGES = "*.md", "docs/*.md", "crates/*/README.md", "tests/*.md", "man/*.1"
 SOURCES = "crates/*/src/**/*.rt", "crates/*/specs/**/*.antt", "crates/*/proofs/**/*.antt"
+TESTS = ("tests/*/src/*.rs",)
 SCRIPTS = "bench/*.py", "scripts/**/*.py", "examples/**/*.py", "python/**/*.py", "include/*.h"
 
 
 def pages():
-    found = {file for kind in (*PAGES, *SOURCES, *SCRIPTS) for file in ROOT.glob(kind)}
+    found = {file for kind in (*PAGES, *SOURCES, *TESTS, *SCRIPTS) for file in ROOT.glob(kind)}
     return sorted(page for page in found if page.name not in {*GENERATED, "phrases.py"})
 
 

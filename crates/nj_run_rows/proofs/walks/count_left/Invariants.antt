@@ -1,5 +1,0 @@
-use Rattle.std.proofs.Common.{length}
-use Rattle.nj_run_rows.proofs.walks.count_left.Given as goal
-
-abbrev pub decreases-edges : goal.decreases-edges
-decreases-edges l = length l.needs.left

@@ -1,0 +1,35 @@
+//! Runs the rows of calls: each has results of one library, of those up to the graph or of deps
+//! logs. `nj_run_rows` has the rows of runs.
+
+mod calls;
+mod chains;
+mod changes;
+mod declared;
+mod deps_logs;
+mod graphs;
+mod joined_logs;
+mod keys;
+mod lexing;
+mod loads;
+mod log_parts;
+mod marks;
+mod printer;
+mod shown_faults;
+mod small_graphs;
+mod small_walks;
+mod sources;
+mod statements;
+mod texts;
+
+use crate::calls::Calls;
+use crate::keys::DrawnKeys;
+use nj_rows::run_files;
+use std::io;
+use std::process::ExitCode;
+
+fn main(rt: HostRuntime) -> io::Result<ExitCode> {
+    let calls = Calls {
+        keys: DrawnKeys::draw(rt)?,
+    };
+    run_files(&rt, &calls)
+}

@@ -1,0 +1,133 @@
+//! The settings of rows: files, failures and limits.
+
+use crate::blocks::Block;
+use crate::repeats::{Repeat, with_number};
+use nj_scope::MemoryFiles;
+use std::alloc::{AllocError, Global};
+
+/// The line of a row that stands for the text of the file of this name.
+const WANTED: &[u8] = b"<wanted>\n";
+
+/// A file that is given.
+#[derive(Drop)]
+pub struct GivenFile {
+    /// Its path, by which runs name it.
+    pub name: String,
+    /// Its contents.
+    pub text: Vec<u8>,
+}
+
+/// The settings before a row: files for all rows of a section, the others for the next row alone.
+#[derive(Drop)]
+pub struct Given {
+    /// The files; the last one counts where several have the same name.
+    pub files: Vec<GivenFile>,
+    /// The reading that fails, counted from 1; 0: none does.
+    pub failing: u64,
+    /// How many bytes standard output takes; `None`: all.
+    pub output: Option<usize>,
+    /// How many bytes standard error takes; `None`: all.
+    pub error: Option<usize>,
+}
+
+impl Given {
+    /// Nothing is given.
+    pub fn new(alloc: Global) -> Given {
+        Given {
+            files: Vec::new(alloc),
+            failing: 0,
+            output: None,
+            error: None,
+        }
+    }
+
+    /// Reads a block that gives something. Returns whether it is one.
+    pub fn read(&mut self, alloc: Global, block: &Block<'_>) -> Result<bool, AllocError> {
+        let text = block.text.as_slice();
+        match block.kind {
+            "==" => self.files.clear(),
+            "file" => self.add(alloc, block.rest, text)?,
+            "unended" => self.add(alloc, block.rest, without_end(text))?,
+            "repeat" => self.repeat(alloc, block)?,
+            "reading-fails" => self.failing = block.rest.parse().unwrap_or(0),
+            "output-takes" => self.output = block.rest.parse().ok(),
+            "error-takes" => self.error = block.rest.parse().ok(),
+            _ => return Ok(false),
+        }
+        Ok(true)
+    }
+
+    /// Forgets the settings for one row.
+    pub fn end_row(&mut self) {
+        self.failing = 0;
+        self.output = None;
+        self.error = None;
+    }
+
+    /// Gives a file, in place of one that has this name.
+    fn add(&mut self, alloc: Global, name: &str, text: &[u8]) -> Result<(), AllocError> {
+        let name = String::from_str(alloc, name)?;
+        let text = Vec::from_slice(alloc, text)?;
+        self.files.push(GivenFile { name, text })?;
+        Ok(())
+    }
+
+    /// Appends a text to the file of this name, which is empty at first.
+    fn append(&mut self, alloc: Global, name: &str, text: &[u8]) -> Result<(), AllocError> {
+        let mut files = self.files.iter_mut().rev();
+        match files.find(|file| file.name.as_str() == name) {
+            Some(file) => file.text.extend_from_slice(text),
+            None => self.add(alloc, name, text),
+        }
+    }
+
+    /// Appends the text of a block for each of its numbers, to the file whose name it gives for that
+    /// number.
+    fn repeat(&mut self, alloc: Global, block: &Block<'_>) -> Result<(), AllocError> {
+        let repeat = Repeat::read(block.rest);
+        let text = str::from_utf8(&block.text).unwrap_or("not UTF-8");
+        for step in 0..repeat.count() {
+            let number = repeat.number(step);
+            let name = with_number(alloc, repeat.name, number)?;
+            let text = with_number(alloc, text, number)?;
+            self.append(alloc, name.as_str(), text.as_bytes())?;
+        }
+        Ok(())
+    }
+
+    /// The files that are given.
+    pub fn source(&self, alloc: Global) -> Result<MemoryFiles, AllocError> {
+        let mut source = MemoryFiles::new(alloc);
+        for file in &self.files {
+            source.add(file.name.as_str(), &file.text)?;
+        }
+        source.fail_at(self.failing);
+        Ok(source)
+    }
+
+    /// The text of the file that was given last under this name; nothing if there is none.
+    pub fn bytes(&self, name: &str) -> &[u8] {
+        let mut files = self.files.iter().rev();
+        match files.find(|file| file.name.as_str() == name) {
+            Some(file) => file.text.as_slice(),
+            None => b"",
+        }
+    }
+
+    /// The text that is wanted of a row. Where its first line is `<wanted>`, the text of the file
+    /// `wanted` comes in place of that.
+    pub fn wanted(&self, alloc: Global, row: &Block<'_>) -> Result<Vec<u8>, AllocError> {
+        let (first, rest) = match row.text.strip_prefix(WANTED) {
+            Some(rest) => (self.bytes("wanted"), rest),
+            None => (b"".as_slice(), row.text.as_slice()),
+        };
+        let mut text = Vec::from_slice(alloc, first)?;
+        text.extend_from_slice(rest)?;
+        Ok(text)
+    }
+}
+
+/// A text without the end of its last line.
+fn without_end(text: &[u8]) -> &[u8] {
+    text.strip_suffix(b"\n").unwrap_or(text)
+}

@@ -1,0 +1,11 @@
+//! Files of rows: how they are read, their settings, and how a program runs them. CONTRIBUTING.md
+//! describes how rows are written.
+
+mod blocks;
+mod given_files;
+mod repeats;
+mod running;
+
+pub use blocks::{Block, bytes_of, first_of, words_of};
+pub use given_files::{Given, GivenFile};
+pub use running::{Outcomes, run_files};
