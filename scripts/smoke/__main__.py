@@ -1,8 +1,7 @@
 """Runs the built programs: python3 scripts/smoke [--program PROGRAM] [--jobs N] [NAME..]
 
-PROGRAM is ninja-explain, by default as the gate leaves it; ninja-graph and the runner of rows are
-where the gate leaves them too. The sweeps of memory, calls, bytes and sizes are
-run as well.
+PROGRAM is ninja-explain, by default as the gate leaves it; ninja-graph is where the gate leaves it
+too. The sweeps of memory, calls, bytes and sizes are run as well.
 
 Prints the problems, and last how many checks passed. The exit status is 1 if one failed.
 """
@@ -23,7 +22,6 @@ if __name__ == "__main__":
     given = {
         "program": Program(words.program),
         "graph": Program(built("ninja_graph")),
-        "runner": Program(built("nj_call_rows")),
         "jobs": words.jobs,
     }
     sys.exit(checks.run(words.names, given, words.jobs))

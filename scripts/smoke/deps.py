@@ -1,19 +1,21 @@
-"""Compares the contents of deps logs with Ninja's reading of them.
+"""Compares what ninja-graph reads in deps logs with Ninja's reading of them.
 
 A small project in C is built by `ninja` and `cc`. Its deps log after a build, after another one
 with other includes and after `ninja -t recompact`, and the second of these cut off at every byte,
-are rows of crates/nj_call_rows. The wanted text of each is the output of `ninja -t deps` for a copy,
-and up to which byte Ninja keeps the copy.
+are joined by `ninja-graph json`: the implicit inputs of an edge have to be those that it declares,
+and then those that `ninja -t deps` lists for a copy of the log. tests/nj_call_rows/data/logs.rows has
+what else a log says: its times, and up to which byte Ninja keeps it.
 """
 
+import json
 import re
 
 from lib.checks import check, expect
-from lib.programs import DONE, Program, shown
-from lib.projects import MAIN, Project
+from lib.programs import DONE, FAULT, Program
+from lib.projects import MAIN, Project, write_files
 
 NINJA = Program("ninja")
-LOG, ROWS = ".ninja_deps", "deps.rows"
+LOG = ".ninja_deps"
 MANIFEST = """\
 rule cc
   command = cc -MMD -MF $out.d -c $in -o $out
@@ -67,6 +69,17 @@ def log_after(words, folder):
     return (folder / LOG).read_bytes()
 
 
+def logs_of_project(made):
+    """The manifest of the project, which is built in a directory, and its deps logs: after a build,
+    after one with other files, and after that one is made compact."""
+    Project({MAIN: MANIFEST, **SOURCES}, {}).write_to(made)
+    first = log_after([], made)
+    Project(CHANGED, {}).write_to(made)
+    (made / "a.o").unlink()
+    second = log_after([], made)
+    return {MAIN: MANIFEST.encode()}, [first, second, log_after(["-t", "recompact"], made)]
+
+
 def listed(text):
     """The outputs that `ninja -t deps` lists, each with its time and its inputs."""
     outputs = []
@@ -88,55 +101,67 @@ def read_by_ninja(log, folder):
     return listed(ran.output), ran.error, path.stat().st_size if path.exists() else 0
 
 
-def row_of(log, lines):
-    """A row by which a log says this."""
-    numbers = " ".join(map(str, log))
-    wanted = "".join(f"    {line}\n" for line in lines)
-    return f"file log\n    bytes {numbers}\ndeps-log\n{wanted}"
+# ---- by ninja-graph
+
+READ_LOG = ["json", "--deps-log-file", LOG]
+NOT_A_LOG = FAULT, "", f"ninja-graph: {LOG}: not a deps log\n"
+INPUTS = "inputs", "implicit_inputs", "order_only_inputs"
 
 
-def said(outputs, size, is_whole):
-    """The contents of a log with these outputs, if so many bytes of it are read."""
-    lines = []
-    for path, time, inputs in outputs:
-        lines += [f"{path} at {time}:", *(f"  {it}" for it in inputs)]
-    return [*lines, f"{size} bytes, {'whole' if is_whole else 'not whole'}"]
+def edges_of(ending):
+    """The edges that `json` writes; their numbers are in order."""
+    return [json.loads(line) for line in ending.output.splitlines()]
 
 
-def rows_of_cuts(log, folder):
-    """A row for each byte at which a log is cut off.
+def stated_edges(graph, folder):
+    """The edges without any log."""
+    ran = graph.run(["json"], folder).as_text()
+    if (ran.status, ran.error) != (DONE, ""):
+        raise RuntimeError(f"json ends with {ran}")
+    return edges_of(ran)
 
-    Where Ninja warns, it truncates the log to the end of the last record. Up to three bytes after
-    that it keeps without a word. So records end where it truncates, and at the log's end.
-    """
-    read = [read_by_ninja(log[:size], folder) for size in range(len(log) + 1)]
-    ends = {len(log), *(kept for _, warning, kept in read if CUT_OFF in warning)}
-    for size, (outputs, warning, kept) in enumerate(read):
-        end = kept if CUT_OFF in warning else max((it for it in ends if it <= size), default=0)
-        is_log = NO_LOG not in warning
-        yield row_of(log[:size], said(outputs, end, end == size) if is_log else ["not a deps log"])
+
+def joined(edges, outputs):
+    """The edges with the inputs that a log with these outputs has for the first output of each, as
+    docs/DEPS.md describes it."""
+    logged = {path: inputs for path, _, inputs in outputs}
+    for edge in edges:
+        own = {path for kind in INPUTS for path in edge[kind]}
+        paths = logged.get((edge["outputs"] + edge["implicit_outputs"])[0], []) if edge["deps"] else []
+        added = [path for path in dict.fromkeys(paths) if path not in own]
+        yield {**edge, "implicit_inputs": edge["implicit_inputs"] + added}
+
+
+def contents_differ(graph, folder, logs):
+    """Compares the edges to which ninja-graph joins a log with what Ninja reads in it."""
+    edges = stated_edges(graph, folder)
+    for log in logs:
+        outputs, warning, _ = read_by_ninja(log, folder)
+        (folder / LOG).write_bytes(log)
+        ran = graph.run(READ_LOG, folder).as_text()
+        name = f"a log of {len(log)} bytes"
+        if NO_LOG in warning:
+            yield from expect(name, ran, NOT_A_LOG)
+        else:
+            yield from expect(f"{name}, its end", (ran.status, ran.error), (DONE, ""))
+            yield from expect(name, edges_of(ran), [*joined(edges, outputs)])
+
+
+def cut_off(log):
+    """A log that is cut off at each byte."""
+    return [log[:size] for size in range(len(log) + 1)]
 
 
 @check(needs=["ninja", "cc"])
-def logs_of_ninja(runner, folder):
+def logs_of_ninja(graph, folder):
     made, copy = folder / "made", folder / "copy"
-    Project({MAIN: MANIFEST, **SOURCES}, {}).write_to(made)
-    Project({MAIN: MANIFEST}, {}).write_to(copy)
-    first = log_after([], made)
-    Project(CHANGED, {}).write_to(made)
-    (made / "a.o").unlink()
-    second = log_after([], made)
-    third = log_after(["-t", "recompact"], made)
+    files, logs = logs_of_project(made)
+    write_files(copy, files)
+    first, second, third = logs
     sizes = len(first) < len(second), len(third) < len(second), second.startswith(first)
     yield from expect("the logs", sizes, (True, True, True))
-    rows = []
     for log, wanted in (first, BEFORE), (second, AFTER), (third, AFTER):
         outputs, warning, kept = read_by_ninja(log, copy)
         found = {path: {*inputs} for path, _, inputs in outputs}
         yield from expect("by Ninja", (found, warning, kept), (wanted, "", len(log)))
-        rows.append(row_of(log, said(outputs, len(log), True)))
-    rows += rows_of_cuts(second, copy)
-    (folder / ROWS).write_text("\n".join(rows))
-    count = f"{len(rows)} rows"
-    ending = DONE, f"{ROWS}: {count}\n{count}, 0 differ\n".encode(), b""
-    yield from expect("rows", shown(runner.run([ROWS], folder)), ending)
+    yield from contents_differ(graph, copy, [*logs, *cut_off(second)])

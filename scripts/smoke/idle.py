@@ -3,7 +3,7 @@
 from lib.checks import CHECKS, check, results
 from lib.programs import Program
 
-PROGRAMS = ["program", "graph", "keys", "audit", "runner"]
+PROGRAMS = ["program", "graph"]
 
 
 @check(alone=True)
