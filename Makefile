@@ -129,7 +129,7 @@ fuzz-c:
 
 # Makes everything that can fail do so once, changes each byte of small projects, runs every tool on
 # 100,000 edges, and runs the program on 100,000 hostile manifests.
-sweep: $(BUILT) $(LIBRARY).so
+sweep: $(BUILT)
 	@python3 scripts/sweep --jobs $(JOBS) $(CHECKS)
 
 # `make` and `make gate` build them.

@@ -106,10 +106,9 @@ def projects_of(text, most_repeated):
 
 # ---- runs over sinks in memory
 
-FILE = "run.rows"
 LINE_FEED = b"\n"
 # The output for a row that wants nothing.
-CAME = re.compile(rf'{FILE}:\d+: wanted "", came "(.*)"\n')
+CAME = re.compile(r'\S+:\d+: wanted "", came "(.*)"\n')
 # The output of a run, its status, and its standard error.
 PARTS = re.compile(r"(.*)\[(\d)\](?: (.*)|\n)", re.S)
 # How the program ends if it lacks memory beside the run of the row.

@@ -41,7 +41,7 @@ def name_of_input(words):
 
 def reason_to_leave(files, row):
     """Why a row is not run here, or `None`."""
-    if row.limits:
+    if row.limits or row.kind == "cut-off-errors":
         return LIMITED
     if row.kind == "request":
         return None if row.wanted(files).startswith(REFUSED) else REQUEST

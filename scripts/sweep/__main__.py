@@ -1,6 +1,6 @@
 """Makes everything fail once, and runs hostile manifests:
 
-    python3 scripts/sweep [--program PROGRAM] [--rows PROGRAM] [--seed S] [--cases N] [NAME..]
+    python3 scripts/sweep [--program PROGRAM] [--seed S] [--cases N] [NAME..]
 
 docs/RELIABILITY.md describes the sweeps. Prints the cases of each, the problems, and last how many
 checks passed. The exit status is 1 if one failed.
@@ -18,13 +18,11 @@ if __name__ == "__main__":
     checks.load("sweep")
     parser = checks.parser_of(__doc__)
     parser.add_argument("--program", default=built("ninja_explain"), help="ninja-explain")
-    parser.add_argument("--rows", default=built("nj_run_rows"), help="nj_run_rows")
     parser.add_argument("--seed", type=int, default=0, help="of the first hostile manifest")
     parser.add_argument("--cases", type=int, default=100_000, help="how many hostile manifests")
     words = parser.parse_args()
     given = {
         "program": Program(words.program),
-        "rows": Program(words.rows),
         "seeds": range(words.seed, words.seed + words.cases),
         "jobs": words.jobs,
     }

@@ -6,23 +6,30 @@ runs get a limited address space, as by `ulimit -v`, from the least in which the
 that which the run needs. A run has to end as it does with ample memory, or to write a prefix of its
 output and the line `ninja-explain: out of memory`, with status 1.
 
-The same runs are rows of crates/nj_run_rows too, which runs them over sinks in memory. There one
-allocation or two in a row are refused: after more, the rows could not report their outcome. A sink without
-memory fails like any other sink: a failed output is status 4 with nothing on standard error, a
-lost mark line is status 4, and a lost fault line does not change the status. With ample memory such
-a run ends as the program does.
+The same runs are rows of tests/nj_run_rows too, which runs them over sinks in memory. It is built by
+`rt try`, with run-time checks and without any proof, and one allocation is refused there: after more,
+the rows could not report their outcome. A sink without memory fails like any other sink: a failed
+output is status 4 with nothing on standard error, a lost mark line is status 4, and a lost fault line
+does not change the status. With ample memory such a run ends as the program does.
 """
 
+import contextlib
+import os
+import re
+import subprocess
 import tempfile
-from collections import Counter
+import threading
+from concurrent.futures import ThreadPoolExecutor
 from functools import partial
 from pathlib import Path
 
-from lib.checks import check
-from lib.programs import FAULT, LACKS_MEMORY, OUTPUT_FAILED, STOPPED, USAGE, compiled, shown
+from lib.checks import check, expect
+from lib.composed import composed
+from lib.programs import FAULT, LACKS_MEMORY, OUTPUT_FAILED, STOPPED, USAGE, Ending, compiled, shown
 from lib.projects import MAIN, PROJECTS, RUNS, Project, runs_of, targets_differ
-from lib.rows import FILE, came_of, lossy, row_of
+from lib.rows import came_of, lossy, marked, row_of
 from lib.sweeps import Sweep
+from run_tests import SECONDS, end_hints
 
 # In KB: the steps, and the most that a run of one of the small projects can need.
 STEP, LARGE_STEP = 4, 64
@@ -46,9 +53,9 @@ def is_wrong(ran, ample):
 
 # ---- allocations
 
-# How many allocations are refused, from one on: it alone, it and the next one, or it and all after it.
-ALONE, TWO, ALL = 1, 2, 1 << 62
-REFUSALS = {ALONE: "alone", TWO: "with the next one", ALL: "with all after it"}
+# How many allocations are refused, from one on: it alone, or it and all after it.
+ALONE, ALL = 1, 1 << 62
+REFUSALS = {ALONE: "alone", ALL: "with all after it"}
 
 
 class Runs:
@@ -75,17 +82,6 @@ class Runs:
             report.unlink()
             yield number, ran
             number += 1
-
-
-class RowRuns(Runs):
-    """The same over sinks in memory. A run is `None` if its row lacked the memory to tell of it."""
-
-    def __init__(self, rows, name, words, folder):
-        Path(folder, FILE).write_text(row_of(PROJECTS[name].files, words))
-        super().__init__(rows, name, [FILE], folder)
-
-    def run(self, **environment):
-        return came_of(super().run(**environment))
 
 
 def try_allocations(program, library, task):
@@ -120,48 +116,170 @@ def allocations(program, folder, jobs):
 
 # ---- sinks in memory
 
+# `rt try` refuses the allocation with one number, with which it builds the program. A case allocates
+# some times before its row is run, so that this is another allocation of the row.
+REFUSED_AT = 800
+# Of a run, each allocation of so many is refused, and each of the last ones, where its sinks grow.
+STEP_OF_ROWS, LAST = 16, 40
+# So many runs of each status are taken: `rt try` takes half a second for a case.
+OF_EACH = 2
+ENDED = re.compile(r"(.*?)(?:allocations: .*\n)?case=(\S+) run=ended status=(\d+) .*\n", re.S)
+OUTPUT = re.compile(r"^== (\S+)\n", re.M)
 
-def failed_sink(ran, ample, times):
+
+def run_cases(crate, data, cases):
+    """How the rows of cases come, each with how many allocations were made before the refused one."""
+    with tempfile.TemporaryDirectory() as folder:
+        for number, (row, at) in enumerate(cases):
+            Path(folder, str(number)).touch()
+            Path(folder, f"{number}.args").write_text(f"spend={REFUSED_AT - at}\n{row}\n")
+        words = ["rt", "try", "--fail-alloc", str(REFUSED_AT), "--cases", folder]
+        words += [word for name, file in data.items() for word in ("--data", f"{name}={file}")]
+        ran = subprocess.run(words, cwd=crate, capture_output=True, text=True)
+    parts = OUTPUT.split(ran.stdout)
+    outputs, endings = dict(zip(parts[1::2], parts[2::2])), {}
+    for part in re.findall(r".*?^case=.*?\n", ran.stderr, re.M | re.S):
+        if found := ENDED.fullmatch(part):
+            error, number, status = found.groups()
+            ending = Ending(int(status), outputs[number].encode(), error.encode())
+            endings[cases[int(number)]] = came_of(ending)
+    if len(endings) != len(cases):
+        raise RuntimeError(f"{len(cases) - len(endings)} cases did not end: {ran.stderr[-500:]}")
+    return endings
+
+
+def run_all_cases(crate, data, cases, jobs):
+    """The same in parallel; each process builds the program."""
+    found, parts = {}, [cases[at::jobs] for at in range(jobs)]
+    with ThreadPoolExecutor(jobs) as pool:
+        for endings in pool.map(partial(run_cases, crate, data), filter(None, parts)):
+            found |= endings
+    return found
+
+
+def failed_sink(ran, ample):
     """Which sink in memory failed in a run, or `None` if none did."""
     if (ran.status, ran.error) == (OUTPUT_FAILED, b""):
         if ran.output == ample.output and ample.status == STOPPED:
             return "mark lines lost"
         return "outputs failed" if ample.output.startswith(ran.output) else None
-    # The line that reports the lack of memory may be lost as well.
-    lacks = times > ALONE and ran.status == FAULT and ample.output.startswith(ran.output)
     lost = ran.status == ample.status in (FAULT, USAGE) and ran.output == ample.output
-    return "fault lines lost" if not ran.error and (lacks or lost) else None
+    return "fault lines lost" if lost and not ran.error else None
 
 
-def try_row(program, rows, library, task):
-    """Refuses allocations to a run over sinks in memory. Returns the counts, and the problems."""
-    name, words, times = task
-    counts, wrong = Counter(), []
-    with tempfile.TemporaryDirectory() as folder:
-        usual = lossy(Runs(program, name, words, folder).ample)
-        runs = RowRuns(rows, name, words, folder)
-        if runs.ample != usual:
-            return {}, [f"{name}, {words}, a row: it ends with {runs.ample}, and not {usual}"]
-        for number, ran in runs.refusals(library, times):
-            if ran is None:
-                counts["allocations of rows themselves"] += 1
-                continue
-            counts[f"allocations refused {REFUSALS[times]}"] += 1
-            if sink := failed_sink(ran, usual, times):
-                counts[sink] += 1
-            elif is_wrong(ran, usual):
-                wrong.append(f"a row, {case(task, number, ran)}")
-    return counts, wrong
+def take_ending(sweep, name, ran, ample):
+    """Counts how a run ended that was refused an allocation."""
+    if ran is None:
+        sweep.counts["allocations of rows themselves"] += 1
+        return
+    sweep.counts["allocations refused alone"] += 1
+    if sink := failed_sink(ran, ample):
+        sweep.counts[sink] += 1
+    elif is_wrong(ran, ample):
+        sweep.wrong.append(f"a row, {name}: it ends with {shown(ran)}")
 
 
-@check(needs=["cc"], alone=True)
-def sinks_in_memory(program, rows, folder, jobs):
-    sweep = Sweep("memory of sinks")
-    task = partial(try_row, program, rows, compiled("fail_alloc", folder))
-    # rows give no standard input
+def write_rows(program, folder, runs):
+    """Writes a file with one row for each run. Returns the files, and how the program ends."""
+    data, usual = {}, {}
+    for number, (name, words) in enumerate(runs):
+        row = f"{number}.rows"
+        data[row] = folder / row
+        data[row].write_text(row_of(PROJECTS[name].files, words))
+        with tempfile.TemporaryDirectory() as room:
+            usual[row] = lossy(Runs(program, name, words, room).ample)
+    return data, usual
+
+
+def sample(runs, usual, seed):
+    """The numbers of some of the runs that end with each status, others for other seeds."""
+    for status in sorted({ending.status for ending in usual.values()}):
+        of_status = [at for at in range(len(runs)) if usual[f"{at}.rows"].status == status]
+        turn = seed * OF_EACH % len(of_status)
+        yield from (of_status[turn:] + of_status)[:OF_EACH]
+
+
+@contextlib.contextmanager
+def program_of_rows():
+    """The directory of the program of rows. The checks that `rt try` makes beside runs are ended."""
+    is_over = threading.Event()
+    threading.Thread(target=end_hints, args=[is_over], daemon=True).start()
+    try:
+        with composed() as top:
+            yield top / "crates/nj_run_rows"
+    finally:
+        is_over.set()
+
+
+def rows_of_program(folder, program):
+    """Files of rows of the runs in memory that give no standard input, and how the program ends."""
     runs = [run for run in runs_of(RUNS) if run[1] and "--stdin" not in run[1]]
-    sweep.in_parallel(jobs, task, tasks(runs, ALONE, TWO))
+    return runs, *write_rows(program, folder, runs)
+
+
+@check(alone=True)
+def sinks_in_memory(program, seeds, folder, jobs):
+    """It builds the program of rows without any proof: `seeds`, which only `make sweep` gives, keeps it
+    from `make smoke`."""
+    sweep = Sweep("memory of sinks")
+    runs, data, usual = rows_of_program(folder, program)
+    data = {f"{at}.rows": data[f"{at}.rows"] for at in sample(runs, usual, seeds.start)}
+    with program_of_rows() as crate:
+        cases = [(row, at) for row in data for at in range(0, REFUSED_AT + 1, STEP_OF_ROWS)]
+        endings = run_all_cases(crate, data, cases, jobs)
+        # those before the first to which a run does not come
+        for row in data:
+            refused = [at for name, at in cases if name == row and endings[name, at] != usual[row]]
+            last = max(refused, default=0)
+            cases += [(row, at) for at in range(last - LAST, last + STEP_OF_ROWS)]
+        endings |= run_all_cases(crate, data, [it for it in cases if it not in endings], jobs)
+    for (row, at), ran in endings.items():
+        take_ending(sweep, f"{runs[int(row.partition('.')[0])]}, allocation {at}", ran, usual[row])
+    for row in data:
+        ends = endings[row, 0], endings[row, REFUSED_AT]
+        sweep.wrong += expect(f"{row}, before and after all allocations", ends, (usual[row], usual[row]))
     sweep.wants("outputs failed", "mark lines lost", "fault lines lost")
+    return sweep.problems()
+
+
+def indented(text):
+    """The lines of a text that a row wants; it ends with a line end."""
+    return "".join(f"    {marked(line)}\n" for line in text.split(b"\n")[:-1])
+
+
+def rows_with_limits(name, words, ending):
+    """Rows that want the ending of a run, and that each limit of a sink loses no more than it must."""
+    text = row_of(PROJECTS[name].files, words)
+    error = b" " + ending.error if ending.error else b"\n"
+    yield text + indented(b"%b[%d]%b" % (ending.output, ending.status, error))
+    words = " ".join(words)
+    yield f"cut-off {words}\n" + indented(b"%b%d fail\n" % (ending.output, len(ending.output)))
+    yield f"cut-off-errors {words}\n" + indented(b"%b%d lost\n" % (ending.error, len(ending.error)))
+
+
+@check(alone=True)
+def limited_sinks(program, seeds, folder):
+    """The same runs end in memory as those of the program, and with sinks that take fewer bytes, down to
+    none, as they should. `seeds` is as above."""
+    runs = [run for run in runs_of(RUNS) if run[1] and "--stdin" not in run[1]]
+    file, count = folder / "run.rows", 0
+    with file.open("w") as rows:
+        for name, words in runs:
+            with tempfile.TemporaryDirectory() as room:
+                ending = Runs(program, name, words, room).ample
+            for row in rows_with_limits(name, words, ending):
+                rows.write("== runs\n" * row.startswith(("file ", "unended ")) + row)
+                count += 1
+    with program_of_rows() as crate:
+        words = ["rt", "try", "--data", f"{file.name}={file}", "--", file.name]
+        how = {"cwd": crate, "env": {"RT_SECONDS": SECONDS, **os.environ}}
+        ran = subprocess.run(words, capture_output=True, text=True, **how)
+    sweep = Sweep("limits of sinks")
+    sweep.counts["rows of runs with limited sinks"] = count
+    if ran.returncode:
+        sweep.wrong.append(f"{ran.stdout[-2000:]}{ran.stderr[-2000:]}".rstrip())
+    wanted = f"{file.name}: {count} rows\n{count} rows, 0 differ\n"
+    sweep.wrong += expect("the rows", ran.stdout[-len(wanted) :], wanted)
     return sweep.problems()
 
 

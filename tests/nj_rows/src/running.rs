@@ -29,19 +29,32 @@ impl Count {
 
 /// Runs the rows of the files that the program's arguments name. Prints each row whose outcome is
 /// not the wanted text, how many rows each file has, and how many there are. The status is 1 if a
-/// row differs.
+/// row differs. An argument `spend=N` names no file: it allocates `N` times.
 pub fn run_files(
     rt: &(impl Env + Files + Print + AllocGlobal),
     outcomes: &impl Outcomes,
 ) -> io::Result<ExitCode> {
     let mut all = Count { rows: 0, differ: 0 };
     for name in env::args(rt)?.skip(1) {
+        if let Some(times) = name.as_str().strip_prefix("spend=") {
+            spend(rt.alloc(), times.parse().unwrap_or(0));
+            continue;
+        }
         let count = run_file(rt, outcomes, &name)?;
         println!(rt; "{name}: {} rows", count.rows)?;
         all.add(count);
     }
     println!(rt; "{} rows, {} differ", all.rows, all.differ)?;
     Ok(ExitCode::from(u8::from(all.differ != 0)))
+}
+
+/// Allocates so many times, also where that is refused. `rt try` refuses the allocation with a given
+/// number; these decide which one of the rows that is.
+fn spend(alloc: Global, times: u64) {
+    for number in 0..times {
+        let mut numbers = Vec::new(alloc);
+        numbers.push(number).ok();
+    }
 }
 
 /// Runs the rows of a file.

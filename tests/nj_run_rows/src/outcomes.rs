@@ -3,7 +3,7 @@
 use crate::clients::{put_taken_in, put_work};
 use crate::pages::put_pages;
 use crate::requests::{put_asked, put_quoted};
-use crate::runs::{put_cut_off, put_run, put_run_and_read, put_run_by_request};
+use crate::runs::{put_cut_off, put_cut_off_errors, put_run, put_run_and_read, put_run_by_request};
 use crate::sinks::{put_to_memory, put_to_writer};
 use nj_rows::{Block, Given, Outcomes};
 use std::alloc::{AllocError, Global};
@@ -37,6 +37,7 @@ fn put_outcome(
         "run-and-read" => put_run_and_read(alloc, text, given, row.rest),
         "run-request" => put_run_by_request(alloc, text, given, row.rest),
         "cut-off" => put_cut_off(alloc, text, given, row.rest),
+        "cut-off-errors" => put_cut_off_errors(alloc, text, given, row.rest),
         "pages" => put_pages(alloc, text, given, row.rest),
         "request" => put_asked(alloc, text, row.rest),
         "quoted" => put_quoted(alloc, text, row.rest),

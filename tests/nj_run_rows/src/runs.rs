@@ -178,3 +178,32 @@ fn ends_at(alloc: Global, files: &mut MemoryFiles, words: &[String], front: &[u8
     let status = run_words(alloc, files, words, &mut output, &mut error);
     status.code() == 4 && output.bytes() == front && error.bytes().is_empty()
 }
+
+/// Appends the standard error of a run, and how many of the sinks for it that take fewer bytes, down to
+/// none, leave its output unchanged and contain the front of this text. A run loses its mark then,
+/// which is a failure, and the line of a fault, which is none.
+pub(crate) fn put_cut_off_errors(
+    alloc: Global,
+    text: &mut Vec<u8>,
+    given: &Given,
+    words: &str,
+) -> Result<(), AllocError> {
+    let words = words_of(alloc, words)?;
+    let mut files = given.source(alloc)?;
+    let mut output = MemorySink::new(alloc, None);
+    let mut error = MemorySink::new(alloc, None);
+    let status = run_words(alloc, &mut files, &words, &mut output, &mut error).code();
+    let status = if status == 3 { 4 } else { status };
+    text.extend_from_slice(error.bytes())?;
+    let mut count = 0_usize;
+    for limit in 0..error.bytes().len() {
+        let mut kept = MemorySink::new(alloc, None);
+        let mut cut = MemorySink::new(alloc, Some(limit));
+        let ended = run_words(alloc, &mut files, &words, &mut kept, &mut cut).code();
+        let is_same = ended == status && kept.bytes() == output.bytes();
+        if is_same && cut.bytes() == &error.bytes()[..limit] {
+            count = count.saturating_add(1);
+        }
+    }
+    text.extend_from_slice(format!(in alloc; "{count} lost\n")?.as_bytes())
+}
