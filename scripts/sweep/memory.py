@@ -123,7 +123,7 @@ REFUSED_AT = 800
 STEP_OF_ROWS, LAST = 16, 40
 # So many runs of each status are taken: `rt try` takes half a second for a case.
 OF_EACH = 2
-ENDED = re.compile(r"(.*?)(?:allocations: .*\n)?case=(\S+) run=ended status=(\d+) .*\n", re.S)
+ENDED = re.compile(r"(?:allocations: [^\n]*\n)?(.*?)^case=(\S+) run=ended status=(\d+) [^\n]*\n", re.M | re.S)
 OUTPUT = re.compile(r"^== (\S+)\n", re.M)
 
 
