@@ -6,9 +6,12 @@ use Rattle.std.proofs.lemmas.Bool.Decides.{eqb_tells}
 use Rattle.std.proofs.lemmas.List.{append_cancel_left}
 use Rattle.nj_deps.specs.LogRecords.{LogRecord, bytes_of}
 use Rattle.nj_deps.specs.LogRecords.LogRecord.{path, dependencies}
-use Rattle.nj_deps.specs.Logs.{LogModel, OutputModel, IsLogOf, opening, with_output, with_dependencies, outputs_of, output_of, paths_of}
+use Rattle.nj_deps.specs.Logs.{LogModel, OutputModel, IsLogOf, IsLogFault, opening, with_output, with_dependencies, outputs_of, output_of, paths_of}
 use Rattle.nj_deps.specs.Laws.{said_of}
+use Rattle.nj_deps.specs.declared.log_fault.DepsLogFault.{DepsLogFault}
+use Rattle.nj_deps.specs.declared.log_fault.DepsLogFault.TheVariants.{NoDepsLog, OtherVersion, OutOfMemory}
 use Rattle.nj_deps.proofs.RecordLemmas.{one_cut}
+use Rattle.nj_deps.proofs.WordLemmas.{version_is}
 
 -- ---- one cut
 
@@ -27,6 +30,15 @@ says_one_thing bytes one other a b =
     ∙ ap (λ o. record { paths = other.paths; outputs = o; size = one.size; is_whole = one.is_whole }) outputs
     ∙ ap (λ s. record { paths = other.paths; outputs = other.outputs; size = s; is_whole = one.is_whole }) size
     ∙ ap (λ w. record { paths = other.paths; outputs = other.outputs; size = other.size; is_whole = w }) whole
+
+-- ---- good logs
+
+pub read_unless_no_memory : (bytes : List ℕ) (log : LogModel) (fault : DepsLogFault) → IsLogOf bytes log → IsLogFault bytes fault → fault ≡ OutOfMemory
+read_unless_no_memory bytes log NoDepsLog is refused = absurd (refused 4 (flat_map bytes_of is.records ++ is.rest) is.cut)
+read_unless_no_memory bytes log (OtherVersion version) is refused =
+    let (small, other, rest, cut) = refused in
+    absurd (other (version_is version 4 rest (flat_map bytes_of is.records ++ is.rest) small (omega arith) (sym cut ∙ is.cut)))
+read_unless_no_memory bytes log OutOfMemory is refused = refl
 
 -- ---- the last record
 

@@ -34,9 +34,9 @@ their_outputs = refl
 they_count : CountInTurn [] two_paths
 unfolding word two_paths
 they_count = (
-  record { size = omega arith; fits = record { number = refl; not_empty = λ e. (let none = ap length e in omega arith); is_new = refl } },
+  record { size = omega arith; fits = record { number = refl; may_be_named = (λ e. (let none = ap length e in omega arith), refl); is_new = refl } },
   (
-    record { size = omega arith; fits = record { number = refl; not_empty = λ e. (let none = ap length e in omega arith); is_new = refl } },
+    record { size = omega arith; fits = record { number = refl; may_be_named = (λ e. (let none = ap length e in omega arith), refl); is_new = refl } },
     (record { size = omega arith; fits = record { output_known = omega arith; low_fits = omega arith; high_fits = omega arith; inputs_known = (omega arith, tt) } }, tt),
   ),
 )

@@ -4,7 +4,7 @@ use Rattle.std.specs.List.{AllByRecursion, flat_map, fold}
 use Rattle.std.proofs.lemmas.List.{append-nil}
 use Rattle.std.proofs.lemmas.List.Concat.{flat_map-append}
 use Rattle.std.proofs.lemmas.List.Sums.{fold-append}
-use Rattle.nj_deps.specs.LogRecords.{LogRecord, word, words, bytes_of, path_in, Counts, IsNext}
+use Rattle.nj_deps.specs.LogRecords.{LogRecord, word, words, bytes_of, path_in, Counts, IsNext, MayBeNamed}
 use Rattle.nj_deps.specs.LogRecords.LogRecord.{path, dependencies}
 use Rattle.nj_deps.specs.Logs.{with_path, with_output, with_dependencies, paths_of, CountInTurn, EndsBefore, IsLogOf, opening}
 use Rattle.nj_deps.specs.Inside.RecordsRead.{IsTimed, IsFramed, TableModel, IsContent, Adds, AddsAs, AddsPath, TakesRecord, TakesNone, IsRead}
@@ -94,13 +94,13 @@ one-taken bytes rest after old new so_far taken =
 -- ---- the additions of a content
 
 pub path-adds : (padded : List ℕ) (complement : ℕ) (content : List ℕ) (old new : TableModel) → complement < 2 ^ 32 → content ≡ padded ++ word complement → length content ≤ 524287
-    → path_in padded ≢ [] → complement + length old.paths + 1 ≡ 2 ^ 32 → (b : Bool) → AddsPath (path_in padded) old new b → Adds 0 content old new b
+    → MayBeNamed (path_in padded) → complement + length old.paths + 1 ≡ 2 ^ 32 → (b : Bool) → AddsPath (path_in padded) old new b → Adds 0 content old new b
 path-adds padded complement content old new small cut size some number true added = (
   path padded complement,
   record { kind = refl; same = sym cut },
   record {
     size = subst (λ c. length c ≤ 524287) cut size;
-    fits = record { number = number; not_empty = some; is_new = added.0 };
+    fits = record { number = number; may_be_named = some; is_new = added.0 };
   },
   added.1,
 )
@@ -110,9 +110,9 @@ path-adds padded complement content old new small cut size some number false add
 )
 
 pub no-path-adds : (padded : List ℕ) (complement : ℕ) (content : List ℕ) (old : TableModel) → complement < 2 ^ 32 → content ≡ padded ++ word complement
-    → (path_in padded ≢ [] → complement + length old.paths + 1 ≢ 2 ^ 32) → Adds 0 content old old false
+    → (MayBeNamed (path_in padded) → complement + length old.paths + 1 ≢ 2 ^ 32) → Adds 0 content old old false
 no-path-adds padded complement content old small cut other = (
-  (λ r is counts. (let next = path_record old.paths padded complement content r small cut is counts in other next.not_empty next.number)),
+  (λ r is counts. (let next = path_record old.paths padded complement content r small cut is counts in other next.may_be_named next.number)),
   refl,
 )
 

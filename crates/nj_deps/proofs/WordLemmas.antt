@@ -2,7 +2,7 @@
 use Rattle.std.proofs.Common.{◌≡◌, ◌≢◌, ◌<◌, ◌≤◌, ◌+◌, ◌*◌, ◌^◌, ◌%◌, ℕ, true, false, Option, Some, None, MatchOption, Bor, List, [], ◌∷◌, ◌++◌, length, refl, sym, ap, ◌∙◌, arith, append_assoc, length-append}
 use Rattle.std.specs.Int.{w32, from_le_bytes}
 use Rattle.std.specs.List.{AllByRecursion}
-use Rattle.std.proofs.lemmas.List.{append-nil, nil_from_length}
+use Rattle.std.proofs.lemmas.List.{append-nil, append_cancel_left, nil_from_length}
 use Rattle.std.proofs.lemmas.List.Concat.{flat_map-append}
 use Rattle.std.proofs.lemmas.Nat.{from_le_bytes-to_le_bytes_4}
 use Rattle.nj_deps.specs.LogRecords.{word, words}
@@ -114,9 +114,15 @@ one_past count bytes rest old new n others so_far few small e past is cut all =
 -- ---- the opening
 
 pub opening_read : (bytes rest : List ℕ) (r : Option (ℕ × Bor (List ℕ))) → bytes ≡ first_line ++ rest → MatchOption r (length rest < 4) (λ p. (p.0 < 2 ^ 32) × (rest ≡ word p.0 ++ p.1.now))
-    → MatchOption r ((version : ℕ) (more : List ℕ) → bytes ≢ opening version ++ more) (λ p. bytes ≡ opening p.0 ++ p.1.now)
+    → MatchOption r ((version : ℕ) (more : List ℕ) → bytes ≢ opening version ++ more) (λ p. (p.0 < 2 ^ 32) × (bytes ≡ opening p.0 ++ p.1.now))
 opening_read bytes rest None line short = λ version more e. (
     let l = ap length (sym line ∙ e) in
     omega (arith, length-append (word version) more, length-word version)
     )
-opening_read bytes rest (Some p) line m = line ∙ ap (λ r. first_line ++ r) m.1
+opening_read bytes rest (Some p) line m = (m.0, line ∙ ap (λ r. first_line ++ r) m.1)
+
+-- a version is known by its opening
+pub version_is : (version other : ℕ) (rest more : List ℕ) → version < 2 ^ 32 → other < 2 ^ 32 → opening version ++ rest ≡ opening other ++ more → version ≡ other
+version_is version other rest more small other_small e =
+    let words = append_cancel_left first_line (word version ++ rest) (word other ++ more) (sym (append_assoc first_line (word version) rest) ∙ e ∙ append_assoc first_line (word other) more) in
+    word_is version other small other_small (apart (word version) (word other) rest more (length-word version ∙ sym (length-word other)) words).0

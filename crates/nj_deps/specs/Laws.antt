@@ -3,12 +3,19 @@ use Rattle.std.specs.Prelude.{◌≡◌, ℕ, ◌+◌, ◌-◌, ◌*◌, ◌^◌
 use Rattle.std.specs.List.{IsDistinct, filter_map}
 use Rattle.nj_deps.specs.LogRecords.{LogRecord}
 use Rattle.nj_deps.specs.LogRecords.LogRecord.{path, dependencies}
-use Rattle.nj_deps.specs.Logs.{LogModel, OutputModel, IsLogOf, outputs_of, output_of}
+use Rattle.nj_deps.specs.Logs.{LogModel, OutputModel, IsLogOf, IsLogFault, outputs_of, output_of}
+use Rattle.nj_deps.specs.declared.log_fault.DepsLogFault.{DepsLogFault}
+use Rattle.nj_deps.specs.declared.log_fault.DepsLogFault.TheVariants.{OutOfMemory}
 
 -- bytes are cut into records that count and a rest in one way, so they say one thing
 abbrev pub BytesSayOneThing : Type 0
 BytesSayOneThing = (bytes : List ℕ) (one other : LogModel)
     → IsLogOf bytes one → IsLogOf bytes other → one ≡ other
+
+-- a log of version 4 is not refused, unless memory runs out
+abbrev pub GoodLogsAreRead : Type 0
+GoodLogsAreRead = (bytes : List ℕ) (log : LogModel) (fault : DepsLogFault)
+    → IsLogOf bytes log → IsLogFault bytes fault → fault ≡ OutOfMemory
 
 -- the entry of a record for an output
 abbrev pub said_of : (number : ℕ) → LogRecord → Option OutputModel

@@ -1,5 +1,5 @@
 -- The records of a deps log, and how they are written.
-use Rattle.std.specs.Prelude.{◌≡◌, ◌≢◌, ℕ, ◌+◌, ◌-◌, ◌<◌, ◌≤◌, ◌^◌, false, if◌then◌else◌, nat_eq, List, [], ◌∷◌, ◌++◌, length, take, slice_index_or, bytes_eq}
+use Rattle.std.specs.Prelude.{◌≡◌, ◌≢◌, ℕ, ◌+◌, ◌-◌, ◌<◌, ◌≤◌, ◌^◌, ◌||◌, Bool, false, if◌then◌else◌, nat_eq, List, [], ◌∷◌, ◌++◌, length, take, slice_index_or, bytes_eq}
 use Rattle.std.specs.Int.{w32, to_le_bytes}
 use Rattle.std.specs.List.{AllByRecursion, list_any, flat_map}
 
@@ -43,10 +43,18 @@ without_zero bytes =
 abbrev pub path_in : (padded : List ℕ) → List ℕ
 path_in padded = without_zero (without_zero (without_zero padded))
 
--- the number of a path is how many came before it; it is not empty, and none of them
+-- a line feed or a zero byte, which no path of a manifest has
+abbrev pub is_never_named : ℕ → Bool
+is_never_named byte = nat_eq byte 10 || nat_eq byte 0
+
+-- a manifest may name a file so
+abbrev pub MayBeNamed : List ℕ → Type 0
+MayBeNamed bytes = (bytes ≢ []) × (list_any is_never_named bytes ≡ false)
+
+-- the number of a path is how many came before it; a manifest may name it, and it is none of them
 pub record IsNext (paths : List (List ℕ)) (path : List ℕ) (complement : ℕ) : Type 0 where
   pub number : complement + length paths + 1 ≡ 2 ^ 32
-  pub not_empty : path ≢ []
+  pub may_be_named : MayBeNamed path
   pub is_new : list_any (bytes_eq path) paths ≡ false
 
 -- all numbers but those of the time are of paths

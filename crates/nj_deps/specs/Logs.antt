@@ -89,7 +89,7 @@ pub record IsLogOf (bytes : List ℕ) (log : LogModel) : Type 0 where
 abbrev pub IsLogFault : (bytes : List ℕ) → DepsLogFault → Type 0
 IsLogFault bytes NoDepsLog = (version : ℕ) (rest : List ℕ) → bytes ≢ opening version ++ rest
 IsLogFault bytes (OtherVersion version) =
-    (version ≢ 4) × (rest : List ℕ) × (bytes ≡ opening version ++ rest)
+    (version < 2 ^ 32) × (version ≢ 4) × (rest : List ℕ) × (bytes ≡ opening version ++ rest)
 IsLogFault bytes OutOfMemory = Unit {0}
 
 -- the entry for the output of this number

@@ -1,13 +1,18 @@
 //! Laws of deps logs.
 
-ghost use Rattle.nj_deps.specs.Laws.{BytesSayOneThing, EachOutputOnce, LastRecordCounts};
+ghost use Rattle.nj_deps.specs.Laws.{BytesSayOneThing, EachOutputOnce, GoodLogsAreRead, LastRecordCounts};
 
 /// Bytes say one thing: they are cut into records that count and a rest in one way.
 pub fn bytes_say_one_thing()
     ensures { BytesSayOneThing }
 {}
 
-/// No output is there twice.
+/// A log of version 4 is not refused, unless memory runs out.
+pub fn good_logs_are_read()
+    ensures { GoodLogsAreRead }
+{}
+
+/// No output is repeated.
 pub fn each_output_once()
     ensures { EachOutputOnce }
 {}

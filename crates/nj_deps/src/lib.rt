@@ -10,7 +10,7 @@ mod log_table;
 mod logged_outputs;
 mod records;
 
-pub use laws::{bytes_say_one_thing, each_output_once, last_record_counts};
+pub use laws::{bytes_say_one_thing, each_output_once, good_logs_are_read, last_record_counts};
 pub use log::DepsLog;
 pub use log_fault::DepsLogFault;
 pub use logged_outputs::LoggedOutput;

@@ -1,7 +1,8 @@
 //! The table that the records of a deps log fill.
 
 ghost use Rattle.std.specs.Prelude.{◌≡◌, ◌≢◌, ◌<◌, ◌≤◌, ◌+◌, ◌^◌, [], Some, None, true, false, length, slice_get, IfOk, MatchOption};
-ghost use Rattle.std.specs.List.{AllByRecursion};
+ghost use Rattle.std.specs.List.{AllByRecursion, list_any};
+ghost use Rattle.nj_deps.specs.LogRecords.{MayBeNamed, is_never_named};
 ghost use Rattle.nj_deps.specs.Logs.{IsOfPaths, output_of, output_model};
 ghost use Rattle.nj_deps.specs.Inside.RecordsRead.{Adds, AddsAs, AddsPath, TakesRecord, TakesNone, IsTimed};
 
@@ -80,7 +81,10 @@ impl LogTable {
             None => return Ok(false),
         };
         let path = path_in(padded);
-        if !may_be_next(path, complement, self.paths.count()) {
+        if !may_be_named(path) {
+            return Ok(false);
+        }
+        if !is_next(complement, self.paths.count()) {
             return Ok(false);
         }
         self.add_path(path)
@@ -152,13 +156,28 @@ fn split_dependencies(content: &[u8]) -> Option<(u32, u64, &[u8])>
     Some((output, (high as u64) * (1 << 32) + low as u64, inputs))
 }
 
-// Whether a path that is new may have this complement, if there are so many paths.
-fn may_be_next(path: &[u8], complement: u32, count: usize) -> bool
-    ensures yes { result ≡ true → (path.now ≢ []) × (complement + count + 1 ≡ 2 ^ 32) }
-    ensures no { result ≡ false → path.now ≢ [] → complement + count + 1 ≢ 2 ^ 32 }
+// Whether a manifest may name this path.
+fn may_be_named(path: &[u8]) -> bool
+    ensures yes { result ≡ true → MayBeNamed path.now }
+    ensures no { result ≡ false → ¬ MayBeNamed path.now }
+{
+    !path.is_empty() && !has_unnamed_byte(path)
+}
+
+// Whether a byte is a line feed or zero.
+fn has_unnamed_byte(path: &[u8]) -> bool
+    ensures { result ≡ list_any is_never_named path.now }
+{
+    path.iter().any(|byte| *byte == b'\n' || *byte == 0)
+}
+
+// Whether the next of so many paths has this complement.
+fn is_next(complement: u32, count: usize) -> bool
+    ensures yes { result ≡ true → complement + count + 1 ≡ 2 ^ 32 }
+    ensures no { result ≡ false → complement + count + 1 ≢ 2 ^ 32 }
 {
     match u32::try_from(count) {
-        Ok(number) => complement == !number && !path.is_empty(),
+        Ok(number) => complement == !number,
         Err(_) => false,
     }
 }

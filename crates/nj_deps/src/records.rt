@@ -19,7 +19,7 @@ const FIRST_LINE: &[u8] = b"# ninjadeps\n";
 pub(crate) fn split_opening(bytes: &[u8]) -> Option<(u32, &[u8])>
     ensures { MatchOption result
         ((version : ℕ) (rest : List ℕ) → bytes.now ≢ opening version ++ rest)
-        (λ p. bytes.now ≡ opening p.0 ++ p.1.now) }
+        (λ p. (p.0 < 2 ^ 32) × (bytes.now ≡ opening p.0 ++ p.1.now)) }
 {
     match bytes.strip_prefix(FIRST_LINE) {
         Some(rest) => split_number(rest),
