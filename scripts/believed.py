@@ -1,13 +1,18 @@
 #!/usr/bin/env python3
-"""Counts the lines that must be believed for the contract of `run_words`:
+"""Counts the lines that must be believed for a contract:
 
-    believed.py [--most LINES]
+    believed.py [--most LINES] [NAME]
 
-It starts at the contract (crates/nj_cli/src/run.rt), and follows each name in it to its definition,
-each name in that definition, and so on. Definitions are those in crates/*/specs and, in
-crates/*/src, the value and the view of an `impl Model`, and the state of a trait and its functions
-with a clause. Comments, empty lines, `use` and `pub mod` do not count, nor do the definitions of
-the toolchain's crates. A variable with the name of a definition in its file counts as a use of it.
+NAME is `run_words` by default; `commands_law` for the headline, with the run that it is about;
+`run_words_and_keep`, which `main` of ninja-explain calls; `nj_c` for the exports of the library for
+C; or `ninja_graph` for its contracts and those of the keys and findings that it writes. `all` prints
+a line for each of these.
+
+It starts at the contract and follows each name in it to its definition, each name in that
+definition, and so on. Definitions are those in crates/*/specs and, in crates/*/src, the value and
+the view of an `impl Model`, and the state of a trait and its functions with a clause. Comments,
+empty lines, `use` and `pub mod` do not count, nor do the definitions of the toolchain's crates. A
+variable with the name of a definition in its file counts as a use of it.
 
 Prints how many lines are reached in each crate and file, and the names of their definitions. The
 structs and enums of crates/*/src that definitions use are printed too, with a sum of their own.
@@ -22,7 +27,18 @@ from itertools import groupby
 from pathlib import Path
 
 CRATES = Path(__file__).resolve().parent.parent / "crates"
-START = CRATES / "nj_cli/src/run.rt", "run_words"
+# The functions from which a walk starts, and their files.
+RUN, LAWS = "nj_cli/src/run.rt", "nj_cli/src/laws.rt"
+STARTS = {
+    "run_words": [(RUN, "run_words")],
+    "commands_law": [(RUN, "run_words"), (LAWS, "commands_law")],
+    "run_words_and_keep": [(RUN, "run_words_and_keep")],
+    "nj_c": [],
+    "ninja_graph": [("nj_keys/src/pages.rt", "page_from"), ("nj_audit/src/auditing.rt", "audit")],
+}
+# Which functions of a crate a walk of its name starts from too.
+OF_CRATE = {"nj_c": 'extern "C" fn', "ninja_graph": "fn"}
+FUNCTION = re.compile(r'^ *(?:pub(?:\(\w+\))? )?(?:extern "C" )?fn (\w+)', re.M)
 
 # A string; a name, with the fields after it; or a field of an expression in parentheses.
 TOKEN = re.compile(r'"(?:[^"\\]|\\.)*"|[^\s(){}\[\];,".]+(?:\.[^\s(){}\[\];,".]+)*|\.\w+')
@@ -197,12 +213,22 @@ def members(text, which):
     return "\n".join(block_at(text, member.start()) for member in re.finditer(which, text))
 
 
-def contract():
-    """The contract from which the walk starts."""
-    file, name = START
+def contracts(file):
+    """The declarations of the functions of a file that have a clause, by name."""
     of, text = rust(file)
-    start = text.index(f"pub fn {name}")
-    return Definition(of, name, text[start : text.index("\n{", start)])
+    for found in FUNCTION.finditer(text):
+        end = re.compile(r"^ *\{|;$", re.M).search(text, found.start())
+        head = text[found.start() : end.start()] if end else ""
+        if re.search(r"^\s*(?:requires|ensures)\b", head, re.M):
+            yield found[1], Definition(of, found[1], head)
+
+
+def starts(name):
+    """The contracts from which the walk for a name starts."""
+    found = [dict(contracts(CRATES / file))[function] for file, function in STARTS[name]]
+    files = sorted((CRATES / name / "src").rglob("*.rt")) if name in OF_CRATE else []
+    of_crate = (contract for file in files for _, contract in contracts(file))
+    return found + [it for it in of_crate if OF_CRATE[name] in it.text]
 
 
 # ---- the walk
@@ -233,11 +259,23 @@ def count(definitions, is_type=False):
     return sum(it.lines for it in definitions if it.is_type == is_type)
 
 
+def show_all():
+    """Prints how many lines each name has, and how many of them `run_words` does not."""
+    known = {(it.module.file, it.name) for it in reached(starts("run_words"))}
+    for name in STARTS:
+        found = reached(starts(name))
+        more = [it for it in found if (it.module.file, it.name) not in known]
+        print(f"{count(found):5} {name}, {count(more)} of them not of run_words")
+
+
 def main():
     parser = argparse.ArgumentParser()
     parser.add_argument("--most", type=int, help="how many lines of definitions there may be")
-    most = parser.parse_args().most
-    found = reached([contract()])
+    parser.add_argument("name", nargs="?", choices=[*STARTS, "all"], default="run_words")
+    words = parser.parse_args()
+    if words.name == "all":
+        return show_all()
+    most, found = words.most, reached(starts(words.name))
     for crate, of_crate in groupby(found, key=lambda it: it.module.crate):
         of_crate = list(of_crate)
         print(f"{count(of_crate):5} {crate}")

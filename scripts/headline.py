@@ -16,9 +16,23 @@ from lib.programs import CRATES, ROOT
 PAGE = ROOT / "docs/HEADLINE.md"
 # The phrases of the headline, each with the definitions that give its meaning.
 PHRASES = {
-    "For every accepted set of files": ["nj_graph/Graph IsGraphOf", "nj_cli/Targets NoEdgeNeedsItself"],
+    "For every accepted set of files": [
+        "nj_cli/Runs IsAnswered",
+        "nj_cli/Runs AreStatements",
+        "nj_graph/Loads IsWhole",
+        "nj_cli/Targets NoEdgeNeedsItself",
+    ],
     "and every list of targets,": ["nj_cli/Targets targets_of"],
-    "`commands` writes the commands of": ["nj_cli/Headline WritesTheNeeded", "nj_tools/CommandStrings command_lines"],
+    "`commands` writes the commands of": [
+        "nj_cli/Runs IsReported",
+        "nj_cli/Headline WritesTheNeeded",
+        "nj_cli/Answers output_of",
+        "nj_cli/Answers page_text",
+        "nj_tools/CommandStrings command_lines",
+        "nj_cli/Answers EndsWith",
+        "nj_cli/Answers EndsFor",
+        "nj_cli/Answers PageEnds",
+    ],
     "exactly the edges that are not phony and that the targets need through any chain of inputs,"
     " each exactly once, after all edges that make its inputs,": [
         "nj_cli/Headline AreNeeded",
@@ -35,7 +49,9 @@ PHRASES = {
     "stopped after any number of commands and resumed from its mark, it writes exactly the rest.": [
         "nj_cli/Headline PageStringsJoin",
         "nj_cli/Headline ArePageStrings",
+        "nj_cli/Headline IsRun",
         "nj_cli/Headline StoppedRunsContinue",
+        "nj_cli/Headline OneEnding",
     ],
 }
 
@@ -59,9 +75,11 @@ def page():
     rows = [
         "# What the headline says",
         "",
-        "Every definition on which the words of the headline rest, as `scripts/headline.py` copies them",
-        "from the specs: do not edit this page. `commands_law` of `nj_cli` is the theorem. What these",
-        "definitions name in turn, `scripts/believed.py` lists.",
+        "The definitions that give the phrases of the headline their meaning, as `scripts/headline.py`",
+        "copies them from the specs: do not edit this page. `commands_law` of `nj_cli` is the theorem, on",
+        "the output and the ending of a run; the contract of `run_words` says that a run has these.",
+        "`python3 scripts/believed.py commands_law` lists all definitions on which both rest, with",
+        "those that these name in turn.",
         "",
     ]
     for phrase, places in PHRASES.items():

@@ -37,7 +37,7 @@ PLANTED = [
     (map, "nj_manifest nj_names", "nj_manifest nj_edges"),
     (map, "| all |  |  |  | ", "| all |  |  |  | 1"),
     (reference, "Proved: `RunsWords`", "Proved: `RunsWord`"),
-    (headline, "record IsGraphOf", "record IsGraph"),
+    (headline, "record IsAnswered", "record IsAnswer"),
 ]
 
 

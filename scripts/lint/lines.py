@@ -12,7 +12,11 @@ from lib.programs import ROOT
 MOST = 2200
 # How the pages say how many there are.
 BELIEVED = re.compile(r"\*\*([\d,]+) lines of definitions\*\*")
-PAGES = ROOT / "README.md", ROOT / "docs/PROOFS.md"
+PROOFS = ROOT / "docs/PROOFS.md"
+PAGES = ROOT / "README.md", PROOFS
+# How PROOFS.md has them in a table, and how the script prints them.
+ROW = re.compile(r"^\| `(\w+)`[^|]*\| ([\d,]+) \| ([\d,]+) \|$", re.M)
+COUNTED = re.compile(r"^ *(\d+) (\w+), (\d+) of them not of run_words$", re.M)
 
 
 def number(text):
@@ -30,3 +34,14 @@ def lines_to_believe():
     for page in PAGES:
         said = [number(it) for it in BELIEVED.findall(" ".join(page.read_text().split()))]
         yield from expect(page.name, said, [lines])
+
+
+@check
+def lines_of_other_contracts():
+    """docs/PROOFS.md says how many lines each of the contracts rests on."""
+    words = [sys.executable, believed.__file__, "all"]
+    ran = subprocess.run(words, capture_output=True, text=True, check=True)
+    counted = {name: (int(all_), int(more)) for all_, name, more in COUNTED.findall(ran.stdout)}
+    rows = ROW.findall(PROOFS.read_text())
+    said = {name: (number(all_), number(more)) for name, all_, more in rows}
+    yield from expect(PROOFS.name, said, counted)
