@@ -34,8 +34,9 @@ def colliding_names(folder, count, bits=12):
     many bits."""
     program = os.path.join(folder, "collisions")
     subprocess.run(["cc", "-O2", "-o", program, SOURCE], check=True)
-    names = words([program, str(count), "0", str(bits)])
-    return {table: words([program, "paths", str(count)]) if table == "paths" else names for table in TABLES}
+    found = dict.fromkeys(TABLES, words([program, str(count), "0", str(bits)]))
+    found["blocks"] = words([program, "blocks", str(count), "0", str(bits)])
+    return {**found, "paths": words([program, "paths", str(count)])}
 
 
 def chosen_names(folder, count, bits=12):
@@ -106,13 +107,21 @@ def seconds(program, folder, chosen, rounds, times):
     paths."""
     for table, manifest in {**TABLES, PAIRS: of_paths}.items():
         found = []
-        other = other_names(len(chosen[table]), len(chosen[table][0]))
-        for kind, names in ("chosen", chosen[table]), ("other", other):
+        for kind, names in names_of_kinds(chosen[table]).items():
             place = os.path.join(folder, table, kind)
             write(place, manifest(names, rounds))
-            runs = measure({kind: program}, times, folder=place)
-            found.append(best(runs[kind])[1])
+            found.append(least_seconds(program, place, times))
         yield table, *found
+
+
+def names_of_kinds(chosen):
+    """The chosen names, and as many others."""
+    return {"chosen": chosen, "other": other_names(len(chosen), len(chosen[0]))}
+
+
+def least_seconds(program, folder, times):
+    """The least CPU time of several runs in a directory."""
+    return best(measure({"program": program}, times, folder=folder)["program"])[1]
 
 
 def main():

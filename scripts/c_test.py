@@ -662,8 +662,8 @@ def try_flood(tests):
     """Checks that the key is used: names which collide under a known one cost little more."""
     folder = tests.folder / "flood"
     folder.mkdir()
-    for reason in flood.slow_tables([str(tests.static.path)], str(folder)):
-        tests.sweep.take({"tables of names": 1}, [reason] if reason else [])
+    for reasons in flood.slow_tables([str(tests.static.path)], str(folder)):
+        tests.sweep.take({"tables of names": 1}, reasons)
 
 
 # ---- every call

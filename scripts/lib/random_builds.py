@@ -125,14 +125,15 @@ def number(value):
     return value.to_bytes(4, "little")
 
 
-def deps_log(outputs):
+def deps_log(outputs, encoding="utf-8"):
     """A deps log with the inputs of each of these outputs."""
-    paths = list(dict.fromkeys(path for output, inputs in outputs.items() for path in [output, *inputs]))
-    log = OPENING
-    for index, path in enumerate(paths):
-        padded = path.encode() + b"\0" * (-len(path.encode()) % 4)
-        log += number(len(padded) + 4) + padded + number(~index & 0xFFFFFFFF)
+    named = dict.fromkeys(path for output, inputs in outputs.items() for path in [output, *inputs])
+    numbers = {path: index for index, path in enumerate(named)}
+    records = [OPENING]
+    for path, index in numbers.items():
+        padded = path.encode(encoding) + b"\0" * (-len(path.encode(encoding)) % 4)
+        records.append(number(len(padded) + 4) + padded + number(~index & 0xFFFFFFFF))
     for output, inputs in outputs.items():
-        words = [paths.index(output), 1, 0, *map(paths.index, inputs)]
-        log += number(DEPENDENCIES | 4 * len(words)) + b"".join(map(number, words))
-    return log
+        words = [numbers[output], 1, 0, *(numbers[path] for path in inputs)]
+        records.append(number(DEPENDENCIES | 4 * len(words)) + b"".join(map(number, words)))
+    return b"".join(records)

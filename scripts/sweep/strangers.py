@@ -20,10 +20,13 @@ from lib.programs import OUTPUT_FAILED
 from lib.projects import targets_differ, write_files
 from lib.strangers import Maker, colliding_names, flood
 from lib.sweeps import Sweep
+from smoke.flood import TIMES, reasons, with_known_number
 
 MOST_MEMORY = 256 << 20
 MOST_OUTPUT = 16 << 20
 SECONDS = 10
+# How often each name is looked up where it is tried whether the names collide.
+LOOK_UPS = 300
 # The number of cases in a task.
 TASK = 250
 
@@ -57,10 +60,18 @@ def try_cases(program, maker, seeds):
     return counts, wrong
 
 
-@check(needs=["cc"])
-def names_collide():
-    """Without `cc`, which finds them, the cases have other names."""
-    yield from expect("tables", set(colliding_names()), set(flood.TABLES))
+@check(needs=["cc"], alone=True)
+def names_collide(program, folder):
+    """Without `cc`, which finds them, the cases have other names. With the number 0 they are slow."""
+    chosen = colliding_names()
+    yield from expect("tables", set(chosen), set(flood.TABLES))
+    preloaded = with_known_number([program.path, "-t", "rules"], folder)
+    for table, manifest in flood.TABLES.items():
+        found = {}
+        for kind, names in flood.names_of_kinds(chosen[table]).items():
+            flood.write(folder / table / kind, manifest(names, LOOK_UPS))
+            found[kind] = flood.least_seconds(preloaded, folder / table / kind, TIMES)
+        yield from reasons(table, 0, found["other"], found["chosen"])
 
 
 @check(alone=True)
