@@ -557,14 +557,14 @@ LOADS = {
 def python_loads(folder, joins):
     """How many loads a directory takes by Python, how many files are supplied, and which file is still
     wanted then."""
-    calls, call = [], Session.call
+    calls, call = [], Session._call
 
     def counted(session, name, *arguments):
         calls.append(name)
         return call(session, name, *arguments)
 
     wanted = None
-    with mock.patch.object(Session, "call", counted):
+    with mock.patch.object(Session, "_call", counted):
         try:
             Graph.load(folder=folder, joins_dyndeps=joins)
         except OSError as error:

@@ -3,12 +3,13 @@
 from __future__ import annotations
 
 import ctypes
+import errno
+import functools
 import os
 import threading
 from ctypes import POINTER, c_char_p, c_int32, c_size_t, c_uint32, c_uint64
 from pathlib import Path
-from types import TracebackType
-from typing import Any, Callable, Iterator, Sequence
+from typing import Any, Callable, Iterator, Protocol, Sequence, TypeVar, cast
 
 from ninja_explain._errors import STATUS_ERRORS, Fault, FaultKind
 
@@ -22,6 +23,9 @@ DONE, NOTHING, SHORT, FAULT, WANTED = range(5)
 GREATEST = c_size_t(-1).value
 # How many items of a list one call gives at most.
 ROOM = 4096
+# How many times a manifest is loaded at most. Each load names all files that it lacks, and only a
+# file that another one of these names takes a load of its own.
+MOST_LOADS = 1_000
 
 
 class _Kept(ctypes.Structure):
@@ -129,138 +133,123 @@ def decoded(content: bytes) -> str:
     return content.decode("utf-8", "surrogateescape")
 
 
+class Files(Protocol):
+    """Where files are read."""
+
+    def content(self, path: bytes) -> bytes | None:
+        """The bytes of a file; None if there is no file at this path."""
+
+
+Method = TypeVar("Method", bound=Callable[..., Any])
+
+
+def in_turn(method: Method) -> Method:
+    """The method of a session, refused with RuntimeError while the session is in use.
+
+    Whoever else may ask in the meantime, such as the handler of a signal or a finalizer in the same
+    thread, would find a half-read list, and replace it.
+    """
+
+    @functools.wraps(method)
+    def taken(session: Session, *arguments: Any) -> Any:
+        with session.turn():
+            return method(session, *arguments)
+
+    return cast(Method, taken)
+
+
 class Session:
     """A session of the library: a graph, and its last list and run.
 
-    A call that comes while another thread makes one is refused with RuntimeError. `with session`
-    holds the session for several calls, so that no other thread's come between them.
+    The methods without an underscore are `in_turn`; they call only those with one.
     """
 
     def __init__(self) -> None:
-        self._turn = threading.RLock()
+        self._turn = threading.Lock()
         self._kept = _Kept(None)
         self._buffer = ctypes.create_string_buffer(256)
         self._items, self._kinds = (c_size_t * ROOM)(), (c_int32 * ROOM)()
-        self.call("nx_open", int.from_bytes(os.urandom(8), "little"))
+        self._call("nx_open", int.from_bytes(os.urandom(8), "little"))
 
-    def __enter__(self) -> Session:
-        if not self._turn.acquire(blocking=False):
-            raise RuntimeError("the graph is in use in another thread")
-        return self
+    def turn(self) -> threading.Lock:
+        """The lock under which calls are made. Raises RuntimeError while it is held.
 
-    def __exit__(
-        self,
-        kind: type[BaseException] | None,
-        error: BaseException | None,
-        trace: TracebackType | None,
-    ) -> None:
-        self._turn.release()
-
-    def close(self) -> None:
-        with self:
-            _library.nx_close(ctypes.byref(self._kept))
+        A caller enters it by `with` at once, and not by `acquire`, after which an exception that the
+        handler of a signal raises could keep it held for ever. Between the question and the entry
+        only another thread can take it, and then the caller waits.
+        """
+        if self._turn.locked():
+            raise RuntimeError("the graph is in use by another call")
+        return self._turn
 
     def __del__(self) -> None:
-        if hasattr(self, "_kept"):
+        # (a lock that is still held is that of a thread which a forked process does not have)
+        if hasattr(self, "_kept") and not self._turn.locked():
             _library.nx_close(ctypes.byref(self._kept))
 
     @property
     def is_open(self) -> bool:
         return self._kept.kept is not None
 
-    # ---- calls
+    # ---- one call
 
-    def call(self, name: str, *arguments: Any) -> int:
+    def _call(self, name: str, *arguments: Any) -> int:
         """Makes a call. Returns its status if that is no error, or raises its exception."""
-        with self:
-            status: int = getattr(_library, name)(ctypes.byref(self._kept), *arguments)
-            if status <= WANTED and status != FAULT:
-                return status
-            raise self._error(status)
+        status: int = getattr(_library, name)(ctypes.byref(self._kept), *arguments)
+        if status <= WANTED and status != FAULT:
+            return status
+        raise self._error(status)
 
-    def is_there(self, name: str, *arguments: Any) -> bool:
+    def _is_there(self, name: str, *arguments: Any) -> bool:
         """Makes a call. Returns whether it found something."""
-        return self.call(name, *arguments) == DONE
+        return self._call(name, *arguments) == DONE
 
-    def number(self, name: str, *arguments: Any) -> int | None:
+    def _number(self, name: str, *arguments: Any) -> int | None:
         """The number that a call gives; None if there is none."""
         number = c_size_t()
-        return number.value if self.is_there(name, *arguments, ctypes.byref(number)) else None
+        return number.value if self._is_there(name, *arguments, ctypes.byref(number)) else None
 
-    def count(self, name: str, *arguments: Any) -> int:
-        return self.number(name, *arguments) or 0
+    def _count(self, name: str, *arguments: Any) -> int:
+        return self._number(name, *arguments) or 0
 
-    def flag(self, name: str, *arguments: Any) -> int:
+    def _flag(self, name: str, *arguments: Any) -> int:
         """The small number that a call gives."""
         flag = c_int32()
-        self.call(name, *arguments, ctypes.byref(flag))
+        self._call(name, *arguments, ctypes.byref(flag))
         return flag.value
 
-    def place(self, name: str, *arguments: Any) -> tuple[int, int] | None:
+    def _place(self, name: str, *arguments: Any) -> tuple[int, int] | None:
         """The line and the column that a call gives; None if there is no place."""
         line, column = c_size_t(), c_size_t()
-        if not self.is_there(name, *arguments, ctypes.byref(line), ctypes.byref(column)):
+        if not self._is_there(name, *arguments, ctypes.byref(line), ctypes.byref(column)):
             return None
         return line.value, column.value
 
-    def numbers(self, name: str, *arguments: Any) -> list[int]:
+    def _optional_text(self, name: str, *arguments: Any) -> str | None:
+        """The text that a call gives; None if there is none."""
+        length = c_size_t()
+        while True:
+            size = len(self._buffer)
+            status = self._call(name, *arguments, self._buffer, size, ctypes.byref(length))
+            if status != SHORT:
+                break
+            self._buffer = ctypes.create_string_buffer(2 * length.value)
+        if status != DONE:
+            return None
+        return decoded(ctypes.string_at(self._buffer, length.value))
+
+    def _text(self, name: str, *arguments: Any) -> str:
+        return self._optional_text(name, *arguments) or ""
+
+    # ---- lists, which take many calls
+
+    def _numbers(self, name: str, *arguments: Any) -> list[int]:
         """All numbers that a call gives by an index."""
-        with self:
-            return list(self._by_index(lambda index: self.number(name, *arguments, index)))
+        return list(self._by_index(lambda index: self._number(name, *arguments, index)))
 
-    def items(self, name: str, of: int) -> list[int]:
-        """All numbers of the list that a call gives of an edge or a file, many at a time."""
-        items: list[int] = []
-        count = c_size_t()
-        with self:
-            while True:
-                self.call(name, of, len(items), self._items, ROOM, ctypes.byref(count))
-                items += self._items[: count.value - len(items)]
-                if len(items) == count.value:
-                    return items
-
-    def inputs(self, edge: int) -> tuple[list[int], list[int]]:
-        """The files of all inputs of an edge, and their kinds."""
-        files: list[int] = []
-        kinds: list[int] = []
-        count = c_size_t()
-        rooms = self._items, ROOM, self._kinds, ROOM
-        with self:
-            while True:
-                self.call("nx_inputs", edge, len(files), *rooms, ctypes.byref(count))
-                left = count.value - len(files)
-                files += self._items[:left]
-                kinds += self._kinds[:left]
-                if len(files) == count.value:
-                    return files, kinds
-
-    def steps(self, start: int, end: int, with_validations: bool) -> list[tuple[int, int, int]] | None:
-        """The steps of a shortest chain from one file to another, each an edge, a file and a kind;
-        None if there is no chain."""
-        count, room = c_size_t(), 64
-        while True:
-            given = (_Step * room)()
-            found = given, room, ctypes.byref(count)
-            if not self.is_there("nx_path_between", start, end, with_validations, *found):
-                return None
-            if count.value <= room:
-                return [(step.edge, step.file, step.kind) for step in given[: count.value]]
-            room = count.value
-
-    def undeclared(self, log: bytes) -> list[tuple[int, int]]:
-        """The inputs that a deps log has and no edge declares, each an edge and a file."""
-        count, room = c_size_t(), 256
-        while True:
-            given = (_EdgeInput * room)()
-            self.call("nx_undeclared", log, len(log), given, room, ctypes.byref(count))
-            if count.value <= room:
-                return [(each.edge, each.file) for each in given[: count.value]]
-            room = count.value
-
-    def texts(self, name: str) -> list[str]:
+    def _texts(self, name: str) -> list[str]:
         """All texts that a call gives by an index."""
-        with self:
-            return list(self._by_index(lambda index: self.optional_text(name, index)))
+        return list(self._by_index(lambda index: self._optional_text(name, index)))
 
     @staticmethod
     def _by_index(ask: Callable[[int], Any]) -> Iterator[Any]:
@@ -269,22 +258,105 @@ class Session:
             yield found
             index += 1
 
-    def text(self, name: str, *arguments: Any) -> str:
-        return self.optional_text(name, *arguments) or ""
+    @in_turn
+    def items(self, name: str, of: int) -> list[int]:
+        """All numbers of the list that a call gives of an edge or a file, many at a time."""
+        items: list[int] = []
+        count = c_size_t()
+        while True:
+            self._call(name, of, len(items), self._items, ROOM, ctypes.byref(count))
+            items += self._items[: count.value - len(items)]
+            if len(items) == count.value:
+                return items
 
-    def optional_text(self, name: str, *arguments: Any) -> str | None:
-        """The text that a call gives; None if there is none."""
-        length = c_size_t()
-        with self:
-            while True:
-                size = len(self._buffer)
-                status = self.call(name, *arguments, self._buffer, size, ctypes.byref(length))
-                if status != SHORT:
-                    break
-                self._buffer = ctypes.create_string_buffer(2 * length.value)
-            if status != DONE:
+    @in_turn
+    def inputs(self, edge: int) -> tuple[list[int], list[int]]:
+        """The files of all inputs of an edge, and their kinds."""
+        files: list[int] = []
+        kinds: list[int] = []
+        count = c_size_t()
+        rooms = self._items, ROOM, self._kinds, ROOM
+        while True:
+            self._call("nx_inputs", edge, len(files), *rooms, ctypes.byref(count))
+            left = count.value - len(files)
+            files += self._items[:left]
+            kinds += self._kinds[:left]
+            if len(files) == count.value:
+                return files, kinds
+
+    @in_turn
+    def steps(self, start: int, end: int, with_validations: bool) -> list[tuple[int, int, int]] | None:
+        """The steps of a shortest chain from one file to another, each an edge, a file and a kind;
+        None if there is no chain."""
+        count, room = c_size_t(), 64
+        while True:
+            given = (_Step * room)()
+            found = given, room, ctypes.byref(count)
+            if not self._is_there("nx_path_between", start, end, with_validations, *found):
                 return None
-            return decoded(ctypes.string_at(self._buffer, length.value))
+            if count.value <= room:
+                return [(step.edge, step.file, step.kind) for step in given[: count.value]]
+            room = count.value
+
+    @in_turn
+    def undeclared(self, log: bytes) -> list[tuple[int, int]]:
+        """The inputs that a deps log has and no edge declares, each an edge and a file."""
+        count, room = c_size_t(), 256
+        while True:
+            given = (_EdgeInput * room)()
+            self._call("nx_undeclared", log, len(log), given, room, ctypes.byref(count))
+            if count.value <= room:
+                return [(each.edge, each.file) for each in given[: count.value]]
+            room = count.value
+
+    @in_turn
+    def listed(self, name: str, *arguments: Any) -> list[int]:
+        """The edges that a call lists."""
+        self._call(name, *arguments)
+        return self._numbers("nx_found")
+
+    @in_turn
+    def page(self, *arguments: Any) -> tuple[list[int], str | None]:
+        """The edges of a page, and the mark at its end."""
+        self._call("nx_page", *arguments)
+        return self._numbers("nx_found"), self._optional_text("nx_page_mark")
+
+    # ---- files
+
+    def _add(self, path: str, content: bytes | None) -> None:
+        """Supplies the bytes of a file, or that there is none."""
+        if content is None:
+            self._call("nx_add_absent", *text_arguments(path))
+        else:
+            self._call("nx_add_file", *text_arguments(path), content, len(content))
+
+    def _call_with(self, files: Files, name: str, *arguments: Any) -> None:
+        """Makes a call, again and again until it wants no more files, which these files have."""
+        for _ in range(MOST_LOADS):
+            if self._call(name, *arguments) != WANTED:
+                return
+            wanted = self._texts("nx_wanted")
+            for path in wanted:
+                self._add(path, files.content(encoded(path)))
+        text = f"wanted after {MOST_LOADS} loads, each of which named another"
+        raise OSError(errno.ELOOP, text, wanted[0])
+
+    @in_turn
+    def run(self, files: Files, words: bytes) -> tuple[int, str, str]:
+        """Runs the program. Returns its exit status, its output and its errors."""
+        status = c_int32()
+        self._call_with(files, "nx_run", *text_arguments(words), ctypes.byref(status))
+        return status.value, self._text("nx_run_output"), self._text("nx_run_errors")
+
+    @in_turn
+    def close(self) -> None:
+        self._call("nx_close")
+
+    # ---- the calls above that are questions of their own
+
+    add, call, call_with = in_turn(_add), in_turn(_call), in_turn(_call_with)
+    number, count, flag, place = in_turn(_number), in_turn(_count), in_turn(_flag), in_turn(_place)
+    text, numbers, texts = in_turn(_text), in_turn(_numbers), in_turn(_texts)
 
     # ---- errors
 
@@ -296,11 +368,11 @@ class Session:
 
     def _fault(self) -> Fault:
         """The last fault of the session."""
-        line, column = self.place("nx_fault_place") or (None, None)
+        line, column = self._place("nx_fault_place") or (None, None)
         return Fault(
-            self.text("nx_fault_line"),
-            FaultKind.of(self.flag("nx_fault_kind")),
-            self.optional_text("nx_fault_file"),
+            self._text("nx_fault_line"),
+            FaultKind.of(self._flag("nx_fault_kind")),
+            self._optional_text("nx_fault_file"),
             line,
             column,
         )

@@ -6,22 +6,11 @@ import errno
 import os
 import stat
 from dataclasses import dataclass
-from typing import Protocol
 
-from ninja_explain._calls import WANTED, Session, decoded, encoded, text_arguments
+from ninja_explain._calls import decoded
 
 # The size of the largest file that is read, in bytes.
 LARGEST = 1 << 30
-# How many times a manifest is loaded at most. Each load names all files that it lacks, and only a
-# file that another one of these names takes a load of its own.
-MOST_LOADS = 1_000
-
-
-class Files(Protocol):
-    """Where files are read."""
-
-    def content(self, path: bytes) -> bytes | None:
-        """The bytes of a file; None if there is no file at this path."""
 
 
 class _Nowhere:
@@ -71,23 +60,3 @@ def _regular_content(path: bytes) -> bytes:
     if len(content) > LARGEST:
         raise OSError(errno.EFBIG, "larger than 1 GiB", decoded(path))
     return content
-
-
-def call_with_files(session: Session, files: Files, name: str, *arguments: object) -> None:
-    """Makes a call, again and again until it wants no more files, which these files have."""
-    with session:
-        for _ in range(MOST_LOADS):
-            if session.call(name, *arguments) != WANTED:
-                return
-            wanted = session.texts("nx_wanted")
-            for path in wanted:
-                hand_in(session, path, files.content(encoded(path)))
-    raise OSError(errno.ELOOP, f"wanted after {MOST_LOADS} loads, each of which named another", wanted[0])
-
-
-def hand_in(session: Session, path: str, content: bytes | None) -> None:
-    """Supplies the bytes of a file, or that there is none."""
-    if content is None:
-        session.call("nx_add_absent", *text_arguments(path))
-    else:
-        session.call("nx_add_file", *text_arguments(path), content, len(content))

@@ -4,18 +4,18 @@ from __future__ import annotations
 
 import os
 from collections.abc import Iterable, Iterator, Mapping, Sequence
-from ctypes import byref, c_int32
 from enum import IntEnum
 from typing import TYPE_CHECKING, Generic, NamedTuple, NoReturn, TypeVar, Union, overload
 
 from ninja_explain._calls import (
     GREATEST,
+    Files,
     Session,
     encoded,
     number_arguments,
     text_arguments,
 )
-from ninja_explain._files import NOWHERE, Files, Folder, call_with_files, hand_in
+from ninja_explain._files import NOWHERE, Folder
 
 if TYPE_CHECKING:
     from typing_extensions import Self
@@ -230,9 +230,8 @@ class Edge(_Numbered):
     @property
     def place(self) -> Place:
         """Where its build statement is."""
-        with self._session:
-            line, column = self._session.place("nx_edge_place", self._number) or (0, 0)
-            return Place(self._session.text("nx_edge_file", self._number), line, column)
+        line, column = self._session.place("nx_edge_place", self._number) or (0, 0)
+        return Place(self._session.text("nx_edge_file", self._number), line, column)
 
     def _name(self) -> str:
         return repr(self.outputs[0].path)
@@ -293,8 +292,9 @@ class Graph:
     """The graph of a manifest, by `Graph.load` or `Graph.from_files`.
 
     It keeps memory until it is closed, by `close`, at the end of a `with` block or with its last
-    reference. Any thread may use it, but one at a time: a call that comes during another thread's is
-    refused with RuntimeError. It can be neither copied nor pickled.
+    reference. Any thread may use it, for one call at a time: a call that comes during another one is
+    refused with RuntimeError, even in the same thread, as from the handler of a signal or from a
+    finalizer. It can be neither copied nor pickled.
     """
 
     def __init__(self) -> None:
@@ -325,7 +325,7 @@ class Graph:
         """
         graph = cls()
         place = Folder(encoded(folder), allow_outside)
-        call_with_files(graph._session, place, "nx_load", *text_arguments(path), joins_dyndeps)
+        graph._session.call_with(place, "nx_load", *text_arguments(path), joins_dyndeps)
         if deps_log is not None:
             graph._join_deps(place.required(encoded(deps_log)))
         return graph
@@ -343,8 +343,8 @@ class Graph:
         `deps_log` has the bytes of a deps log."""
         graph = cls()
         for name, content in files.items():
-            hand_in(graph._session, name, encoded(content))
-        call_with_files(graph._session, NOWHERE, "nx_load", *text_arguments(path), joins_dyndeps)
+            graph._session.add(name, encoded(content))
+        graph._session.call_with(NOWHERE, "nx_load", *text_arguments(path), joins_dyndeps)
         if deps_log is not None:
             graph._join_deps(deps_log)
         return graph
@@ -417,16 +417,12 @@ class Graph:
     def affected(self, files: Iterable[File]) -> list[Edge]:
         """The edges that a change of these files affects, by number: those that need one of them
         through any chain of inputs."""
-        with self._session:
-            self._session.call("nx_affected", *number_arguments(self._numbers(files)))
-            return self._edges_at("nx_found")
+        return self._listed("nx_affected", files)
 
     def needed(self, files: Iterable[File]) -> list[Edge]:
         """The edges that these files need through any chain of inputs, phony edges among them, nearest
         first: the edges that make the files, then those that make their inputs, and so on."""
-        with self._session:
-            self._session.call("nx_needed", *number_arguments(self._numbers(files)))
-            return self._edges_at("nx_found")
+        return self._listed("nx_needed", files)
 
     def path_between(
         self, start: File, end: File, *, with_validations: bool = False
@@ -479,10 +475,9 @@ class Graph:
         most = GREATEST if take is None else take
         if not 0 <= most <= GREATEST:
             raise ValueError(f"take is out of range: {take}")
-        with self._session:
-            targets_given = number_arguments(self._numbers(targets))
-            self._session.call("nx_page", *targets_given, *text_arguments(mark), most)
-            return Page(self._edges_at("nx_found"), self._session.optional_text("nx_page_mark"))
+        numbers = number_arguments(self._numbers(targets))
+        edges, end = self._session.page(*numbers, *text_arguments(mark), most)
+        return Page(Edge._each_of(self, edges), end)
 
     # ---- whole runs
 
@@ -507,6 +502,11 @@ class Graph:
             raise ValueError(f"a file of another graph: {file!r}")
         return file.number
 
+    def _listed(self, name: str, files: Iterable[File]) -> list[Edge]:
+        """The edges that a call lists of these files, which may be read from this graph meanwhile."""
+        numbers = number_arguments(self._numbers(files))
+        return Edge._each_of(self, self._session.listed(name, *numbers))
+
     def _edges_at(self, name: str, *arguments: int) -> list[Edge]:
         return Edge._each_of(self, self._session.numbers(name, *arguments))
 
@@ -524,8 +524,4 @@ def _run(session: Session, words: Iterable[str], files: Files) -> Run:
     given = [encoded(word) for word in words]
     if any(b"\0" in word for word in given):
         raise ValueError("an argument has a zero byte")
-    text = b"".join(word + b"\0" for word in given)
-    status = c_int32()
-    with session:
-        call_with_files(session, files, "nx_run", *text_arguments(text), byref(status))
-        return Run(status.value, session.text("nx_run_output"), session.text("nx_run_errors"))
+    return Run(*session.run(files, b"".join(word + b"\0" for word in given)))

@@ -276,7 +276,7 @@ class Misuse(unittest.TestCase):
             edge.rule
 
     def test_threads(self) -> None:
-        with graph_of() as graph, graph._session:
+        with graph_of() as graph, graph._session.turn():
             refused = []
 
             def ask() -> None:
@@ -288,7 +288,10 @@ class Misuse(unittest.TestCase):
             thread = threading.Thread(target=ask)
             thread.start()
             thread.join()
-        self.assertEqual(refused, ["the graph is in use in another thread"])
+            ask()
+            with self.assertRaises(RuntimeError):
+                graph.close()
+        self.assertEqual(refused, ["the graph is in use by another call"] * 2)
 
 
 class Disk(unittest.TestCase):
