@@ -299,12 +299,12 @@ class Session:
             room = count.value
 
     @in_turn
-    def undeclared(self, log: bytes) -> list[tuple[int, int]]:
+    def undeclared(self, log: bytes, length: int) -> list[tuple[int, int]]:
         """The inputs that a deps log has and no edge declares, each an edge and a file."""
         count, room = c_size_t(), 256
         while True:
             given = (_EdgeInput * room)()
-            self._call("nx_undeclared", log, len(log), given, room, ctypes.byref(count))
+            self._call("nx_undeclared", log, length, given, room, ctypes.byref(count))
             if count.value <= room:
                 return [(each.edge, each.file) for each in given[: count.value]]
             room = count.value

@@ -6,11 +6,13 @@ import errno
 import os
 import stat
 from dataclasses import dataclass
+from io import BytesIO, FileIO
 
 from ninja_explain._calls import decoded
 
-# The size of the largest file that is read, in bytes.
+# The size of the largest file that is read, in bytes, and how many are read at once.
 LARGEST = 1 << 30
+PIECE = 1 << 20
 
 
 class _Nowhere:
@@ -52,11 +54,26 @@ class Folder:
 def _regular_content(path: bytes) -> bytes:
     # (a pipe without a writer would wait for one)
     descriptor = os.open(path, os.O_RDONLY | os.O_CLOEXEC | os.O_NONBLOCK)
-    with open(descriptor, "rb") as file:
+    with open(descriptor, "rb", buffering=0) as file:
         found = os.fstat(descriptor)
         if not stat.S_ISREG(found.st_mode):
             raise OSError(errno.EINVAL, "not a regular file", decoded(path))
-        content = file.read(LARGEST + 1)
-    if len(content) > LARGEST:
-        raise OSError(errno.EFBIG, "larger than 1 GiB", decoded(path))
-    return content
+        if found.st_size > LARGEST:
+            raise _too_large(path)
+        return _content(file, path)
+
+
+def _content(file: FileIO, path: bytes) -> bytes:
+    """The bytes of a file, read in pieces: it may have more than it states, and room for the most that
+    it may have is more than a limit of memory allows."""
+    # (whose bytes are not copied when they are taken, unlike those of a list or a bytearray)
+    content = BytesIO()
+    while piece := file.read(PIECE):
+        content.write(piece)
+        if content.tell() > LARGEST:
+            raise _too_large(path)
+    return content.getvalue()
+
+
+def _too_large(path: bytes) -> OSError:
+    return OSError(errno.EFBIG, "larger than 1 GiB", decoded(path))

@@ -2,10 +2,20 @@
 
 from __future__ import annotations
 
+import operator
 import os
 from collections.abc import Iterable, Iterator, Mapping, Sequence
 from enum import IntEnum
-from typing import TYPE_CHECKING, Generic, NamedTuple, NoReturn, TypeVar, Union, overload
+from typing import (
+    TYPE_CHECKING,
+    Generic,
+    NamedTuple,
+    NoReturn,
+    SupportsIndex,
+    TypeVar,
+    Union,
+    overload,
+)
 
 from ninja_explain._calls import (
     GREATEST,
@@ -62,7 +72,9 @@ class _Numbered:
     __slots__ = ("_graph", "_number")
     _noun, _count = "", ""
 
-    def __init__(self, graph: Graph, number: int) -> None:
+    def __init__(self, graph: Graph, number: SupportsIndex) -> None:
+        """The one of a number. Raises TypeError for one that is no integer."""
+        number = operator.index(number)
         if not 0 <= number < graph._session.count(self._count):
             raise ValueError(f"there is no {self._noun} {number}")
         self._graph, self._number = graph, number
@@ -325,7 +337,7 @@ class Graph:
         """
         graph = cls()
         place = Folder(encoded(folder), allow_outside)
-        graph._session.call_with(place, "nx_load", *text_arguments(path), joins_dyndeps)
+        graph._session.call_with(place, "nx_load", *text_arguments(path), bool(joins_dyndeps))
         if deps_log is not None:
             graph._join_deps(place.required(encoded(deps_log)))
         return graph
@@ -344,13 +356,13 @@ class Graph:
         graph = cls()
         for name, content in files.items():
             graph._session.add(name, encoded(content))
-        graph._session.call_with(NOWHERE, "nx_load", *text_arguments(path), joins_dyndeps)
+        graph._session.call_with(NOWHERE, "nx_load", *text_arguments(path), bool(joins_dyndeps))
         if deps_log is not None:
             graph._join_deps(deps_log)
         return graph
 
     def _join_deps(self, log: bytes) -> None:
-        self._session.call("nx_join_deps", log, len(log))
+        self._session.call("nx_join_deps", *_log_arguments(log))
 
     def close(self) -> None:
         """Frees its memory. A graph that is closed remains closed."""
@@ -436,7 +448,7 @@ class Graph:
         edge, if `with_validations` is true.
         """
         first, last = self._number_of(start), self._number_of(end)
-        found = self._session.steps(first, last, with_validations)
+        found = self._session.steps(first, last, bool(with_validations))
         return None if found is None else [self._step(*step) for step in found]
 
     def _step(self, edge: int, file: int, kind: int) -> Step:
@@ -454,9 +466,7 @@ class Graph:
 
         Raises BadDepsLog for other bytes, and MemoryError.
         """
-        if not isinstance(log, bytes):
-            raise TypeError(f"the bytes of a deps log are needed, not {type(log).__name__}")
-        found = self._session.undeclared(log)
+        found = self._session.undeclared(*_log_arguments(log))
         return [UndeclaredInput(Edge._of(self, edge), File._of(self, file)) for edge, file in found]
 
     def commands(self, targets: Iterable[File]) -> list[Edge]:
@@ -465,14 +475,15 @@ class Graph:
         return self.page(targets).edges
 
     def page(
-        self, targets: Iterable[File], take: int | None = None, mark: str = ""
+        self, targets: Iterable[File], take: SupportsIndex | None = None, mark: str = ""
     ) -> Page:
         """At most `take` of the edges with commands that the targets need, from a mark on.
 
         The mark of the first page is empty. It fits the same manifest and targets, also in another
-        process. Raises BadMark for one that does not fit, and ValueError for a negative `take`.
+        process. Raises BadMark for one that does not fit, ValueError for a negative `take`, and
+        TypeError for one that is no integer.
         """
-        most = GREATEST if take is None else take
+        most = GREATEST if take is None else operator.index(take)
         if not 0 <= most <= GREATEST:
             raise ValueError(f"take is out of range: {take}")
         numbers = number_arguments(self._numbers(targets))
@@ -512,6 +523,13 @@ class Graph:
 
     def _files_at(self, name: str, *arguments: int) -> list[File]:
         return File._each_of(self, self._session.numbers(name, *arguments))
+
+
+def _log_arguments(log: object) -> tuple[bytes, int]:
+    """The bytes of a deps log as two arguments."""
+    if not isinstance(log, bytes):
+        raise TypeError(f"the bytes of a deps log are needed, not {type(log).__name__}")
+    return log, len(log)
 
 
 def run(words: Iterable[str], folder: AnyPath = ".", *, allow_outside: bool = False) -> Run:

@@ -1,14 +1,21 @@
 """Tests of the module, by unittest: python3 -m unittest discover -s python/tests"""
 
 import copy
+import errno
 import os
 import pickle
 import struct
+import subprocess
+import sys
 import tempfile
 import threading
 import unittest
 from collections.abc import Callable
+from decimal import Decimal
+from fractions import Fraction
 from pathlib import Path
+from typing import Any, cast
+from unittest import mock
 
 from ninja_explain import BadDepsLog, BadMark, Edge, Fault, FaultKind, File, Graph, Kind, Place, run
 
@@ -24,6 +31,15 @@ build app: link a.o b.o
 build check: cc check.c
 build gen: phony
 default app
+"""
+
+
+# A manifest with a dyndep file.
+BOUND = """\
+rule r
+  command = c
+build a: r || d
+  dyndep = d
 """
 
 
@@ -252,6 +268,51 @@ class Misuse(unittest.TestCase):
                 with self.assertRaises(ValueError):
                     graph.page(graph.defaults(), take)
 
+    def test_no_integers(self) -> None:
+        """Numbers that are no integers are refused, as by `range`; what has `__index__` is one."""
+
+        class Two:
+            def __index__(self) -> int:
+                return 2
+
+        others: "tuple[Any, ...]" = 0.5, 1.0, Decimal(1), Fraction(1), 1j, "1", b"1"
+        with graph_of() as graph:
+            for number in *others, None:
+                for numbered in File, Edge:
+                    with self.assertRaises(TypeError):
+                        numbered(graph, number)
+            for take in others:
+                with self.assertRaises(TypeError):
+                    graph.page(graph.defaults(), take)
+            for index in others:
+                with self.assertRaises(TypeError):
+                    graph.edges[index]
+            self.assertEqual(Edge(graph, Two()), graph.edges[2])
+            self.assertEqual(repr(File(graph, True).number), "1")
+            pages = graph.page(graph.defaults(), Two()), graph.page(graph.defaults(), True)
+            self.assertEqual([len(page.edges) for page in pages], [2, 1])
+
+    def test_flags(self) -> None:
+        """Flags are true or false as in `if`, whatever they are."""
+        true: "tuple[Any, ...]" = 1, 2, 1 << 32, 0.5, "yes", [0]
+        with graph_of() as graph:
+            app, check = graph.target("app"), graph.target("check")
+            for flag in true:
+                chain = graph.path_between(app, check, with_validations=flag)
+                self.assertEqual(len(chain or []), 2)
+            self.assertIsNone(graph.path_between(app, check, with_validations=cast(bool, None)))
+        for flag in true:
+            with self.assertRaises(Fault):
+                Graph.from_files({"build.ninja": BOUND, "d": "x"}, joins_dyndeps=flag)
+
+    def test_logs(self) -> None:
+        logs: "tuple[Any, ...]" = "", ".ninja_deps", bytearray(b"# ninjadeps\n"), 0.5
+        for log in logs:
+            with graph_of() as graph, self.assertRaises(TypeError):
+                graph.undeclared(log)
+            with self.assertRaises(TypeError):
+                Graph.from_files({"build.ninja": MANIFEST}, deps_log=log)
+
     def test_sets(self) -> None:
         with graph_of() as graph:
             self.assertEqual(len({graph.edges[0], Edge(graph, 0), graph.edges[1]}), 2)
@@ -294,6 +355,16 @@ class Misuse(unittest.TestCase):
         self.assertEqual(refused, ["the graph is in use by another call"] * 2)
 
 
+# Prints how many edges there are, after a deps log that is none, and the size of a large file.
+LIMITED = """
+from ninja_explain import BadDepsLog, Graph, _files
+try:
+    Graph.load(deps_log="build.ninja")
+except BadDepsLog:
+    print(len(Graph.load().edges), len(_files.Folder(b".", False).required(b"large")))
+"""
+
+
 class Disk(unittest.TestCase):
     def setUp(self) -> None:
         folder = tempfile.TemporaryDirectory()
@@ -333,6 +404,44 @@ class Disk(unittest.TestCase):
         os.mkfifo(self.folder / "pipe")
         with self.assertRaises(OSError):
             Graph.load("pipe", self.folder)
+
+    def test_memory(self) -> None:
+        """Files are read in the memory to which docs/RELIABILITY.md limits a run, and without copies."""
+        (self.folder / "build.ninja").write_text(MANIFEST)
+        with open(self.folder / "large", "wb") as file:
+            file.truncate(500_000_000)
+        environment = {**os.environ, "PYTHONPATH": os.pathsep.join(sys.path)}
+        words = ["sh", "-c", 'ulimit -v 1000000; exec "$0" "$@"', sys.executable, "-c", LIMITED]
+        ran = subprocess.run(words, cwd=self.folder, env=environment, capture_output=True, text=True)
+        self.assertEqual((ran.returncode, ran.stdout, ran.stderr), (0, "5 500000000\n", ""))
+
+    def test_large(self) -> None:
+        """A file of many pieces is read whole, and a larger one than 1 GiB is refused unread."""
+        lines = (f"# {'x' * 90}\n" for _ in range(30_000))
+        (self.folder / "build.ninja").write_text(f"{''.join(lines)}{MANIFEST}")
+        with Graph.load(folder=self.folder) as graph:
+            self.assertEqual(graph.edges[0].place, Place("build.ninja", 30_006, 1))
+        with open(self.folder / "large", "wb") as file:
+            file.truncate((1 << 30) + 1)
+        with self.assertRaises(OSError) as caught:
+            Graph.load("large", self.folder)
+        self.assertEqual((caught.exception.errno, caught.exception.filename[-5:]), (errno.EFBIG, "large"))
+
+    def test_largest(self) -> None:
+        """A file of the greatest size is read, as is one that states no size, and no larger one."""
+        (self.folder / "build.ninja").write_text(MANIFEST)
+        with mock.patch("ninja_explain._files.LARGEST", len(MANIFEST)):
+            Graph.load(folder=self.folder).close()
+            (self.folder / "build.ninja").write_text(f"{MANIFEST}\n")
+            with self.assertRaises(OSError) as caught:
+                Graph.load(folder=self.folder)
+            self.assertEqual(caught.exception.errno, errno.EFBIG)
+        self.assertEqual(os.stat("/proc/self/maps").st_size, 0)
+        with self.assertRaises(Fault), mock.patch("ninja_explain._files.LARGEST", 1 << 20):
+            Graph.load("maps", "/proc/self")
+        with self.assertRaises(OSError) as caught, mock.patch("ninja_explain._files.LARGEST", 20):
+            Graph.load("maps", "/proc/self")
+        self.assertEqual(caught.exception.errno, errno.EFBIG)
 
     def test_words(self) -> None:
         with self.assertRaises(ValueError):
