@@ -2,7 +2,8 @@
 [--jobs N] [NAME..]
 
 Packs the programs that were built below FOLDER, by default crates/, and the library for C, by
-default in lib/, unpacks them into empty directories, and runs there the commands of a user.
+default in lib/, unpacks them into empty directories, and runs there the commands of a user. Nothing
+is packed for checks that need no built program, as those of `proofs`.
 
 Prints the problems, and last how many checks passed. The exit status is 1 if one failed.
 """
@@ -26,12 +27,14 @@ def main():
     built = Built(words.crates.resolve(), words.library.resolve())
     checks.load("dist_check")
     with tempfile.TemporaryDirectory() as room:
-        packed = Path(room).resolve() / "dist"
-        ran = pack(built, packed)
-        if ran.returncode:
-            print(ran.stderr, end="")
-            return 1
-        return checks.run(words.names, {"built": built, "packed": packed}, words.jobs)
+        given = {"built": built, "packed": Path(room).resolve() / "dist"}
+        meant = [each for each in checks.CHECKS if each.is_meant(words.names, given)]
+        if any("packed" in each.parameters() for each in meant):
+            ran = pack(built, given["packed"])
+            if ran.returncode:
+                print(ran.stderr, end="")
+                return 1
+        return checks.run(words.names, given, words.jobs)
 
 
 if __name__ == "__main__":
