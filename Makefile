@@ -179,9 +179,9 @@ wheel: $(LIBRARY).so
 	@python3 scripts/wheel.py
 
 # Packs twice, plants mistakes that must be refused, and runs the unpacked programs in empty directories;
-# with debootstrap and as root, also in a Debian that it makes.
+# with debootstrap and as root, also in a Debian that it makes. LOG=FILE is that of `make dist`.
 dist-check: $(BUILT) $(GRAPH) $(LIBRARY).so
-	@python3 scripts/dist_check --jobs $(JOBS) $(CHECKS)
+	@python3 scripts/dist_check $(if $(LOG),--log "$(LOG)") --jobs $(JOBS) $(CHECKS)
 
 # Packs in FILE what checks kept in this clone; in another clone, `make load-proofs FILE=..` unpacks it,
 # and then `make` proves only what differs. CONTRIBUTING.md says whom it trusts then.

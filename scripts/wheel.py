@@ -1,8 +1,9 @@
 #!/usr/bin/env python3
 """Packs the Python package with the shared library: wheel.py [--library FOLDER] [OUT]
 
-Writes a wheel to the directory OUT, by default dist/. The library is that of FOLDER, by default lib/;
-one that names no logic in which it was proved is refused.
+Writes a wheel to the directory OUT, by default dist/. The package is that in python/, committed or
+not. The library is that of FOLDER, by default lib/; one that names no logic in which it was proved is
+refused.
 """
 
 import argparse
@@ -35,7 +36,8 @@ def main():
     path = words.out / wheel.name(version(), libc)
     words.out.mkdir(parents=True, exist_ok=True)
     _commit, time = provenance.commit()
-    path.write_bytes(wheel.archive(wheel.wheel_items(words.library, version(), libc), time))
+    items = wheel.wheel_items(wheel.in_directory(), words.library, version(), libc)
+    path.write_bytes(wheel.archive(items, time))
     print(path)
     return 0
 

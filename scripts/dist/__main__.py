@@ -2,11 +2,12 @@
 
 Writes to OUT, an empty directory or by default dist/, an archive and two Debian packages of the programs that were built
 below FOLDER, by default crates/, and of the library for C, by default in lib/; a wheel of the Python
-package, which carries that library; PROVENANCE, which names their origins; and SHA256SUMS. The same programs and commit give the same bytes.
+package, which carries that library; PROVENANCE, which names their origins; and SHA256SUMS. The same
+programs and commit give the same bytes. What was not built is packed as the commit has it.
 
-The verdicts on the crates are those that `make` and `make c` kept, or that a log of `rt` has. A
-binary that names no logic in which it was proved, or another one than that of `rt version`, is
-refused, and so is one that needs more of the system than the C library.
+The verdicts on the crates are those that `make` and `make c` kept, or that a log of `rt` has; if one
+is missing, nothing is packed. A binary that names no logic in which it was proved, or another one
+than that of `rt version`, is refused, and so is one that needs more of the system than the C library.
 """
 
 import argparse
@@ -17,11 +18,10 @@ from pathlib import Path
 
 sys.path[0] = str(Path(__file__).resolve().parents[1])
 
-from dist import contents, debian, packing, provenance, wheel  # noqa: E402
+from dist import committed, contents, debian, packing, provenance, wheel  # noqa: E402
 from dist.binaries import Refused, libc_needed, numbers  # noqa: E402
 from lib.programs import CRATES, ROOT  # noqa: E402
 from lib.proved import Unproved, logic  # noqa: E402
-from lint.version import version  # noqa: E402
 
 OUT = ROOT / "dist"
 
@@ -29,9 +29,10 @@ OUT = ROOT / "dist"
 class Release:
     """The packed files and their origins."""
 
-    def __init__(self, crates, library):
-        self.crates, self.library = crates, library
-        self.version = version()
+    def __init__(self, crates, library, log):
+        self.crates, self.library, self.log = crates, library, log
+        self.version = committed.version()
+        self.verdicts = provenance.verdicts_told(log)
         self.commit, self.time = provenance.commit()
         self.toolchain = provenance.toolchain()
         names = contents.PROGRAMS.items()
@@ -71,17 +72,17 @@ class Release:
     def wheel(self, out):
         """Writes the wheel, and returns its name."""
         name = wheel.name(self.version, self.library_libc)
-        items = wheel.wheel_items(self.library, self.version, self.library_libc)
+        files = {it.removeprefix("python/"): content for it, content in committed.files().items()}
+        items = wheel.wheel_items(files, self.library, self.version, self.library_libc)
         (out / name).write_bytes(wheel.archive(items, self.time))
         return name
 
-    def provenance(self, log):
+    def provenance(self):
         items = [contents.copy(file, name) for name, file in self.binaries().items()]
-        sums = packing.checksums(items, "sha256")
-        return provenance.text(self.version, self.commit, self.toolchain, self.logics, sums, log)
+        return provenance.text(self, packing.checksums(items, "sha256"))
 
 
-def pack(release, log, out):
+def pack(release, out):
     """Packs into an empty directory. Returns the names of the files."""
     name, content = release.archive()
     (out / name).write_bytes(content)
@@ -94,7 +95,7 @@ def pack(release, log, out):
         release.wheel(out),
         "PROVENANCE",
     ]
-    (out / "PROVENANCE").write_text(release.provenance(log))
+    (out / "PROVENANCE").write_text(release.provenance())
     items = [contents.copy(out / name, name) for name in names]
     (out / "SHA256SUMS").write_text(packing.checksums(items, "sha256"))
     return [*names, "SHA256SUMS"]
@@ -124,8 +125,8 @@ def main():
     words = parsed()
     log = words.log.read_text(errors="replace") if words.log else ""
     try:
-        release = Release(words.crates, words.library)
-        names = pack(release, log, emptied(words.out))
+        release = Release(words.crates, words.library, log)
+        names = pack(release, emptied(words.out))
     except (Refused, Unproved) as problem:
         print(f"dist: {problem}", file=sys.stderr)
         return 1

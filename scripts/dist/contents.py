@@ -5,7 +5,7 @@ A further program is a line of PROGRAMS; it has a man page and completions as th
 
 from dataclasses import dataclass
 
-from lib.programs import ROOT
+from dist import committed
 
 # The name of each program, and its crate.
 PROGRAMS = {"ninja-explain": "ninja_explain", "ninja-graph": "ninja_graph"}
@@ -35,16 +35,22 @@ class Item:
 
 
 def copy(source, path, is_program=False):
+    """A file that was built."""
     return Item(path, source.read_bytes(), is_program)
+
+
+def of_commit(source, path):
+    """A file of the commit."""
+    return Item(path, committed.content(source))
 
 
 def of_program(name, crates):
     """The files of a program that was built below this directory of crates."""
     crate = PROGRAMS[name]
     yield copy(crates / crate / "out" / crate, f"bin/{name}", is_program=True)
-    yield copy(ROOT / "man" / f"{name}.1", f"share/man/man1/{name}.1")
+    yield of_commit(f"man/{name}.1", f"share/man/man1/{name}.1")
     for source, path in COMPLETIONS.items():
-        yield copy(ROOT / "completions" / source.format(name), path.format(name))
+        yield of_commit(f"completions/{source.format(name)}", path.format(name))
 
 
 def of_programs(crates):
@@ -53,10 +59,10 @@ def of_programs(crates):
 
 def of_library(folder, prefix, libraries="lib"):
     """The files of the library for C that was built in a directory."""
-    text = (ROOT / "include/ninja_explain.pc.in").read_text().replace("@PREFIX@", prefix)
+    text = committed.text("include/ninja_explain.pc.in").replace("@PREFIX@", prefix)
     text = text.replace("${prefix}/lib", f"${{prefix}}/{libraries}")
     return [
-        *(copy(it, f"include/{it.name}") for it in sorted((ROOT / "include").glob("*.h"))),
+        *(of_commit(it, it) for it in committed.below("include", ".h")),
         copy(folder / f"{LIBRARY}.a", f"{libraries}/{LIBRARY}.a"),
         copy(folder / f"{LIBRARY}.so.1", f"{libraries}/{LIBRARY}.so.1"),
         Item(f"{libraries}/{LIBRARY}.so", target=f"{LIBRARY}.so.1"),
@@ -65,4 +71,4 @@ def of_library(folder, prefix, libraries="lib"):
 
 
 def documents():
-    return [copy(ROOT / name, name) for name in DOCUMENTS]
+    return [of_commit(name, name) for name in DOCUMENTS]

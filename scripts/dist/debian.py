@@ -5,9 +5,9 @@ import textwrap
 from dataclasses import dataclass, replace
 from email.utils import formatdate
 
-from dist.contents import LIBRARY, Item
+from dist import committed
+from dist.contents import LIBRARY, Item, of_commit
 from dist.packing import checksums, compressed
-from lib.programs import ROOT
 
 MAINTAINER = "Valerianpost maintainers <maintainers@users.noreply.valerianpost.example>"
 LIBRARIES = "lib/x86_64-linux-gnu"
@@ -52,7 +52,7 @@ LIBRARY_PACKAGE = Package(
 
 def changelog(package, version, time):
     """The first section of CHANGELOG.md as Debian has it."""
-    text = (ROOT / "CHANGELOG.md").read_text().split("\n## ")[1]
+    text = committed.text("CHANGELOG.md").split("\n## ")[1]
     items = [" ".join(it.split()) for it in re.split(r"^- ", text, flags=re.M)[1:]]
     lines = "\n".join(textwrap.indent(textwrap.fill(f"* {it}", **WRAPPED), "  ") for it in items)
     head = f"{package.name} ({version}) unstable; urgency=medium"
@@ -96,7 +96,7 @@ def package_items(package, items, version, libc, time):
     overrides = "".join(f"{package.name}: {it}\n" for it in package.overrides)
     added = [
         Item(f"{documents}/changelog.gz", compressed(changelog(package, version, time).encode())),
-        Item(f"{documents}/copyright", (ROOT / "LICENSE").read_bytes()),
+        of_commit("LICENSE", f"{documents}/copyright"),
     ]
     if overrides:
         added.append(Item(f"share/lintian/overrides/{package.name}", overrides.encode()))

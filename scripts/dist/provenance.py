@@ -4,8 +4,9 @@ verdict on each crate, and when all must-fail edits were tried."""
 import re
 import subprocess
 
+from dist.binaries import Refused
 from dist.contents import LIBRARY_CRATE, PROGRAMS
-from lib import verdicts
+from lib import states, verdicts
 from lib.programs import ROOT
 
 LINE = re.compile(r"rattle-kit-\S+ logic ([0-9a-f]{16})")
@@ -25,8 +26,7 @@ def toolchain():
 def commit():
     """The commit, with a word if files differ from it, and its time in seconds."""
     name, time = output_of("git", "log", "-1", "--format=%H %ct").split()
-    changed = output_of("git", "status", "--porcelain")
-    return name + " and changes that are not committed" * bool(changed), int(time)
+    return name + " and changes that are not committed" * bool(states.changes()), int(time)
 
 
 def packed_crates():
@@ -34,17 +34,27 @@ def packed_crates():
     return verdicts.with_those_below([*PROGRAMS.values(), LIBRARY_CRATE])
 
 
-def text(version, commit, toolchain, logics, sums, log):
-    """The file PROVENANCE. `logics` has the logic that each binary names, `sums` the lines of
-    their checksums, and `log`, if any, the output of `rt`."""
-    told = verdicts.kept(packed_crates()) | (verdicts.read(log) if log else {})
+def verdicts_told(log):
+    """The verdict on each packed crate: of the log, if any, or else the one that was kept."""
+    names = packed_crates()
+    told = verdicts.kept(names) | verdicts.read(log)
+    if lacking := [name for name in names if name not in told]:
+        advice = "`make` and `make c` keep them for files as they are committed; or give a log of the gate"
+        raise Refused(f"there is no verdict on {', '.join(lacking)}: {advice}")
+    return {name: told[name] for name in names}
+
+
+def text(release, sums):
+    """The file PROVENANCE of a release; `sums` has the lines of the checksums of its binaries."""
+    logics, told = release.logics, release.verdicts
     width = max(map(len, logics))
-    lines = [f"ninja-explain {version}", "", f"commit {commit}", f"toolchain {toolchain}", ""]
+    lines = [f"ninja-explain {release.version}", ""]
+    lines += [f"commit {release.commit}", f"toolchain {release.toolchain}", ""]
     lines += ["The logic in which each was proved, by its section .comment:", ""]
     lines += [f"    {name:{width}}  {logic}" for name, logic in logics.items()]
     lines += ["", "The verdict on each crate:", ""]
-    lines += [f"    {name:{width}}  {told.get(name, 'not kept')}" for name in packed_crates()]
-    tried = TRIED.search(log or "")
+    lines += [f"    {name:{width}}  {verdict}" for name, verdict in told.items()]
+    tried = TRIED.search(release.log)
     lines += ["", "Must-fail edits:", ""]
     lines += [f"    {tried[0] if tried else 'the log of the gate does not say that all were tried'}"]
     lines += ["", "Checksums by SHA-256:", ""]

@@ -1,4 +1,5 @@
-"""The wheel of the Python package, which carries the shared library.
+"""The wheel of the Python package, which carries the shared library. Its files are given by their
+paths below python/: of the commit for a release, or of the directory.
 
 It is written here and not by setuptools, so that the same files give the same bytes, and that the
 package `wheel` is not needed.
@@ -17,7 +18,7 @@ from lib.programs import ROOT
 
 FOLDER = ROOT / "python"
 NAME = "ninja_explain"
-SUFFIXES = {".py", ".typed"}
+SUFFIXES = (".py", ".typed")
 
 
 def tag(libc):
@@ -31,8 +32,14 @@ def name(version, libc):
     return f"{NAME}-{version}-{tag(libc)}.whl"
 
 
-def metadata(version):
-    about = tomllib.loads((FOLDER / "pyproject.toml").read_text())["project"]
+def in_directory():
+    """The files of the package in the directory."""
+    names = ["pyproject.toml", "README.md", *(f"{NAME}/{it.name}" for it in (FOLDER / NAME).iterdir())]
+    return {it: (FOLDER / it).read_bytes() for it in names if (FOLDER / it).is_file()}
+
+
+def metadata(files, version):
+    about = tomllib.loads(files["pyproject.toml"].decode())["project"]
     fields = [
         ("Metadata-Version", "2.1"),
         ("Name", about["name"]),
@@ -43,7 +50,7 @@ def metadata(version):
         ("Description-Content-Type", "text/markdown"),
     ]
     lines = "".join(f"{field}: {value}\n" for field, value in fields)
-    return f"{lines}\n{(FOLDER / about['readme']).read_text()}"
+    return f"{lines}\n{files[about['readme']].decode()}"
 
 
 def record(items, path):
@@ -55,14 +62,14 @@ def record(items, path):
     return "".join(lines) + f"{path},,\n"
 
 
-def wheel_items(library, version, libc):
+def wheel_items(files, library, version, libc):
     """The files of the wheel, the record last."""
-    sources = [it for it in (FOLDER / NAME).iterdir() if it.suffix in SUFFIXES]
-    items = [copy(source, f"{NAME}/{source.name}") for source in sorted(sources)]
+    sources = [it for it in sorted(files) if it.startswith(f"{NAME}/") and it.endswith(SUFFIXES)]
+    items = [Item(it, files[it]) for it in sources]
     items.append(copy(library / f"{LIBRARY}.so.1", f"{NAME}/{LIBRARY}.so.1", is_program=True))
     facts = f"{NAME}-{version}.dist-info"
     about = f"Wheel-Version: 1.0\nGenerator: scripts/dist\nRoot-Is-Purelib: false\nTag: {tag(libc)}\n"
-    items.append(Item(f"{facts}/METADATA", metadata(version).encode()))
+    items.append(Item(f"{facts}/METADATA", metadata(files, version).encode()))
     items.append(Item(f"{facts}/WHEEL", about.encode()))
     path = f"{facts}/RECORD"
     return [*items, Item(path, record(items, path).encode())]

@@ -1,9 +1,9 @@
 """Checks the packages of `make dist`: python3 scripts/dist_check [--crates FOLDER] [--library FOLDER]
-[--jobs N] [NAME..]
+[--log FILE] [--jobs N] [NAME..]
 
 Packs the programs that were built below FOLDER, by default crates/, and the library for C, by
 default in lib/, unpacks them into empty directories, and runs there the commands of a user. Nothing
-is packed for checks that need no built program, as those of `proofs`.
+is packed for checks that need no built program, as those of `proofs` and `commits`.
 
 Prints the problems, and last how many checks passed. The exit status is 1 if one failed.
 """
@@ -23,8 +23,10 @@ def main():
     parser = checks.parser_of(__doc__)
     parser.add_argument("--crates", type=Path, default=CRATES, metavar="FOLDER")
     parser.add_argument("--library", type=Path, default=ROOT / "lib", metavar="FOLDER")
+    parser.add_argument("--log", type=Path, metavar="FILE")
     words = parser.parse_args()
-    built = Built(words.crates.resolve(), words.library.resolve())
+    log = words.log and words.log.resolve()
+    built = Built(words.crates.resolve(), words.library.resolve(), log)
     checks.load("dist_check")
     with tempfile.TemporaryDirectory() as room:
         given = {"built": built, "packed": Path(room).resolve() / "dist"}

@@ -12,8 +12,9 @@ from dist.debian import LIBRARIES, LIBRARY_PACKAGE, PROGRAM_PACKAGE
 from lib.programs import ROOT
 from lint.version import version
 
-# The directories with the built files, as `scripts/dist` takes them.
-Built = namedtuple("Built", "crates library")
+# The directories with the built files, and a log with verdicts if it is not the kept ones that count,
+# as `scripts/dist` takes them.
+Built = namedtuple("Built", "crates library log", defaults=[None])
 # A directory with the files of a package below its PREFIX, its libraries, and pkg-config's environment.
 Prefix = namedtuple("Prefix", "name folder libraries environment")
 
@@ -31,6 +32,7 @@ def run(*words, check=False, **how):
 
 def pack(built, out):
     words = ["--crates", built.crates, "--library", built.library]
+    words += ["--log", built.log] if built.log else []
     return run(sys.executable, ROOT / "scripts/dist", *words, out)
 
 

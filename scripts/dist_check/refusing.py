@@ -13,7 +13,7 @@ UNPROVED = "int main(void) { return 0; }\n"
 
 def copy_of(built, folder):
     """A copy of the built files, to be changed."""
-    copy = Built(folder / "crates", folder / "library")
+    copy = Built(folder / "crates", folder / "library", built.log)
     for crate in PROGRAMS.values():
         (copy.crates / crate / "out").mkdir(parents=True)
         shutil.copy(built.crates / crate / "out" / crate, copy.crates / crate / "out")

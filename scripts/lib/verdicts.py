@@ -5,6 +5,7 @@ import subprocess
 
 from gate_table import crates_below
 from lib.programs import CRATES, ROOT
+from lib.states import changes
 
 HEAD = re.compile(r"== (\w+)$")
 VERDICT = re.compile(r"logic=proved .*")
@@ -37,10 +38,10 @@ def read(log):
 def state_of(crate):
     """Git's name for the files of a crate, or nothing if they differ from the commit."""
     folder = f"crates/{crate}"
-    changed = subprocess.run(["git", "status", "--porcelain", folder], cwd=ROOT, capture_output=True)
     named = subprocess.run(["git", "rev-parse", f"HEAD:{folder}"], cwd=ROOT, capture_output=True)
-    is_known = changed.returncode == named.returncode == 0 and not changed.stdout
-    return named.stdout.decode().strip() if is_known else ""
+    if named.returncode or set(changes(folder, ignored=True)) - {f"!! {folder}/out/"}:
+        return ""
+    return named.stdout.decode().strip()
 
 
 def keep(crate, verdict):
