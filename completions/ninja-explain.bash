@@ -2,7 +2,18 @@
 #
 # A manifest may come from a stranger. So its paths never go through `compgen -W`, which would run
 # what a path has in `$(..)`; and a path with `$` or a backtick is not offered, since readline does
-# not always quote these.
+# not always quote these. It may also need any time and memory, so a run that reads it is limited.
+
+# Runs a program with at most 1 GB of memory and 8 MB of output, and for 3 seconds if there is
+# `timeout`.
+_ninja_explain_limited() {
+    local limit=()
+    type -P timeout >/dev/null && limit=(timeout -k 1 3)
+    (
+        ulimit -v 1000000
+        exec "${limit[@]}" "$@"
+    ) </dev/null 2>/dev/null | head -c 8000000
+}
 
 # The options of a tool, without those that every tool takes.
 _ninja_explain_options() {
@@ -16,17 +27,17 @@ _ninja_explain_options() {
 
 # The rules in the scope of a main file. Their names have only letters, digits and `_.-`.
 _ninja_explain_rules() {
-    ninja-explain -f "$1" -t rules 2>/dev/null
+    _ninja_explain_limited ninja-explain -f "$1" -t rules
 }
 
 # The outputs of all edges of a main file.
 _ninja_explain_targets() {
-    ninja-explain -f "$1" -t targets all 2>/dev/null | sed 's/: [^:]*$//'
+    _ninja_explain_limited ninja-explain -f "$1" -t targets all | sed 's/: [^:]*$//'
 }
 
 # The inputs that no edge makes.
 _ninja_explain_sources() {
-    ninja-explain -f "$1" -t targets rule 2>/dev/null
+    _ninja_explain_limited ninja-explain -f "$1" -t targets rule
 }
 
 # Reads the words before the cursor into variables of the caller: the tool, the main file, the words
@@ -59,7 +70,8 @@ _ninja_explain_words() {
     file=${file/#'~/'/$HOME/}
 }
 
-# Offers those paths on standard input that begin with the word at the cursor.
+# Offers those paths or rules on standard input that begin with the word at the cursor. For many,
+# `compgen -W` would take minutes.
 _ninja_explain_offer_paths() {
     local path start=${current//[\\\"\']/}
     while IFS= read -r path; do
@@ -78,12 +90,12 @@ _ninja_explain_offer_words() {
             # FILE^ is a target too
             offer=(-f)
             ;;
-        compdb) offer=(-W "$(_ninja_explain_rules "$file")") ;;
+        compdb) _ninja_explain_offer_paths < <(_ninja_explain_rules "$file") ;;
         targets)
             if ((${#words[@]} == 0)); then
                 offer=(-W 'all depth rule')
             elif [[ ${#words[@]} == 1 && ${words[0]} == rule ]]; then
-                offer=(-W "$(_ninja_explain_rules "$file")")
+                _ninja_explain_offer_paths < <(_ninja_explain_rules "$file")
             fi
             ;;
     esac

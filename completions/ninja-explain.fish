@@ -1,5 +1,14 @@
 # Completion of ninja-explain in fish.
 
+# Runs a program with at most 1 GB of memory and 8 MB of output, and for 3 seconds if there is
+# `timeout`: an untrusted manifest may need any time and memory. `sh` sets the limit of memory, which
+# fish would set for itself.
+function __ninja_explain_limited
+    set -l limit
+    command -q timeout; and set limit timeout -k 1 3
+    sh -c 'ulimit -v 1000000; exec "$@"' sh $limit $argv </dev/null 2>/dev/null | head -c 8000000
+end
+
 # Prints the tools, each with a description.
 function __ninja_explain_tools
     printf '%s\t%s\n' \
@@ -66,7 +75,7 @@ end
 function __ninja_explain_ask
     set -l file (__ninja_explain_value -f)
     test -n "$file"; or set file build.ninja
-    ninja-explain -f $file -t $argv 2>/dev/null
+    __ninja_explain_limited ninja-explain -f $file -t $argv
 end
 
 # Prints the outputs of all edges and, for query, the inputs that no edge makes. If none of them fits,

@@ -2,7 +2,19 @@
 #
 # A manifest may come from a stranger. So its paths never go through `compgen -W`, which would run
 # what a path has in `$(..)`; and a path with `$` or a backtick is not offered, since readline does
-# not always quote these.
+# not always quote these. It may also need any time and memory, so a run that reads it is limited.
+
+# Runs a program in the directory, with at most 1 GB of memory and 8 MB of output, and for 3 seconds
+# if there is `timeout`.
+_ninja_graph_limited() {
+    local limit=()
+    type -P timeout >/dev/null && limit=(timeout -k 1 3)
+    (
+        CDPATH='' cd -- "$folder" || exit
+        ulimit -v 1000000
+        exec "${limit[@]}" "$@"
+    ) </dev/null 2>/dev/null | head -c 8000000
+}
 
 # The options of a subcommand, without those that every subcommand takes.
 _ninja_graph_options() {
@@ -18,12 +30,12 @@ _ninja_graph_options() {
 # The rules in the scope of the main file in the directory. Their names have only letters, digits and
 # `_.-`.
 _ninja_graph_rules() {
-    (cd "$folder" 2>/dev/null && ninja-explain -f "$file" -t rules 2>/dev/null)
+    _ninja_graph_limited ninja-explain -f "$file" -t rules
 }
 
 # The outputs of all edges of the main file in the directory.
 _ninja_graph_targets() {
-    (cd "$folder" 2>/dev/null && ninja-explain -f "$file" -t targets all 2>/dev/null) | sed 's/: [^:]*$//'
+    _ninja_graph_limited ninja-explain -f "$file" -t targets all | sed 's/: [^:]*$//'
 }
 
 # The kinds of findings.
@@ -67,6 +79,15 @@ _ninja_graph_words() {
     done
 }
 
+# Offers those targets or rules on standard input that begin with the word at the cursor. For many,
+# `compgen -W` would take minutes.
+_ninja_graph_offer_lines() {
+    local line start=${current//[\\\"\']/}
+    while IFS= read -r line; do
+        [[ $line == "$start"* && $line != *[\$\`]* ]] && COMPREPLY+=("$line")
+    done
+}
+
 # Offers a value of the option that wants one.
 _ninja_graph_offer_value() {
     # bash cuts `--rule=x` into three words
@@ -74,17 +95,14 @@ _ninja_graph_offer_value() {
     case $wanted in
         -C | --source-dir | --base) offer=(-d) ;;
         -f | --deps-log-file) offer=(-f) ;;
-        --rule) offer=(-W "$(_ninja_graph_rules)") ;;
+        --rule) _ninja_graph_offer_lines < <(_ninja_graph_rules) ;;
         --only | --except) offer=(-W "$(_ninja_graph_kinds)") ;;
     esac
 }
 
 # Offers those targets that begin with the word at the cursor, or files: FILE^ is a target too.
 _ninja_graph_offer_targets() {
-    local path start=${current//[\\\"\']/}
-    while IFS= read -r path; do
-        [[ $path == "$start"* && $path != *[\$\`]* ]] && COMPREPLY+=("$path")
-    done < <(_ninja_graph_targets)
+    _ninja_graph_offer_lines < <(_ninja_graph_targets)
     offer=(-f)
 }
 

@@ -1,5 +1,14 @@
 # Completion of ninja-graph in fish. Rules and targets come from ninja-explain.
 
+# Runs a program with at most 1 GB of memory and 8 MB of output, and for 3 seconds if there is
+# `timeout`: an untrusted manifest may need any time and memory. `sh` sets the limit of memory, which
+# fish would set for itself.
+function __ninja_graph_limited
+    set -l limit
+    command -q timeout; and set limit timeout -k 1 3
+    sh -c 'ulimit -v 1000000; exec "$@"' sh $limit $argv </dev/null 2>/dev/null | head -c 8000000
+end
+
 # Prints the subcommands, each with a description.
 function __ninja_graph_subcommands
     printf '%s\t%s\n' \
@@ -49,7 +58,7 @@ function __ninja_graph_ask
     set -l folder (__ninja_graph_value -C)
     test -n "$file"; or set file build.ninja
     test -n "$folder"; or set folder .
-    env -C $folder ninja-explain -f $file -t $argv 2>/dev/null
+    __ninja_graph_limited env -C $folder ninja-explain -f $file -t $argv
 end
 
 # Prints the outputs of all edges, or files if none fits.

@@ -1,8 +1,12 @@
 """The tools and options of ninja-explain, and how shells complete its arguments and ninja-graph's."""
 
+import fcntl
 import os
+import pty
 import re
 import subprocess
+import termios
+from functools import partial
 
 from lib.programs import CRATES, ROOT, SECONDS
 
@@ -52,14 +56,33 @@ COMP_WORDS=("$@"); COMP_CWORD=$(($# - 1))
 printf '%s\\n' "${COMPREPLY[@]}"
 """
 FISH_SCRIPT = 'source $argv[1]; complete -C "$argv[2]"'
+# Calls the function of a completion that offers rules or targets, with stand-ins for those of zsh, and
+# prints the array that it offers.
+ZSH_SCRIPT = """\
+_arguments() { return 0 }
+_call_program() { shift; eval "$*" }
+_wanted() { print -rl -- ${(P)argv[-1]} }
+_files() { return 0 }
+CURRENT=2; words=(program '')
+source "$1"
+folder=. file=build.ninja
+"$2"
+"""
 
 
 def ask(shell, folder, programs):
-    """The output of a shell; `programs` is a directory in which it finds programs first."""
+    """The output of a shell with a terminal of its own; `programs` is a directory in which it finds
+    programs first."""
     path = os.pathsep.join(filter(None, [programs, os.environ["PATH"]]))
     environment = {**os.environ, "PATH": path}
     how = {"cwd": folder, "env": environment, "stdin": subprocess.DEVNULL, "timeout": SECONDS}
-    ran = subprocess.run(shell, capture_output=True, text=True, **how)
+    master, terminal = pty.openpty()
+    try:
+        how |= {"start_new_session": True, "preexec_fn": partial(fcntl.ioctl, terminal, termios.TIOCSCTTY, 0)}
+        ran = subprocess.run(shell, capture_output=True, text=True, **how)
+    finally:
+        os.close(master)
+        os.close(terminal)
     if ran.returncode or ran.stderr:
         raise RuntimeError(f"the completion of {shell[0]} fails: {ran.stderr.rstrip()}")
     return list(filter(None, ran.stdout.split("\n")))
@@ -69,6 +92,12 @@ def offered_by_bash(words, folder, programs=None, name="ninja-explain"):
     """The words that bash offers in place of the last one."""
     file = ROOT / f"completions/{name}.bash"
     return ask(["bash", "-c", BASH_SCRIPT, "bash", file, name, *words], folder, programs)
+
+
+def offered_by_zsh(function, folder, programs=None, name="ninja-explain"):
+    """The words that a function of a completion in zsh offers, such as `rules`."""
+    file, function = ROOT / f"completions/_{name}", f"_{name.replace('-', '_')}_{function}"
+    return ask(["zsh", "-f", "-c", ZSH_SCRIPT, "zsh", file, function], folder, programs)
 
 
 def offered_by_fish(words, folder, programs=None, name="ninja-explain"):
