@@ -19,6 +19,9 @@ LIST = TESTS / "crates.list"
 # The parts of a crate that no run without proof reads.
 UNREAD = shutil.ignore_patterns("out", "proofs", "must-fail")
 HERE, THERE = ".rs", ".rt"
+# The crate of the repository with whose files one of tests/ is built and run, and these files.
+SHARES = {"library_tour": "library_example"}
+SHARED = "src/snippets.rt", "src/snippets", "data"
 
 
 def copy_tests(crate, to):
@@ -26,6 +29,9 @@ def copy_tests(crate, to):
     shutil.copytree(TESTS / crate, to, ignore=UNREAD)
     for file in (to / "src").rglob(f"*{HERE}"):
         file.rename(file.with_suffix(THERE))
+    for name in SHARED if crate in SHARES else ():
+        source = CRATES / SHARES[crate] / name
+        (shutil.copytree if source.is_dir() else shutil.copy)(source, to / name)
 
 
 @contextlib.contextmanager
@@ -64,7 +70,7 @@ def laid_out(crate):
         ran = subprocess.run(["rt", "fmt"], cwd=copy, capture_output=True, text=True)
         if ran.returncode:
             raise RuntimeError(f"rt fmt ends with {ran.returncode}: {ran.stderr.strip()}")
-        for file in sorted((copy / "src").rglob(f"*{THERE}")):
-            source = TESTS / crate / file.relative_to(copy).with_suffix(HERE)
+        for source in sorted((TESTS / crate / "src").rglob(f"*{HERE}")):
+            file = copy / source.relative_to(TESTS / crate).with_suffix(THERE)
             if source.read_bytes() != file.read_bytes():
                 yield source, file.read_bytes()

@@ -1,7 +1,7 @@
 //! Writes which edge makes `greet.c`, and the outputs made from it.
 #![tactic(auto)]
 
-mod tour; // not in README.md
+mod snippets; // not in README.md
 
 use nj_disk::DiskFiles;
 use nj_graph::{Graph, load, pick_target};
@@ -20,7 +20,6 @@ fn main(rt: HostRuntime) -> io::Result<ExitCode> {
 }
 
 fn run(rt: HostRuntime) -> Result<(), Error> {
-    tour::run(rt)?; // not in README.md
     let mut files = DiskFiles::new(rt, rt.alloc(), None)?;
     let loaded = load(rt.alloc(), &mut files, "build.ninja")?;
     describe(rt, loaded.graph())

@@ -1,5 +1,5 @@
 use Rattle.std.proofs.Common.{◌≡◌, length}
-use Rattle.library_example.proofs.tour.walks.append_order.Given as goal
+use Rattle.library_example.proofs.snippets.walks.append_order.Given as goal
 
 abbrev pub invariant-edges : goal.invariant-edges
 invariant-edges l = l.needs.graph ≡ l.graph.built.graph

@@ -1,6 +1,6 @@
 //! The declarations of files: rules, pools and variables.
 
-use crate::tour::lines::append_line;
+use crate::snippets::lines::append_line;
 use nj_graph::{Graph, Rule, ScopeNo};
 use std::alloc::{AllocError, Global};
 

@@ -1,46 +1,44 @@
-//! Calls each function that docs/LIBRARY.md shows, over the project in `data/` or over short texts,
-//! and writes their results.
+//! Calls each function that docs/LIBRARY.md shows, over the project of library_example or over short
+//! texts, and writes their results.
+#![tactic(auto)]
 
-ghost use Rattle.std.specs.Prelude.{◌<◌, length};
-ghost use Rattle.nj_graph.specs.Graph.{files_of};
+mod snippets;
 
-mod changes;
-mod declared;
-mod dyndeps;
-mod edges;
-mod errors;
-mod lines;
-mod loading;
-mod sources;
-mod targets;
-mod variables;
-mod walks;
-mod writers;
-
-use changes::append_affected;
-use declared::{append_build_folders, append_pools, append_rules};
-use dyndeps::load_joined;
-use edges::{append_edges, append_sources};
-use errors::{is_of_words, log_line};
-use lines::append_line;
-use loading::{load_folder, load_text};
 use nj_disk::DiskFiles;
 use nj_graph::{FileNo, Graph, Loaded, pick_target};
 use nj_needs::Mark;
 use nj_tools::{Error, WriteSink, write_whole};
-use sources::FolderFiles;
+use snippets::changes::append_affected;
+use snippets::declared::{append_build_folders, append_pools, append_rules};
+use snippets::dyndeps::load_joined;
+use snippets::edges::{append_edges, append_sources};
+use snippets::errors::{is_of_words, log_line};
+use snippets::lines::append_line;
+use snippets::loading::{load_folder, load_text};
+use snippets::sources::FolderFiles;
+use snippets::targets::{append_defaults, append_target};
+use snippets::variables::{append_assigned, append_commands, append_whole_commands};
+use snippets::walks::{append_order, mark_text, write_page};
+use snippets::writers::write_lists;
 use std::alloc::{AllocError, Global};
-use targets::{append_defaults, append_target};
-use variables::{append_assigned, append_commands, append_whole_commands};
-use walks::{append_order, mark_text, write_page};
-use writers::write_lists;
+use std::io;
+use std::process::ExitCode;
+
+fn main(rt: HostRuntime) -> io::Result<ExitCode> {
+    match run(rt) {
+        Ok(()) => Ok(ExitCode::SUCCESS),
+        Err(error) => {
+            eprintln!(rt; "{error}")?;
+            Ok(ExitCode::FAILURE)
+        }
+    }
+}
 
 /// Writes the results of all of them.
-pub fn run(rt: HostRuntime) -> Result<(), Error> {
+fn run(rt: HostRuntime) -> Result<(), Error> {
     show_files(rt)?;
     show_joined_files(rt)?;
-    show_faults(rt)?;
-    write_text(rt, b"== README.md\n")
+    show_faults(rt)
 }
 
 /// Writes a text to standard output.
@@ -109,9 +107,7 @@ fn append_declared(alloc: Global, text: &mut Vec<u8>, graph: &Graph) -> Result<(
 }
 
 /// Writes the order of the edges that a target needs, its commands page by page, and lists.
-fn show_target(rt: HostRuntime, graph: &Graph, target: FileNo) -> Result<(), Error>
-    requires { target.0 < length (files_of graph.now) }
-{
+fn show_target(rt: HostRuntime, graph: &Graph, target: FileNo) -> Result<(), Error> {
     show_order(rt, graph, target)?;
     show_page(rt, graph, target, "start")?;
     show_page(rt, graph, target, "0.1")?;
@@ -121,9 +117,7 @@ fn show_target(rt: HostRuntime, graph: &Graph, target: FileNo) -> Result<(), Err
 }
 
 /// Writes the order of the edges that a target needs.
-fn show_order(rt: HostRuntime, graph: &Graph, target: FileNo) -> Result<(), Error>
-    requires { target.0 < length (files_of graph.now) }
-{
+fn show_order(rt: HostRuntime, graph: &Graph, target: FileNo) -> Result<(), Error> {
     write_text(rt, b"== a walk\n")?;
     let mut text = Vec::new(rt.alloc());
     append_order(rt.alloc(), &mut text, graph, target)?;
@@ -131,9 +125,7 @@ fn show_order(rt: HostRuntime, graph: &Graph, target: FileNo) -> Result<(), Erro
 }
 
 /// Writes a page of commands, and the mark of the next one.
-fn show_page(rt: HostRuntime, graph: &Graph, target: FileNo, mark: &str) -> Result<(), Error>
-    requires { target.0 < length (files_of graph.now) }
-{
+fn show_page(rt: HostRuntime, graph: &Graph, target: FileNo, mark: &str) -> Result<(), Error> {
     let mark = Mark::read(rt.alloc(), mark)?;
     let next = write_page(
         rt.alloc(),

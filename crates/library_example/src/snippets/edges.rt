@@ -3,7 +3,7 @@
 ghost use Rattle.std.specs.Prelude.{◌<◌, length};
 ghost use Rattle.nj_graph.specs.Graph.{edges_of};
 
-use crate::tour::lines::append_line;
+use crate::snippets::lines::append_line;
 use nj_graph::{EdgeNo, Graph, Kind};
 use std::alloc::{AllocError, Global};
 

@@ -3,7 +3,7 @@
 ghost use Rattle.std.specs.Prelude.{◌<◌, length};
 ghost use Rattle.nj_graph.specs.Graph.{files_of};
 
-use crate::tour::lines::append_line;
+use crate::snippets::lines::append_line;
 use nj_graph::{FileNo, Graph};
 use nj_needs::{Mark, Needs};
 use nj_tools::{Error, Sink, write_commands};

@@ -1,6 +1,6 @@
 //! The values of variables for an edge.
 
-use crate::tour::lines::append_line;
+use crate::snippets::lines::append_line;
 use nj_graph::Graph;
 use std::alloc::{AllocError, Global};
 

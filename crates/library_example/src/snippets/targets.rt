@@ -1,7 +1,7 @@
 //! Targets, as arguments of a user name them.
 
-use crate::tour::edges::append_inputs;
-use crate::tour::lines::append_line;
+use crate::snippets::edges::append_inputs;
+use crate::snippets::lines::append_line;
 use nj_graph::{Error, Graph, pick_target};
 use std::alloc::{AllocError, Global};
 

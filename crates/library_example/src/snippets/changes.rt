@@ -3,7 +3,7 @@
 ghost use Rattle.std.specs.Prelude.{◌<◌, length, All};
 ghost use Rattle.nj_graph.specs.Graph.{edges_of, files_of};
 
-use crate::tour::lines::append_line;
+use crate::snippets::lines::append_line;
 use nj_graph::{EdgeNo, Error, FileNo, Graph, clean_path};
 use std::alloc::{AllocError, Global};
 
