@@ -7,6 +7,7 @@ use Rattle.std.specs.Str.{is_utf8}
 use Rattle.nj_scope.specs.Sources.{SourceState}
 use Rattle.nj_scope.specs.ReadingList.{ReadStatement}
 use Rattle.nj_faults.specs.declared.fault.GraphFault.{GraphFault}
+use Rattle.nj_faults.specs.Faults.{no_memory}
 use Rattle.nj_graph.specs.Graph.{GraphModel, IsGraphOf}
 use Rattle.nj_graph.specs.Loads.{LoadedModel, Loads}
 use Rattle.nj_graph.specs.Joining.{Joins}
@@ -123,16 +124,16 @@ module _ (before middle : Kept) (files : Handed) (main : List ℕ) (joins : Bool
   out_of_memory : (after : Kept) → after ≡ read → LoadsKept before after main joins OutOfMemory
   out_of_memory after is = lacks after files same is
 
-  finishes : (found : ReadsAsHanded files) (wanted : Vec (Vec ℕ)) → map (λ p. p.items) wanted.items ≡ paths_to_load files joins loaded → (after : Kept) (status : Status)
+  finishes : (found : ReadsAsHanded files) (wanted : Vec (Vec ℕ)) → loaded ≢ Err no_memory → map (λ p. p.items) wanted.items ≡ paths_to_load files joins loaded → (after : Kept) (status : Status)
       → KeepsLoad read after joins loaded wanted status → LoadsKept before after main joins status
-  finishes found wanted are after status (inl (waits, is, some)) = subst (LoadsKept before after main joins) (sym waits)
+  finishes found wanted memory are after status (inl (waits, is, some)) = subst (LoadsKept before after main joins) (sym waits)
       (subst (λ k. LoadsKept before k main joins Wanted) (sym is) (
         same,
         nothing,
         record { output = run.output; errors = run.errors },
-        (none.graph, none.fault, record { loaded = loaded; loads = loads; found = found; are = are; some = λ empty. some (no-items wanted.items (are ∙ empty)) }),
+        (none.graph, none.fault, record { loaded = loaded; loads = loads; found = found; in_memory = memory; are = are; some = λ empty. some (no-items wanted.items (are ∙ empty)) }),
       ))
-  finishes found wanted are after status (inr (others, result, empty, gives, kept)) =
+  finishes found wanted memory are after status (inr (others, result, empty, gives, kept)) =
       let none-to-load : paths_to_load files joins loaded ≡ [] = sym are ∙ ap (map (λ p. p.items)) empty in
       let all = all-handed-in main (handed_state (unread before.files)) files others loaded joins result loads none-to-load found gives in
       keeps after others (λ path. all.same path ∙ same path) result status
@@ -147,9 +148,9 @@ module _ (before middle : Kept) (files : Handed) (main : List ℕ) (joins : Bool
       }) kept
 
   pub loads_kept : (after : Kept) (status : Status) → FinishesLoad read after joins loaded status → LoadsKept before after main joins status
-  loads_kept after status (inl (wanted, are, found, keeps)) =
+  loads_kept after status (inl (wanted, memory, are, found, keeps)) =
       let stated = are-statements main (handed_state (unread before.files)) (handed_state files) loaded loads in
-      finishes found wanted (are stated.0 stated.1) after status keeps
+      finishes found wanted memory (are stated.0 stated.1) after status keeps
   loads_kept after status (inr (is, left)) = subst (LoadsKept before after main joins) (sym is) (out_of_memory after left)
 
 pub not_loaded : (before after : Kept) (main : List ℕ) (joins : Bool) → after.files ≡ unread before.files → KeepsNothing after → ListsNothing after

@@ -1,9 +1,10 @@
 -- The session after joining a deps log.
-use Rattle.std.proofs.Common.{◌≡◌, ◌≢◌, ℕ, List, Some, None, is_some, Result, Ok, Err, sym, ap, subst, ◌∙◌, true≢false, Option}
+use Rattle.std.proofs.Common.{◌≡◌, ◌≢◌, ℕ, List, length, IfOk, Some, None, is_some, Result, Ok, Err, sym, ap, subst, ◌∙◌, true≢false, Option}
 use Rattle.nj_deps.specs.Logs.{LogModel, IsLogOf}
 use Rattle.nj_scope.specs.ReadingList.{ReadStatement}
+use Rattle.nj_scope.specs.Readings.{IsPrefix}
 use Rattle.nj_faults.specs.declared.fault.GraphFault.{GraphFault}
-use Rattle.nj_graph.specs.Graph.{GraphModel, IsGraphOf}
+use Rattle.nj_graph.specs.Graph.{GraphModel, IsGraphOf, edges_of, files_of}
 use Rattle.nj_graph.specs.DepsLogs.{JoinsLog}
 use Rattle.nj_c.specs.declared.session_state.Kept.{Kept}
 use Rattle.nj_c.specs.declared.status.Status.{Status}
@@ -16,23 +17,25 @@ some-is-not-none : {A : Type 0} {x : Option A} {a : A} → x ≡ Some a → x �
 some-is-not-none was none = true≢false (sym (ap is_some was) ∙ ap is_some none)
 
 module _ (before after : Kept) (bytes : List ℕ) (log : LogModel) (is : IsLogOf bytes log) (g : GraphModel) (was : before.graph ≡ Some g) where
-  keeps : (result : Result GraphModel GraphFault) (status : Status) → ((stated : List ReadStatement) → IsGraphOf g stated → JoinsLog log stated result)
+  keeps : (result : Result GraphModel GraphFault) (status : Status) → IfOk result (λ joined. length (edges_of joined) ≡ length (edges_of g))
+      → IfOk result (λ joined. IsPrefix (files_of g) (files_of joined)) → ((stated : List ReadStatement) → IsGraphOf g stated → JoinsLog log stated result)
       → KeepsResult (record before { graph = None }) after result status → JoinsDeps before after bytes status
-  keeps (Ok joined) status joins (kept, done) = subst (JoinsDeps before after bytes) (sym done) (g, was, (joined, kept, (log, is, joins)))
-  keeps (Err fault) Fault joins (other, kept) = (g, was, (fault, kept, other, (log, is, joins)))
-  keeps (Err fault) OutOfMemory joins kept = (some-is-not-none was, kept)
-  keeps (Err fault) Done joins kept = absurd kept
-  keeps (Err fault) Nothing joins kept = absurd kept
-  keeps (Err fault) Short joins kept = absurd kept
-  keeps (Err fault) Wanted joins kept = absurd kept
-  keeps (Err fault) NotLoaded joins kept = absurd kept
-  keeps (Err fault) BadNumber joins kept = absurd kept
-  keeps (Err fault) BadMark joins kept = absurd kept
-  keeps (Err fault) NotUtf8 joins kept = absurd kept
-  keeps (Err fault) NotOpen joins kept = absurd kept
-  keeps (Err fault) BadLog joins kept = absurd kept
+  keeps (Ok joined) status edges files joins (kept, done) =
+      subst (JoinsDeps before after bytes) (sym done) (g, was, (joined, kept, (edges, files), (log, is, joins)))
+  keeps (Err fault) Fault edges files joins (other, kept) = (g, was, (fault, kept, other, (log, is, joins)))
+  keeps (Err fault) OutOfMemory edges files joins kept = (some-is-not-none was, kept)
+  keeps (Err fault) Done edges files joins kept = absurd kept
+  keeps (Err fault) Nothing edges files joins kept = absurd kept
+  keeps (Err fault) Short edges files joins kept = absurd kept
+  keeps (Err fault) Wanted edges files joins kept = absurd kept
+  keeps (Err fault) NotLoaded edges files joins kept = absurd kept
+  keeps (Err fault) BadNumber edges files joins kept = absurd kept
+  keeps (Err fault) BadMark edges files joins kept = absurd kept
+  keeps (Err fault) NotUtf8 edges files joins kept = absurd kept
+  keeps (Err fault) NotOpen edges files joins kept = absurd kept
+  keeps (Err fault) BadLog edges files joins kept = absurd kept
 
 -- the log of these bytes was joined
 pub joined : (before after : Kept) (bytes : List ℕ) (log : LogModel) (status : Status) → IsLogOf bytes log → JoinsKnown before after log status
     → JoinsDeps before after bytes status
-joined before after bytes log status is (g, result, was, joins, kept) = keeps before after bytes log is g was result status joins kept
+joined before after bytes log status is (g, result, was, edges, files, joins, kept) = keeps before after bytes log is g was result status edges files joins kept

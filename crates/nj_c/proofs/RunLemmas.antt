@@ -67,12 +67,13 @@ module _ (words : List (List ℕ)) (begun : Handed) (mid after : Kept) (ended : 
   pub ends-other : (exit : ℤ) (status : Status) → Ran begun mid words ended → after.files ≡ mid.files → (status ≡ Done → ⊥) → FinishesRun mid after status
       → LeavesRun begun after words exit exit status
   ends-other exit Done ran files other finishes = absurd (other refl)
-  ends-other exit Wanted ran files other (none, found, (nothing, some, wanted)) = (
+  ends-other exit Wanted ran files other (none, found, (nothing, memory, some, wanted)) = (
     ended,
     mid.output,
     mid.errors,
     refl,
     record { runs = rw files ran; found = found; no_failures = (none.output, none.errors) },
+    memory,
     no-output after nothing,
     wanted,
     some,

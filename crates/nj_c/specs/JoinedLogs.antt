@@ -1,11 +1,12 @@
 -- A deps log that is joined to the graph of a session.
-use Rattle.std.specs.Prelude.{◌≡◌, ◌≢◌, ◌⊎◌, ℕ, List, Some, None, Result, Ok, Err}
+use Rattle.std.specs.Prelude.{◌≡◌, ◌≢◌, ◌⊎◌, ℕ, List, length, Some, None, Result, Ok, Err}
 use Rattle.nj_deps.specs.declared.log_fault.DepsLogFault.TheVariants.{NoDepsLog, OtherVersion}
 use Rattle.nj_deps.specs.Logs.{LogModel, IsLogOf, IsLogFault}
 use Rattle.nj_scope.specs.ReadingList.{ReadStatement}
+use Rattle.nj_scope.specs.Readings.{IsPrefix}
 use Rattle.nj_faults.specs.declared.fault.GraphFault.{GraphFault}
 use Rattle.nj_faults.specs.Faults.{no_memory}
-use Rattle.nj_graph.specs.Graph.{GraphModel, IsGraphOf}
+use Rattle.nj_graph.specs.Graph.{GraphModel, IsGraphOf, edges_of, files_of}
 use Rattle.nj_graph.specs.DepsLogs.{JoinsLog}
 use Rattle.nj_c.specs.declared.session_state.Kept.{Kept}
 use Rattle.nj_c.specs.declared.status.Status.{Status}
@@ -20,11 +21,17 @@ abbrev pub JoinsBytes : GraphModel → (bytes : List ℕ) → Result GraphModel 
 JoinsBytes g bytes result =
     (log : LogModel) × IsLogOf bytes log × ((stated : List ReadStatement) → IsGraphOf g stated → JoinsLog log stated result)
 
+-- edges and files keep their numbers, and new files come after them
+abbrev pub KeepsNumbers : (before after : GraphModel) → Type 0
+KeepsNumbers before after =
+    (length (edges_of after) ≡ length (edges_of before)) × IsPrefix (files_of before) (files_of after)
+
 -- The session after joining, by its status. After a fault, and where an allocation failed, no graph is left.
 abbrev pub JoinsDeps : (before after : Kept) → (bytes : List ℕ) → Status → Type 0
 JoinsDeps before after bytes Done =
     (g : GraphModel) × (before.graph ≡ Some g)
-    × ((joined : GraphModel) × (after ≡ record before { graph = Some joined }) × JoinsBytes g bytes (Ok joined))
+    × ((joined : GraphModel) × (after ≡ record before { graph = Some joined }) × KeepsNumbers g joined
+    × JoinsBytes g bytes (Ok joined))
 JoinsDeps before after bytes Fault =
     (g : GraphModel) × (before.graph ≡ Some g)
     × ((fault : GraphFault) × (after ≡ record before { graph = None; fault = Some fault }) × (fault ≢ no_memory)

@@ -123,6 +123,7 @@ pub record WantsFiles (before after : Kept) (main : List ℕ) (joins : Bool) : T
   pub loaded : Result LoadedModel GraphFault
   pub loads : Loads main (handed_state (unread before.files)) (handed_state after.files) loaded
   pub found : ReadsAsHanded after.files
+  pub in_memory : loaded ≢ Err no_memory
   pub are : map (λ p. p.items) after.wanted.items ≡ paths_to_load after.files joins loaded
   pub some : paths_to_load after.files joins loaded ≢ []
 

@@ -6,7 +6,8 @@ use Rattle.nj_tools.specs.Sinks.{SinkState}
 use Rattle.nj_tools.specs.MemorySinks.{Memory, state_of}
 use Rattle.nj_cli.specs.declared.status.Status as run
 use Rattle.nj_cli.specs.declared.status.Status.TheVariants.{OutputFailed}
-use Rattle.nj_cli.specs.Runs.{RunsWords, around}
+use Rattle.nj_tools.specs.Lines.{line}
+use Rattle.nj_cli.specs.Runs.{RunsWords, around, out_of_memory}
 use Rattle.nj_cli.specs.Status.{exit_code}
 use Rattle.nj_c.specs.declared.session_state.Kept.{Kept}
 use Rattle.nj_c.specs.declared.status.Status.{Status}
@@ -77,8 +78,8 @@ LeavesRun begun after words exit_before exit_after Done =
     × (wanted_paths after.files ≡ []) × (after.wanted.items ≡ [])
 LeavesRun begun after words exit_before exit_after Wanted =
     (ended : run.Status) × (output : Memory) × (errors : Memory) × (exit_after ≡ exit_before)
-    × HasRun begun after.files words output errors ended × KeepsNoOutput after × ListsWanted after
-    × (wanted_paths after.files ≢ [])
+    × HasRun begun after.files words output errors ended × (errors.bytes ≢ line out_of_memory)
+    × KeepsNoOutput after × ListsWanted after × (wanted_paths after.files ≢ [])
 LeavesRun begun after words exit_before exit_after OutOfMemory =
     (exit_after ≡ exit_before) × KeepsNoOutput after × (after.wanted.items ≡ [])
 LeavesRun begun after words exit_before exit_after other = ⊥

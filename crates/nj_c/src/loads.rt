@@ -1,6 +1,7 @@
 //! Loads.
 
-ghost use Rattle.std.specs.Prelude.{◌≡◌, map, not, nat_eq};
+ghost use Rattle.std.specs.Prelude.{◌≡◌, ◌≢◌, false, map, not, nat_eq, Err};
+ghost use Rattle.nj_faults.specs.Faults.{no_memory};
 ghost use Rattle.nj_c.specs.Asking.{GivesTextAt, IfOpen, KeptUnlessDone};
 ghost use Rattle.nj_c.specs.HandedIn.{handed_state};
 ghost use Rattle.nj_c.specs.Loading.{graph_loaded, unread, Changes, GivesGraph, KeepsNothing, ListsNothing, LoadsKept, SameRun};
@@ -100,12 +101,26 @@ fn finish_load(
 ) -> Status
     ensures { FinishesLoad kept.old kept.new joins loaded result }
 {
+    if lacks_memory(&loaded) {
+        drop(loaded);
+        return Status::OutOfMemory;
+    }
     match wanted_after(alloc, &kept.files, &loaded, joins) {
         Ok(wanted) => keep_load(alloc, kept, loaded, wanted, joins),
         Err(_) => {
             drop(loaded);
             Status::OutOfMemory
         }
+    }
+}
+
+// Whether a load ended because an allocation failed.
+fn lacks_memory(loaded: &Result<Loaded, GraphFault>) -> bool
+    ensures { result ≡ false → loaded.now ≢ Err no_memory }
+{
+    match loaded {
+        Ok(_) => false,
+        Err(fault) => matches!(fault.cause, Cause::OutOfMemory),
     }
 }
 

@@ -1,6 +1,6 @@
 //! Runs of the program, over the supplied files.
 
-ghost use Rattle.std.specs.Prelude.{◌≡◌, false, [], map, string_bytes};
+ghost use Rattle.std.specs.Prelude.{◌≡◌, ◌≢◌, false, [], map, string_bytes};
 ghost use Rattle.nj_c.specs.Asking.{GivesText, IfOpen, KeptUnlessDone};
 ghost use Rattle.nj_c.specs.HandedIn.{wanted_paths, SameFiles};
 ghost use Rattle.nj_c.specs.Loading.{unread, Changes};
@@ -18,6 +18,9 @@ use nj_cli::run_words;
 use nj_tools::MemorySink;
 use std::alloc::Global;
 use std::mem;
+
+// The line of a run that lacked memory.
+const OUT_OF_MEMORY: &[u8] = b"ninja-explain: out of memory\n";
 
 /// Runs the program with the arguments of a text, over the supplied files: as `ninja-explain` does,
 /// with its exit status, but standard output and standard error are kept in the session. Each
@@ -164,16 +167,28 @@ fn has_failed(kept: &Kept) -> bool
 
 // Keeps the paths that a run wanted, and if there are any, nothing of its output.
 fn keep_wanted(alloc: Global, kept: &mut Kept, wanted: Vec<Vec<u8>>) -> Status
-    requires { map (λ p. p.items) wanted.items ≡ wanted_paths kept.old.files }
+    requires paths { map (λ p. p.items) wanted.items ≡ wanted_paths kept.old.files }
+    requires none { kept.old.wanted.items ≡ [] }
     ensures files { kept.new.files ≡ kept.old.files }
     ensures load { SameLoad kept.old kept.new }
     ensures keeps { KeepsRun kept.old kept.new result }
 {
-    let is_whole = wanted.as_slice().is_empty();
-    drop(mem::replace(&mut kept.wanted, wanted));
-    if is_whole {
+    if wanted.as_slice().is_empty() {
+        drop(mem::replace(&mut kept.wanted, wanted));
         return Status::Done;
     }
+    if is_line_of(kept.errors.bytes(), OUT_OF_MEMORY) {
+        forget_outputs(alloc, kept);
+        return Status::OutOfMemory;
+    }
+    drop(mem::replace(&mut kept.wanted, wanted));
     forget_outputs(alloc, kept);
     Status::Wanted
+}
+
+// Whether a text is this line.
+fn is_line_of(text: &[u8], line: &[u8]) -> bool
+    ensures { result ≡ false → text.now ≢ line.now }
+{
+    text == line
 }

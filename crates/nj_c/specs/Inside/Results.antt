@@ -39,7 +39,7 @@ KeepsLoad before after joins loaded wanted status =
 -- the kept result of a load by the paths that are wanted; or an allocation failed
 abbrev pub FinishesLoad : (before after : Kept) → (joins : Bool) → Result LoadedModel GraphFault → Status → Type 0
 FinishesLoad before after joins loaded status =
-    ((wanted : Vec (Vec ℕ))
+    ((wanted : Vec (Vec ℕ)) × (loaded ≢ Err no_memory)
     × ((entries : List ReadStatement) → AreStatements loaded entries
     → map (λ p. p.items) wanted.items ≡ paths_to_load before.files joins loaded)
     × ReadsAsHanded before.files × KeepsLoad before after joins loaded wanted status)

@@ -3,7 +3,8 @@ use Rattle.std.specs.Prelude.{◌≡◌, ◌≢◌, ℕ, false, List, [], None, 
 use Rattle.std.specs.Str.{is_utf8}
 use Rattle.nj_tools.specs.MemorySinks.{Memory, state_of}
 use Rattle.nj_cli.specs.declared.status.Status as run
-use Rattle.nj_cli.specs.Runs.{RunsWords, around}
+use Rattle.nj_tools.specs.Lines.{line}
+use Rattle.nj_cli.specs.Runs.{RunsWords, around, out_of_memory}
 use Rattle.nj_c.specs.declared.session_state.Kept.{Kept}
 use Rattle.nj_c.specs.declared.status.Status.{Status}
 use Rattle.nj_c.specs.declared.status.Status.TheVariants.{Done, Wanted, NotUtf8, OutOfMemory}
@@ -39,7 +40,9 @@ pub record NoFailures (kept : Kept) : Type 0 where
 -- the output is kept, unless files are wanted
 abbrev pub KeepsRun : (before after : Kept) → Status → Type 0
 KeepsRun before after Done = SameRun before after × (wanted_paths after.files ≡ []) × (after.wanted.items ≡ [])
-KeepsRun before after Wanted = NoRun after × (wanted_paths after.files ≢ []) × ListsWanted after
+KeepsRun before after Wanted =
+    NoRun after × (before.errors.bytes ≢ line out_of_memory) × (wanted_paths after.files ≢ []) × ListsWanted after
+KeepsRun before after OutOfMemory = NoRun after × (after.wanted.items ≡ [])
 KeepsRun before after other = ⊥
 
 -- or an allocation failed
