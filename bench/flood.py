@@ -88,8 +88,10 @@ def of_pools(names, rounds):
 
 
 def of_blocks(names, rounds):
-    block = "".join(f"  {name} = 1\n" for name in names)
-    return [f"build all_{line}: phony\n{block}" for line in range(rounds)]
+    # Where a block has the names of the one before it in the same order, none is looked up.
+    lines = [f"  {name} = 1\n" for name in names]
+    orders = "".join(lines), "".join(reversed(lines))
+    return [f"build all_{line}: phony\n{orders[line % 2]}" for line in range(rounds)]
 
 
 TABLES = {"bindings": of_bindings, "paths": of_paths, "rules": of_rules, "pools": of_pools, "blocks": of_blocks}

@@ -35,11 +35,12 @@ def with_known_number(words, folder):
     return ["env", f"LD_PRELOAD={compiled('known_number', folder)}", *words]
 
 
-def reasons(table, chosen, usual, known):
-    """Why a table is too slow, or its names do not collide."""
+def reasons(table, chosen, usual, known, least=MOST):
+    """Why a table is too slow, or its names do not collide: with a known number they take less than
+    `least` times as long as others."""
     if chosen > MOST * usual:
         yield f"{table}: chosen names take {chosen:.3f} s, others {usual:.3f} s"
-    if known is not None and known <= MOST * usual:
+    if known is not None and known <= least * usual:
         yield f"{table}: with a known number chosen names take {known:.3f} s, so they do not collide"
 
 
@@ -65,7 +66,7 @@ def colliding_names(program, folder):
 @check(needs=["cc"], alone=True)
 def colliding_paths_of_logs(graph, folder):
     """The same for a deps log whose paths collide, read by ninja-graph."""
-    words = [graph.path, "json", "--deps-log-file", LOG]
+    words = [graph.path, "why", "--deps-log-file", LOG, "a.o", "a.c"]
     found, chosen = {}, flood.chosen_names(folder, NAMES, BITS)["paths"]
     for kind, names in flood.names_of_kinds(chosen).items():
         place = folder / kind

@@ -25,8 +25,9 @@ from smoke.flood import TIMES, reasons, with_known_number
 MOST_MEMORY = 256 << 20
 MOST_OUTPUT = 16 << 20
 SECONDS = 10
-# How often each name is looked up where it is tried whether the names collide.
-LOOK_UPS = 300
+# How often each name is looked up where it is tried whether the names collide, and how many times as
+# long as others so few have to take at least.
+LOOK_UPS, SLOWER = 300, 2
 # The number of cases in a task.
 TASK = 250
 
@@ -71,7 +72,7 @@ def names_collide(program, folder):
         for kind, names in flood.names_of_kinds(chosen[table]).items():
             flood.write(folder / table / kind, manifest(names, LOOK_UPS))
             found[kind] = flood.least_seconds(preloaded, folder / table / kind, TIMES)
-        yield from reasons(table, 0, found["other"], found["chosen"])
+        yield from reasons(table, 0, found["other"], found["chosen"], SLOWER)
 
 
 @check(alone=True)
