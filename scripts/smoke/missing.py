@@ -122,7 +122,8 @@ REFUSED_LOG = re.compile(rb"ninja-graph: %b: (not a deps log|deps log of version
 CYCLE = re.compile(rb"build\.ninja:\d+:1: dependency cycle through '.*'\n")
 # Of an edge that `json` cannot write, after those before it.
 NOT_UTF8 = re.compile(rb"build\.ninja:\d+:1: text is not UTF-8\n")
-NO_MEMORY = FAULT, b"ninja-graph: out of memory\n"
+# Of a run without memory; the second line is that of `clap`, while it reads the arguments.
+NO_MEMORY = {(FAULT, b"ninja-graph: out of memory\n"), (FAULT, b"error: out of memory\n")}
 
 
 def damaged(log):
@@ -282,7 +283,7 @@ def logs_without_memory(graph, folder):
         while number == 1 or report.exists():
             report.unlink(missing_ok=True)
             ran = graph.run(words, folder, **fails, FAIL_ALLOC=str(number))
-            lacks = (ran.status, ran.error) == NO_MEMORY and ample.output.startswith(ran.output)
+            lacks = (ran.status, ran.error) in NO_MEMORY and ample.output.startswith(ran.output)
             refused += lacks
             if ran != ample and not lacks:
                 yield f"{words[0]}, allocation {number}: {shown(ran)}"
