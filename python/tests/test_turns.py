@@ -282,7 +282,7 @@ class Turns(OneGraph):
         self.assertEqual(graph.target(Asking()).path, "out3")
         words = ["-t", "targets", "rule", graph.edges[3].rule]
         ran = graph.run((word for word in words if graph.rules()), self.folder)
-        self.assertEqual(ran.output, "".join(f"out{number}\n" for number in range(EDGES)))
+        self.assertEqual(ran.output, "".join(sorted(f"out{number}\n" for number in range(EDGES))))
 
     def test_threads(self) -> None:
         """Threads that ask at the same time."""
