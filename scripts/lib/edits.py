@@ -116,7 +116,7 @@ def place_of(said, edit, folder):
         return said.removeprefix(REFUSED).lstrip(" :")[:SURE] or "refused"
     file, line, words = found.groups()
     goal = GOAL.search(words)
-    goal = next(filter(None, goal.groups())) if goal else words[:SURE]
+    goal = next(filter(None, goal.groups())) if goal else words[:SURE].rstrip()
     return f"{function_at(file, int(line), edit, folder)}: {goal}"
 
 
