@@ -1,6 +1,5 @@
 -- The state of a walk and its saved address, at the start and after each turn.
-use Rattle.std.proofs.Common.{◌≡◌, ℕ, ◌+◌, ◌-◌, ◌<◌, ◌≤◌, min, Bool, true, false, cond, List, [], ◌∷◌, ◌++◌, length, get_or, take, refl, sym, ap, subst, ◌∙◌, inl, inr, arith, vec_capacity}
-use Rattle.std.specs.Global.{Vec}
+use Rattle.std.proofs.Common.{◌≡◌, ℕ, ◌+◌, ◌-◌, ◌<◌, ◌≤◌, min, Bool, true, false, cond, List, [], ◌∷◌, ◌++◌, length, get_or, take, refl, sym, ap, subst, ◌∙◌, inl, inr, arith}
 use Rattle.std.proofs.lemmas.List.{take-take, take-append-le, map_push, length-map, length_push}
 use Rattle.nj_cycles.specs.Cycles.{IsAcyclic}
 use Rattle.nj_names.specs.declared.files.FileNo.{FileNo}
@@ -9,6 +8,7 @@ use Rattle.nj_needs.specs.Counts.{saturated}
 use Rattle.nj_needs.specs.Graphs.{row_of, makers_of, count_of}
 use Rattle.nj_needs.specs.Needs.{AreWithin}
 use Rattle.nj_needs.specs.Inside.Paths.{places}
+use Rattle.nj_needs.specs.Inside.Reserved.{Reserved}
 use Rattle.nj_needs.specs.Inside.Saved.{KeepsFront}
 use Rattle.nj_needs.specs.Inside.Standing.{IsWalkAt, IsWalk, left_of, turns_left_of, HasLooked, HasClosed, HasEnded}
 use Rattle.nj_needs.specs.Walks.{IsSound, IsSameWalk, bound_of, rest_of, IsFirstPlaceOf}
@@ -19,8 +19,8 @@ use Rattle.nj_needs.specs.declared.walk.Walk.{Walk}
 use Rattle.nj_needs.proofs.Turning.{turns_left-start}
 
 -- a walk that begins
-pub IsWalkAt-start : (g : EdgeGraph) (targets : List FileNo) (turns : ℕ) (path : Vec Frame) (flags : List Bool) (begun : ℕ)
-    → IsAcyclic (makers_of g) (count_of g) → AreWithin (row_of g targets) (count_of g) → turns ≡ saturated begun → path.items ≡ [] → count_of g ≤ vec_capacity path
+pub IsWalkAt-start : (g : EdgeGraph) (targets : List FileNo) (turns : ℕ) (path : Reserved Frame) (flags : List Bool) (begun : ℕ)
+    → IsAcyclic (makers_of g) (count_of g) → AreWithin (row_of g targets) (count_of g) → turns ≡ saturated begun → path.items ≡ [] → count_of g ≤ path.capacity
     → length flags ≡ count_of g → ((e : ℕ) → e < count_of g → get_or flags e false ≡ false) → IsWalkAt g targets turns path 0 flags begun
 IsWalkAt-start g targets turns path flags begun acyclic inside count empty wide len clear = record {
   acyclic = acyclic;
@@ -73,9 +73,9 @@ front-closed s t path after f shrunk numbers kept h =
     let long : length (places after) ≡ length after = length-map after (λ (g : Frame). g.at) in
     let le : t.kept ≤ s.kept = omega (arith, kept) in
     record {
-      within = omega (arith, kept, h.within, ap (λ (v : Vec ℕ). length v.items) numbers);
+      within = omega (arith, kept, h.within, ap (λ (v : Reserved ℕ). length v.items) numbers);
       short = omega (arith, kept);
-      same = ap (λ (v : Vec ℕ). take t.kept v.items) numbers ∙ sym (take-take t.kept s.kept s.numbers.items le) ∙ ap (take t.kept) h.same ∙ take-take t.kept s.kept (places path) le
+      same = ap (λ (v : Reserved ℕ). take t.kept v.items) numbers ∙ sym (take-take t.kept s.kept s.numbers.items le) ∙ ap (take t.kept) h.same ∙ take-take t.kept s.kept (places path) le
           ∙ ap (take t.kept) is ∙ take-append-le t.kept (places after) (f.at ∷ []) (omega (arith, kept, long));
     }
 
@@ -136,20 +136,20 @@ module _ (w v : Walk) (graph : v.turns.graph ≡ w.turns.graph) (targets : v.tur
         }
 
     -- an edge that is returned
-    pub returned-capacity : (s r : Saved) → r.numbers ≡ s.numbers → IsNeeds w s → length v.path.items < vec_capacity r.numbers
+    pub returned-capacity : (s r : Saved) → r.numbers ≡ s.numbers → IsNeeds w s → length v.path.items < r.numbers.capacity
     returned-capacity s r numbers h =
-        let wide : count_of w.turns.graph.now ≤ vec_capacity r.numbers = rw numbers h.capacity in
+        let wide : count_of w.turns.graph.now ≤ r.numbers.capacity = rw numbers h.capacity in
         omega (arith, wide, t.short)
 
     address : (s : Saved) → s.numbers.items ≡ places v.path.items ++ (v.place - 1) ∷ [] → s.numbers.items ≡ places w.path.items
     address s is = is ∙ closed-places w.path.items v.path.items t.popped.0 v.place t.popped.1 t.popped.3
 
-    pub returned-needs : (s r q : Saved) → r.numbers ≡ s.numbers → vec_capacity r.numbers ≤ vec_capacity q.numbers → KeepsFront q v.path.items → q.numbers.items ≡ places v.path.items ++ (v.place - 1) ∷ []
+    pub returned-needs : (s r q : Saved) → r.numbers ≡ s.numbers → q.numbers.capacity ≡ r.numbers.capacity → KeepsFront q v.path.items → q.numbers.items ≡ places v.path.items ++ (v.place - 1) ∷ []
         → IsNeeds w s → IsWalk v → IsNeeds v q
-    returned-needs s r q numbers wide front is h walk =
-        let capacity : count_of w.turns.graph.now ≤ vec_capacity r.numbers = rw numbers h.capacity in
+    returned-needs s r q numbers same_capacity front is h walk =
+        let capacity : count_of w.turns.graph.now ≤ r.numbers.capacity = rw numbers h.capacity in
         let rest : rest_of w.turns.graph.now w.turns.targets.now q.numbers.items ≡ left_of w.turns.graph.now w.turns.targets.now v.path.items v.place = rw (address q is) t.rest in
-        record { walk = walk; front = front; capacity = rw graph (omega (arith, capacity, wide)); rest = rw (graph, targets) (sym rest) }
+        record { walk = walk; front = front; capacity = rw graph (omega (arith, capacity, same_capacity)); rest = rw (graph, targets) (sym rest) }
 
     pub returned-first : (q : Saved) → q.numbers.items ≡ places v.path.items ++ (v.place - 1) ∷ [] → IsFirstPlaceOf v.turns.graph.now v.turns.targets.now q.numbers.items e
     returned-first q is = rw (graph, targets, address q is) t.first

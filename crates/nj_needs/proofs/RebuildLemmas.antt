@@ -1,9 +1,9 @@
 -- The steps of the way to a mark, and its end.
-use Rattle.std.proofs.Common.{◌≡◌, ℕ, zero, suc, ◌+◌, ◌-◌, ◌<◌, ◌≤◌, true, Option, Some, List, [], ◌∷◌, ◌++◌, length, get_or, take, drop, refl, sym, ap, subst, ◌∙◌, ◌⊎◌, inl, inr, arith}
+use Rattle.std.proofs.Common.{◌≡◌, ℕ, ◌+◌, ◌-◌, ◌<◌, ◌≤◌, true, Option, Some, List, [], ◌∷◌, ◌++◌, length, get_or, take, drop, refl, sym, ap, subst, ◌∙◌, ◌⊎◌, inl, inr, arith}
 use Rattle.std.specs.Prelude.{nat_eq, slice_get}
 use Rattle.std.specs.List.{list_any}
 use Rattle.std.proofs.lemmas.List.{take-append-drop, take_more, drop_more, take_all, map_push, length_push, length-map}
-use Rattle.std.proofs.lemmas.Option.{slice_get_within, same_Some}
+use Rattle.std.proofs.lemmas.Option.{slice_get_within, same_Some, get_or_from_slice_get}
 use Rattle.nj_needs.specs.Graphs.{row_of, makers_of, count_of}
 use Rattle.nj_needs.specs.Marks.{is_valid, done, without}
 use Rattle.nj_needs.specs.Inside.Paths.{IsLinked, done_at, places}
@@ -107,28 +107,18 @@ way-place_in w numbers i p lt number h =
 
 -- ---- the last edge of the mark is open
 
-module _ (w : Walk) (numbers : List ℕ) (i : ℕ) (past : length numbers ≤ i) (some : length numbers ≡ 0 → ⊥) (h : IsOnWay w numbers i) (f : Frame) (at : f ≡ get_or w.path.items (length numbers - 1) f) where
+module _ (w : Walk) (numbers : List ℕ) (i : ℕ) (past : length numbers ≤ i) (h : IsOnWay w numbers i) (f : Frame) (at : slice_get w.path.items (length numbers - 1) ≡ Some f) where
   whole : places w.path.items ≡ numbers
   whole = h.path ∙ take_all i numbers past
 
   long : length w.path.items ≡ length numbers
   long = sym (length-map w.path.items (λ (k : Frame). k.at)) ∙ ap length whole
 
-  pub way-long : length numbers - 1 < length w.path.items
-  way-long = omega (arith, long, positive)
-    where
-      positive : 0 < length numbers
-      positive = not_zero (length numbers) some
-        where
-          not_zero : (n : ℕ) → (n ≡ 0 → ⊥) → 0 < n
-          not_zero zero h = absurd (h refl)
-          not_zero (suc n) h = omega arith
-
   pub way-ends : w.path.items ≡ take (length numbers - 1) w.path.items ++ f ∷ []
   way-ends =
       let n = length numbers - 1 in
-      let lt = way-long in
-      sym (take_all (n + 1) w.path.items (omega (arith, long))) ∙ take_more w.path.items n f lt ∙ ap (λ (k : Frame). take n w.path.items ++ k ∷ []) (sym at)
+      let lt = slice_get_within w.path.items n f at in
+      sym (take_all (n + 1) w.path.items (omega (arith, long))) ∙ take_more w.path.items n f lt ∙ ap (λ (k : Frame). take n w.path.items ++ k ∷ []) (get_or_from_slice_get w.path.items n f f at)
 
   linked-last : IsLinked (makers_of w.turns.graph.now) (row_of w.turns.graph.now w.turns.targets.now) (take (length numbers - 1) w.path.items ++ f ∷ [])
   linked-last = subst (IsLinked (makers_of w.turns.graph.now) (row_of w.turns.graph.now w.turns.targets.now)) way-ends h.walk.standing.linked

@@ -1,8 +1,7 @@
 -- The four turns of a walk, on its parts.
-use Rattle.std.proofs.Common.{◌≡◌, ℕ, zero, suc, ◌+◌, ◌<◌, ◌≤◌, Bool, true, false, Option, Some, None, List, [], ◌∷◌, ◌++◌, length, get_or, set, refl, sym, ap, subst, ◌∙◌, inl, inr, arith, vec_capacity}
+use Rattle.std.proofs.Common.{◌≡◌, ℕ, zero, suc, ◌+◌, ◌<◌, ◌≤◌, Bool, true, false, Option, Some, None, List, [], ◌∷◌, ◌++◌, length, get_or, set, refl, sym, ap, subst, ◌∙◌, inl, inr, arith}
 use Rattle.std.specs.Prelude.{nat_eq, slice_get}
 use Rattle.std.specs.List.{list_any}
-use Rattle.std.specs.Global.{Vec}
 use Rattle.std.proofs.lemmas.Option.{slice_get_within, same_Some}
 use Rattle.nj_names.specs.declared.files.FileNo.{FileNo}
 use Rattle.nj_edges.specs.EdgeGraphs.{EdgeGraph}
@@ -12,6 +11,7 @@ use Rattle.nj_needs.specs.Graphs.{row_of, makers_of, count_of, is_phony}
 use Rattle.nj_needs.specs.Inside.Tops.{row_in}
 use Rattle.nj_needs.specs.Marks.{done, without, edge_at}
 use Rattle.nj_needs.specs.Inside.Paths.{IsLinked, places, IsStanding}
+use Rattle.nj_needs.specs.Inside.Reserved.{Reserved}
 use Rattle.nj_needs.specs.Inside.Tops.{IsTop}
 use Rattle.nj_needs.specs.Walks.{bound_of, commands_of}
 use Rattle.nj_needs.specs.Inside.Standing.{left_of, turns_left_of, done_of, top_of, IsWalkAt, HasLooked, HasClosed, HasEnded}
@@ -25,7 +25,7 @@ use Rattle.nj_needs.proofs.Walking.{done_at-open, top-within, path-capacity, Bel
 counted-more : (total : ℕ) → counted (saturated total) ≡ saturated (total + 1)
 counted-more total = omega arith
 
-module _ (g : EdgeGraph) (targets : List FileNo) (turns : ℕ) (path : Vec Frame) (place : ℕ) (flags : List Bool) (begun : ℕ) (h : IsWalkAt g targets turns path place flags begun) where
+module _ (g : EdgeGraph) (targets : List FileNo) (turns : ℕ) (path : Reserved Frame) (place : ℕ) (flags : List Bool) (begun : ℕ) (h : IsWalkAt g targets turns path place flags begun) where
   rank : ℕ → ℕ
   rank = h.acyclic.0
 
@@ -33,7 +33,7 @@ module _ (g : EdgeGraph) (targets : List FileNo) (turns : ℕ) (path : Vec Frame
   inside m a = h.inside m (Contains-from_Among (row_of g targets) m a)
 
   -- one turn is counted, and one less is left
-  more : (after : Vec Frame) (next : ℕ) → turns_left_of g targets path.items place ≡ turns_left_of g targets after.items next + 1
+  more : (after : Reserved Frame) (next : ℕ) → turns_left_of g targets path.items place ≡ turns_left_of g targets after.items next + 1
       → (total : ℕ) × (counted turns ≡ saturated total) × (total + turns_left_of g targets after.items next ≡ bound_of g targets + begun)
   more after next e =
       let t = h.counted in
@@ -68,7 +68,7 @@ module _ (g : EdgeGraph) (targets : List FileNo) (turns : ℕ) (path : Vec Frame
     }
 
   -- an edge is opened
-  module _ (f : Frame) (after : Vec Frame) (grown : after.items ≡ path.items ++ f ∷ []) (wide : vec_capacity path ≤ vec_capacity after) (here : f.at ≡ place)
+  module _ (f : Frame) (after : Reserved Frame) (grown : after.items ≡ path.items ++ f ∷ []) (same_capacity : after.capacity ≡ path.capacity) (here : f.at ≡ place)
       (at : slice_get (top_of g targets path.items) place ≡ Some (Some f.edge)) (fresh : get_or flags f.edge false ≡ false) where
     at' : slice_get (top_of g targets path.items) f.at ≡ Some (Some f.edge)
     at' = ap (slice_get (top_of g targets path.items)) here ∙ at
@@ -89,7 +89,7 @@ module _ (g : EdgeGraph) (targets : List FileNo) (turns : ℕ) (path : Vec Frame
       standing = subst (λ (fs : List Frame). IsStanding (makers_of g) (count_of g) (row_of g targets) fs 0 flags) (sym grown)
           (open-comes (makers_of g) (count_of g) h.acyclic.0 h.acyclic.1 (row_of g targets) inside path.items f flags at' fresh'
           (subst (λ p. IsStanding (makers_of g) (count_of g) (row_of g targets) path.items p flags) (sym here) h.standing));
-      capacity = omega (arith, h.capacity, wide);
+      capacity = omega (arith, h.capacity, same_capacity);
       counted = more after 0 opened-turn;
     }
 
@@ -102,7 +102,7 @@ module _ (g : EdgeGraph) (targets : List FileNo) (turns : ℕ) (path : Vec Frame
     }
 
   -- one more can be opened
-  pub capacity-open : (p m : ℕ) → slice_get (top_of g targets path.items) p ≡ Some (Some m) → length path.items < vec_capacity path
+  pub capacity-open : (p m : ℕ) → slice_get (top_of g targets path.items) p ≡ Some (Some m) → length path.items < path.capacity
   capacity-open p m at =
       let short : length path.items < count_of g =
       path-capacity (makers_of g) (count_of g) h.acyclic.0 h.acyclic.1 (count_of g) (row_of g targets) (Below-targets (makers_of g) (count_of g) h.acyclic.0 h.acyclic.1 (row_of g targets) inside)
@@ -110,7 +110,7 @@ module _ (g : EdgeGraph) (targets : List FileNo) (turns : ℕ) (path : Vec Frame
       omega (arith, short, h.capacity)
 
   -- an edge is closed
-  module _ (f : Frame) (after : Vec Frame) (shrunk : path.items ≡ after.items ++ f ∷ []) (wide : vec_capacity path ≤ vec_capacity after) (past : slice_get (top_of g targets path.items) place ≡ None) where
+  module _ (f : Frame) (after : Reserved Frame) (shrunk : path.items ≡ after.items ++ f ∷ []) (same_capacity : after.capacity ≡ path.capacity) (past : slice_get (top_of g targets path.items) place ≡ None) where
     stood : IsStanding (makers_of g) (count_of g) (row_of g targets) (after.items ++ f ∷ []) place flags
     stood = subst (λ (fs : List Frame). IsStanding (makers_of g) (count_of g) (row_of g targets) fs place flags) shrunk h.standing
 
@@ -130,7 +130,7 @@ module _ (g : EdgeGraph) (targets : List FileNo) (turns : ℕ) (path : Vec Frame
       acyclic = h.acyclic;
       inside = h.inside;
       standing = close-comes (makers_of g) (count_of g) h.acyclic.0 h.acyclic.1 (row_of g targets) inside after.items f place flags stood past';
-      capacity = omega (arith, h.capacity, wide);
+      capacity = omega (arith, h.capacity, same_capacity);
       counted = more after (f.at + 1) closed-turn;
     }
 
@@ -187,7 +187,7 @@ row-top g targets path None empty = ap (top_of g targets) (sym empty)
 row-top g targets path (Some e) ends =
     ap (makers_of g) (sym ends.3) ∙ sym (top_row-push (makers_of g) (row_of g targets) ends.0 ends.1) ∙ ap (top_of g targets) (sym ends.2)
 
-pub top-is_edge : (g : EdgeGraph) (targets : List FileNo) (turns : ℕ) (path : Vec Frame) (place : ℕ) (flags : List Bool) (begun : ℕ) → IsWalkAt g targets turns path place flags begun
+pub top-is_edge : (g : EdgeGraph) (targets : List FileNo) (turns : ℕ) (path : Reserved Frame) (place : ℕ) (flags : List Bool) (begun : ℕ) → IsWalkAt g targets turns path place flags begun
     → (edge : Option ℕ) → IsTop path.items edge → (e : ℕ) → edge ≡ Some e → e < count_of g
 top-is_edge g targets turns path place flags begun h None top e is = absurd cc
 top-is_edge g targets turns path place flags begun h (Some x) top e is =

@@ -2,6 +2,7 @@
 pub mod Heading
 pub mod MarkScanning
 pub mod Paths
+pub mod Reserved
 pub mod Saved
 pub mod Standing
 pub mod Tops

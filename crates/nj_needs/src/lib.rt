@@ -13,6 +13,7 @@ mod marks;
 mod needs;
 mod next_edge;
 mod page_walk;
+mod reserved_list;
 mod resume_point;
 mod resuming;
 mod walk;

@@ -57,7 +57,7 @@ impl<'g> Needs<'g> {
         ensures reads_back { ReadsBack self.now.mark }
         ensures sound { IsSound self.now }
     {
-        Mark::from_numbers(alloc, &self.saved.numbers)
+        Mark::from_numbers(alloc, self.saved.numbers.as_slice())
     }
 
     /// How many turns were taken, including those of resuming: looks at a place of the target list

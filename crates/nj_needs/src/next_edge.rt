@@ -30,7 +30,7 @@ pub(crate) fn next_edge(walk: &mut Walk, saved: &mut Saved) -> Option<usize>
             Turn::Closed(edge, phony) => {
                 saved.back_to(walk.path.len());
                 if !phony {
-                    saved.save(&walk.path, walk.place - 1);
+                    saved.save(walk.path.as_slice(), walk.place - 1);
                     return Some(edge);
                 }
             }

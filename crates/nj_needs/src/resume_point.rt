@@ -1,17 +1,18 @@
 //! The address of the edge that a walk returned last.
 
-ghost use Rattle.std.specs.Prelude.{◌≡◌, ◌+◌, ◌<◌, ◌≤◌, List, [], ◌∷◌, ◌++◌, length, min, take, vec_len, vec_capacity, IfOk};
+ghost use Rattle.std.specs.Prelude.{◌≡◌, ◌+◌, ◌<◌, ◌≤◌, List, [], ◌∷◌, ◌++◌, length, min, take, IfOk};
 ghost use Rattle.nj_needs.specs.Inside.Paths.{places};
 ghost use Rattle.nj_needs.specs.Inside.Saved.{KeepsFront};
 
 use crate::frame::Frame;
+use crate::reserved_list::ReservedList;
 use std::alloc::{AllocError, Global};
 
 /// The address, or the mark that the walk began with, and how many of its numbers are still those
 /// of the path of open edges.
 #[derive(Drop)]
 pub(crate) struct Saved {
-    pub numbers: Vec<u64>,
+    pub numbers: ReservedList<u64>,
     pub kept: usize,
 }
 
@@ -21,14 +22,14 @@ impl Saved {
         requires { length numbers.now ≤ capacity }
         ensures numbers { IfOk result (λ s. s.numbers.items ≡ numbers.now) }
         ensures kept { IfOk result (λ s. s.kept ≡ 0) }
-        ensures capacity { IfOk result (λ s. capacity ≤ vec_capacity s.numbers) }
+        ensures capacity { IfOk result (λ s. capacity ≤ s.numbers.capacity) }
     {
         let mut held = Vec::with_capacity(alloc, capacity)?;
         'copied: for number in numbers {
             held.push(*number)?;
         }
         Ok(Saved {
-            numbers: held,
+            numbers: ReservedList::new(held),
             kept: 0,
         })
     }
@@ -45,28 +46,17 @@ impl Saved {
     /// path. Only the part that differs from the address before is written, into existing capacity.
     pub fn save(&mut self, path: &[Frame], at: usize)
         requires front { KeepsFront self.old path.now }
-        requires capacity { length path.now < vec_capacity self.old.numbers }
+        requires capacity { length path.now < self.old.numbers.capacity }
         ensures numbers { self.new.numbers.items ≡ places path.now ++ at ∷ [] }
         ensures kept { KeepsFront self.new path.now }
         ensures whole { self.new.kept ≡ length path.now }
-        ensures capacity { vec_capacity self.old.numbers ≤ vec_capacity self.new.numbers }
+        ensures capacity { self.new.numbers.capacity ≡ self.old.numbers.capacity }
     {
         self.numbers.truncate(self.kept);
         'changed: for frame in &path[self.kept..] {
-            push_within(&mut self.numbers, frame.at as u64);
+            self.numbers.push(frame.at as u64);
         }
-        push_within(&mut self.numbers, at as u64);
+        self.numbers.push(at as u64);
         self.kept = path.len();
-    }
-}
-
-// Writes within the capacity.
-fn push_within(numbers: &mut Vec<u64>, number: u64)
-    requires { vec_len numbers.old < vec_capacity numbers.old }
-    ensures items { numbers.new.items ≡ numbers.old.items ++ number ∷ [] }
-    ensures capacity { vec_capacity numbers.old ≤ vec_capacity numbers.new }
-{
-    if numbers.push(number).is_err() {
-        unreachable!();
     }
 }

@@ -68,7 +68,7 @@ pub(crate) fn rebuild(walk: &mut Walk, numbers: &[u64])
         return;
     }
     let depth = numbers.len() - 1;
-    let after = walk.path[depth].at + 1;
+    let after = walk.path.get(depth).at + 1;
     reach(walk, depth, after);
 }
 

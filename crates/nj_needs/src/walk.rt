@@ -1,13 +1,14 @@
 //! The walk: depth first over the needed edges, by a stack of its own, with a flag for each edge
 //! that is done.
 
-ghost use Rattle.std.specs.Prelude.{◌≡◌, ◌+◌, ◌-◌, ◌^◌, ◌<◌, ◌≤◌, [], ◌∷◌, ◌++◌, length, MatchOption, None, slice_get, slice_index_or, vec_len, vec_capacity, IfOk};
+ghost use Rattle.std.specs.Prelude.{◌≡◌, ◌+◌, ◌-◌, ◌^◌, ◌<◌, ◌≤◌, [], ◌∷◌, ◌++◌, length, MatchOption, None, slice_get, slice_index_or, IfOk};
 ghost use Rattle.nj_needs.specs.Counts.{saturated};
 ghost use Rattle.nj_needs.specs.Inside.Standing.{IsWalk, TurnIs, top_of};
 ghost use Rattle.nj_needs.specs.Inside.Tops.{IsTop};
 
 use crate::frame::Frame;
 use crate::needs::beginning::turns::Turns;
+use crate::reserved_list::ReservedList;
 use std::alloc::{AllocError, Global};
 
 /// Where a walk is: the open edges, the first that was opened first; the next place in the
@@ -16,9 +17,9 @@ use std::alloc::{AllocError, Global};
 #[derive(Drop)]
 pub(crate) struct Walk<'g> {
     pub turns: Turns<'g>,
-    pub path: Vec<Frame>,
+    pub path: ReservedList<Frame>,
     pub place: usize,
-    pub flags: Vec<bool>,
+    pub flags: ReservedList<bool>,
     /// How many numbers the mark has with which the walk began.
     pub begun: usize,
 }
@@ -47,9 +48,9 @@ impl<'g> Walk<'g> {
         let flags = vec![in alloc; false; count]?;
         Ok(Walk {
             turns,
-            path,
+            path: ReservedList::new(path),
             place: 0,
-            flags,
+            flags: ReservedList::new(flags),
             begun,
         })
     }
@@ -64,7 +65,7 @@ impl<'g> Walk<'g> {
         ensures targets { self.new.turns.targets ≡ self.old.turns.targets }
         ensures begun { self.new.begun ≡ self.old.begun }
     {
-        let edge = top_edge(&self.path);
+        let edge = top_edge(self.path.as_slice());
         let Some(found) = self.turns.look(edge, self.place) else {
             return self.close();
         };
@@ -72,17 +73,14 @@ impl<'g> Walk<'g> {
             self.place += 1;
             return Turn::Looked;
         };
-        if self.flags[maker] {
+        if self.flags.get(maker) {
             self.place += 1;
             return Turn::Looked;
         }
-        push_within(
-            &mut self.path,
-            Frame {
-                edge: maker,
-                at: self.place,
-            },
-        );
+        self.path.push(Frame {
+            edge: maker,
+            at: self.place,
+        });
         self.place = 0;
         Turn::Looked
     }
@@ -114,16 +112,5 @@ pub(crate) fn top_edge(path: &[Frame]) -> Option<usize>
     match path {
         [] => None,
         [.., frame] => Some(frame.edge),
-    }
-}
-
-// Opens an edge, within the capacity.
-fn push_within(path: &mut Vec<Frame>, frame: Frame)
-    requires { vec_len path.old < vec_capacity path.old }
-    ensures items { path.new.items ≡ path.old.items ++ frame ∷ [] }
-    ensures capacity { vec_capacity path.old ≤ vec_capacity path.new }
-{
-    if path.push(frame).is_err() {
-        unreachable!();
     }
 }

@@ -1,8 +1,7 @@
 -- The state inside a walk, and one turn.
 use Rattle.std.specs.Prelude.{◌≡◌, ◌<◌, ◌≤◌, ◌⊎◌, ℕ, ◌+◌, Bool, true, if◌then◌else◌, Option, Some, None, List, [], ◌∷◌, ◌++◌, length}
-use Rattle.std.specs.Prelude.{nat_eq, slice_get, vec_capacity}
+use Rattle.std.specs.Prelude.{nat_eq, slice_get}
 use Rattle.std.specs.List.{list_any}
-use Rattle.std.specs.Global.{Vec}
 use Rattle.nj_cycles.specs.Cycles.{IsAcyclic}
 use Rattle.nj_names.specs.declared.files.FileNo.{FileNo}
 use Rattle.nj_edges.specs.EdgeGraphs.{EdgeGraph}
@@ -10,6 +9,7 @@ use Rattle.nj_needs.specs.Counts.{saturated}
 use Rattle.nj_needs.specs.Graphs.{row_of, makers_of, count_of, is_phony}
 use Rattle.nj_needs.specs.Needs.{AreWithin}
 use Rattle.nj_needs.specs.Inside.Paths.{top_row, done_at, places, left_at, turns_left, IsStanding}
+use Rattle.nj_needs.specs.Inside.Reserved.{Reserved}
 use Rattle.nj_needs.specs.Walks.{rest_of, bound_of, IsFirstPlaceOf}
 use Rattle.nj_needs.specs.declared.frame.Frame.{Frame}
 use Rattle.nj_needs.specs.declared.walk.Walk.{Walk}
@@ -30,12 +30,12 @@ abbrev pub top_of : EdgeGraph → List FileNo → List Frame → List (Option �
 top_of g targets path = top_row (makers_of g) (row_of g targets) path
 
 pub record IsWalkAt (g : EdgeGraph) (targets : List FileNo) (turns : ℕ)
-    (path : Vec Frame) (place : ℕ) (flags : List Bool) (begun : ℕ) : Type 0 where
+    (path : Reserved Frame) (place : ℕ) (flags : List Bool) (begun : ℕ) : Type 0 where
   pub acyclic : IsAcyclic (makers_of g) (count_of g)
   pub inside : AreWithin (row_of g targets) (count_of g)
   pub standing : IsStanding (makers_of g) (count_of g) (row_of g targets) path.items place flags
   -- there is capacity for every path
-  pub capacity : count_of g ≤ vec_capacity path
+  pub capacity : count_of g ≤ path.capacity
   -- the turns that were taken and those that are left are all turns
   pub counted : (total : ℕ) × (turns ≡ saturated total) × (total + turns_left_of g targets path.items place ≡ bound_of g targets + begun)
 

@@ -1,5 +1,5 @@
 -- A walk as a caller sees it, and its state inside.
-use Rattle.std.specs.Prelude.{◌≡◌, ◌≤◌, ◌+◌, ◌-◌, vec_capacity}
+use Rattle.std.specs.Prelude.{◌≡◌, ◌≤◌, ◌+◌, ◌-◌}
 use Rattle.nj_needs.specs.Graphs.{count_of}
 use Rattle.nj_needs.specs.Walks.{WalkState, rest_of, bound_of}
 use Rattle.nj_needs.specs.Inside.Standing.{IsWalk, left_of, turns_left_of}
@@ -21,6 +21,6 @@ state_of w s = record {
 pub record IsNeeds (w : Walk) (s : Saved) : Type 0 where
   pub walk : IsWalk w
   pub front : KeepsFront s w.path.items
-  pub capacity : count_of w.turns.graph.now ≤ vec_capacity s.numbers
+  pub capacity : count_of w.turns.graph.now ≤ s.numbers.capacity
   pub rest : left_of w.turns.graph.now w.turns.targets.now w.path.items w.place
       ≡ rest_of w.turns.graph.now w.turns.targets.now s.numbers.items

@@ -1,4 +1,4 @@
-use Rattle.std.proofs.Common.{◌≡◌, ◌<◌, ◌-◌, min, List, [], ◌∷◌, ◌++◌, length, sym, ap, subst, ◌∙◌, arith}
+use Rattle.std.proofs.Common.{◌≡◌, ◌<◌, ◌-◌, min, List, [], ◌∷◌, ◌++◌, sym, ap, subst, ◌∙◌, arith}
 use Rattle.nj_needs.specs.Graphs.{count_of}
 use Rattle.nj_needs.specs.Inside.Paths.{places}
 use Rattle.nj_needs.specs.declared.frame.Frame.{Frame}
@@ -30,27 +30,27 @@ turns-smaller-in-Looked c = looked-less c.turns.walk c.take_turn.new.self c.in-L
 pub save-requires-clause-front : goal.save-requires-clause-front
 save-requires-clause-front c =
     let e = c.in-Closed.ensures in
-    rw c.deref.ensures.value (closed-front c.turns.walk c.take_turn.new.self e.graph e.targets c.in-Closed.edge c.in-Closed.phony e.turn c.turns.saved c.back_to.new.self
-    c.back_to.ensures.numbers (c.back_to.ensures.kept ∙ ap (λ n. min c.turns.saved.kept n) (let e : c.len.result ≡ length c.take_turn.new.self.path.items = omega (arith, c.len.ensures) in e)) c.turns.invariant.needs.front)
+    rw c.as_slice.ensures (closed-front c.turns.walk c.take_turn.new.self e.graph e.targets c.in-Closed.edge c.in-Closed.phony e.turn c.turns.saved c.back_to.new.self
+    c.back_to.ensures.numbers (c.back_to.ensures.kept ∙ ap (λ n. min c.turns.saved.kept n) c.len.ensures) c.turns.invariant.needs.front)
 
 pub save-requires-clause-capacity : goal.save-requires-clause-capacity
 save-requires-clause-capacity c =
     let e = c.in-Closed.ensures in
-    rw c.deref.ensures.value (returned-capacity c.turns.walk c.take_turn.new.self e.graph e.targets c.in-Closed.edge c.in-Closed.phony e.turn c.turns.saved c.back_to.new.self
+    rw c.as_slice.ensures (returned-capacity c.turns.walk c.take_turn.new.self e.graph e.targets c.in-Closed.edge c.in-Closed.phony e.turn c.turns.saved c.back_to.new.self
     c.back_to.ensures.numbers c.turns.invariant.needs)
 
 pub returns-then-not-phony-clause-after : goal.returns-then-not-phony-clause-after
 returns-then-not-phony-clause-after c =
     let e = c.in-Closed.ensures in
     returned-needs c.turns.walk c.take_turn.new.self e.graph e.targets c.in-Closed.edge c.in-Closed.phony e.turn c.turns.saved c.back_to.new.self c.save.new.self
-    c.back_to.ensures.numbers c.save.ensures.capacity (subst (KeepsFront c.save.new.self) c.deref.ensures.value c.save.ensures.kept) (c.save.ensures.numbers ∙ ap (λ (p : List Frame). places p ++ (c.take_turn.new.self.place - 1) ∷ []) c.deref.ensures.value) c.turns.invariant.needs e.walk
+    c.back_to.ensures.numbers c.save.ensures.capacity (subst (KeepsFront c.save.new.self) c.as_slice.ensures c.save.ensures.kept) (c.save.ensures.numbers ∙ ap (λ (p : List Frame). places p ++ (c.take_turn.new.self.place - 1) ∷ []) c.as_slice.ensures) c.turns.invariant.needs e.walk
 
 pub returns-then-not-phony-clause-next : goal.returns-then-not-phony-clause-next
 returns-then-not-phony-clause-next c =
     let e = c.in-Closed.ensures in
     record {
       first = sym c.turns.invariant.left ∙ returned-left c.turns.walk c.take_turn.new.self e.graph e.targets c.in-Closed.edge c.in-Closed.phony e.turn c.if-not-phony.true;
-      mark = returned-first c.turns.walk c.take_turn.new.self e.graph e.targets c.in-Closed.edge c.in-Closed.phony e.turn c.save.new.self (c.save.ensures.numbers ∙ ap (λ (p : List Frame). places p ++ (c.take_turn.new.self.place - 1) ∷ []) c.deref.ensures.value);
+      mark = returned-first c.turns.walk c.take_turn.new.self e.graph e.targets c.in-Closed.edge c.in-Closed.phony e.turn c.save.new.self (c.save.ensures.numbers ∙ ap (λ (p : List Frame). places p ++ (c.take_turn.new.self.place - 1) ∷ []) c.as_slice.ensures);
     }
 
 pub returns-then-not-phony-clause-known : goal.returns-then-not-phony-clause-known
@@ -72,7 +72,7 @@ turns-preserved c =
     let e = c.in-Closed.ensures in
     let i = c.turns.invariant in
     record {
-      needs = closed-needs w v e.graph e.targets c.in-Closed.edge c.in-Closed.phony e.turn c.turns.saved c.back_to.new.self c.back_to.ensures.numbers (c.back_to.ensures.kept ∙ ap (λ n. min c.turns.saved.kept n) (let e : c.len.result ≡ length c.take_turn.new.self.path.items = omega (arith, c.len.ensures) in e)) c.if-not-phony.false i.needs e.walk;
+      needs = closed-needs w v e.graph e.targets c.in-Closed.edge c.in-Closed.phony e.turn c.turns.saved c.back_to.new.self c.back_to.ensures.numbers (c.back_to.ensures.kept ∙ ap (λ n. min c.turns.saved.kept n) c.len.ensures) c.if-not-phony.false i.needs e.walk;
       graph = e.graph ∙ i.graph;
       targets = e.targets ∙ i.targets;
       begun = e.begun ∙ i.begun;

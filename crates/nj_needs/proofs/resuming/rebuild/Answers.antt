@@ -1,6 +1,5 @@
-use Rattle.std.proofs.Common.{◌≡◌, ◌<◌, ◌⊎◌, inl, inr, ℕ, true, false, ◌==◌, List, [], length, get_or, sym, ap, ◌∙◌, arith}
+use Rattle.std.proofs.Common.{◌≡◌, ◌<◌, ◌⊎◌, inl, inr, ℕ, List, [], length, get_or, sym, ap, ◌∙◌, arith}
 use Rattle.std.proofs.lemmas.List.{take_all, get_or_default, append-nil}
-use Rattle.std.proofs.lemmas.Bool.{eq-eqb}
 use Rattle.nj_needs.specs.Inside.Standing.{IsWalk, TurnIs}
 use Rattle.nj_needs.specs.declared.walk.Walk.{Walk}
 use Rattle.nj_needs.specs.declared.walk.Turn.{Turn}
@@ -71,25 +70,22 @@ reach-requires-clause-place_in c =
 
 -- ---- at the end of the mark
 
-not_empty : (numbers : List ℕ) → false ≡ (length numbers == 0) → length numbers ≡ 0 → ⊥
-not_empty numbers full none = let e : (length numbers == 0) ≡ true = eq-eqb (length numbers) 0 none in let f : false ≡ true = full ∙ e in cc
-
 pub reach-requires-2-clause-heading : goal.reach-requires-2-clause-heading
 reach-requires-2-clause-heading c =
     let v = c.steps.invariant in
     let numbers = c.args.numbers.now in
-    way-heading c.steps.walk numbers c.steps.number-index c.steps-test.false (not_empty numbers c.if-is_empty.ensures) (record { walk = v.walk; path = v.path; valid = v.valid }) c.index.result.now c.index.ensures
+    way-heading c.steps.walk numbers c.steps.number-index c.steps-test.false (record { walk = v.walk; path = v.path; valid = v.valid }) c.get-after.result c.get-after.ensures
 
 pub reach-requires-2-clause-place_in : goal.reach-requires-2-clause-place_in
 reach-requires-2-clause-place_in c =
     let v = c.steps.invariant in
     let numbers = c.args.numbers.now in
-    way-last_in c.steps.walk numbers c.steps.number-index c.steps-test.false (not_empty numbers c.if-is_empty.ensures) (record { walk = v.walk; path = v.path; valid = v.valid }) c.index.result.now c.index.ensures
+    way-last_in c.steps.walk numbers c.steps.number-index c.steps-test.false (record { walk = v.walk; path = v.path; valid = v.valid }) c.get-after.result c.get-after.ensures
 
 pub returns-clause-rest : goal.returns-clause-rest
 returns-clause-rest c =
     let v = c.steps.invariant in
     let r = c.reach-2.ensures in
     let numbers = c.args.numbers.now in
-    let rest = way-rest c.steps.walk numbers c.steps.number-index c.steps-test.false (not_empty numbers c.if-is_empty.ensures) (record { walk = v.walk; path = v.path; valid = v.valid }) c.index.result.now c.index.ensures in
+    let rest = way-rest c.steps.walk numbers c.steps.number-index c.steps-test.false (record { walk = v.walk; path = v.path; valid = v.valid }) c.get-after.result c.get-after.ensures in
     rw (r.graph, r.targets, r.path, r.place) rest

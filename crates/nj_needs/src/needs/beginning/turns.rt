@@ -12,6 +12,7 @@ ghost use Rattle.nj_needs.specs.Inside.Tops.{counted, row_in};
 ghost use Rattle.nj_needs.specs.Needs.{AreWithin};
 
 use crate::looks::look_at;
+use crate::reserved_list::ReservedList;
 use nj_edges::{EdgeGraph, EdgeNo, FileNo};
 
 /// The graph and the targets, and how many turns were taken. The count stays at the greatest `u64`.
@@ -66,17 +67,17 @@ impl<'g> Turns<'g> {
     }
 
     /// Closes an edge: sets its flag. Returns whether it is phony.
-    pub fn close(&mut self, edge: usize, flags: &mut [bool]) -> bool
+    pub fn close(&mut self, edge: usize, flags: &mut ReservedList<bool>) -> bool
         requires edge_in { edge < count_of self.old.graph.now }
-        requires flag_in { edge < length flags.old }
+        requires flag_in { edge < length flags.old.items }
         ensures phony { result ≡ is_phony self.old.graph.now edge }
-        ensures flag { flags.new ≡ slice_set flags.old edge true }
+        ensures flag { flags.new.items ≡ slice_set flags.old.items edge true }
         ensures graph { self.new.graph ≡ self.old.graph }
         ensures targets { self.new.targets ≡ self.old.targets }
         ensures turn { self.new.taken ≡ counted self.old.taken }
     {
         self.taken = self.taken.saturating_add(1);
-        flags[edge] = true;
+        flags.set(edge, true);
         self.graph.is_phony(EdgeNo(edge))
     }
 

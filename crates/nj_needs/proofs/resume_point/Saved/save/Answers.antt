@@ -24,9 +24,9 @@ changed-preserved c =
     let so_far : c.changed.self.numbers.items ≡ take (kept + i) (places path) = c.changed.invariant.so_far ∙ ap (λ (k : ℕ). take (k + i) (places path)) same in
     let e : kept + (i + 1) ≡ kept + i + 1 = omega arith in
     record {
-      so_far = c.push_within.ensures.items ∙ next path (kept + i) f c.changed.self.numbers.items lt at so_far ∙ ap (λ (k : ℕ). take k (places path)) (sym e)
+      so_far = c.push.ensures.items ∙ next path (kept + i) f c.changed.self.numbers.items lt at so_far ∙ ap (λ (k : ℕ). take k (places path)) (sym e)
           ∙ ap (λ (k : ℕ). take (k + (i + 1)) (places path)) (sym same);
       rest = items ∙ ap (λ (k : ℕ). drop k path) (sym same);
       kept = same;
-      capacity = omega (arith, c.push_within.ensures.capacity, c.changed.invariant.capacity);
+      capacity = c.push.ensures.capacity ∙ c.changed.invariant.capacity;
     }

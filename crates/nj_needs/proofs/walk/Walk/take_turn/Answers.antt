@@ -1,7 +1,6 @@
 use Rattle.std.proofs.Common.{◌≡◌, ℕ, ◌+◌, ◌<◌, Bool, true, false, Option, Some, None, List, length, get_or, refl, sym, ap, subst, ◌∙◌, arith}
 use Rattle.std.specs.Prelude.{slice_get}
-use Rattle.std.proofs.lemmas.List.{get_or_read}
-use Rattle.std.proofs.lemmas.Option.{same_Some}
+use Rattle.std.proofs.lemmas.Option.{same_Some, get_or_from_slice_get}
 use Rattle.nj_needs.specs.Inside.Tops.{row_in}
 use Rattle.nj_needs.specs.Inside.Tops.{counted}
 use Rattle.nj_needs.specs.Inside.Standing.{IsWalkAt, top_of, done_of}
@@ -22,18 +21,18 @@ pub look-requires : goal.look-requires
 look-requires c =
     let w = c.args.self.now in
     top-is_edge w.turns.graph.now w.turns.targets.now w.turns.taken w.path w.place w.flags.items w.begun c.requires c.top_edge-edge.result
-    (subst (λ p. IsTop p c.top_edge-edge.result) c.deref.ensures.value c.top_edge-edge.ensures)
+    (subst (λ p. IsTop p c.top_edge-edge.result) c.as_slice.ensures c.top_edge-edge.ensures)
 
 pub close-requires-clause-past : goal.close-requires-clause-past
 close-requires-clause-past c =
     let w = c.args.self.now in
-    rw (c.look.ensures.graph, c.look.ensures.targets) (comes w c.deref.result.now c.top_edge-edge.result None c.deref.ensures.value c.top_edge-edge.ensures c.in_default.ensures.found)
+    rw (c.look.ensures.graph, c.look.ensures.targets) (comes w c.as_slice.result.now c.top_edge-edge.result None c.as_slice.ensures c.top_edge-edge.ensures c.in_default.ensures.found)
 
 -- a source
 pub returns-in_default-found-clause-walk : goal.returns-in_default-found-clause-walk
 returns-in_default-found-clause-walk c =
     let w = c.args.self.now in
-    let at = comes w c.deref.result.now c.top_edge-edge.result (Some c.in-Some.found) c.deref.ensures.value c.top_edge-edge.ensures c.in-Some.ensures.found in
+    let at = comes w c.as_slice.result.now c.top_edge-edge.result (Some c.in-Some.found) c.as_slice.ensures c.top_edge-edge.ensures c.in-Some.ensures.found in
     let base : IsWalkAt w.turns.graph.now w.turns.targets.now (counted w.turns.taken) w.path (w.place + 1) w.flags.items w.begun =
     walk-pass w.turns.graph.now w.turns.targets.now w.turns.taken w.path w.place w.flags.items w.begun c.requires c.in-Some.found at
     (λ m is. absurd (c.in_default-found.not-Some m is)) in
@@ -42,7 +41,7 @@ returns-in_default-found-clause-walk c =
 pub returns-in_default-found-clause-turn : goal.returns-in_default-found-clause-turn
 returns-in_default-found-clause-turn c =
     let w = c.args.self.now in
-    let at = comes w c.deref.result.now c.top_edge-edge.result (Some c.in-Some.found) c.deref.ensures.value c.top_edge-edge.ensures c.in-Some.ensures.found in
+    let at = comes w c.as_slice.result.now c.top_edge-edge.result (Some c.in-Some.found) c.as_slice.ensures c.top_edge-edge.ensures c.in-Some.ensures.found in
     turn-pass w.turns.graph.now w.turns.targets.now w.turns.taken w.path w.place w.flags.items w.begun c.requires c.in-Some.found at
     (λ m is. absurd (c.in_default-found.not-Some m is))
 
@@ -58,17 +57,16 @@ maker_in w h maker at =
     let low = top-edge_within w.turns.graph.now w.turns.targets.now w.turns.taken w.path w.place w.flags.items w.begun h w.place maker at in
     omega (arith, low, h.standing.flags_len)
 
-pub index-requires : goal.index-requires
-index-requires c =
+pub get-requires : goal.get-requires
+get-requires c =
     let w = c.args.self.now in
     let low = maker_in w c.requires c.in-Some-found.maker
-    (maker_at w c.deref.result.now c.top_edge-edge.result c.in-Some.found c.in-Some-found.maker c.deref.ensures.value c.top_edge-edge.ensures c.in-Some.ensures.found c.in-Some-found.is) in
+    (maker_at w c.as_slice.result.now c.top_edge-edge.result c.in-Some.found c.in-Some-found.maker c.as_slice.ensures c.top_edge-edge.ensures c.in-Some.ensures.found c.in-Some-found.is) in
     omega (arith, low)
 
 -- the flag of the maker tells whether it is done
-is_done : (w : Walk) (h : IsWalkAt w.turns.graph.now w.turns.targets.now w.turns.taken w.path w.place w.flags.items w.begun) (maker : ℕ) (flag : Bool)
-    → slice_get (top_of w.turns.graph.now w.turns.targets.now w.path.items) w.place ≡ Some (Some maker) → flag ≡ get_or w.flags.items maker flag → get_or w.flags.items maker false ≡ flag
-is_done w h maker flag at is = sym (get_or_read w.flags.items maker flag (maker_in w h maker at) is false)
+is_done : (w : Walk) (maker : ℕ) (flag : Bool) → slice_get w.flags.items maker ≡ Some flag → get_or w.flags.items maker false ≡ flag
+is_done w maker flag is = get_or_from_slice_get w.flags.items maker flag false is
 
 -- a maker whose flag is set is done
 all_done : (w : Walk) (h : IsWalkAt w.turns.graph.now w.turns.targets.now w.turns.taken w.path w.place w.flags.items w.begun) (maker : ℕ)
@@ -79,50 +77,49 @@ all_done w h maker at done m is =
     subst (In (done_of w.turns.graph.now w.turns.targets.now w.path.items w.place)) (same_Some maker m is) (sym (h.standing.flagged maker low) ∙ done)
 
 -- a maker that is done
-pub returns-then-index-clause-walk : goal.returns-then-index-clause-walk
-returns-then-index-clause-walk c =
+pub returns-then-get-clause-walk : goal.returns-then-get-clause-walk
+returns-then-get-clause-walk c =
     let w = c.args.self.now in
     let m = c.in-Some-found.maker in
-    let at = maker_at w c.deref.result.now c.top_edge-edge.result c.in-Some.found m c.deref.ensures.value c.top_edge-edge.ensures c.in-Some.ensures.found c.in-Some-found.is in
-    let done : get_or w.flags.items m false ≡ true = is_done w c.requires m c.index.result.now at c.index.ensures ∙ c.if-index.true in
+    let at = maker_at w c.as_slice.result.now c.top_edge-edge.result c.in-Some.found m c.as_slice.ensures c.top_edge-edge.ensures c.in-Some.ensures.found c.in-Some-found.is in
+    let done : get_or w.flags.items m false ≡ true = is_done w m c.get.result c.get.ensures ∙ c.if-get.true in
     let base : IsWalkAt w.turns.graph.now w.turns.targets.now (counted w.turns.taken) w.path (w.place + 1) w.flags.items w.begun =
     walk-pass w.turns.graph.now w.turns.targets.now w.turns.taken w.path w.place w.flags.items w.begun c.requires (Some m) at
     (all_done w c.requires m at done) in
     rw (c.look.ensures.graph, c.look.ensures.targets, c.in-Some.ensures.turn) base
 
-pub returns-then-index-clause-turn : goal.returns-then-index-clause-turn
-returns-then-index-clause-turn c =
+pub returns-then-get-clause-turn : goal.returns-then-get-clause-turn
+returns-then-get-clause-turn c =
     let w = c.args.self.now in
     let m = c.in-Some-found.maker in
-    let at = maker_at w c.deref.result.now c.top_edge-edge.result c.in-Some.found m c.deref.ensures.value c.top_edge-edge.ensures c.in-Some.ensures.found c.in-Some-found.is in
-    let done : get_or w.flags.items m false ≡ true = is_done w c.requires m c.index.result.now at c.index.ensures ∙ c.if-index.true in
+    let at = maker_at w c.as_slice.result.now c.top_edge-edge.result c.in-Some.found m c.as_slice.ensures c.top_edge-edge.ensures c.in-Some.ensures.found c.in-Some-found.is in
+    let done : get_or w.flags.items m false ≡ true = is_done w m c.get.result c.get.ensures ∙ c.if-get.true in
     turn-pass w.turns.graph.now w.turns.targets.now w.turns.taken w.path w.place w.flags.items w.begun c.requires (Some m) at (all_done w c.requires m at done)
 
 -- a maker that is not done
-pub push_within-requires : goal.push_within-requires
-push_within-requires c =
+pub push-requires : goal.push-requires
+push-requires c =
     let w = c.args.self.now in
     let m = c.in-Some-found.maker in
-    let at = maker_at w c.deref.result.now c.top_edge-edge.result c.in-Some.found m c.deref.ensures.value c.top_edge-edge.ensures c.in-Some.ensures.found c.in-Some-found.is in
-    let capacity = capacity-open w.turns.graph.now w.turns.targets.now w.turns.taken w.path w.place w.flags.items w.begun c.requires w.place m at in
-    omega (arith, capacity)
+    let at = maker_at w c.as_slice.result.now c.top_edge-edge.result c.in-Some.found m c.as_slice.ensures c.top_edge-edge.ensures c.in-Some.ensures.found c.in-Some-found.is in
+    capacity-open w.turns.graph.now w.turns.targets.now w.turns.taken w.path w.place w.flags.items w.begun c.requires w.place m at
 
 pub returns-clause-walk : goal.returns-clause-walk
 returns-clause-walk c =
     let w = c.args.self.now in
     let m = c.in-Some-found.maker in
-    let at = maker_at w c.deref.result.now c.top_edge-edge.result c.in-Some.found m c.deref.ensures.value c.top_edge-edge.ensures c.in-Some.ensures.found c.in-Some-found.is in
-    let fresh : get_or w.flags.items m false ≡ false = is_done w c.requires m c.index.result.now at c.index.ensures ∙ c.if-index.false in
-    let base : IsWalkAt w.turns.graph.now w.turns.targets.now (counted w.turns.taken) c.push_within.new.path 0 w.flags.items w.begun =
-    walk-open w.turns.graph.now w.turns.targets.now w.turns.taken w.path w.place w.flags.items w.begun c.requires _ c.push_within.new.path
-    c.push_within.ensures.items c.push_within.ensures.capacity refl at fresh in
+    let at = maker_at w c.as_slice.result.now c.top_edge-edge.result c.in-Some.found m c.as_slice.ensures c.top_edge-edge.ensures c.in-Some.ensures.found c.in-Some-found.is in
+    let fresh : get_or w.flags.items m false ≡ false = is_done w m c.get.result c.get.ensures ∙ c.if-get.false in
+    let base : IsWalkAt w.turns.graph.now w.turns.targets.now (counted w.turns.taken) c.push.new.self 0 w.flags.items w.begun =
+    walk-open w.turns.graph.now w.turns.targets.now w.turns.taken w.path w.place w.flags.items w.begun c.requires _ c.push.new.self
+    c.push.ensures.items c.push.ensures.capacity refl at fresh in
     rw (c.look.ensures.graph, c.look.ensures.targets, c.in-Some.ensures.turn) base
 
 pub returns-clause-turn : goal.returns-clause-turn
 returns-clause-turn c =
     let w = c.args.self.now in
     let m = c.in-Some-found.maker in
-    let at = maker_at w c.deref.result.now c.top_edge-edge.result c.in-Some.found m c.deref.ensures.value c.top_edge-edge.ensures c.in-Some.ensures.found c.in-Some-found.is in
-    let fresh : get_or w.flags.items m false ≡ false = is_done w c.requires m c.index.result.now at c.index.ensures ∙ c.if-index.false in
-    turn-open w.turns.graph.now w.turns.targets.now w.turns.taken w.path w.place w.flags.items w.begun c.requires _ c.push_within.new.path
-    c.push_within.ensures.items c.push_within.ensures.capacity refl at fresh
+    let at = maker_at w c.as_slice.result.now c.top_edge-edge.result c.in-Some.found m c.as_slice.ensures c.top_edge-edge.ensures c.in-Some.ensures.found c.in-Some-found.is in
+    let fresh : get_or w.flags.items m false ≡ false = is_done w m c.get.result c.get.ensures ∙ c.if-get.false in
+    turn-open w.turns.graph.now w.turns.targets.now w.turns.taken w.path w.place w.flags.items w.begun c.requires _ c.push.new.self
+    c.push.ensures.items c.push.ensures.capacity refl at fresh
