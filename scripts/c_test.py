@@ -664,6 +664,8 @@ def try_flood(tests):
     folder.mkdir()
     for reasons in flood.slow_tables([str(tests.static.path)], str(folder)):
         tests.sweep.take({"tables of names": 1}, reasons)
+    words = [str(tests.why.path), "a.o", "a.c"]
+    tests.sweep.take({"tables of names": 1}, [*flood.slow_logs(words, folder, ".ninja_deps")])
 
 
 # ---- every call

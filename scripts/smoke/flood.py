@@ -26,7 +26,6 @@ NAMES, BITS = 6000, 9
 ROUNDS = 10
 TIMES = 3
 MOST = 4
-LOG = "log"
 LOGGED = "rule cc\n  command = cc $in\n  deps = gcc\nbuild a.o: cc a.c\n"
 
 
@@ -63,15 +62,21 @@ def colliding_names(program, folder):
         yield from found
 
 
+def slow_logs(words, folder, log):
+    """The same for the paths of a deps log, which the program reads under this name in its working
+    directory, and joins to the edge of a.o."""
+    found, chosen = {}, flood.chosen_names(folder, NAMES, BITS)["paths"]
+    for kind, names in flood.names_of_kinds(chosen).items():
+        place = folder / "logs" / kind
+        flood.write(place, [LOGGED])
+        (place / log).write_bytes(deps_log({"a.o": names}, flood.ENCODING))
+        found[kind] = flood.least_seconds(words, place, TIMES)
+    known = flood.least_seconds(with_known_number(words, folder), folder / "logs/chosen", 1)
+    yield from reasons("paths of a log", found["chosen"], found["other"], known)
+
+
 @check(needs=["cc"], alone=True)
 def colliding_paths_of_logs(graph, folder):
     """The same for a deps log whose paths collide, read by ninja-graph."""
-    words = [graph.path, "why", "--deps-log-file", LOG, "a.o", "a.c"]
-    found, chosen = {}, flood.chosen_names(folder, NAMES, BITS)["paths"]
-    for kind, names in flood.names_of_kinds(chosen).items():
-        place = folder / kind
-        flood.write(place, [LOGGED])
-        (place / LOG).write_bytes(deps_log({"a.o": names}, flood.ENCODING))
-        found[kind] = flood.least_seconds(words, place, TIMES)
-    known = flood.least_seconds(with_known_number(words, folder), folder / "chosen", 1)
-    yield from reasons("paths of a log", found["chosen"], found["other"], known)
+    words = [graph.path, "why", "--deps-log-file", "log", "a.o", "a.c"]
+    yield from slow_logs(words, folder, "log")
