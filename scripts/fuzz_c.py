@@ -166,7 +166,7 @@ def quoted(word):
 
 
 def write_dictionary():
-    options = EVERY_TOOL.union(*(options for options, _ in TOOLS.values()))
+    options = EVERY_TOOL.union(*(tool.options for tool in TOOLS.values()))
     words = {*PIECES, *(line + b"\n" for line in LINES), b"\n%%", b"\n%%\n"}
     words |= {option.encode() + ZERO for option in options}
     words |= {b"-t" + ZERO + tool.encode() + ZERO for tool in TOOLS}

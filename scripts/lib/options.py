@@ -1,4 +1,4 @@
-"""The tools and options of ninja-explain, and how shells complete its arguments and ninja-graph's."""
+"""The options of ninja-explain, and how shells complete its arguments and ninja-graph's."""
 
 import fcntl
 import os
@@ -9,28 +9,21 @@ import termios
 from functools import partial
 
 from lib.programs import CRATES, ROOT, SECONDS
+from lib.tools import EXPLAIN, PROGRAMS
 
 COMMAND_LINE = CRATES / "nj_args/specs/CommandLine.antt"
 BASH = ROOT / "completions/ninja-explain.bash"
 FISH = ROOT / "completions/ninja-explain.fish"
 ZSH = ROOT / "completions/_ninja-explain"
 
-# The options of each tool that not every tool has, and arguments that it takes.
-TOOLS = {
-    "commands": ({"-s", "--take", "--resume", "--validations"}, []),
-    "inputs": ({"--validations", "--dependency-order", "--no-shell-escape", "--print0"}, []),
-    "targets": (set(), ["all"]),
-    "query": (set(), ["file"]),
-    "rules": ({"-d"}, []),
-    "compdb": ({"-x", "--directory"}, []),
-}
-EVERY_TOOL = {"-t", "-f", "--stdin", "--dyndep"}
+TOOLS = PROGRAMS[EXPLAIN].tools
+EVERY_TOOL = set(PROGRAMS[EXPLAIN].every)
 # `--` ends the options, and is not one itself.
 END = "--"
 
 
 def options_of(tool):
-    return TOOLS[tool][0]
+    return set(TOOLS[tool].options)
 
 
 def compare(where, what, found, wanted):

@@ -1,10 +1,12 @@
-"""Small projects, and runs of every tool on them."""
+"""Small projects, on which the runs of lib/tools.py are made."""
 
 import subprocess
 from pathlib import Path
 
 from lib.checks import expect
 from lib.programs import DONE, EXAMPLES
+from lib.random_builds import OPENING, deps_log
+from lib.tools import EXPLAIN, GRAPH, PROGRAMS
 
 MAIN = "build.ninja"
 
@@ -112,6 +114,22 @@ rule L
   command = cc $in -o $out"""
 
 
+# A log names headers of both objects; of one the generated header is not declared.
+LOGGED = """\
+builddir = out
+rule cc
+  command = cc -c $in -o $out
+  deps = gcc
+rule gen
+  command = gen $out
+build gen.h: gen
+build a.o: cc a.c
+build b.o: cc b.c || gen.h
+build app: phony a.o b.o
+"""
+LOG = deps_log({"a.o": ["a.c", "a.h", "gen.h"], "b.o": ["./gen.h", "/usr/b.h"], "old.o": ["a.h"]})
+LOG_OF_NINJA = "out/.ninja_deps"
+
 # An input that is the single byte FF.
 NOT_UTF8 = as_bytes(RESPONSE).replace(b" a b", b" \xff b")
 
@@ -145,110 +163,24 @@ PROJECTS = {
     "not UTF-8": Project({MAIN: NOT_UTF8}, {}),
     "cycle": Project({MAIN: "rule c\n  command = c\nbuild a: c b\nbuild b: c a\n"}, {}),
 }
-
-# Runs of every tool, by project. The arguments are split at spaces; some of them are refused.
-RUNS = {
-    "diamond": [
-        "",
-        "--stdin -f build.ninja -t targets all",
-        "-t commands d",
-        "-t commands --take 0 d",
-        "-t commands --take 2 d",
-        "-t commands --take 9 d",
-        "-t commands --resume 0.0 d",
-        "-t commands --resume 0.1.0 --take 1 d",
-        "-t commands --resume 0.2 d",
-        "-t commands -s d b1",
-        "-t commands nothing",
-        "-t commands d^",
-        "-t inputs d",
-        "-t inputs --dependency-order d",
-        "-t inputs --no-shell-escape d",
-        "-t inputs --print0 d",
-        "-t inputs --dependency-order --no-shell-escape --print0",
-        "-t targets",
-        "-t targets depth 0",
-        "-t targets depth 2",
-        "-t targets all",
-        "-t targets rule mk",
-        "-t targets rule",
-        "-t query d a b1^",
-        "-t rules",
-        "-t compdb --directory /w",
-        "-t compdb mk",
-        "--help",
-        "-t graph",
-        "-t rules -s",
-        "-t query",
-        "-t commands --take x",
-        "-t commands --resume 00",
-        "-f nothing -t commands",
-    ],
-    "two scopes": ["-t commands", "-t inputs", "-t targets all", "-t rules", "-t query C P"],
-    "dyndep file": [
-        "--dyndep -t commands",
-        "--dyndep -t commands --take 0 o2",
-        "--dyndep -t inputs o",
-        "--dyndep -t inputs --dependency-order --print0 o",
-        "--dyndep -t targets depth 0",
-        "--dyndep -t targets all",
-        "--dyndep -t targets rule",
-        "--dyndep -t query o extra",
-        "--dyndep -t rules -d",
-        "--dyndep -t compdb",
-        "-t query extra",
-    ],
-    "response file": [
-        "-t compdb -x --directory /w",
-        "-t compdb -x l",
-        "-t compdb",
-        "-t commands",
-        "-t inputs --no-shell-escape p",
-    ],
-    "description": ["-t rules -d", "-t rules", "-t commands", "-t compdb"],
-    "validation": [
-        "-t commands t",
-        "-t commands --validations t",
-        "-t commands --validations --take 0 t",
-        "-t commands --validations --take 1 t",
-        "-t commands --validations --resume v1.0 t",
-        "-t commands --validations --resume v2 t",
-        "-t commands --validations --resume 0 t",
-        "-t inputs t",
-        "-t inputs --validations t",
-        "-t inputs --validations --dependency-order --no-shell-escape --print0 t",
-        "-t query t v",
-        "-t targets depth 0",
-    ],
-    "generated": [
-        "-t commands",
-        "-t commands --take 1 app",
-        "-t inputs",
-        "-t targets",
-        "-t targets rule",
-        "-t query o/a.o obj",
-        "-t rules -d",
-        "-t compdb C L",
-    ],
-    "example": [
-        "-t commands --take 2",
-        "-t commands --resume 0.0 test",
-        "-t commands --validations --take 2",
-        "-t commands -s main.c^",
-        "-t commands nothing",
-        "-t inputs test",
-        "-t inputs --dependency-order --no-shell-escape --print0",
-        "-t targets depth 0",
-        "-t targets all",
-        "-t targets rule cc",
-        "-t targets rule",
-        "-t query out/libtext.a main.c^",
-        "-t rules -d",
-        "-t compdb -x cc link",
-    ],
-    "not UTF-8": ["-t compdb", "-t compdb -x", "-t commands"],
-    "cycle": ["-t commands", "-t targets all"],
+# These are for ninja-graph alone. The other logs are cut off, make a cycle, and have a version that is
+# not read.
+OTHER_LOGS = {
+    "cut": LOG[:-4],
+    "cycle": deps_log({"a.o": ["app"]}),
+    "old": OPENING[:-4] + b"\3\0\0\0",
 }
+LOGGED_PROJECTS = {
+    "logged": Project({MAIN: LOGGED, LOG_OF_NINJA: LOG}, {}),
+    "other logs": Project({MAIN: LOGGED, **OTHER_LOGS}, {}),
+}
+EVERY_PROJECT = {**PROJECTS, **LOGGED_PROJECTS}
+RUNS = PROGRAMS[EXPLAIN].runs
+
+
+def input_of(run, projects=EVERY_PROJECT):
+    """The standard input of a run of lib/tools.py."""
+    return run.changed or projects[run.project].input_for(run.words)
 
 
 def runs_of(table):
@@ -256,12 +188,24 @@ def runs_of(table):
     return [(name, line.split()) for name, lines in table.items() for line in lines]
 
 
-def targets_differ(program, folder):
-    """The problem if the program does not list the targets of a project. A comparison of runs
-    of a program with one another would not see that it does nothing."""
+# An answer of each program on the diamond: the arguments, the standard input, and the output.
+ANSWERS = {
+    EXPLAIN: ("-t targets all", b"", b"a: mk\nb1: mk\nb2: mk\nd: mk\n"),
+    GRAPH: ("affected", b"a\n", b"b1\nb2\nd\n"),
+}
+
+
+def answer_differs(name, program, folder):
+    """The problem if the program of this name does not answer on a project. A comparison of runs of
+    a program with one another would not see that it does nothing."""
     PROJECTS["diamond"].write_to(folder)
-    wanted = (DONE, b"a: mk\nb1: mk\nb2: mk\nd: mk\n", b"")
-    yield from expect("targets", program.run(["-t", "targets", "all"], folder), wanted)
+    words, text, output = ANSWERS[name]
+    yield from expect(f"{name} {words}", program.run(words.split(), folder, text), (DONE, output, b""))
+
+
+def targets_differ(program, folder):
+    """The same for ninja-explain."""
+    return answer_differs(EXPLAIN, program, folder)
 
 
 def write_cmake(folder):

@@ -1,7 +1,8 @@
 """Compares the subcommands and options of ninja-graph with its man page and its completions.
 
-They are read off the modules that name them to `clap`; smoke/graph.py compares its table with the
-output of `--help`. The bash completion is run, if bash is installed; the other two are read.
+The subcommands are those of lib/tools.py, and the options are read off the modules that name them to
+`clap`; smoke/graph.py compares its table with the output of `--help`. The bash completion is run, if
+bash is installed; the other two are read.
 """
 
 import re
@@ -9,9 +10,11 @@ import re
 from lib.checks import check
 from lib.options import END, compare, offered_by_bash
 from lib.programs import CRATES, ROOT
-from smoke.graph import SUBCOMMANDS
+from lib.tools import GRAPH, PROGRAMS
+from smoke import graph
 
-NAME = "ninja-graph"
+NAME = GRAPH
+SUBCOMMANDS = list(PROGRAMS[GRAPH].tools)
 SOURCE = CRATES / "ninja_graph/src"
 PAGE = ROOT / f"man/{NAME}.1"
 ZSH, FISH = ROOT / f"completions/_{NAME}", ROOT / f"completions/{NAME}.fish"
@@ -35,8 +38,8 @@ def table_of_subcommands():
     """The table of smoke/graph.py has the subcommands and options that the modules name."""
     text = (SOURCE / "words.rt").read_text()
     named = set(re.findall(r"of_graph\(\s*alloc,\s*(\w+)::command", text))
-    yield from compare("smoke/graph.py", "the subcommand", set(SUBCOMMANDS), named)
-    for name, (options, _) in SUBCOMMANDS.items():
+    yield from compare("smoke/graph.py", "the subcommand", set(graph.SUBCOMMANDS), named)
+    for name, (options, _) in graph.SUBCOMMANDS.items():
         yield from compare("smoke/graph.py", f"the option of {name}", set(options), options_in(name))
 
 

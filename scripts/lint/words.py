@@ -1,7 +1,7 @@
 """Compares the options and tools of the man page and of the completions with the program's.
 
-The options are those that crates/nj_args/specs/CommandLine.antt passes to `clap`. A table of
-lib/options.py has the tools, and the options of each; smoke/options.py tries both with the program.
+The options are those that crates/nj_args/specs/CommandLine.antt passes to `clap`. lib/tools.py has
+the tools, and the options of each; smoke/options.py tries both with the program.
 The bash completion is run, if bash is installed; the other two are read. The man page also has to
 have the text of each fault, as in the definitions.
 """

@@ -1,4 +1,4 @@
-"""Tries each tool and option with the program, as the table in lib/options.py has them."""
+"""Tries each tool and option with the program, as the rows in lib/tools.py have them."""
 
 from lib.checks import check
 from lib.options import END, EVERY_TOOL, TOOLS, options_of, options_of_clap
@@ -12,7 +12,7 @@ UNREAD = b"ninja-explain: cannot read the arguments\n"
 def problem_of(program, folder, tool, option):
     """The problem of an option beside a tool, if any."""
     value = [VALUES[option]] if option in VALUES else []
-    ran = program.run([option, *value, "-t", tool, *TOOLS[tool][1]], folder)
+    ran = program.run([option, *value, "-t", tool, *TOOLS[tool].words], folder)
     if option in EVERY_TOOL | options_of(tool):
         refused = f"with {tool}, {option} is refused: {ran.error.decode().rstrip()}"
         return refused if ran.status == USAGE else None
@@ -24,10 +24,10 @@ def problem_of(program, folder, tool, option):
 
 @check
 def tools(program, folder):
-    for tool, (_, words) in TOOLS.items():
-        status, _, error = program.run(["-t", tool, END, *words], folder)
+    for name, tool in TOOLS.items():
+        status, _, error = program.run(["-t", name, END, *tool.words], folder)
         if status == USAGE:
-            yield f"{tool} is refused: {error.decode().rstrip()}"
+            yield f"{name} is refused: {error.decode().rstrip()}"
     unknown = (USAGE, b"", b"ninja-explain: unknown tool 'nothing'\n")
     if program.run(["-t", "nothing"], folder) != unknown:
         yield "it has a tool called nothing"

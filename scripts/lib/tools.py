@@ -1,0 +1,377 @@
+"""The tools of ninja-explain and the subcommands of ninja-graph, and runs of them.
+
+The checks and sweeps of both programs are made from this list. `make lint` compares it with the
+sources (lint/tools.py): a tool, a subcommand or an option that has no row and no run here fails.
+"""
+
+from dataclasses import dataclass
+from typing import NamedTuple
+
+EXPLAIN, GRAPH = "ninja-explain", "ninja-graph"
+# What begins the changed paths of a run, which its standard input has as lines.
+CHANGED = "<"
+MARK = rb"mark v?(?:start|\d+(?:\.\d+)*)\n"
+NOTHING, ANYTHING, LINES = rb"", rb".*", rb"(?:[^\n]+\n)+"
+NOT_LOOKED_UP = rb"(?:[^\n]+: cannot look up source '[^\n]*'\n)+"
+
+
+class Run(NamedTuple):
+    """A run: the name of a project, the arguments, and the changed paths on standard input."""
+
+    project: str
+    words: list
+    changed: bytes
+
+    def __str__(self):
+        paths = [CHANGED, *self.changed.decode().split("\n")[:-1]] if self.changed else []
+        words = (word if len(word) < 40 else f"{word[:40]}.." for word in [*self.words, *paths][:12])
+        return f"{self.project}, {' '.join(words)}"
+
+
+def run_of(project, line):
+    """A run by its line, whose arguments are split at spaces."""
+    words = line.split()
+    at = words.index(CHANGED) if CHANGED in words else len(words)
+    return Run(project, words[:at], "".join(f"{path}\n" for path in words[at + 1 :]).encode())
+
+
+@dataclass(frozen=True)
+class Tool:
+    """A tool or a subcommand.
+
+    `options` are those that not all of them have, each with the name of its value, or `None`. `words`
+    are arguments that it takes. `looks` has patterns of standard output and standard error, any pair
+    of which it may have with status 3; without them it never ends so.
+    """
+
+    options: dict
+    words: tuple = ()
+    looks: tuple = ()
+
+
+@dataclass(frozen=True)
+class Rows:
+    """What a program has: `every` option that all its tools have, the tools by their names, and runs.
+
+    `runs` are lines of arguments by the project on which they run; some are refused. `chain` are lines
+    for a chain of edges `e0`, `e1` and so on, of which each needs the one before it, and `nested` for 32
+    files of which each includes the next one (smoke/system.py).
+    """
+
+    every: dict
+    tools: dict
+    runs: dict
+    chain: tuple
+    nested: tuple
+
+    def runs_on(self, *projects):
+        """The runs on these projects, or on all."""
+        names = projects or self.runs
+        return [run_of(name, line) for name in names for line in self.runs[name]]
+
+    def tool_of(self, words):
+        """The name of the tool that arguments name; `None` if they name none."""
+        named = words[words.index("-t") + 1 :] if "-t" in words else words
+        return named[0] if named and named[0] in self.tools else None
+
+    def lacking(self, runs):
+        """Which tools, and which options, none of these runs has."""
+        found, every = {}, set()
+        for run in runs:
+            options = {word.partition("=")[0] for word in run.words if word.startswith("-")}
+            found.setdefault(self.tool_of(run.words), set()).update(options)
+            every |= options
+        for name, tool in self.tools.items():
+            if name not in found:
+                yield name
+            own = found.get(name, ())
+            yield from (f"{name} {option}" for option in tool.options if option not in own)
+        yield from (option for option in self.every if option not in every)
+
+
+# ---- ninja-explain
+
+EXPLAIN_TOOLS = {
+    "commands": Tool(
+        {"-s": None, "--take": "N", "--resume": "MARK", "--validations": None},
+        looks=((ANYTHING, MARK),),
+    ),
+    "inputs": Tool(
+        dict.fromkeys(["--validations", "--dependency-order", "--no-shell-escape", "--print0"])
+    ),
+    "targets": Tool({}, ("all",)),
+    "query": Tool({}, ("file",)),
+    "rules": Tool({"-d": None}),
+    "compdb": Tool({"-x": None, "--directory": "DIR"}),
+}
+EXPLAIN_RUNS = {
+    "diamond": [
+        "",
+        "--stdin -f build.ninja -t targets all",
+        "-t commands d",
+        "-t commands --take 0 d",
+        "-t commands --take 2 d",
+        "-t commands --take 9 d",
+        "-t commands --resume 0.0 d",
+        "-t commands --resume 0.1.0 --take 1 d",
+        "-t commands --resume 0.2 d",
+        "-t commands -s d b1",
+        "-t commands nothing",
+        "-t commands d^",
+        "-t inputs d",
+        "-t inputs --dependency-order d",
+        "-t inputs --no-shell-escape d",
+        "-t inputs --print0 d",
+        "-t inputs --dependency-order --no-shell-escape --print0",
+        "-t targets",
+        "-t targets depth 0",
+        "-t targets depth 2",
+        "-t targets all",
+        "-t targets rule mk",
+        "-t targets rule",
+        "-t query d a b1^",
+        "-t rules",
+        "-t compdb --directory /w",
+        "-t compdb mk",
+        "--help",
+        "-t graph",
+        "-t rules -s",
+        "-t query",
+        "-t commands --take x",
+        "-t commands --resume 00",
+        "-f nothing -t commands",
+    ],
+    "two scopes": ["-t commands", "-t inputs", "-t targets all", "-t rules", "-t query C P"],
+    "dyndep file": [
+        "--dyndep -t commands",
+        "--dyndep -t commands --take 0 o2",
+        "--dyndep -t inputs o",
+        "--dyndep -t inputs --dependency-order --print0 o",
+        "--dyndep -t targets depth 0",
+        "--dyndep -t targets all",
+        "--dyndep -t targets rule",
+        "--dyndep -t query o extra",
+        "--dyndep -t rules -d",
+        "--dyndep -t compdb",
+        "-t query extra",
+    ],
+    "response file": [
+        "-t compdb -x --directory /w",
+        "-t compdb -x l",
+        "-t compdb",
+        "-t commands",
+        "-t inputs --no-shell-escape p",
+    ],
+    "description": ["-t rules -d", "-t rules", "-t commands", "-t compdb"],
+    "validation": [
+        "-t commands t",
+        "-t commands --validations t",
+        "-t commands --validations --take 0 t",
+        "-t commands --validations --take 1 t",
+        "-t commands --validations --resume v1.0 t",
+        "-t commands --validations --resume v2 t",
+        "-t commands --validations --resume 0 t",
+        "-t inputs t",
+        "-t inputs --validations t",
+        "-t inputs --validations --dependency-order --no-shell-escape --print0 t",
+        "-t query t v",
+        "-t targets depth 0",
+    ],
+    "generated": [
+        "-t commands",
+        "-t commands --take 1 app",
+        "-t inputs",
+        "-t targets",
+        "-t targets rule",
+        "-t query o/a.o obj",
+        "-t rules -d",
+        "-t compdb C L",
+    ],
+    "example": [
+        "-t commands --take 2",
+        "-t commands --resume 0.0 test",
+        "-t commands --validations --take 2",
+        "-t commands -s main.c^",
+        "-t commands nothing",
+        "-t inputs test",
+        "-t inputs --dependency-order --no-shell-escape --print0",
+        "-t targets depth 0",
+        "-t targets all",
+        "-t targets rule cc",
+        "-t targets rule",
+        "-t query out/libtext.a main.c^",
+        "-t rules -d",
+        "-t compdb -x cc link",
+    ],
+    "not UTF-8": ["-t compdb", "-t compdb -x", "-t commands"],
+    "cycle": ["-t commands", "-t targets all"],
+}
+EXPLAIN_CHAIN = (
+    "",
+    "-t commands",
+    "-t commands --take 6000",
+    "-t inputs",
+    "-t targets all",
+    "-t query e7",
+    "-t rules -d",
+    "-t compdb",
+)
+
+EXPLAIN_NESTED = (
+    "--stdin -t commands",
+    "-f build.ninja -t commands --validations",
+    "-t commands --take 1",
+    "-t commands --resume 0",
+    "-t commands -s a b",
+    "-t inputs --dependency-order --no-shell-escape --print0 --validations",
+    "-t targets depth 0",
+    "-t targets all",
+    "-t query a b c d v",
+    "-t rules -d",
+    "-t compdb -x --directory /w",
+)
+
+# ---- ninja-graph
+
+GRAPH_TOOLS = {
+    "affected": Tool(
+        {"--source-dir": "DIR", "--rule": "NAME", "--prefix": "TEXT", "--no-phony": None},
+        looks=((ANYTHING, LINES),),
+    ),
+    "audit": Tool(
+        {"--only": "KIND", "--except": "KIND", "--json": None, "--list": None},
+        looks=((LINES, NOTHING), (ANYTHING, NOT_LOOKED_UP)),
+    ),
+    "draw": Tool({"--affected": None, "--fold": None, "--limit": "N", "--inputs": "K"}),
+    "json": Tool({}),
+    "keys": Tool({"--base": "DIR", "--take": "N", "--resume": "MARK"}, looks=((ANYTHING, MARK),)),
+    "why": Tool({"--validations": None}, ("test", "text/words.c"), ((NOTHING, NOTHING),)),
+}
+GRAPH_RUNS = {
+    "diamond": [
+        "affected < a",
+        "affected --no-phony --prefix b < ./a",
+        "affected --rule mk < nothing b1 build.ninja",
+        "affected --rule nothing < a",
+        "affected",
+        "audit",
+        "audit --only unused-output --except repeated-command",
+        "draw d",
+        "draw --affected --limit 3 a",
+        "json -C .",
+        "keys",
+        "keys --take 0",
+        "keys --take 2 d",
+        "keys --resume 0.1.0 --take 1 d",
+        "keys --resume 0.2 d",
+        "keys --base /w a b1^",
+        "keys d^",
+        "why d a",
+        "why a d",
+        "why d nothing",
+        "",
+        "--version",
+        "why --help",
+        "nothing",
+        "why d",
+        "keys --take x",
+        "keys --resume 00",
+        "keys --resume 9",
+        "keys --base w",
+        "audit --only nothing",
+        "json -f nothing",
+        "json -C nothing",
+    ],
+    "two scopes": ["affected < s", "json", "keys P", "why C P"],
+    "dyndep file": [
+        "affected --dyndep < extra",
+        "audit --dyndep",
+        "draw --dyndep --inputs 2",
+        "json --dyndep",
+        "keys --dyndep --take 0 o2",
+        "why --dyndep o extra",
+        "why o extra",
+    ],
+    "response file": ["audit --only missing-source --json", "json", "keys --base /w"],
+    "validation": ["affected < v", "why --validations t v", "why t v"],
+    "generated": [
+        "affected --source-dir .. < a.c r",
+        "audit --only unused-variable --only unused-output",
+        "draw --fold",
+        "json",
+        "keys --take 1 app",
+        "why app ../a.c",
+    ],
+    "example": [
+        "affected --rule cc --rule link < main.c README.md",
+        "affected --source-dir text --prefix out/ < words.c build.ninja",
+        "audit",
+        "audit --json --except undeclared-input",
+        "audit --list",
+        "draw --limit 4 --inputs 1 test",
+        "draw --affected --fold text/lines.c",
+        "json -C text -f build.ninja",
+        "json",
+        "keys --resume 0.0 test",
+        "why test text/words.c",
+    ],
+    "not UTF-8": ["audit", "draw", "json", "keys"],
+    "cycle": ["json", "affected < c"],
+    "logged": [
+        "affected --deps-log < a.h",
+        "audit --deps-log --except missing-source",
+        "draw --deps-log --affected gen.h",
+        "json --deps-log",
+        "keys --deps-log b.o",
+        "why --deps-log app /usr/b.h",
+    ],
+    "other logs": [
+        "affected --deps-log < a.h",
+        "audit --deps-log-file cut",
+        "json --deps-log-file cut --deps-log",
+        "json --deps-log-file cycle",
+        "json --deps-log-file old",
+        "keys --deps-log-file build.ninja",
+        "why --deps-log-file nothing app a.c",
+    ],
+}
+GRAPH_CHAIN = (
+    "affected --prefix e1 < e7",
+    "audit",
+    "draw e2000",
+    "json",
+    "keys --take 6000",
+    "why e6999 e0",
+)
+
+GRAPH_NESTED = (
+    "affected --rule deep --prefix a --no-phony --source-dir . < d",
+    "affected --deps-log < h f7",
+    "audit --deps-log-file log --only unused-output --except missing-source --json",
+    "audit --list",
+    "audit",
+    "draw --limit 9 --inputs 1 --fold all",
+    "draw --affected d",
+    "json -C . -f build.ninja",
+    "keys --base /w --take 1",
+    "keys --resume 0 all",
+    "why --validations all d",
+    "why v d",
+)
+
+PROGRAMS = {
+    EXPLAIN: Rows(
+        {"-t": "TOOL", "-f": "FILE", "--stdin": None, "--dyndep": None},
+        EXPLAIN_TOOLS,
+        EXPLAIN_RUNS,
+        EXPLAIN_CHAIN,
+        EXPLAIN_NESTED,
+    ),
+    GRAPH: Rows(
+        {"-C": "DIR", "-f": "FILE", "--dyndep": None, "--deps-log": None, "--deps-log-file": "FILE"},
+        GRAPH_TOOLS,
+        GRAPH_RUNS,
+        GRAPH_CHAIN,
+        GRAPH_NESTED,
+    ),
+}
