@@ -127,9 +127,9 @@ fuzz-c:
 	@$(MAKE) --silent $(LIBRARY).a
 	@python3 scripts/fuzz_c.py --jobs $(JOBS) --seconds $(SECONDS)
 
-# Makes everything that can fail do so once, changes each byte of small projects, runs every tool on
-# 100,000 edges, and runs the program on 100,000 hostile manifests.
-sweep: $(BUILT)
+# Makes everything that can fail do so once, changes each byte of small projects, runs every tool and
+# subcommand on 100,000 edges and with little stack, and runs both programs on 100,000 hostile manifests.
+sweep: $(BUILT) $(GRAPH)
 	@python3 scripts/sweep --jobs $(JOBS) $(CHECKS)
 
 # `make` and `make gate` build them.

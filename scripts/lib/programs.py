@@ -11,9 +11,9 @@ ROOT = Path(__file__).resolve().parents[2]
 EXAMPLES = ROOT / "examples"
 CRATES = ROOT / "crates"
 
-# The statuses of ninja-explain.
+# The statuses of ninja-explain, and that of ninja-graph where there is something to look at.
 DONE, FAULT, USAGE, STOPPED, OUTPUT_FAILED = range(5)
-LACKS_MEMORY = b"ninja-explain: out of memory\n"
+LOOK = STOPPED
 SECONDS = 60
 
 

@@ -3,12 +3,18 @@
 import collections
 import multiprocessing
 
+from lib.tools import PROGRAMS
+
+# The most wrong cases that a sweep prints.
+MOST_PRINTED = 40
+
 
 class Sweep:
     """The cases that a sweep tried, by kind, and those that are wrong."""
 
-    def __init__(self, name):
-        self.name, self.counts, self.wrong = name, collections.Counter(), []
+    def __init__(self, name, program=None):
+        self.name = f"{name}, {program}" if program else name
+        self.counts, self.wrong = collections.Counter(), []
 
     def take(self, counts, wrong):
         self.counts.update(counts)
@@ -29,4 +35,12 @@ class Sweep:
         nothing."""
         counts = ", ".join(f"{count:,} {what}" for what, count in self.counts.items())
         print(f"{self.name}: {counts or 'nothing was tried'}", flush=True)
-        return self.wrong if self.counts.total() else [*self.wrong, "nothing was tried"]
+        more = len(self.wrong) - MOST_PRINTED
+        wrong = [f"{self.name}: {problem}" for problem in self.wrong[:MOST_PRINTED]]
+        wrong += [f"{self.name}: {more} more are wrong"] if more > 0 else []
+        return wrong if self.counts.total() else [*wrong, f"{self.name}: nothing was tried"]
+
+
+def lacks_runs(name, runs):
+    """The tools and options of the program of this name that none of these runs has."""
+    return [f"no run of {lacking}" for lacking in PROGRAMS[name].lacking(runs)]

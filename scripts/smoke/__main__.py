@@ -13,15 +13,20 @@ sys.path[0] = str(Path(__file__).resolve().parents[1])
 
 from lib import checks  # noqa: E402
 from lib.programs import Program, built  # noqa: E402
+from lib.tools import EXPLAIN, GRAPH  # noqa: E402
+
+SWEEPS = ["sweep.memory", "sweep.calls", "sweep.bytes", "sweep.sizes"]
 
 if __name__ == "__main__":
-    checks.load("smoke", "sweep.memory", "sweep.calls", "sweep.bytes", "sweep.sizes")
+    checks.load("smoke", *SWEEPS)
     parser = checks.parser_of(__doc__)
     parser.add_argument("--program", default=built("ninja_explain"), help="ninja-explain")
     words = parser.parse_args()
+    program, graph = Program(words.program), Program(built("ninja_graph"))
     given = {
-        "program": Program(words.program),
-        "graph": Program(built("ninja_graph")),
+        "program": program,
+        "graph": graph,
+        "programs": {EXPLAIN: program, GRAPH: graph},
         "jobs": words.jobs,
     }
     sys.exit(checks.run(words.names, given, words.jobs))

@@ -1,14 +1,15 @@
-"""Refuses the program memory.
+"""Refuses the programs memory.
 
-In runs of every tool, each allocation in turn is refused: in one run that allocation alone, in
-another one it and all after it. (This is done by fail_alloc.c, which is compiled with `cc`.) Then
-runs get a limited address space, as by `ulimit -v`, from the least in which the program starts to
-that which the run needs. A run has to end as it does with ample memory, or to write a prefix of its
-output and the line `ninja-explain: out of memory`, with status 1.
+In runs of every tool and subcommand, each allocation in turn is refused: in one run that allocation
+alone, in another one it and all after it. (This is done by fail_alloc.c, which is compiled with
+`cc`.) Then runs get a limited address space, as by `ulimit -v`, from the least in which the program
+starts to that which the run needs. A run has to end as it does with ample memory, or to write a
+prefix of its output and the line `ninja-explain: out of memory`, or `ninja-graph: out of memory`,
+with status 1.
 
-The same runs are rows of tests/nj_run_rows too, which runs them over sinks in memory. It is built by
-`rt try`, with run-time checks and without any proof, and one allocation is refused there: after more,
-the rows could not report their outcome. A sink without memory fails like any other sink: a failed
+The runs of ninja-explain are rows of tests/nj_run_rows too, which runs them over sinks in memory. It
+is built by `rt try`, with run-time checks and without any proof, and one allocation is refused there:
+after more, the rows could not report their outcome. A sink without memory fails like any other sink: a failed
 output is status 4 with nothing on standard error, a lost mark line is status 4, and a lost fault line
 does not change the status. With ample memory such a run ends as the program does.
 """
@@ -25,10 +26,11 @@ from pathlib import Path
 
 from lib.checks import check, expect
 from lib.composed import composed
-from lib.programs import FAULT, LACKS_MEMORY, OUTPUT_FAILED, STOPPED, USAGE, Ending, compiled, shown
-from lib.projects import MAIN, PROJECTS, RUNS, Project, runs_of, targets_differ
+from lib.programs import FAULT, OUTPUT_FAILED, STOPPED, USAGE, Ending, compiled, shown
+from lib.projects import EVERY_PROJECT, MAIN, PROJECTS, Project, answer_differs, input_of
 from lib.rows import came_of, lossy, marked, row_of
-from lib.sweeps import Sweep
+from lib.sweeps import Sweep, lacks_runs
+from lib.tools import EXPLAIN, GRAPH, PROGRAMS, run_of
 from run_tests import SECONDS, end_hints
 
 # In KB: the steps, and the most that a run of one of the small projects can need.
@@ -40,14 +42,16 @@ EDGES = 20_000
 LARGE = "rule mk\n  command = mk $out\nbuild e0: mk\n" + "".join(
     f"build e{number}: mk e{number - 1}\n" for number in range(1, EDGES)
 )
-LARGE_PROJECT = Project({MAIN: LARGE}, {})
-LARGE_RUNS = ["", "-t commands", "-t inputs", "-t targets depth 0", "-t compdb", "-t query e7"]
-SMALL_RUNS = {"generated": RUNS["generated"], "dyndep file": RUNS["dyndep file"]}
+CHAIN = "a chain"
+ALL_PROJECTS = {**EVERY_PROJECT, CHAIN: Project({MAIN: LARGE}, {})}
+# The projects of which runs get little address space, and a run on the chain beside those of lib/tools.py.
+SMALL = {EXPLAIN: ["generated", "dyndep file"], GRAPH: ["generated", "dyndep file", "logged"]}
+DEEPEST = {EXPLAIN: ["-t targets depth 0"], GRAPH: ["draw"]}
 
 
-def is_wrong(ran, ample):
-    """Whether a run that was refused memory must not end like this."""
-    lacks = (ran.status, ran.error) == (FAULT, LACKS_MEMORY)
+def is_wrong(name, ran, ample):
+    """Whether a run of the program of this name that was refused memory must not end like this."""
+    lacks = (ran.status, ran.error) == (FAULT, b"%b: out of memory\n" % name.encode())
     return ran != ample and not (lacks and ample.output.startswith(ran.output))
 
 
@@ -59,12 +63,12 @@ REFUSALS = {ALONE: "alone", ALL: "with all after it"}
 
 
 class Runs:
-    """Runs of the same arguments on one project, to which allocations are refused."""
+    """A run on its project, which is made again with allocations refused."""
 
-    def __init__(self, program, name, words, folder):
-        self.program, self.words, self.folder = program, words, folder
-        self.text = PROJECTS[name].input_for(words)
-        PROJECTS[name].write_to(folder)
+    def __init__(self, program, run, folder):
+        self.program, self.words, self.folder = program, run.words, folder
+        self.text = input_of(run)
+        EVERY_PROJECT[run.project].write_to(folder)
         self.ample = self.run()
 
     def run(self, **environment):
@@ -84,34 +88,27 @@ class Runs:
             number += 1
 
 
-def try_allocations(program, library, task):
-    """Refuses allocations to a run of the program. Returns the counts, and the problems."""
-    name, words, times = task
+def try_allocations(programs, library, task):
+    """Refuses allocations to a run. Returns the counts, and the problems."""
+    name, run, times = task
     number, wrong = 0, []
     with tempfile.TemporaryDirectory() as folder:
-        runs = Runs(program, name, words, folder)
+        runs = Runs(programs[name], run, folder)
         for number, ran in runs.refusals(library, times):
-            if is_wrong(ran, runs.ample):
-                wrong.append(case(task, number, ran))
-    return {f"allocations refused {REFUSALS[times]}": number}, wrong
-
-
-def case(task, number, ran):
-    name, words, times = task
-    return f"{name}, {words}, allocation {number} {REFUSALS[times]}: it ends with {shown(ran)}"
-
-
-def tasks(runs, *refusals):
-    """Each run with each number of refusals."""
-    return [(*run, times) for run in runs for times in refusals]
+            if is_wrong(name, ran, runs.ample):
+                wrong.append(f"{run}, allocation {number} {REFUSALS[times]}: it ends with {shown(ran)}")
+    # One that runs to its end with all refused has none that counts.
+    return {"runs": int(times == ALONE), f"allocations refused {REFUSALS[times]}": number}, wrong
 
 
 @check(needs=["cc"], alone=True)
-def allocations(program, folder, jobs):
-    sweep = Sweep("memory")
-    task = partial(try_allocations, program, compiled("fail_alloc", folder))
-    sweep.in_parallel(jobs, task, tasks(runs_of(RUNS), ALONE, ALL))
-    return [*targets_differ(program, folder), *sweep.problems()]
+def allocations(programs, folder, jobs):
+    task = partial(try_allocations, programs, compiled("fail_alloc", folder))
+    for name, program in programs.items():
+        sweep, runs = Sweep("memory", name), PROGRAMS[name].runs_on()
+        sweep.wrong += lacks_runs(name, runs)
+        sweep.in_parallel(jobs, task, ((name, run, times) for run in runs for times in REFUSALS))
+        yield from [*answer_differs(name, program, folder), *sweep.problems()]
 
 
 # ---- sinks in memory
@@ -175,19 +172,19 @@ def take_ending(sweep, name, ran, ample):
     sweep.counts["allocations refused alone"] += 1
     if sink := failed_sink(ran, ample):
         sweep.counts[sink] += 1
-    elif is_wrong(ran, ample):
+    elif is_wrong(EXPLAIN, ran, ample):
         sweep.wrong.append(f"a row, {name}: it ends with {shown(ran)}")
 
 
 def write_rows(program, folder, runs):
     """Writes a file with one row for each run. Returns the files, and how the program ends."""
     data, usual = {}, {}
-    for number, (name, words) in enumerate(runs):
+    for number, run in enumerate(runs):
         row = f"{number}.rows"
         data[row] = folder / row
-        data[row].write_text(row_of(PROJECTS[name].files, words))
+        data[row].write_text(row_of(PROJECTS[run.project].files, run.words))
         with tempfile.TemporaryDirectory() as room:
-            usual[row] = lossy(Runs(program, name, words, room).ample)
+            usual[row] = lossy(Runs(program, run, room).ample)
     return data, usual
 
 
@@ -211,9 +208,13 @@ def program_of_rows():
         is_over.set()
 
 
+def runs_without_input():
+    return [run for run in PROGRAMS[EXPLAIN].runs_on() if not input_of(run)]
+
+
 def rows_of_program(folder, program):
     """Files of rows of the runs in memory that give no standard input, and how the program ends."""
-    runs = [run for run in runs_of(RUNS) if run[1] and "--stdin" not in run[1]]
+    runs = runs_without_input()
     return runs, *write_rows(program, folder, runs)
 
 
@@ -247,12 +248,12 @@ def indented(text):
     return "".join(f"    {marked(line)}\n" for line in text.split(b"\n")[:-1])
 
 
-def rows_with_limits(name, words, ending):
+def rows_with_limits(run, ending):
     """Rows that want the ending of a run, and that each limit of a sink loses no more than it must."""
-    text = row_of(PROJECTS[name].files, words)
+    text = row_of(PROJECTS[run.project].files, run.words)
     error = b" " + ending.error if ending.error else b"\n"
     yield text + indented(b"%b[%d]%b" % (ending.output, ending.status, error))
-    words = " ".join(words)
+    words = " ".join(run.words)
     yield f"cut-off {words}\n" + indented(b"%b%d fail\n" % (ending.output, len(ending.output)))
     yield f"cut-off-errors {words}\n" + indented(b"%b%d lost\n" % (ending.error, len(ending.error)))
 
@@ -261,13 +262,12 @@ def rows_with_limits(name, words, ending):
 def limited_sinks(program, seeds, folder):
     """The same runs end in memory as those of the program, and with sinks that take fewer bytes, down to
     none, as they should. `seeds` is as above."""
-    runs = [run for run in runs_of(RUNS) if run[1] and "--stdin" not in run[1]]
     file, count = folder / "run.rows", 0
     with file.open("w") as rows:
-        for name, words in runs:
+        for run in runs_without_input():
             with tempfile.TemporaryDirectory() as room:
-                ending = Runs(program, name, words, room).ample
-            for row in rows_with_limits(name, words, ending):
+                ending = Runs(program, run, room).ample
+            for row in rows_with_limits(run, ending):
                 rows.write("== runs\n" * row.startswith(("file ", "unended ")) + row)
                 count += 1
     with program_of_rows() as crate:
@@ -291,53 +291,53 @@ def run_within(program, kilobytes, words, folder, text):
     return program.run_by_shell(words, folder, text, before=f"ulimit -v {kilobytes};")
 
 
-def starts_within(program, kilobytes, folder):
+def starts_within(name, program, kilobytes, folder):
     """Whether the program gets far enough to refuse its arguments, or to report the lack of memory."""
     ran = run_within(program, kilobytes, REFUSED, folder, b"")
-    return ran.status == USAGE or (ran.status, ran.error) == (FAULT, LACKS_MEMORY)
+    return ran.status == USAGE or not is_wrong(name, ran, program.run(REFUSED, folder))
 
 
-def least_space(program, folder):
+def least_space(name, program, folder):
     """The least address space in which the program starts, in KB and whole steps."""
     low, high = 0, MOST_KB
     while high - low > STEP:
         middle = (low + high) // 2 // STEP * STEP
-        low, high = (low, middle) if starts_within(program, middle, folder) else (middle, high)
+        low, high = (low, middle) if starts_within(name, program, middle, folder) else (middle, high)
     return high
 
 
-def try_spaces(program, task):
+def try_spaces(programs, task):
     """Gives a run more and more address space, until it ends as usual. Returns the counts, and the
     problems."""
-    name, project, words, least, step = task
+    name, run, least, step = task
+    program, text = programs[name], input_of(run, ALL_PROJECTS)
     tried, wrong, kilobytes = 0, [], least
     with tempfile.TemporaryDirectory() as folder:
-        project.write_to(folder)
-        text = project.input_for(words)
-        ample, ran = program.run(words, folder, text), None
+        ALL_PROJECTS[run.project].write_to(folder)
+        ample, ran = program.run(run.words, folder, text), None
         while ran != ample and kilobytes < MOST_KB:
-            ran = run_within(program, kilobytes, words, folder, text)
+            ran = run_within(program, kilobytes, run.words, folder, text)
             tried += 1
-            if is_wrong(ran, ample):
-                case = f"{name}, {words}, in {kilobytes} KB"
-                wrong.append(f"{case}: it ends with {shown(ran)}")
+            if is_wrong(name, ran, ample):
+                wrong.append(f"{run}, in {kilobytes} KB: it ends with {shown(ran)}")
             kilobytes += step
         if ran != ample:
-            wrong.append(f"{name}, {words}: it does not end as usual in {MOST_KB} KB")
-    return {"limits of address space": tried}, wrong
+            wrong.append(f"{run}: it does not end as usual in {MOST_KB} KB")
+    return {"runs": 1, "limits of address space": tried}, wrong
 
 
-def space_tasks(program):
+def space_tasks(name, program):
     with tempfile.TemporaryDirectory() as folder:
-        least = least_space(program, folder)
-    for name, words in runs_of(SMALL_RUNS):
-        yield name, PROJECTS[name], words, least, STEP
-    for words in LARGE_RUNS:
-        yield "a chain", LARGE_PROJECT, words.split(), least, LARGE_STEP
+        least = least_space(name, program, folder)
+    for run in PROGRAMS[name].runs_on(*SMALL[name]):
+        yield name, run, least, STEP
+    for line in [*PROGRAMS[name].chain, *DEEPEST[name]]:
+        yield name, run_of(CHAIN, line), least, LARGE_STEP
 
 
 @check(alone=True)
-def address_space(program, folder, jobs):
-    sweep = Sweep("address space")
-    sweep.in_parallel(jobs, partial(try_spaces, program), space_tasks(program))
-    return [*targets_differ(program, folder), *sweep.problems()]
+def address_space(programs, folder, jobs):
+    for name, program in programs.items():
+        sweep = Sweep("address space", name)
+        sweep.in_parallel(jobs, partial(try_spaces, programs), space_tasks(name, program))
+        yield from [*answer_differs(name, program, folder), *sweep.problems()]
