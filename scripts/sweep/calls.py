@@ -1,23 +1,24 @@
-"""Makes each system call of the program fail once.
+"""Makes each system call of the programs fail once.
 
-In runs of every tool, each `open`, `read`, `statx`, `close`, `getentropy` and `write` in turn fails
-with one of several errors, or transfers fewer bytes than requested. In some runs every call
-transfers fewer bytes. (This is done by fail_calls.c, which is compiled with `cc`.) How such a run
-may differ from a normal one is in `wanted_open` and the functions after it.
+In runs of every tool and subcommand, each call of the kinds in `ERRORS` in turn fails with one of several
+errors, or transfers fewer bytes than requested. In some runs every call transfers fewer bytes. (This is
+done by fail_calls.c, which is compiled with `cc`.) How such a run may differ from a normal one is in
+`wanted_open` and the functions after it.
 
-It is wrong too if a call was never made to fail.
+It is wrong too if a call was never made to fail that the program makes.
 """
 
 import errno
+import re
 import tempfile
 from functools import partial
 from pathlib import Path
 
-from lib import projects
 from lib.checks import check
-from lib.programs import FAULT, OUTPUT_FAILED, STOPPED, Ending, compiled, shown
-from lib.projects import MAIN, Project, runs_of
-from lib.sweeps import Sweep
+from lib.programs import FAULT, LOOK, OUTPUT_FAILED, STOPPED, Ending, compiled, shown
+from lib.projects import EVERY_PROJECT, LOG_OF_NINJA, MAIN, Project, input_of
+from lib.sweeps import Sweep, lacks_runs
+from lib.tools import EXPLAIN, GRAPH, PROGRAMS, run_of
 
 # The errors with which a call fails, and the numbers of bytes to which it is cut short.
 ERRORS = {
@@ -26,33 +27,28 @@ ERRORS = {
     "statx": "EIO EACCES ENOSYS ENOMEM EINTR",
     "close": "EIO EINTR EBADF",
     "getentropy": "EIO ENOSYS EFAULT EINTR",
+    "chdir": "ENOENT EACCES ENOTDIR EIO ELOOP ENAMETOOLONG ENOMEM",
+    "getcwd": "ENOENT EACCES ENOMEM",
     "output": "EINTR EAGAIN EIO ENOSPC EPIPE EBADF EFBIG",
     "error": "EINTR EAGAIN EIO ENOSPC EPIPE EBADF EFBIG",
 }
 MOST_BYTES = {"read": [1, 7], "output": [0, 1, 7], "error": [0, 1, 7]}
+# Those that only ninja-graph makes.
+OF_GRAPH = {"chdir", "getcwd"}
 EVERY = "each"
 EDGES = 8_000
-LONG = "long"
+CHAIN = "a chain"
+STANDARD_INPUT = "0"
+LACKS_MEMORY = rb"out of memory"
 
 
-def long_project():
+def long_chain():
     """A chain of edges, whose files are read and written in many pieces."""
     edges = "".join(f"build e{i}: mk e{i - 1}\n" for i in range(1, EDGES))
     return Project({MAIN: f"rule mk\n  command = mk $in $out\nbuild e0: mk\n{edges}"}, {})
 
 
-PROJECTS = {**projects.PROJECTS, LONG: long_project()}
-RUNS = {
-    **projects.RUNS,
-    LONG: [
-        "",
-        "-t commands",
-        "-t commands --take 6000",
-        "-t inputs",
-        "-t targets all",
-        "-t compdb",
-    ],
-}
+PROJECTS = {**EVERY_PROJECT, CHAIN: long_chain()}
 
 
 def ways():
@@ -68,29 +64,88 @@ def ways():
 # ---- how a run may end
 
 
-def fault_of_opening(project, words, number, text):
-    """How a run ends in which opening a file failed; its number counts from 1."""
-    name, place = list(project.places.items())[number - 1]
-    if number == 1 and "-f" in words:
+def log_of(words):
+    """The deps log that arguments request, or `None`."""
+    if "--deps-log-file" in words:
+        return words[words.index("--deps-log-file") + 1]
+    return LOG_OF_NINJA if "--deps-log" in words else None
+
+
+def opened_files(runs):
+    """The files that a run may open, in this order: each with the place of the statement that opens it,
+    or `None` for a log."""
+    places, words = list(runs.project.places.items()), runs.words
+    if "-f" in words:
         name = words[words.index("-f") + 1]
-        place = f"{name}:1:1"
-    return Ending(FAULT, b"", f"{place}: {text} '{name}'\n".encode())
+        places[0] = name, f"{name}:1:1"
+    log = log_of(words)
+    return [*places, (log, None)] if log else places
 
 
-def wanted_open(project, words, opened, way, usual):
-    """A file that does not exist cannot be found. An interrupted call is tried again. After any
-    other error the file cannot be read."""
+def fault_of_file(runs, number, text, text_of_log):
+    """How a run ends in which a file cannot be opened or read; its number counts from 1."""
+    name, place = opened_files(runs)[number - 1]
+    line = f"{place}: {text} '{name}'" if place else f"{GRAPH}: {name}: {text_of_log}"
+    return Ending(FAULT, b"", f"{line}\n".encode())
+
+
+def wanted_open(runs, opened, way):
+    """A file that does not exist cannot be found; Ninja's own log is empty then. An interrupted call is
+    tried again. After any other error the file cannot be read."""
     if way == "EINTR":
-        return usual
-    text = "cannot find" if way == "ENOENT" else "cannot read"
-    return fault_of_opening(project, words, opened, text)
+        return runs.usual
+    if way != "ENOENT":
+        return fault_of_file(runs, opened, "cannot read", "the file could not be read")
+    if opened_files(runs)[opened - 1] == (LOG_OF_NINJA, None):
+        return runs.without_log()
+    return fault_of_file(runs, opened, "cannot find", "there is no such file")
 
 
-def wanted_read(project, words, opened, way, usual):
-    """After any error the file cannot be read. Fewer bytes change nothing."""
-    if isinstance(way, int):
-        return usual
-    return fault_of_opening(project, words, max(opened, 1), "cannot read")
+def is_fault(ran, text):
+    """Whether a run ends with one line of ninja-graph, which this pattern has."""
+    line = rb"ninja-graph: %b\n" % text
+    return (ran.status, ran.output) == (FAULT, b"") and bool(re.fullmatch(line, ran.error))
+
+
+def read_is_wrong(runs, failed, way, ran):
+    """After any error the file cannot be read. Fewer bytes change nothing. ninja-graph takes changed paths
+    from standard input, which is no file of the manifest, and tries an interrupted call again there."""
+    is_of_paths = runs.name == GRAPH and failed.file == STANDARD_INPUT
+    if isinstance(way, int) or is_of_paths and way == "EINTR":
+        return ran != runs.usual
+    if is_of_paths:
+        text = LACKS_MEMORY if way == "ENOMEM" else rb"cannot read standard input: [^\n]+"
+        return not is_fault(ran, text)
+    wanted = fault_of_file(runs, max(failed.opened, 1), "cannot read", "the file could not be read")
+    return ran != wanted
+
+
+def statx_is_wrong(runs, failed, way, ran):
+    """Sizes of files are only guesses. A source that a command needs and that cannot be looked up is not
+    reported as missing, but on standard error. The type of a log that cannot be looked up is not known
+    before it is read."""
+    if not failed.file:
+        return ran != runs.usual
+    if way == "ENOMEM":
+        return not is_fault(ran, LACKS_MEMORY)
+    if failed.file == log_of(runs.words):
+        return ran != runs.usual
+    lines = runs.usual.output.decode().splitlines(True)
+    ends = f"missing source '{failed.file}'\n", f'"missing-source","name":"{failed.file}"}}\n'
+    left = "".join(line for line in lines if not line.endswith(ends)).encode()
+    told = rb"[^\n]+: cannot look up source '%b'\n" % re.escape(failed.file.encode())
+    is_told = (ran.status, ran.output) == (LOOK, left) and bool(re.fullmatch(told, ran.error))
+    return not is_told and (left != runs.usual.output or ran != runs.usual)
+
+
+def chdir_is_wrong(way, ran):
+    """The directory of `-C` cannot be entered."""
+    return not is_fault(ran, LACKS_MEMORY if way == "ENOMEM" else rb"cannot [^\n]+: [^\n]+")
+
+
+def getcwd_is_wrong(runs, way, ran):
+    """Without the name of the working directory, no absolute path is known to be below it."""
+    return not is_fault(ran, LACKS_MEMORY) if way == "ENOMEM" else ran != runs.usual
 
 
 def output_is_wrong(ran, way, usual):
@@ -102,8 +157,9 @@ def output_is_wrong(ran, way, usual):
 
 
 def error_is_wrong(ran, way, usual):
-    """After an error only a prefix of the line is written, and the output is the same. If the line
-    is a mark, the status is the one of a failed output. If it is a fault, the status is the same."""
+    """After an error only a prefix of the text is written, and the output is the same. If the text is
+    a mark, or has what there is to look at, the status is the one of a failed output. If it is a fault,
+    the status is the same."""
     if isinstance(way, int) and way > 0:
         return ran != usual
     status = OUTPUT_FAILED if usual.status == STOPPED else usual.status
@@ -111,44 +167,78 @@ def error_is_wrong(ran, way, usual):
     return not (ended and usual.error.startswith(ran.error) and ran.error != usual.error)
 
 
-def is_wrong(project, words, call, way, opened, ran, usual):
+def is_tried_again(runs, call, way):
+    """Whether ninja-graph tries an interrupted `write` again: it does so with faults and help, which are no
+    answers."""
+    if runs.name != GRAPH or way != "EINTR":
+        return False
+    helps = {"--help", "--version"} & {*runs.words}
+    return bool(helps) if call == "output" else call == "error" and runs.usual.status != LOOK
+
+
+def is_wrong(runs, call, way, failed, ran):
+    if is_tried_again(runs, call, way):
+        return ran != runs.usual
     if call == "open":
-        return ran != wanted_open(project, words, opened, way, usual)
+        return ran != wanted_open(runs, failed.opened, way)
     if call == "read":
-        return ran != wanted_read(project, words, opened, way, usual)
+        return read_is_wrong(runs, failed, way, ran)
+    if call == "statx":
+        return statx_is_wrong(runs, failed, way, ran)
+    if call == "chdir":
+        return chdir_is_wrong(way, ran)
+    if call == "getcwd":
+        return getcwd_is_wrong(runs, way, ran)
     if call == "output":
-        return output_is_wrong(ran, way, usual)
+        return output_is_wrong(ran, way, runs.usual)
     if call == "error":
-        return error_is_wrong(ran, way, usual)
-    return ran != usual
+        return error_is_wrong(ran, way, runs.usual)
+    return ran != runs.usual
 
 
 # ---- runs
 
 
-class Runs:
-    """Runs on one project with the same arguments."""
+class Failed:
+    """A call that failed: how many files were opened before it, and its descriptor or its path."""
 
-    def __init__(self, program, library, name, words, folder):
-        self.program, self.library, self.words, self.folder = program, library, words, folder
-        self.name, self.project = name, PROJECTS[name]
+    def __init__(self, report):
+        opened, _, self.file = report.rstrip("\n").partition(" ")
+        self.opened = int(opened)
+
+
+class Runs:
+    """A run of a program on its project, which is made again with calls that fail."""
+
+    def __init__(self, name, program, run, library, folder):
+        self.name, self.program, self.library, self.words = name, program, library, run.words
+        self.folder, self.text = folder, input_of(run, PROJECTS)
+        self.project = PROJECTS[run.project]
         self.project.write_to(folder)
         self.report = Path(folder) / "report"
         self.usual = self.run()
 
     def run(self, **fails):
-        text = self.project.input_for(self.words)
-        return self.program.run(self.words, self.folder, text, **fails)
+        return self.program.run(self.words, self.folder, self.text, **fails)
+
+    def without_log(self):
+        """How the run ends where Ninja has no log."""
+        log = Path(self.folder, LOG_OF_NINJA)
+        text = log.read_bytes() if log.exists() else None
+        log.unlink(missing_ok=True)
+        ran = self.run()
+        if text is not None:
+            log.write_bytes(text)
+        return ran
 
     def run_failing(self, call, way, number):
-        """How a run ends, and how many files were opened before the call failed. The latter is
-        `None` if there was no call with this number."""
+        """How a run ends, and the call that failed, which is `None` if there was no call with this number."""
         how = "FAIL_MOST" if isinstance(way, int) else "FAIL_ERRNO"
         value = way if isinstance(way, int) else getattr(errno, way)
         fails = {"FAIL_CALL": call, "FAIL_AT": str(number), how: str(value)}
         self.report.unlink(missing_ok=True)
         ran = self.run(LD_PRELOAD=self.library, FAIL_REPORT=str(self.report), **fails)
-        return ran, int(self.report.read_text()) if self.report.exists() else None
+        return ran, Failed(self.report.read_text()) if self.report.exists() else None
 
     def failures_of(self, call, way):
         """How a run ends in which a call of this kind fails, for each such call in turn."""
@@ -160,26 +250,32 @@ class Runs:
             yield EVERY, *self.run_failing(call, way, 0)
 
 
-def try_run(program, library, task):
+def try_run(name, program, library, run):
     """Makes each call of a run fail in each way. Returns the counts, and the problems."""
-    name, words = task
-    counts, wrong = dict.fromkeys(ERRORS, 0), []
+    counts, wrong = {"runs": 1, **dict.fromkeys(ERRORS, 0)}, []
     with tempfile.TemporaryDirectory() as folder:
-        runs = Runs(program, library, name, words, folder)
+        runs = Runs(name, program, run, library, folder)
         for call, way in ways():
-            for number, ran, opened in runs.failures_of(call, way):
+            for number, ran, failed in runs.failures_of(call, way):
                 counts[call] += 1
-                if is_wrong(runs.project, words, call, way, opened, ran, runs.usual):
-                    case = f"{name}, {words}, {call} {number} by {way}"
-                    wrong.append(f"{case}: it ends with {shown(ran)}")
+                if is_wrong(runs, call, way, failed, ran):
+                    wrong.append(f"{run}, {call} {number} by {way}: it ends with {shown(ran)}")
     return counts, wrong
 
 
+def runs_of(name):
+    rows = PROGRAMS[name]
+    return [*rows.runs_on(), *(run_of(CHAIN, line) for line in rows.chain)]
+
+
 @check(needs=["cc"], alone=True)
-def every_call(program, folder, jobs):
-    sweep = Sweep("calls")
+def every_call(programs, folder, jobs):
     library = compiled("fail_calls", folder)
-    sweep.in_parallel(jobs, partial(try_run, program, library), runs_of(RUNS))
-    never = [call for call in ERRORS if not sweep.counts[call]]
-    sweep.wrong += [f"{call} was never made to fail" for call in never]
-    return sweep.problems()
+    for name, program in programs.items():
+        sweep, runs = Sweep("calls", name), runs_of(name)
+        sweep.wrong += lacks_runs(name, runs)
+        sweep.in_parallel(jobs, partial(try_run, name, program, library), runs)
+        made = set(ERRORS) - (OF_GRAPH if name == EXPLAIN else set())
+        sweep.wants(*(call for call in ERRORS if call in made))
+        sweep.wrong += [f"it calls {call}" for call in ERRORS if call not in made and sweep.counts[call]]
+        yield from sweep.problems()
