@@ -1,9 +1,12 @@
-"""The faults that a run may report: the text of each, and the element at its place."""
+"""The endings that a run may have: the text of each fault with the element at its place, and what
+stands on the outputs with each status."""
 
+import posixpath
 import re
 
-from lib.programs import DONE, FAULT, STOPPED, USAGE
+from lib.programs import DONE, FAULT, LOOK, USAGE
 from lib.projects import MAIN
+from lib.tools import EXPLAIN, GRAPH, PROGRAMS
 
 LINE_START = rb"(?<![^\n])"
 WORD = rb"[^ :|\n]"
@@ -54,22 +57,43 @@ PLACED_FAULTS = [
     (rb"'.*' has no dyndep binding for this file", WORD),
     (rb"text is not UTF-8", LINE_START + rb"build"),
 ]
-PLACELESS_FAULTS = [
+OF_BOTH = [
     rb"empty path",
     rb"unknown target '.*'",
     rb"'.*' has no out edge",
     rb"mark out of range",
     rb"out of memory",
 ]
-USAGE_FAULTS = [
-    rb"cannot read the arguments",
-    rb"unknown tool '.*'",
-    rb"option -[\w-]+ does not go with tool '\w+'",
-    rb"not a number: '.*'",
-    rb"bad mark '.*'",
-    rb"wrong words for tool '\w+'",
-]
-MARK_LINE = re.compile(rb"mark v?(?:start|\d+(?:\.\d+)*)\n")
+PLACELESS_FAULTS = {
+    EXPLAIN: OF_BOTH,
+    GRAPH: [
+        *OF_BOTH,
+        # of the directory of `-C`, and of standard input
+        rb"cannot .*: .*",
+        rb".*: (?:there is no such file|not a regular file|the file could not be read|not a deps log)",
+        rb".*: deps log of version \d+",
+        rb"the path of the deps log is not UTF-8",
+        rb"unknown rule '.*'",
+    ],
+}
+# Whole lines; those of ninja-graph that begin with `error` are `clap`'s.
+USAGE_FAULTS = {
+    EXPLAIN: [
+        rb"ninja-explain: cannot read the arguments\n",
+        rb"ninja-explain: unknown tool '.*'\n",
+        rb"ninja-explain: option -[\w-]+ does not go with tool '\w+'\n",
+        rb"ninja-explain: not a number: '.*'\n",
+        rb"ninja-explain: bad mark '.*'\n",
+        rb"ninja-explain: wrong words for tool '\w+'\n",
+    ],
+    GRAPH: [
+        rb"ninja-graph: cannot read the arguments\n",
+        rb"ninja-graph: bad mark\n",
+        rb"ninja-graph: '.*' of --base is not absolute\n",
+        rb"ninja-graph: unknown kind '.*'; ninja-graph audit --list lists the kinds\n",
+        rb"error: (?!out of memory).*\n",
+    ],
+}
 
 
 def is_one_of(text, patterns):
@@ -96,37 +120,56 @@ def placed_fault_is_wrong(name, place, files):
     for pattern, wanted in PLACED_FAULTS:
         if found := re.fullmatch(pattern, text, re.S):
             wanted = re.escape(found[1]) if wanted is NAMED else wanted
-            if matches_at(files.get(name, b""), line, column, wanted):
+            if matches_at(files[name], line, column, wanted):
                 return None
     return "there is no such fault at this place"
 
 
-def fault_is_wrong(error, files):
-    """The problem, if any, of the standard error of a run on these files that ended in a
-    fault. A main file that does not exist counts as empty."""
+def files_of(words, files):
+    """The files of a run by the names with which faults begin: that of `-f` counts as it is given. A main
+    file that does not exist is empty."""
+    main = words[words.index("-f") + 1] if "-f" in words else MAIN
+    return {MAIN: b"", **files, main: files.get(posixpath.normpath(main), b"")}
+
+
+def fault_is_wrong(name, error, files):
+    """The problem, if any, of the standard error of a run of the program of this name on these files,
+    which ended in a fault."""
     if not error.endswith(b"\n"):
         return "the last line has no line feed"
-    fault = error[:-1]
-    if fault.startswith(b"ninja-explain: "):
-        known = is_one_of(fault.removeprefix(b"ninja-explain: "), PLACELESS_FAULTS)
+    fault, start = error[:-1], name.encode() + b": "
+    if fault.startswith(start):
+        known = is_one_of(fault.removeprefix(start), PLACELESS_FAULTS[name])
         return None if known else "there is no such fault"
-    named = [name for name in {MAIN, *files} if fault.startswith(name.encode() + b":")]
+    named = [file for file in files if fault.startswith(file.encode() + b":")]
     if not named:
         return "it is not in a file of the run"
-    wrong = [placed_fault_is_wrong(name, fault[len(name.encode()) :], files) for name in named]
+    wrong = [placed_fault_is_wrong(file, fault[len(file.encode()) :], files) for file in named]
     return None if None in wrong else wrong[0]
 
 
-def ending_is_wrong(ending, files):
-    """The problem, if any, with how a run on these files ended. Standard output did not fail."""
+def look_is_wrong(rows, words, ending):
+    """The problem, if any, with a run of these arguments that ended with status 3."""
+    tool = rows.tools.get(rows.tool_of(words))
+    if not tool or not tool.looks:
+        return "it has no status 3"
+    for output, error in tool.looks:
+        if is_one_of(ending.output, [output]) and is_one_of(ending.error, [error]):
+            return None
+    return "there is nothing to look at"
+
+
+def ending_is_wrong(name, words, ending, files):
+    """The problem, if any, with how a run of the program of this name with these arguments ended on these
+    files. Standard output did not fail."""
     status, output, error = ending
     if status == DONE:
-        return "something is on the error output" if error else None
+        return "something is on standard error" if error else None
     if status == FAULT:
-        return fault_is_wrong(error, files)
+        return fault_is_wrong(name, error, files_of(words, files))
     if status == USAGE:
-        known = is_one_of(error, [rb"ninja-explain: " + each + rb"\n" for each in USAGE_FAULTS])
+        known = is_one_of(error, USAGE_FAULTS[name])
         return None if known and not output else "there is no such usage fault"
-    if status == STOPPED:
-        return None if MARK_LINE.fullmatch(error) else "it has no mark"
+    if status == LOOK:
+        return look_is_wrong(PROGRAMS[name], words, ending)
     return "it ran out of time" if status is None else f"it ended with status {status}"
