@@ -1,8 +1,9 @@
-"""Hostile manifests, with arguments for the program. Each is determined by a number, its seed.
+"""Hostile manifests, with arguments for a program. Each is determined by a number, its seed.
 
 Most of them are real projects with bytes and lines that are deleted, doubled, swapped or spliced.
 Others include themselves, have long lines, deep or wide graphs, values that grow, dyndep files that
-are mostly wrong, or names that collide if hashes start from 0.
+are mostly wrong, or names that collide if hashes start from 0. For ninja-graph the same manifests come
+with hostile changed paths, and with deps logs, most of which are damaged.
 """
 
 import random
@@ -13,6 +14,8 @@ import tempfile
 from lib.generated import project
 from lib.programs import EXAMPLES, ROOT
 from lib.projects import MAIN, PROJECTS, files_below
+from lib.random_builds import OPENING, deps_log
+from lib.tools import EXPLAIN, GRAPH, PROGRAMS
 
 sys.path.append(str(ROOT / "bench"))
 import flood  # noqa: E402
@@ -79,6 +82,19 @@ AROUND_GROWN = [
 ]
 HOSTILE_WORDS = ["", "^", "a^^", "..", ".", "/", "./a", "a/..", "\xff", "é", "-", "a b", "x" * 5000]
 MARKS = ["start", "0", "0.0", "0.1.0", "1.0", "0." * 1000 + "0", "", "00", "0..0", "vstart", "v0.0"]
+# What options of ninja-graph get, by the names of their values.
+VALUES = {
+    "DIR": ["", ".", "..", "/", "/w", "nothing", "./.", "a b", "x" * 5000, "\udcff"],
+    "FILE": [MAIN, "./build.ninja", "nothing", ".", "", "s", "log"],
+    "NAME": ["mk", "phony", "r", "cc", "", "x" * 5000],
+    "TEXT": ["", "e", "o", "/", "../", "x" * 5000],
+    "KIND": ["missing-source", "unused-output", "unused-variable", "undeclared-input", "nothing", ""],
+    "N": ["0", "1", "2", "9", "x", "-1", "18446744073709551616"],
+    "K": ["0", "1", "9", "x"],
+    "MARK": MARKS,
+}
+LOG, LOG_OF_NINJA = "log", ".ninja_deps"
+VERSIONS = [b"\3\0\0\0", b"\4\0\0\0", b"\5\0\0\0", b"\xff" * 4, b"\4\0"]
 VIEWS = ["", "all", "rule", "rule mk", "depth", "depth 0", "depth 2", "depth 3000000000", "some"]
 
 
@@ -107,10 +123,21 @@ class Maker:
         contents = [content for files in self.real for content in files.values()]
         self.lines = [line for content in contents for line in content.split(b"\n")]
 
-    def case(self, seed):
-        """The files, the arguments, and whether the run may take any time: it may if it writes a tree
-        of targets, or if expanded values grow without bound."""
+    def case(self, name, seed):
+        """The files, the arguments for the program of this name, the standard input, and whether the run
+        may take any time: it may if it writes a tree of targets, or if expanded values grow without
+        bound."""
         self.chance = random.Random(seed)
+        files, grows = self.files()
+        if name == EXPLAIN:
+            words = self.words(files)
+            return files, words, b"", "depth" in words or grows
+        self.chance = random.Random(f"{name} {seed}")
+        files = self.with_logs(files)
+        return files, self.words_for_graph(files), self.changed_paths(files), grows
+
+    def files(self):
+        """Files, and whether values grow in them."""
         kinds = {
             self.changed: 40,
             self.of_pieces: 15,
@@ -127,8 +154,7 @@ class Maker:
         files = make()
         if make != self.changed and self.chance.random() < 0.3:
             files = self.change(files)
-        words = self.words(files)
-        return files, words, "depth" in words or make == self.growing
+        return files, make == self.growing
 
     def pick(self, choices):
         return self.chance.choice(choices)
@@ -292,3 +318,72 @@ class Maker:
         chosen += ["--dyndep"] if self.chance.random() < 0.4 else []
         foreign = ["-s", "-d", "-x", "--take=1", "--nothing", "--help", "-trules"]
         return chosen + ([self.pick(foreign)] if self.chance.random() < 0.03 else [])
+
+    # ---- for ninja-graph
+
+    def with_logs(self, files):
+        """The files with a deps log, mostly a damaged one, and with edges that use it."""
+        if self.chance.random() < 0.5:
+            return files
+        lines = [(b"\n  command =", b"\n  deps = gcc\n  command ="), (b"\nbuild", b"\nbuilddir = .\nbuild")]
+        before, after = lines[self.chance.random() < 0.1]
+        if self.chance.random() < 0.8:
+            files = {name: text.replace(before, after) for name, text in files.items()}
+        return {**files, self.pick([LOG, LOG_OF_NINJA]): self.log(files)}
+
+    def log(self, files):
+        """A log that names the outputs and other words of the main file."""
+        words = files[MAIN][:20_000].decode("latin-1").replace(":", " ").split()
+        outputs = [word for at, word in enumerate(words) if words[at - 1] == "build"]
+        names = [*words, "h", "h", "../h", "./h", "", "a\nb", "x" * 5000]
+        few = {
+            self.pick([*outputs, "o"]): self.chance.choices(names, k=self.pick([0, 1, 2, 9]))
+            for _ in range(self.pick([1, 3, 30]))
+        }
+        log = deps_log(few, "latin-1")
+        if self.chance.random() < 0.1:
+            log = log.replace(OPENING[-4:], self.pick(VERSIONS), 1)
+        for _ in range(self.pick([0, 0, 1, 1, 2, 5])):
+            log = self.change_bytes(log)
+        return log[: self.chance.randint(0, len(log))] if self.chance.random() < 0.2 else log
+
+    def words_for_graph(self, files):
+        """Arguments for ninja-graph: options from its rows, and sometimes one that the subcommand lacks."""
+        rows = PROGRAMS[GRAPH]
+        name = self.pick(list(rows.tools))
+        tool, words = rows.tools[name], []
+        if tool.words:
+            words = [self.target(files) for _ in range(self.pick([2, 2, 2, 2, 2, 2, 1, 3]))]
+        elif name in ("draw", "keys"):
+            words = [self.target(files) for _ in range(self.pick([0, 0, 0, 1, 1, 2]))]
+        chosen = [it for it in tool.options.items() if self.chance.random() < 0.2]
+        chosen += [it for it in rows.every.items() if self.chance.random() < 0.1]
+        chosen += [("--dyndep", None)] * (self.chance.random() < 0.2 and "--dyndep" not in dict(chosen))
+        if LOG_OF_NINJA in files and not any(option == "--deps-log" for option, _ in chosen):
+            chosen.append(("--deps-log", None))
+        if LOG in files and not any(option == "--deps-log-file" for option, _ in chosen):
+            return [name, *self.given(chosen), f"--deps-log-file={LOG}", *self.end(), *words]
+        foreign = ["-s", "-d", "--nothing", "--help", "-V", "--fold", "--json", "--take=1", "--list"]
+        more = [self.pick(foreign)] if self.chance.random() < 0.03 else []
+        return [name, *self.given(chosen), *more, *self.end(), *words]
+
+    def given(self, options):
+        """Options with values, which one of two words or one word has."""
+        for option, value in options:
+            if value is None:
+                yield option
+            elif option.startswith("--") and self.chance.random() < 0.8:
+                yield f"{option}={self.pick(VALUES[value])}"
+            else:
+                yield from (option, self.pick(VALUES[value]))
+
+    def end(self):
+        return self.pick([[], ["--"]])
+
+    def changed_paths(self, files):
+        """Standard input: words of the main file and hostile ones, few or all, a line each."""
+        found = files[MAIN][:200_000].replace(b":", b" ").split()
+        hostile = [b"", b".", b"/", b"..", b"a/..", b"\xff", b"\0", b"\r", b" ", MAIN.encode(), b"x" * 50_000]
+        count = self.pick([1, 1, 1, 2, 5, len(found)])
+        lines = found if count == len(found) else self.chance.choices([*found, *hostile], k=count)
+        return self.pick([b"\n", b"\n", b"\r\n", b"\n\n"]).join(lines) + self.pick([b"", b"\n"])

@@ -1,4 +1,4 @@
-"""Runs the program on hostile manifests.
+"""Runs the programs on hostile manifests.
 
 Each case has a seed, from which `lib/strangers.py` makes it. Each run gets 256 MB, 10 seconds, and
 an output that takes 16 MB, or in one run of ten nothing. It has to end by itself, with a status of
@@ -17,9 +17,10 @@ from functools import partial
 from lib.checks import check, expect
 from lib.faults import ending_is_wrong
 from lib.programs import OUTPUT_FAILED
-from lib.projects import targets_differ, write_files
+from lib.projects import answer_differs, write_files
 from lib.strangers import Maker, colliding_names, flood
 from lib.sweeps import Sweep
+from lib.tools import PROGRAMS
 from smoke.flood import TIMES, reasons, with_known_number
 
 MOST_MEMORY = 256 << 20
@@ -32,30 +33,31 @@ LOOK_UPS, SLOWER = 300, 2
 TASK = 250
 
 
-def try_case(program, case, folder, is_full):
-    """Runs the program on a case. Returns how it ended, and the problem of that."""
-    files, words, may_take_any_time = case
+def try_case(name, program, case, folder, is_full):
+    """Runs the program of this name on a case. Returns how it ended, and the problem of that."""
+    files, words, text, may_take_any_time = case
     write_files(folder, files)
     with open("/dev/full", "wb") as full:
-        ran = program.run(words, folder, seconds=SECONDS, output=full if is_full else None)
+        ran = program.run(words, folder, text, seconds=SECONDS, output=full if is_full else None)
     if ran.status is None and may_take_any_time:
         return "ran out of time, as they may", None
     how = f"ended with {ran.status}"
     if ran.status == OUTPUT_FAILED and (is_full or len(ran.output) == MOST_OUTPUT):
         return how, "the output failed, and there is an error line" if ran.error else None
-    return how, ending_is_wrong(ran, files)
+    return how, ending_is_wrong(name, words, ran, files)
 
 
-def try_cases(program, maker, seeds):
+def try_cases(name, program, maker, seeds):
     """Runs the program on some cases. Returns the counts, and the problems."""
     resource.setrlimit(resource.RLIMIT_AS, (MOST_MEMORY, resource.RLIM_INFINITY))
     resource.setrlimit(resource.RLIMIT_FSIZE, (MOST_OUTPUT, resource.RLIM_INFINITY))
     counts, wrong = collections.Counter(), []
     for seed in seeds:
-        case = maker.case(seed)
+        case = maker.case(name, seed)
         with tempfile.TemporaryDirectory() as folder:
-            how, fault = try_case(program, case, folder, is_full=seed % 10 == 0)
+            how, fault = try_case(name, program, case, folder, is_full=seed % 10 == 0)
         counts[how] += 1
+        counts[f"of {PROGRAMS[name].tool_of(case[1])}"] += 1
         if fault:
             wrong.append(f"seed {seed}, {case[1]}: it {how}: {fault}")
     return counts, wrong
@@ -76,9 +78,11 @@ def names_collide(program, folder):
 
 
 @check(alone=True)
-def hostile_manifests(program, seeds, folder, jobs):
-    sweep = Sweep("strangers")
-    starts = range(seeds.start, seeds.stop, TASK)
+def hostile_manifests(programs, seeds, folder, jobs):
+    starts, maker = range(seeds.start, seeds.stop, TASK), Maker()
     tasks = [range(at, min(at + TASK, seeds.stop)) for at in starts]
-    sweep.in_parallel(jobs, partial(try_cases, program, Maker()), tasks)
-    return [*targets_differ(program, folder), *sweep.problems()]
+    for name, program in programs.items():
+        sweep = Sweep("strangers", name)
+        sweep.in_parallel(jobs, partial(try_cases, name, program, maker), tasks)
+        sweep.wants(*(f"of {tool}" for tool in PROGRAMS[name].tools))
+        yield from [*answer_differs(name, program, folder), *sweep.problems()]
