@@ -1,17 +1,23 @@
-"""Runs every tool, with each of its options, over 100,000 edges.
+"""Runs every tool and subcommand, with each of its options, over 100,000 edges.
 
-There are three manifests. In the first, each edge needs the one before it. In the second, the next
-edge is a validation of each edge. In the third, a dyndep file makes each edge need the one before
-it. What each run has to write is computed here, and not taken from a run of the program.
+In the first manifest, each edge needs the one before it. In the second, the next edge is a validation
+of each edge. In the third, a dyndep file makes each edge need the one before it. In the fourth, which is for
+ninja-graph alone, a deps log names a header and a generated file for each edge. What each run has to
+write is computed here, and not taken from a run of the program.
 """
 
+import hashlib
 import json
+import re
 from functools import partial
 
 from lib.checks import check
-from lib.programs import DONE, STOPPED, Ending, shown
+from lib.programs import DONE, LOOK, STOPPED, Ending, shown
 from lib.projects import MAIN, write_files
-from lib.sweeps import Sweep
+from lib.random_builds import deps_log
+from lib.sweeps import Sweep, lacks_runs
+from lib.tools import EXPLAIN, GRAPH, run_of
+from smoke import audit, draw, edge_objects
 
 EDGES = 100_000
 HALF = EDGES // 2
@@ -34,11 +40,26 @@ DISCOVERED = RULE + "".join(f"build e{n}: mk || dd\n  dyndep = dd\n" for n in AL
 DD = "ninja_dyndep_version = 1\nbuild e0: dyndep\n" + "".join(
     f"build e{n}: dyndep | e{n - 1}\n" for n in ALL[1:]
 )
+LOGGED = """\
+rule cc
+  command = cc $out
+  deps = gcc
+rule gen
+  command = gen
+build g: gen
+""" + "".join(f"build o{n}: cc s{n}\n" for n in ALL)
 FILES = {
     "a chain": {MAIN: CHAIN},
     "validations": {MAIN: VALIDATED},
     "a dyndep file": {MAIN: DISCOVERED, "dd": DD},
+    "a deps log": {MAIN: LOGGED},
 }
+# How many lines are before the first edge of a manifest, and of the last one.
+HEAD, HEAD_OF_LOGGED = RULE.count("\n"), 6
+
+
+def write_log(folder):
+    (folder / ".ninja_deps").write_bytes(deps_log({f"o{n}": [f"s{n}", "h", "g"] for n in ALL}))
 
 
 def command(number):
@@ -186,34 +207,237 @@ def of_discovery():
     yield "--dyndep -t targets rule mk", done(sorted_paths(ALL))
 
 
-MANIFESTS = {"a chain": of_chain, "validations": of_validations, "a dyndep file": of_discovery}
+# ---- ninja-graph
+
+
+def objects(edges):
+    """The output of `json` for these edges, each given as what differs from an empty one."""
+    empty = {**dict.fromkeys(edge_objects.KINDS, []), **dict.fromkeys(edge_objects.VALUES, "")}
+    for number, (line, about) in enumerate(edges):
+        place = {"file": MAIN, "line": line, "column": 1}
+        whole = {"edge": number, "place": place, "rule": "", "phony": False, **empty, **about}
+        yield json.dumps(whole, separators=(",", ":"))
+
+
+def made(number, line, **about):
+    """What `json` has of an edge of the first three manifests."""
+    name = f"e{number}"
+    texts = {"command": command(number), "description": f"MK {name}", "rspfile": f"{name}.rsp"}
+    return line, {"rule": "mk", "outputs": [name], **texts, **about}
+
+
+def objects_of_chain():
+    before = ([f"e{n - 1}"] if n else [] for n in ALL)
+    edges = (
+        made(n, HEAD + 1 + n, inputs=inputs, rspfile_content="".join(inputs))
+        for n, inputs in zip(ALL, before)
+    )
+    return lines(objects(edges))
+
+
+def objects_of_validations():
+    after = ([f"e{n + 1}"] if n < ALL[-1] else [] for n in ALL)
+    edges = (made(n, HEAD + 1 + n, validations=paths) for n, paths in zip(ALL, after))
+    return lines(objects(edges))
+
+
+def objects_of_discovery():
+    before = ([f"e{n - 1}"] if n else [] for n in ALL)
+    about = {"order_only_inputs": ["dd"], "dyndep": "dd"}
+    edges = (
+        made(n, line_of_discovery(n), implicit_inputs=inputs, **about) for n, inputs in zip(ALL, before)
+    )
+    return lines(objects(edges))
+
+
+def objects_with_log(logged):
+    """The objects of the last manifest, to which a log gives these inputs of each edge but the first."""
+    edges = [(HEAD_OF_LOGGED, {"rule": "gen", "outputs": ["g"], "command": "gen"})]
+    for n in ALL:
+        about = {"rule": "cc", "outputs": [f"o{n}"], "inputs": [f"s{n}"], "implicit_inputs": logged}
+        edges.append((HEAD_OF_LOGGED + 1 + n, {**about, "command": f"cc o{n}", "deps": "gcc"}))
+    return lines(objects(edges))
+
+
+def field(text):
+    return b"%d:%b" % (len(text), text)
+
+
+def key(texts, output, inputs):
+    """The key of an edge: its command and response file, its output, and of each input the kind, the
+    path, and the key of its maker."""
+    fields = [*map(field, texts), b"1:", field(output)]
+    fields += [field(part) for of_input in inputs for part in of_input]
+    return hashlib.sha256(b"".join(fields)).digest()
+
+
+def keys_of(kind, others=()):
+    """The lines of `keys` for edges that each have the one before as an input of this kind."""
+    before, found = b"", []
+    for n in ALL:
+        name, path = b"e%d" % n, b"e%d" % (n - 1)
+        inputs = [(kind, path, before)] if n else []
+        content = path if n and not kind else b""
+        before = key([command(n).encode(), name + b".rsp", content], name, [*inputs, *others])
+        found.append(f"{before.hex()} e{n}")
+    return found
+
+
+def chains(line_of, kind, most, least=0):
+    """The lines of `why` from one edge down to another."""
+    numbers = range(most, least, -1)
+    return lines(f"{MAIN}:{line_of(n)}:1: mk: e{n} needs e{n - 1} ({kind})" for n in numbers)
+
+
+def drawn(numbers, dashed=""):
+    """The edges of a drawing of the chain, as smoke/draw.py reads them."""
+    return {f"e{n - 1}{dashed} > mk > e{n}" if n else " > mk > e0" for n in numbers}
+
+
+def line_of_chain(number):
+    return HEAD + 1 + number
+
+
+def line_of_discovery(number):
+    return HEAD + 1 + 2 * number
+
+
+def graph_of_chain():
+    """Arguments, and how the run on the chain has to end; also how its output is read before it is
+    compared."""
+    after, keys = paths(ALL[8:]), keys_of(b"")
+    nines = [n for n in ALL[8:] if str(n).startswith("9")]
+    yield "affected < e7", done(after)
+    yield "affected --rule mk --no-phony --source-dir x/.. < e7", done(after)
+    yield "affected --prefix e9 < e7", done(paths(nines))
+    yield f"affected < {' '.join(f'e{n}' for n in ALL)}", done(paths(ALL[1:]))
+    yield f"affected < {' '.join(f'x{n}' for n in ALL)}", (LOOK, "", lines(f"x{n}" for n in ALL))
+    yield "audit", done("")
+    yield "audit --json --only unused-variable --except unused-rule", done("")
+    listed = [(kind, "on" if is_default else "off") for kind, is_default in audit.KINDS.items()]
+    yield "audit --list", done(listed), listed_kinds
+    yield "draw", done(drawn(ALL)), draw.edges
+    yield f"draw --fold e{HALF}", done(drawn(ALL[: HALF + 1])), draw.edges
+    yield "draw --limit 5", done(drawn(ALL[-2:])), draw.edges
+    yield "draw --inputs 0 e9", done({" > mk\\nand 1 more > e9"}), draw.edges
+    yield f"draw --affected e{HALF}", done(drawn(ALL[HALF + 1 :])), draw.edges
+    yield "json -C . -f build.ninja", done(objects_of_chain)
+    yield "keys", done(lines(keys))
+    yield f"keys --base /w e{HALF}", done(lines(keys[: HALF + 1]))
+    yield f"keys --take {EDGES}", done(lines(keys))
+    yield "keys --take 0", (LOOK, "", "mark start\n")
+    for taken in HALF, FEWEST:
+        mark = chain_of_marks(taken - 1)
+        yield f"keys --take {taken}", (LOOK, lines(keys[:taken]), f"mark {mark}\n")
+        yield f"keys --resume {mark}", done(lines(keys[taken:]))
+    yield f"why {LAST} e0", done(partial(chains, line_of_chain, "explicit", ALL[-1]))
+    yield f"why e{HALF} e7", done(chains(line_of_chain, "explicit", HALF, 7))
+    yield f"why e0 {LAST}", (LOOK, "", "")
+
+
+def listed_kinds(text):
+    return re.findall(r"^(.+), (on|off) by default: \w.*$", text, re.M)
+
+
+def graph_of_validations():
+    """The same for the manifest with validations."""
+    chain = (f"{MAIN}:{line_of_chain(n)}:1: mk: e{n} needs e{n + 1} (validation)" for n in ALL[:-1])
+    yield "affected < e7", done("")
+    yield "audit", done("")
+    yield "draw e7", done({" > mk > e7"}), draw.edges
+    yield "json", done(objects_of_validations)
+    yield f"keys e0 {LAST}", done(lines(isolated_keys([0, ALL[-1]])))
+    yield f"why e0 {LAST}", (LOOK, "", "")
+    yield f"why --validations e0 {LAST}", done(lines(chain))
+
+
+def isolated_keys(numbers):
+    for n in numbers:
+        name = b"e%d" % n
+        yield f"{key([command(n).encode(), name + b'.rsp', b''], name, []).hex()} e{n}"
+
+
+def graph_of_discovery():
+    """The same for the manifest with a dyndep file."""
+    yield "affected < dd", done(paths(ALL))
+    yield "affected < e7", done("")
+    yield "affected --dyndep < e7", done(paths(ALL[8:]))
+    yield "audit --dyndep --except missing-source", done("")
+    wanted = {f"dd > mk > e{n}" if not n else f"e{n - 1} dd > mk > e{n}" for n in ALL}
+    yield "draw --dyndep", done({edge.replace("dd >", "|| dd >") for edge in wanted}), draw.edges
+    yield "json --dyndep", done(objects_of_discovery)
+    yield "keys --dyndep", done(lines(keys_of(b"|", [(b"||", b"dd", b"")])))
+    yield f"why --dyndep {LAST} e0", done(partial(chains, line_of_discovery, "implicit", ALL[-1]))
+    yield f"why {LAST} e0", (LOOK, "", "")
+
+
+def graph_of_log():
+    """The same for the manifest with a deps log."""
+    found = [(HEAD_OF_LOGGED + 1 + n, n) for n in ALL]
+    undeclared = lines(f"{MAIN}:{line}:1: undeclared input 'g'" for line, _ in found)
+    missing = lines(f"{MAIN}:{line}:1: missing source 's{n}'" for line, n in found)
+    about = '"column":1,"kind":"undeclared-input","name":"g"}'
+    in_json = lines(f'{{"file":"{MAIN}","line":{line},{about}' for line, _ in found)
+    outputs = lines(f"o{n}" for n in ALL)
+    arrows = {f"s{n} h g > cc > o{n}" for n in ALL}
+    of_gen = key([b"gen", b"", b""], b"g", [])
+    inputs = [(b"", b"s7", b""), (b"|", b"h", b""), (b"|", b"g", of_gen)]
+    of_cc = key([b"cc o7", b"", b""], b"o7", inputs)
+    yield "affected < h", (LOOK, "", "h\n")
+    for word in "--deps-log", "--deps-log-file=.ninja_deps":
+        yield f"affected {word} < h", done(outputs)
+        yield f"audit {word} --only undeclared-input", (LOOK, undeclared, "")
+        yield f"audit {word} --json --except missing-source", (LOOK, in_json, "")
+        yield f"draw {word} --affected h", done(arrows), draw.edges
+        yield f"draw {word} --inputs 1 o3", done({"s3 > cc\\nand 2 more > o3"}), draw.edges
+        yield f"json {word}", done(partial(objects_with_log, ["h", "g"]))
+        yield f"keys {word} o7", done(lines([f"{of_gen.hex()} g", f"{of_cc.hex()} o7"]))
+        line = f"{MAIN}:{HEAD_OF_LOGGED + 10}:1: cc: o9 needs h (implicit)"
+        yield f"why {word} o9 h", done(lines([line]))
+    yield "audit --only missing-source", (LOOK, missing, "")
+    yield "json", done(partial(objects_with_log, []))
+
+
+MANIFESTS = {
+    EXPLAIN: {"a chain": of_chain, "validations": of_validations, "a dyndep file": of_discovery},
+    GRAPH: {
+        "a chain": graph_of_chain,
+        "validations": graph_of_validations,
+        "a dyndep file": graph_of_discovery,
+        "a deps log": graph_of_log,
+    },
+}
 
 
 def try_run(program, folders, task):
-    """Runs the program with the arguments. Returns the count, and the problems."""
-    name, words, (status, output, error) = task
-    text = CHAIN.encode() if not words or "--stdin" in words else b""
-    ran = program.run(words, folders[name], text)
-    wanted = Ending(status, output.encode(), error.encode())
-    if ran == wanted:
+    """Makes a run. Returns the count, and the problems."""
+    run, (status, output, error), read = task
+    is_input = not run.words or "--stdin" in run.words
+    ran = program.run(run.words, folders[run.project], CHAIN.encode() if is_input else run.changed)
+    wanted = Ending(status, output() if callable(output) else output, error)
+    found = ran.as_text()
+    found = found._replace(output=read(found.output)) if read else found
+    if found == wanted:
         return {"runs": 1}, []
-    about = " ".join(word if len(word) < 40 else f"{word[:40]}.." for word in words)
-    parts = [part for part, it, its in zip(Ending._fields, ran, wanted) if it != its]
-    return {"runs": 1}, [f"{name}, {about}: {', '.join(parts)} differ: {shown(ran)}"]
+    parts = [part for part, it, its in zip(Ending._fields, found, wanted) if it != its]
+    return {"runs": 1}, [f"{run}: {', '.join(parts)} differ: {shown(ran)}"]
 
 
 def tasks_of(manifests):
-    """Each run: the name of its manifest, its arguments, and how it has to end."""
+    """Each run, how it has to end, and how its output is read before it is compared."""
     for name, of_manifest in manifests.items():
-        for line, wanted in of_manifest():
-            yield name, line.split(), wanted
+        for line, wanted, *read in of_manifest():
+            yield run_of(name, line), wanted, read[0] if read else None
 
 
 @check(alone=True)
-def large_graphs(program, folder, jobs):
+def large_graphs(programs, folder, jobs):
     folders = {name: folder / name for name in FILES}
     for name, files in FILES.items():
         write_files(folders[name], {file: text.encode() for file, text in files.items()})
-    sweep = Sweep("sizes")
-    sweep.in_parallel(jobs, partial(try_run, program, folders), tasks_of(MANIFESTS))
-    return sweep.problems()
+    write_log(folders["a deps log"])
+    for name, program in programs.items():
+        sweep, tasks = Sweep("sizes", name), list(tasks_of(MANIFESTS[name]))
+        sweep.wrong += lacks_runs(name, (run for run, _, _ in tasks))
+        sweep.in_parallel(jobs, partial(try_run, program, folders), tasks)
+        yield from sweep.problems()
