@@ -1,7 +1,7 @@
 """Runs the built programs: python3 scripts/smoke [--program PROGRAM] [--jobs N] [NAME..]
 
 PROGRAM is ninja-explain, by default as the gate leaves it; ninja-graph is where the gate leaves it
-too. The sweeps of memory, calls, bytes and sizes are run as well.
+too. The sweeps of memory, calls, bytes, sizes and stack are run as well.
 
 Prints the problems, and last how many checks passed. The exit status is 1 if one failed.
 """
@@ -15,7 +15,7 @@ from lib import checks  # noqa: E402
 from lib.programs import Program, built  # noqa: E402
 from lib.tools import EXPLAIN, GRAPH  # noqa: E402
 
-SWEEPS = ["sweep.memory", "sweep.calls", "sweep.bytes", "sweep.sizes"]
+SWEEPS = ["sweep.memory", "sweep.calls", "sweep.bytes", "sweep.sizes", "sweep.stack"]
 
 if __name__ == "__main__":
     checks.load("smoke", *SWEEPS)
