@@ -2,13 +2,15 @@
 
 from lib.checks import CHECKS, check, results
 from lib.programs import Program
+from lib.tools import EXPLAIN, GRAPH
 
 PROGRAMS = ["program", "graph"]
 
 
 @check(alone=True)
 def nothing_passes(jobs):
-    given = {**dict.fromkeys(PROGRAMS, Program("true")), "jobs": jobs}
+    programs = dict.fromkeys([EXPLAIN, GRAPH], Program("true"))
+    given = {**dict.fromkeys(PROGRAMS, Program("true")), "programs": programs, "jobs": jobs}
     own, here = f"{__name__}.", __name__.partition(".")[0] + "."
     names = [each.name for each in CHECKS if each.name.startswith(here)]
     names = [name for name in names if not name.startswith(own)]
