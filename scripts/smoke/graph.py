@@ -5,7 +5,7 @@ beside this file.
 import re
 
 from lib.checks import check, expect
-from lib.programs import EXAMPLES, ROOT
+from lib.programs import EXAMPLES, ROOT, compiled, shown
 
 PROJECT = EXAMPLES / "project"
 # Its statuses.
@@ -110,3 +110,53 @@ def outputs(graph):
     with open("/dev/full", "wb") as full:
         ran = graph.run(["affected"], PROJECT, b"none.c\n", error=full)
     yield from expect("full error output", ran, (OUTPUT_FAILED, b"", b""))
+
+
+# ---- memory
+
+# How a run without memory ends.
+NO_MEMORY = FAULT, b"ninja-graph: out of memory\n"
+# As many allocations as any run has.
+ALL = 1 << 40
+# Runs that end before any file is read, and at the first one.
+ENDED_EARLY = [
+    [],
+    ["--help"],
+    ["--version"],
+    ["nothing"],
+    ["keys", "--help"],
+    ["audit", "--nothing"],
+    ["audit", "--only", "typo"],
+    ["audit", "--except", "typo"],
+    ["draw", "--limit", "x"],
+    ["keys", "--base", "out"],
+    ["keys", "--resume", "0."],
+    ["why", "a"],
+    ["json", "-C", "none"],
+    ["affected", "-f", "none.ninja"],
+]
+
+
+def without_memory(graph, folder, words, times=1):
+    """Refuses each allocation of a run in turn, and as many of those after it: the run ends as usual, or
+    for want of memory after a part of its output. Returns how many allocations the run has."""
+    report, library = folder / "report", compiled("fail_alloc", folder)
+    fails = {"LD_PRELOAD": library, "FAIL_ALLOC_REPORT": str(report), "FAIL_ALLOC_TIMES": str(times)}
+    usual, count, lacked = graph.run(words, folder, CHANGED), 0, 0
+    while count == 0 or report.exists():
+        report.unlink(missing_ok=True)
+        ran = graph.run(words, folder, CHANGED, **fails, FAIL_ALLOC=str(count + 1))
+        lacks = (ran.status, ran.error) == NO_MEMORY and usual.output.startswith(ran.output)
+        lacked += lacks
+        if ran != usual and not lacks:
+            yield f"{words}, allocation {count + 1}: {shown(ran)}"
+        count += 1
+    yield from expect(f"{words}, allocations were refused", lacked > 0, True)
+    return count - 1
+
+
+@check(needs=["cc"])
+def ended_early_without_memory(graph, folder):
+    for words in ENDED_EARLY:
+        for times in 1, ALL:
+            yield from without_memory(graph, folder, words, times)

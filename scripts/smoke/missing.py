@@ -15,10 +15,10 @@ import re
 import subprocess
 
 from lib.checks import check, expect
-from lib.programs import DONE, FAULT, Program, compiled, shown
+from lib.programs import DONE, FAULT, Program, shown
 from lib.projects import MAIN, write_files
 from smoke.deps import INPUTS, LOG, READ_LOG, contents_differ, cut_off, edges_of, run_ninja, stated_edges
-from smoke.graph import LOOK
+from smoke.graph import LOOK, without_memory
 
 NINJA = Program("ninja")
 HEADERS = {"plain.h": b"#define PLAIN 1\n", "sub/kind.h": b'#include "gen/kind.h"\n'}
@@ -122,8 +122,6 @@ REFUSED_LOG = re.compile(rb"ninja-graph: %b: (not a deps log|deps log of version
 CYCLE = re.compile(rb"build\.ninja:\d+:1: dependency cycle through '.*'\n")
 # Of an edge that `json` cannot write, after those before it.
 NOT_UTF8 = re.compile(rb"build\.ninja:\d+:1: text is not UTF-8\n")
-# Of a run without memory; the second line is that of `clap`, while it reads the arguments.
-NO_MEMORY = {(FAULT, b"ninja-graph: out of memory\n"), (FAULT, b"error: out of memory\n")}
 
 
 def damaged(log):
@@ -276,19 +274,7 @@ def damaged_logs(graph, folder):
 def logs_without_memory(graph, folder):
     log = built_by_hand(folder / "made")
     write_files(folder, {MAIN: BY_HAND[MAIN], LOG: log})
-    report, library = folder / "report", compiled("fail_alloc", folder)
-    fails = {"LD_PRELOAD": library, "FAIL_ALLOC_REPORT": str(report)}
     for words in READ_LOG, AUDIT_LOG:
-        ample, number, refused = graph.run(words, folder), 1, 0
-        while number == 1 or report.exists():
-            report.unlink(missing_ok=True)
-            ran = graph.run(words, folder, **fails, FAIL_ALLOC=str(number))
-            lacks = (ran.status, ran.error) in NO_MEMORY and ample.output.startswith(ran.output)
-            refused += lacks
-            if ran != ample and not lacks:
-                yield f"{words[0]}, allocation {number}: {shown(ran)}"
-            number += 1
-        # Without the log there are fewer, so some of those were for the log.
-        graph.run(words[: words.index("--deps-log-file")], folder, **fails, FAIL_ALLOC=str(number - 2))
-        yield from expect(f"{words[0]}, an allocation for the log", report.exists(), False)
-        yield from expect(f"{words[0]}, allocations were refused", refused > 0, True)
+        count = yield from without_memory(graph, folder, words)
+        plain = yield from without_memory(graph, folder, words[: words.index("--deps-log-file")])
+        yield from expect(f"{words[0]}, an allocation for the log", plain < count, True)

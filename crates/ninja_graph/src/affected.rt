@@ -74,7 +74,7 @@ pub fn answer(rt: HostRuntime, graph: &Graph, options: &ArgMatches<'_>) -> Resul
 
 /// The lines of standard input, without the empty ones.
 fn changed_paths(rt: HostRuntime) -> Result<Vec<Vec<u8>>, Failure> {
-    read_lines(rt).map_err(Failure::Input)
+    read_lines(rt).map_err(Failure::of_input)
 }
 
 fn read_lines(rt: HostRuntime) -> io::Result<Vec<Vec<u8>>> {

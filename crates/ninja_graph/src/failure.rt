@@ -5,7 +5,8 @@ use nj_deps::DepsLogFault;
 use nj_graph::{GraphFault, SourceFault};
 use nj_tools::{Error, SinkFault};
 use std::alloc::{AllocError, Global};
-use std::{fmt, io};
+use std::fmt;
+use std::io::{self, ErrorKind};
 
 /// Why a run does not reach its end.
 #[derive(Drop)]
@@ -40,6 +41,22 @@ pub enum LogFault {
 }
 
 impl Failure {
+    /// That the directory of `-C` cannot be entered.
+    pub fn of_folder(error: io::Error) -> Failure {
+        if error.kind() == ErrorKind::OutOfMemory {
+            return Failure::Graph(Error::OutOfMemory);
+        }
+        Failure::Folder(error)
+    }
+
+    /// That standard input cannot be read.
+    pub fn of_input(error: io::Error) -> Failure {
+        if error.kind() == ErrorKind::OutOfMemory {
+            return Failure::Graph(Error::OutOfMemory);
+        }
+        Failure::Input(error)
+    }
+
     /// That the deps log at a path cannot be read.
     pub fn of_log(alloc: Global, path: &str, fault: LogFault) -> Result<Failure, AllocError> {
         if fault.is_out_of_memory() {

@@ -43,13 +43,22 @@ fn main(rt: HostRuntime) -> ExitCode {
 /// one.
 fn report_failure(rt: HostRuntime, failure: &Failure) -> Status {
     let status = failure.status();
-    if !matches!(status, Status::OutputFailed) {
-        let _ = match failure.line(rt.alloc()) {
-            Ok(line) => rt.stderr().write_all(&line),
-            Err(_) => rt.stderr().write_all(b"ninja-graph: out of memory\n"),
-        };
+    if matches!(status, Status::OutputFailed) {
+        return status;
     }
-    status
+    match failure.line(rt.alloc()) {
+        Ok(line) => {
+            let _ = rt.stderr().write_all(&line);
+            status
+        }
+        Err(_) => report_out_of_memory(rt),
+    }
+}
+
+/// Reports that there was no memory even for the line of a failure.
+fn report_out_of_memory(rt: HostRuntime) -> Status {
+    let _ = rt.stderr().write_all(b"ninja-graph: out of memory\n");
+    Status::Fault
 }
 
 /// Runs the program with its words.
@@ -57,7 +66,7 @@ fn run(rt: HostRuntime) -> Result<Status, Failure> {
     let words = arguments(rt)?;
     match words::command(rt.alloc())?.try_get_matches_from(&words) {
         Ok(matches) => answer(rt, &matches),
-        Err(error) => Ok(print_error(rt, &error)),
+        Err(error) => print_error(rt, &error),
     }
 }
 
@@ -76,15 +85,22 @@ fn arguments(rt: HostRuntime) -> Result<Vec<String>, Failure> {
 }
 
 /// Prints the text that `clap` has for other arguments, among them those for help.
-fn print_error(rt: HostRuntime, error: &clap::Error) -> Status {
+///
+/// # Errors
+///
+/// `OutOfMemory` if `clap` had none for its text; then nothing is printed.
+fn print_error(rt: HostRuntime, error: &clap::Error) -> Result<Status, Failure> {
+    let kind = error.kind();
+    if matches!(kind, WordError::OutOfMemory) {
+        return Err(Failure::Graph(Error::OutOfMemory));
+    }
     let printed = error.print(&rt);
-    match error.kind() {
+    match kind {
         WordError::DisplayHelp | WordError::DisplayVersion => match printed {
-            Ok(()) => Status::Done,
-            Err(_) => Status::OutputFailed,
+            Ok(()) => Ok(Status::Done),
+            Err(_) => Ok(Status::OutputFailed),
         },
-        WordError::OutOfMemory => Status::Fault,
-        _ => Status::Usage,
+        _ => Ok(Status::Usage),
     }
 }
 

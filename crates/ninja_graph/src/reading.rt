@@ -52,7 +52,7 @@ fn read_files(
     options: &ArgMatches<'_>,
 ) -> Result<(Graph, Option<DepsLog>), Failure> {
     if let Some(folder) = options.get_str("folder") {
-        env::set_current_dir(&rt, folder).map_err(Failure::Folder)?;
+        env::set_current_dir(&rt, folder).map_err(Failure::of_folder)?;
     }
     let mut files = DiskFiles::new(rt, rt.alloc(), None)?;
     let graph = read_manifest(rt.alloc(), &mut files, options)?;
