@@ -5,6 +5,7 @@ stands once, from that of examples/project, and from the one that CMake writes f
 installed.
 """
 
+import os
 import random
 import re
 import subprocess
@@ -13,7 +14,7 @@ from lib.checks import check, expect
 from lib.programs import EXAMPLES, ROOT, Program
 from lib.projects import write_cmake, write_files
 from lib.random_builds import HEADERS, SOURCES, deps_log, random_build, some
-from smoke.graph import DONE, FAULT, LOOK
+from smoke.graph import DONE, FAULT, LOOK, SUBCOMMANDS
 
 PROJECT, CMAKE = EXAMPLES / "project", EXAMPLES / "cmake"
 FILES = {
@@ -238,17 +239,14 @@ def logs_after_dyndep_files(graph, folder):
 @check
 def faults_of_logs(graph, folder):
     write_files(folder, {"build.ninja": LOGGED.encode(), "none": b"", "other": b"# ninjadeps\n\3\0\0\0"})
-    (folder / "out/.ninja_deps").mkdir(parents=True)
     texts = {
         "lost": "there is no such file", "none": "not a deps log", "other": "deps log of version 3",
-        "out": "the file could not be read",
+        "loop": "the file could not be read",
     }
+    (folder / "loop").symlink_to("loop")
     for name, text in texts.items():
         ran = run(graph, folder, ["--deps-log-file", name], ["a.c"])
         yield from expect(name, ran, (FAULT, "", f"ninja-graph: {name}: {text}\n"))
-    ran = run(graph, folder, ["--deps-log"], ["a.c"])
-    text = "ninja-graph: out/.ninja_deps: the file could not be read\n"
-    yield from expect("a folder", ran, (FAULT, "", text))
     cycle = deps_log({"a.o": ["a"]})
     write_files(folder, {"cycle": cycle, "cut": LOG[:-4]})
     status, output, error = run(graph, folder, ["--deps-log-file", "cycle"], ["a.c"])
@@ -259,6 +257,22 @@ def faults_of_logs(graph, folder):
     write_files(folder, {"build.ninja": LOGGED.encode().replace(b"= out", b"= \xff")})
     text = "ninja-graph: the path of the deps log is not UTF-8\n"
     yield from expect("not UTF-8", run(graph, folder, ["--deps-log"], ["a.c"]), (FAULT, "", text))
+
+
+@check
+def logs_that_are_no_files(graph, folder):
+    """A pipe to which nobody writes, a device or a directory is refused at once."""
+    write_files(folder, {"build.ninja": LOGGED.encode()})
+    (folder / "out").mkdir()
+    os.mkfifo(folder / "pipe")
+    os.mkfifo(folder / "out/.ninja_deps")
+    (folder / "link").symlink_to("pipe")
+    asked = [([name, "--deps-log", *words], "out/.ninja_deps") for name, (_, words) in SUBCOMMANDS.items()]
+    for path in "pipe", "link", "out", "/dev/zero", "/dev/null":
+        asked.append((["json", "--deps-log-file", path], path))
+    for words, path in asked:
+        ran = graph.run(words, folder, b"a.c\n", seconds=10).as_text()
+        yield from expect(words, ran, (FAULT, "", f"ninja-graph: {path}: not a regular file\n"))
 
 
 def with_log(build, log):

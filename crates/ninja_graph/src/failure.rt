@@ -34,6 +34,8 @@ pub enum Failure {
 pub enum LogFault {
     /// There is no file.
     Missing,
+    /// It is a directory, a pipe or a device.
+    NotRegular,
     /// The file cannot be read.
     Source(SourceFault),
     /// It is not a deps log that is read.
@@ -121,6 +123,7 @@ impl fmt::Display for LogFault {
     fn fmt<W: fmt::Write>(&self, f: &mut fmt::Formatter<W>) -> fmt::Result {
         match self {
             LogFault::Missing => f.write_str("there is no such file"),
+            LogFault::NotRegular => f.write_str("not a regular file"),
             LogFault::Source(fault) => write!(f, "{fault}"),
             LogFault::Log(fault) => write!(f, "{fault}"),
         }

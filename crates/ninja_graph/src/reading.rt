@@ -56,7 +56,7 @@ fn read_files(
     }
     let mut files = DiskFiles::new(rt, rt.alloc(), None)?;
     let graph = read_manifest(rt.alloc(), &mut files, options)?;
-    let log = read_log(rt.alloc(), &mut files, &graph, options)?;
+    let log = read_log(rt, &mut files, &graph, options)?;
     Ok((graph, log))
 }
 
