@@ -19,7 +19,7 @@ _ninja_graph_limited() {
 # The options of a subcommand, without those that every subcommand takes.
 _ninja_graph_options() {
     case $1 in
-        affected) echo '--source-dir --rule --prefix --no-phony' ;;
+        affected) echo '--source-dir --rule --prefix --no-phony --allow-empty' ;;
         draw) echo '--affected --fold --limit --inputs' ;;
         why) echo '--validations' ;;
         audit) echo '--only --except --json --list' ;;

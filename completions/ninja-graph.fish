@@ -96,6 +96,7 @@ complete -c ninja-graph -n '__ninja_graph_is affected' -l rule -x -d 'Only edges
     -a '(__ninja_graph_ask rules)'
 complete -c ninja-graph -n '__ninja_graph_is affected' -l prefix -x -d 'Only paths that begin so'
 complete -c ninja-graph -n '__ninja_graph_is affected' -l no-phony -d 'No outputs of phony edges'
+complete -c ninja-graph -n '__ninja_graph_is affected' -l allow-empty -d 'Accept an input without a changed path'
 
 complete -c ninja-graph -n '__ninja_graph_is draw keys why' -a '(__ninja_graph_targets)'
 complete -c ninja-graph -n '__ninja_graph_is draw' -l affected -d 'Draw the edges that a change of the files affects'

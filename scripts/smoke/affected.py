@@ -14,7 +14,7 @@ from lib.checks import check, expect
 from lib.programs import EXAMPLES, ROOT, Program
 from lib.projects import write_cmake, write_files
 from lib.random_builds import HEADERS, SOURCES, deps_log, random_build, some
-from smoke.graph import DONE, FAULT, LOOK, SUBCOMMANDS
+from smoke.graph import DONE, FAULT, LOOK, OUTPUT_FAILED, SUBCOMMANDS
 
 PROJECT, CMAKE = EXAMPLES / "project", EXAMPLES / "cmake"
 FILES = {
@@ -109,18 +109,47 @@ def of_project(graph):
 
 @check
 def of_rules(graph, folder):
-    """Several rules, none that there is, and no phony edges."""
+    """Several rules, one of no affected edge, and no phony edges."""
     words = ["--rule", "check", "--rule=ar"]
     ran = run(graph, PROJECT, words, ["text/lines.c"])
     yield from expect("two rules", ran, (DONE, lines(["out/libtext.a", "test"]), ""))
-    ran = run(graph, PROJECT, ["--rule", "none"], ["text/lines.c"])
-    yield from expect("no such rule", ran, (DONE, "", ""))
+    ran = run(graph, PROJECT, ["--rule", "check"], ["main.c"])
+    yield from expect("no edge of the rule", ran, (DONE, "", ""))
     write_files(folder, FILES)
     words, told_of = ["--no-phony"], told(["settings.txt"])
     ran = run(graph, folder, words, ["settings.txt"])
     yield from expect("no phony", ran, (LOOK, lines(["stamp"]), told_of))
     ran = run(graph, folder, [*words, "--rule", "phony"], ["settings.txt"])
     yield from expect("phony alone, and none", ran, (LOOK, "", told_of))
+
+
+@check
+def unknown_rules(graph, folder):
+    """A name that no rule has is a fault: it would select nothing. A rule of any scope is known."""
+    for first, names in ("none", ["none"]), ("", [""]), ("x", ["check", "x", "y"]), ("ar ", ["ar ", "ar"]):
+        words = [f"--rule={name}" for name in names]
+        wanted = FAULT, "", f"ninja-graph: unknown rule '{first}'\n"
+        yield from expect(words, run(graph, PROJECT, words, ["text/lines.c"]), wanted)
+    inner = b"rule inner\n  command = inner\nbuild in: inner in.c\n"
+    write_files(folder, {"build.ninja": b"subninja part\n", "part": inner})
+    yield from expect("inner", run(graph, folder, ["--rule", "inner"], ["in.c"]), (DONE, "in\n", ""))
+    yield from expect("phony", run(graph, folder, ["--rule", "phony"], ["in.c"]), (DONE, "", ""))
+
+
+@check
+def no_changed_path(graph):
+    """What should have listed the paths may have failed, so without one everything may be affected."""
+    caveat = LOOK, "", "ninja-graph: no changed path was given\n"
+    for text in b"", b"\n", b"\n\n\n":
+        ran = graph.run(["affected"], PROJECT, text).as_text()
+        yield from expect(text, ran, caveat)
+        ran = graph.run(["affected", "--allow-empty"], PROJECT, text).as_text()
+        yield from expect(f"{text}, allowed", ran, (DONE, "", ""))
+    ran = run(graph, PROJECT, ["--allow-empty"], ["README.md"])
+    yield from expect("a path", ran, (LOOK, "", "README.md\n"))
+    with open("/dev/full", "wb") as full:
+        ran = graph.run(["affected"], PROJECT, error=full)
+    yield from expect("full error output", ran, (OUTPUT_FAILED, b"", b""))
 
 
 @check
@@ -140,7 +169,7 @@ def warnings_are_in_order(graph, folder):
     found = run(graph, folder, ["--prefix", "app"], paths)
     told_of = lines(["none.c"]) + told(["./configure", "rules.ninja", "configure"])
     yield from expect("all", found, (LOOK, lines(["app"]), told_of))
-    found = run(graph, folder, ["--rule", "none"], ["configure"])
+    found = run(graph, folder, ["--rule", "mk"], ["configure"])
     yield from expect("no test", found, (LOOK, "", told(["configure"])))
 
 

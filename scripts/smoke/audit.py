@@ -7,17 +7,19 @@ their manifests; of undeclared inputs, which commands name, from how Python's `s
 """
 
 import json
+import os
 import posixpath
 import random
 import re
 import shlex
+import shutil
 from collections import Counter
 
 from lib.checks import check, expect
-from lib.programs import EXAMPLES
+from lib.programs import EXAMPLES, Program
 from lib.projects import write_cmake, write_files
 from lib.random_builds import HEADERS, deps_log, random_build, some
-from smoke.graph import DONE, FAULT, LOOK, USAGE
+from smoke.graph import DONE, LOOK, OUTPUT_FAILED, USAGE
 
 PROJECT = EXAMPLES / "project"
 EDGES = 20_000
@@ -233,6 +235,55 @@ def sources_of_phony_edges(graph, folder):
     write_files(folder, {"build.ninja": PHONY})
     found = LOOK, "build.ninja:5:1: missing source 'kept'\n", ""
     yield from expect("phony edges", run(graph, folder, []), found)
+
+
+# The sources of a command, in places where they cannot be looked up, and one that is not there; and
+# the edge of a source that no command needs.
+UNKNOWN = b"""\
+rule r
+  command = r $out
+build a: r | %b
+build b: r here \xff.c loop/x.c
+build c: r lost.c loop/x.c
+build d: phony loop/y.c
+""" % (b"n" * 300)
+
+
+@check
+def sources_that_cannot_be_looked_up(graph, folder):
+    """They are no findings, but there is something to look at: standard error has a line for each."""
+    write_files(folder, {"build.ninja": UNKNOWN, "here": b""})
+    (folder / "loop").symlink_to("loop")
+    told = [b"3:1: cannot look up source '%b'" % (b"n" * 300), b"4:1: cannot look up source '\xff.c'"]
+    told = b"".join(b"build.ninja:%b\n" % line for line in [*told, b"4:1: cannot look up source 'loop/x.c'"])
+    only = ["audit", "--only", "missing-source"]
+    ran = graph.run(only, folder)
+    yield from expect("plain", ran, (LOOK, b"build.ninja:5:1: missing source 'lost.c'\n", told))
+    (folder / "lost.c").touch()
+    for words in only, [*only, "--json"], ["audit", "--except", "repeated-command"]:
+        yield from expect(f"{words}, no finding", graph.run(words, folder), (LOOK, b"", told))
+    ran = graph.run(["audit", "--except", "missing-source"], folder)
+    yield from expect("not requested", ran, (DONE, b"", b""))
+    with open("/dev/full", "wb") as full:
+        ran = graph.run(only, folder, error=full)
+    yield from expect("full error output", ran, (OUTPUT_FAILED, b"", b""))
+
+
+NOBODY = ["setpriv", "--reuid=65534", "--regid=65534", "--clear-groups"]
+
+
+@check(needs=["setpriv"])
+def folders_that_may_not_be_searched(graph, folder):
+    """Root may search every directory, so there the program runs as another user."""
+    write_files(folder, {"build.ninja": b"rule r\n  command = r\nbuild a: r shut/a.c\n", "shut/a.c": b""})
+    folder.chmod(0o755)
+    program = shutil.copy(graph.path, folder / "program")
+    (folder / "shut").chmod(0)
+    first, *words = [*(NOBODY if os.geteuid() == 0 else []), program, "audit"]
+    ran = Program(first).run(words, folder).as_text()
+    (folder / "shut").chmod(0o700)
+    told = "build.ninja:3:1: cannot look up source 'shut/a.c'\n"
+    yield from expect("shut", ran, (LOOK, "", told))
 
 
 @check

@@ -13,7 +13,7 @@ DONE, FAULT, USAGE, LOOK, OUTPUT_FAILED = range(5)
 # The subcommands, each with the options that it has besides those of all, and arguments with which it
 # answers on examples/project.
 SUBCOMMANDS = {
-    "affected": (["--source-dir", "--rule", "--prefix", "--no-phony"], []),
+    "affected": (["--source-dir", "--rule", "--prefix", "--no-phony", "--allow-empty"], []),
     "audit": (["--only", "--except", "--json", "--list"], []),
     "draw": (["--affected", "--fold", "--limit", "--inputs"], []),
     "json": ([], []),

@@ -1,6 +1,6 @@
 -- Which changed paths name files, and which outputs a change affects.
 use Rattle.std.specs.Prelude.{◌≡◌, ◌↔◌, ℕ, Bool, ◌&&◌, ◌||◌, not, if◌then◌else◌, Option, Some, None, List, [], ◌∷◌, ◌++◌, map, length, ◌==◌, Contains}
-use Rattle.std.specs.Prelude.{nat_eq, bytes_eq, position}
+use Rattle.std.specs.Prelude.{nat_eq, bytes_eq, find, position}
 use Rattle.std.specs.Borrow.{Bor}
 use Rattle.std.specs.List.{flat_map, starts_with}
 use Rattle.std.specs.List.Sorted.{IsStrictlyIncreasing}
@@ -34,6 +34,16 @@ number_at files (byte ∷ path) = position (bytes_eq (clean_path_of (byte ∷ pa
 -- the number of the file at a changed path
 abbrev pub changed_file : (files : List (List ℕ)) → (folder : Option (List ℕ)) → (path : List ℕ) → Option ℕ
 changed_file files folder path = number_at files (path_in folder path)
+
+-- ---- the rules that are requested
+
+-- the names of the rules of all scopes, `phony` first
+abbrev pub rule_names : GraphModel → List (List ℕ)
+rule_names g = map (λ rule. rule.name) g.declarations.rules
+
+-- the first of these names that no rule has
+abbrev pub unknown_rule : GraphModel → (names : List (List ℕ)) → Option (List ℕ)
+unknown_rule g names = find (λ name. not (is_among (rule_names g) name)) names
 
 -- ---- the outputs that are listed
 

@@ -43,6 +43,10 @@ pub record IsReport (g : GraphModel) (entries : List ReadStatement) (folder : Op
   pub lists : ListsOutputs g asked (map (path_of g) (changed_files g folder paths)) outputs
   pub warns : HasWarnings g entries folder paths warnings
 
+-- the line that says that no changed path was given
+abbrev pub no_path_line : List ℕ
+no_path_line = line (codes "ninja-graph: no changed path was given")
+
 -- How the two texts of a report go to standard output and to standard error, and with which status or error that ends.
 pub data Reports (IsIt : (outputs warnings : List ℕ) → Type 0) (out new_out err new_err : SinkState) :
     Result Status Error → Type 0 where

@@ -1,8 +1,8 @@
 //! The subcommand `affected`: the outputs that a change of files affects.
 
 use crate::failure::Failure;
-use crate::listing::Listed;
-use crate::report::write_report;
+use crate::listing::{Listed, unknown_rule};
+use crate::report::write_answer;
 use crate::status::Status;
 use crate::words::{flag, option, repeated};
 use clap::{ArgMatches, Command};
@@ -18,7 +18,7 @@ const ABOUT: &str = "Read changed paths, and write the outputs that the change a
 const MORE: &str = "\
 A line of standard input is a changed path. Status 3 means that more may be affected: standard error
 names each path that no edge names, as a header that only a compiler knows, and each from which the
-manifest itself is made.
+manifest itself is made; or it says that no path was given.
 
 Where CMake wrote the manifest, sources have absolute paths, and with Meson they are relative:
   git diff --name-only main | ninja-graph affected -C build --source-dir \"$PWD\"
@@ -47,29 +47,45 @@ pub fn command<'a>(alloc: Global) -> Result<Command<'a>, AllocError> {
             "TEXT",
             "List only outputs whose paths begin with TEXT",
         ))?
-        .arg(flag(alloc, "no-phony", "List no outputs of phony edges"))
+        .arg(flag(alloc, "no-phony", "List no outputs of phony edges"))?
+        .arg(flag(
+            alloc,
+            "allow-empty",
+            "End with status 0 if no changed path is given",
+        ))
 }
 
 /// Writes the outputs that a change of the files at the paths of standard input affects.
 pub fn answer(rt: HostRuntime, graph: &Graph, options: &ArgMatches<'_>) -> Result<Status, Failure> {
+    let rules = options.get_strs("rule").unwrap_or(&[]);
+    check_rules(rt.alloc(), graph, rules)?;
     let paths = changed_paths(rt)?;
     let listed = Listed {
-        rules: options.get_strs("rule").unwrap_or(&[]),
+        rules,
         prefix: options.get_str("prefix").unwrap_or(""),
         no_phony: options.get_flag("no-phony"),
     };
     let mut out = WriteSink::new(rt.stdout());
     let mut err = WriteSink::new(rt.stderr());
     let source_dir = options.get_str("source-dir");
-    Ok(write_report(
+    Ok(write_answer(
         rt.alloc(),
         graph,
         source_dir,
         &paths,
+        options.get_flag("allow-empty"),
         listed,
         &mut out,
         &mut err,
     )?)
+}
+
+/// Refuses names that no rule has: they would select nothing, as if nothing were affected.
+fn check_rules(alloc: Global, graph: &Graph, names: &[&str]) -> Result<(), Failure> {
+    match unknown_rule(graph, names) {
+        Some(name) => Err(Failure::Rule(String::from_str(alloc, name)?)),
+        None => Ok(()),
+    }
 }
 
 /// The lines of standard input, without the empty ones.

@@ -4,17 +4,19 @@ ghost use Rattle.std.specs.Prelude.{IfOk};
 ghost use Rattle.ninja_graph.specs.LoggedGraphs.{HasInputs};
 
 use crate::failure::Failure;
-use crate::findings::{finding_lines, kind_lines};
+use crate::findings::{finding_lines, kind_lines, lookup_lines};
 use crate::reading::{LoggedGraph, read_graph, read_logged_graph};
+use crate::sources::Sources;
 use crate::status::Status;
 use crate::words::{flag, repeated};
+use crate::writing::write_both;
 use clap::{ArgMatches, Command};
 use nj_audit::{Kind, Kinds, audit};
-use nj_graph::{FileNo, Graph};
+use nj_graph::Graph;
 use nj_tools::{WriteSink, write_whole};
 use std::alloc::{AllocError, Global};
 use std::io::ErrorKind;
-use std::{env, fs, mem};
+use std::{env, mem};
 
 const NAME: &str = "audit";
 
@@ -22,7 +24,20 @@ const ABOUT: &str = "Write what is probably a mistake in the manifest, or of no 
 
 const MORE: &str = "\
 A line is a finding: the place of its statement, its kind and a name. Status 3 means that there is
-one.";
+one, or that standard error names a source that could not be looked up.";
+
+/// The kind of the findings about sources.
+const MISSING_SOURCES: Kinds = Kinds {
+    unused_output: false,
+    missing_source: true,
+    unused_rule: false,
+    unused_pool: false,
+    unused_variable: false,
+    repeated_command: false,
+    depfile_without_deps: false,
+    repeated_input: false,
+    undeclared_input: false,
+};
 
 /// The subcommand with its options.
 pub fn command<'a>(alloc: Global) -> Result<Command<'a>, AllocError> {
@@ -80,7 +95,8 @@ fn kinds_of(alloc: Global, options: &ArgMatches<'_>) -> Result<Kinds, Failure> {
     }
 }
 
-/// Writes the findings of these kinds; if there is any, that is something to look at.
+/// Writes the findings of these kinds, and to standard error a line for each source that cannot be
+/// looked up; if there is any of both, that is something to look at.
 fn write_findings(
     rt: HostRuntime,
     logged: &LoggedGraph,
@@ -90,36 +106,43 @@ fn write_findings(
     requires { HasInputs logged.now }
 {
     let graph = &logged.graph;
-    let missing = missing_files(rt, graph, kinds)?;
+    let sources = sources_of(rt, graph, kinds)?;
     let folder = working_folder(rt)?;
     let found = audit(
         rt.alloc(),
         graph,
-        &missing,
+        &sources.missing,
         &folder,
         &logged.undeclared,
         kinds,
     )?;
     let lines = finding_lines(rt.alloc(), &found, is_json)?;
-    write_whole(&mut WriteSink::new(rt.stdout()), &lines)?;
+    let unknown = unknown_lines(rt.alloc(), graph, &sources.unknown)?;
+    let mut out = WriteSink::new(rt.stdout());
+    let mut err = WriteSink::new(rt.stderr());
+    let status = write_both(&lines, &unknown, &mut out, &mut err)?;
     if found.as_slice().is_empty() {
-        return Ok(Status::Done);
+        return Ok(status);
     }
     Ok(Status::Look)
 }
 
-/// Of each file whether it is a source that is not on the disk. It is empty, and nothing is looked
-/// up, unless missing sources are requested.
-fn missing_files(rt: HostRuntime, graph: &Graph, kinds: Kinds) -> Result<Vec<bool>, AllocError> {
-    if !kinds.contains(Kind::MissingSource) {
-        return Ok(Vec::new(rt.alloc()));
+/// What the disk has of the sources. Nothing is looked up unless missing sources are requested.
+fn sources_of(rt: HostRuntime, graph: &Graph, kinds: Kinds) -> Result<Sources, AllocError> {
+    if kinds.contains(Kind::MissingSource) {
+        return Sources::look_up(rt, graph);
     }
-    let mut missing = Vec::with_capacity(rt.alloc(), graph.file_count())?;
-    'files: for number in 0..graph.file_count() {
-        let file = FileNo(number);
-        missing.push(graph.maker(file).is_none() && is_missing(rt, graph.path(file)))?;
+    Ok(Sources::new(rt.alloc()))
+}
+
+/// A line for each source that a command needs and that cannot be looked up, at the edge at which it
+/// would be missing.
+fn unknown_lines(alloc: Global, graph: &Graph, unknown: &[bool]) -> Result<Vec<u8>, AllocError> {
+    if !unknown.iter().any(|is_unknown| *is_unknown) {
+        return Ok(Vec::new(alloc));
     }
-    Ok(missing)
+    let found = audit(alloc, graph, unknown, &[], &[], MISSING_SOURCES)?;
+    lookup_lines(alloc, &found)
 }
 
 /// The path of the working directory, below which absolute paths are those of the build; empty if
@@ -129,16 +152,5 @@ fn working_folder(rt: HostRuntime) -> Result<Vec<u8>, AllocError> {
         Ok(folder) => Vec::from_slice(rt.alloc(), folder.as_str().as_bytes()),
         Err(error) if error.kind() == ErrorKind::OutOfMemory => Err(AllocError),
         Err(_) => Ok(Vec::new(rt.alloc())),
-    }
-}
-
-/// Whether nothing is at this path. A path that is not UTF-8 cannot be looked up.
-fn is_missing(rt: HostRuntime, path: &[u8]) -> bool {
-    let Ok(path) = str::from_utf8(path) else {
-        return false;
-    };
-    match fs::metadata(&rt, path) {
-        Ok(_) => false,
-        Err(error) => matches!(error.kind(), ErrorKind::NotFound | ErrorKind::NotADirectory),
     }
 }

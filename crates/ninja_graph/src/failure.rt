@@ -27,6 +27,8 @@ pub enum Failure {
     Base(String),
     /// No finding is of this kind.
     Kind(String),
+    /// No rule has this name.
+    Rule(String),
 }
 
 /// Why a deps log cannot be read.
@@ -105,6 +107,7 @@ impl fmt::Display for Failure {
                     "unknown kind '{word}'; ninja-graph audit --list lists the kinds"
                 )
             }
+            Failure::Rule(name) => write!(f, "unknown rule '{name}'"),
         }
     }
 }

@@ -15,8 +15,17 @@ pub fn finding_lines(
         if is_json {
             push_object(&mut lines, finding)?;
         } else {
-            push_plain(&mut lines, finding)?;
+            push_plain(&mut lines, finding, finding.kind.phrase())?;
         }
+    }
+    Ok(lines)
+}
+
+/// A line for each finding about a source that cannot be looked up.
+pub fn lookup_lines(alloc: Global, found: &Findings<'_>) -> Result<Vec<u8>, AllocError> {
+    let mut lines = Vec::new(alloc);
+    'findings: for finding in found.as_slice() {
+        push_plain(&mut lines, finding, "cannot look up source")?;
     }
     Ok(lines)
 }
@@ -30,13 +39,12 @@ pub fn kind_lines(alloc: Global) -> Result<Vec<u8>, AllocError> {
     Ok(lines)
 }
 
-/// Appends a line: the place of the statement, the kind in words, and the name in quotes.
-fn push_plain(lines: &mut Vec<u8>, finding: &Finding<'_>) -> Result<(), AllocError> {
+/// Appends a line: the place of the statement, what is said of it, and the name in quotes.
+fn push_plain(lines: &mut Vec<u8>, finding: &Finding<'_>, phrase: &str) -> Result<(), AllocError> {
     let alloc = *lines.allocator();
     let spot = finding.place.spot;
-    let kind = finding.kind.phrase();
     lines.extend_from_slice(finding.place.file)?;
-    let middle = format!(in alloc; ":{}:{}: {kind} '", spot.line, spot.column)?;
+    let middle = format!(in alloc; ":{}:{}: {phrase} '", spot.line, spot.column)?;
     lines.extend_from_slice(middle.as_bytes())?;
     lines.extend_from_slice(finding.name)?;
     lines.extend_from_slice(b"'\n")?;

@@ -1,10 +1,10 @@
 //! The requested outputs of edges.
 
-ghost use Rattle.std.specs.Prelude.{◌≡◌, ◌++◌, ◌<◌, All, IfOk, OnOk, length, map};
+ghost use Rattle.std.specs.Prelude.{◌≡◌, ◌++◌, ◌<◌, All, IfOk, OnOk, length, map, option_map};
 ghost use Rattle.std.specs.List.{flat_map};
 ghost use Rattle.nj_graph.specs.Edges.{edge_at, is_among, outputs_of};
 ghost use Rattle.nj_graph.specs.Graph.{edges_of};
-ghost use Rattle.ninja_graph.specs.Affected.{asked_of, is_asked_for, is_of_rules, line, line_of_output, lines_of_outputs, texts};
+ghost use Rattle.ninja_graph.specs.Affected.{asked_of, is_asked_for, is_of_rules, line, line_of_output, lines_of_outputs, rule_names, texts, unknown_rule};
 
 use nj_graph::{EdgeNo, Graph};
 use std::alloc::{AllocError, Global};
@@ -18,6 +18,23 @@ pub struct Listed<'a> {
     pub prefix: &'a str,
     /// Whether the outputs of phony edges are left out.
     pub no_phony: bool,
+}
+
+/// The first of these names that no rule has, in any scope; `phony` is a rule too.
+pub fn unknown_rule<'a>(graph: &Graph, names: &[&'a str]) -> Option<&'a str>
+    ensures { option_map (λ name. name.now) result ≡ unknown_rule graph.now (texts names.now) }
+{
+    names
+        .iter()
+        .copied()
+        .find(|name| !is_rule(graph, name.as_bytes()))
+}
+
+/// Whether a rule of any scope has this name.
+fn is_rule(graph: &Graph, name: &[u8]) -> bool
+    ensures { result ≡ is_among (rule_names graph.now) name.now }
+{
+    graph.rules().iter().any(|rule| name == rule.name())
 }
 
 /// The requested outputs of these edges, a line each, in the order of the edges.

@@ -16,6 +16,7 @@ mod listing;
 mod manifest;
 mod reading;
 mod report;
+mod sources;
 mod status;
 mod why;
 mod words;

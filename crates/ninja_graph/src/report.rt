@@ -1,10 +1,10 @@
 //! A report about a change of files.
 
-ghost use Rattle.std.specs.Prelude.{◌≡◌, ◌<◌, ◌++◌, List, All, IfOk, OnOk, length, map, option_copied};
+ghost use Rattle.std.specs.Prelude.{◌≡◌, ◌≢◌, ◌⊎◌, ◌<◌, ◌++◌, List, [], All, IfOk, OnOk, false, length, map, option_copied, true};
 ghost use Rattle.nj_graph.specs.ReadingList.{ReadStatement};
 ghost use Rattle.nj_graph.specs.Graph.{edges_of, IsGraphOf};
 ghost use Rattle.ninja_graph.specs.Affected.{asked_of};
-ghost use Rattle.ninja_graph.specs.Reports.{made_from_line, DoneMissesNothing, HasWarnings, IsReport, Reports, WarningsAreUnique};
+ghost use Rattle.ninja_graph.specs.Reports.{made_from_line, no_path_line, DoneMissesNothing, HasWarnings, IsReport, Reports, WarningsAreUnique};
 ghost use Rattle.ninja_graph.specs.Inside.Reached.{AddsWarning, AreAffected, CanTellAll, CanTellAt};
 
 use crate::changes::{find_file, known_files};
@@ -24,6 +24,41 @@ struct Report {
     /// Why these may not be all, a line for each such changed path: no edge names it, or the
     /// manifest itself is made from it.
     warnings: Vec<u8>,
+}
+
+/// What standard error says where no path was given.
+const NO_PATH: &[u8] = b"ninja-graph: no changed path was given\n";
+
+/// Writes the answer about a change of the files at these paths. Without a path that is a line on
+/// standard error, and something to look at, unless no path need be given: what should have listed
+/// the paths may have failed.
+///
+/// # Errors
+///
+/// Those of [`write_report`].
+pub fn write_answer<O: Sink, E: Sink>(
+    alloc: Global,
+    graph: &Graph,
+    source_dir: Option<&str>,
+    paths: &[Vec<u8>],
+    allow_empty: bool,
+    listed: Listed<'_>,
+    out: &mut O,
+    err: &mut E,
+) -> Result<Status, Error>
+    ensures nothing { allow_empty ≡ false → paths.now ≡ []
+        → Reports (λ outputs warnings. (outputs ≡ []) × (warnings ≡ no_path_line))
+        (O.state out.old) (O.state out.new) (E.state err.old) (E.state err.new) result }
+    ensures report { (allow_empty ≡ true) ⊎ (paths.now ≢ [])
+        → (entries : List ReadStatement) → IsGraphOf graph.now entries
+        → Reports (IsReport graph.now entries (option_copied source_dir.entry)
+        (asked_of listed.entry) (map (λ path. path.items) paths.now))
+        (O.state out.old) (O.state out.new) (E.state err.old) (E.state err.new) result }
+{
+    if paths.is_empty() && !allow_empty {
+        return write_both(b"", NO_PATH, out, err);
+    }
+    write_report(alloc, graph, source_dir, paths, listed, out, err)
 }
 
 /// Writes the report about a change of the files at these paths: to standard output the requested
