@@ -6,6 +6,9 @@ import re
 
 from lib.checks import check, expect
 from lib.programs import EXAMPLES, ROOT, compiled, shown
+from lib.projects import write_files
+from lib.random_builds import deps_log
+from smoke.system import KILOBYTES, MOST_OPEN, nested
 
 PROJECT = EXAMPLES / "project"
 # Its statuses.
@@ -160,3 +163,37 @@ def ended_early_without_memory(graph, folder):
     for words in ENDED_EARLY:
         for times in 1, ALL:
             yield from without_memory(graph, folder, words, times)
+
+
+# ---- the stack
+
+# In the deepest of 32 files an edge with `deps` has a log.
+LOGGED = {".ninja_deps": deps_log({"a": ["h", "d"]})}
+ON_NESTED = [
+    ["affected"],
+    ["affected", "--rule", "deep", "--no-phony"],
+    ["audit"],
+    ["audit", *(f"--only={kind}" for kind in ("unused-output", "unused-variable", "undeclared-input"))],
+    ["draw"],
+    ["draw", "--affected", "--fold", "d"],
+    ["json"],
+    ["keys"],
+    ["keys", "--take", "1", "--base", "/"],
+    ["why", "all", "d"],
+    ["why", "--validations", "all", "a"],
+]
+
+
+@check
+def stack_of_subcommands(graph, folder):
+    """Every subcommand has the same output with little stack as with much, with 32 files open."""
+    nested(MOST_OPEN).write_to(folder)
+    write_files(folder, LOGGED)
+    for options in [], ["--dyndep"], ["--deps-log"], ["--dyndep", "--deps-log"]:
+        for name, *words in ON_NESTED:
+            asked = [name, *options, *words]
+            usual = graph.run(asked, folder, b"d\nh\n")
+            limit = f"ulimit -s {KILOBYTES};"
+            ran = graph.run_by_shell(asked, folder, b"d\nh\n", before=limit)
+            if ran != usual or ran.status not in (DONE, LOOK) or not ran.output:
+                yield f"{asked}, in {KILOBYTES} KB of stack: it ends with {shown(ran)}"

@@ -56,6 +56,7 @@ pub fn command<'a>(alloc: Global) -> Result<Command<'a>, AllocError> {
 }
 
 /// Writes the outputs that a change of the files at the paths of standard input affects.
+#[inline(never)]
 pub fn answer(rt: HostRuntime, graph: &Graph, options: &ArgMatches<'_>) -> Result<Status, Failure> {
     let rules = options.get_strs("rule").unwrap_or(&[]);
     check_rules(rt.alloc(), graph, rules)?;

@@ -1,11 +1,10 @@
 //! The subcommand `audit`: findings about the manifest.
 
-ghost use Rattle.std.specs.Prelude.{IfOk};
 ghost use Rattle.ninja_graph.specs.LoggedGraphs.{HasInputs};
 
 use crate::failure::Failure;
 use crate::findings::{finding_lines, kind_lines, lookup_lines};
-use crate::reading::{LoggedGraph, read_graph, read_logged_graph};
+use crate::reading::{LoggedGraph, read_logged_graph};
 use crate::sources::Sources;
 use crate::status::Status;
 use crate::words::{flag, repeated};
@@ -56,36 +55,29 @@ pub fn command<'a>(alloc: Global) -> Result<Command<'a>, AllocError> {
 }
 
 /// Writes the findings that the options select, or the kinds.
+#[inline(never)]
 pub fn answer(rt: HostRuntime, options: &ArgMatches<'_>) -> Result<Status, Failure> {
     if options.get_flag("list") {
-        let lines = kind_lines(rt.alloc())?;
-        write_whole(&mut WriteSink::new(rt.stdout()), &lines)?;
-        return Ok(Status::Done);
+        return write_kinds(rt);
     }
     let kinds = kinds_of(rt.alloc(), options)?;
-    let logged = read_for(rt, kinds, options)?;
+    let logged = read_logged_graph(rt, options, kinds.contains(Kind::UndeclaredInput))?;
     let written = write_findings(rt, &logged, kinds, options.get_flag("json"));
     // The process ends here, and its memory with it.
     mem::forget(logged);
     written
 }
 
-/// The graph with the inputs of the requested deps log; those that edges do not declare are found if
-/// findings about them are requested.
-fn read_for(rt: HostRuntime, kinds: Kinds, options: &ArgMatches<'_>) -> Result<LoggedGraph, Failure>
-    ensures { IfOk result HasInputs }
-{
-    if kinds.contains(Kind::UndeclaredInput) {
-        return read_logged_graph(rt, options);
-    }
-    let graph = read_graph(rt, options)?;
-    Ok(LoggedGraph {
-        graph,
-        undeclared: Vec::new(rt.alloc()),
-    })
+/// Writes the kinds.
+#[inline(never)]
+fn write_kinds(rt: HostRuntime) -> Result<Status, Failure> {
+    let lines = kind_lines(rt.alloc())?;
+    write_whole(&mut WriteSink::new(rt.stdout()), &lines)?;
+    Ok(Status::Done)
 }
 
 /// The kinds that `--only` and `--except` select.
+#[inline(never)]
 fn kinds_of(alloc: Global, options: &ArgMatches<'_>) -> Result<Kinds, Failure> {
     let only = options.get_strs("only").unwrap_or(&[]);
     let except = options.get_strs("except").unwrap_or(&[]);
@@ -97,6 +89,7 @@ fn kinds_of(alloc: Global, options: &ArgMatches<'_>) -> Result<Kinds, Failure> {
 
 /// Writes the findings of these kinds, and to standard error a line for each source that cannot be
 /// looked up; if there is any of both, that is something to look at.
+#[inline(never)]
 fn write_findings(
     rt: HostRuntime,
     logged: &LoggedGraph,

@@ -16,6 +16,7 @@ use std::io::ErrorKind;
 
 /// The deps log that the options request; `None` if they request none. Where Ninja's own log is
 /// requested and is not there, it is empty, as for Ninja.
+#[inline(never)]
 pub fn read_log<S: FileSource>(
     rt: HostRuntime,
     files: &mut S,

@@ -61,6 +61,7 @@ pub fn command<'a>(alloc: Global) -> Result<Command<'a>, AllocError> {
 }
 
 /// Writes the requested drawing.
+#[inline(never)]
 pub fn answer(rt: HostRuntime, graph: &Graph, options: &ArgMatches<'_>) -> Result<Status, Failure> {
     let words = options.get_strs("targets").unwrap_or(&[]);
     let files = graph.pick_targets(rt.alloc(), words)?;

@@ -4,7 +4,7 @@ use crate::status::Status;
 use nj_deps::DepsLogFault;
 use nj_graph::{GraphFault, SourceFault};
 use nj_tools::{Error, SinkFault};
-use std::alloc::{AllocError, Global};
+use std::alloc::{AllocError, AllocFailed, Global};
 use std::fmt;
 use std::io::{self, ErrorKind};
 
@@ -153,6 +153,12 @@ impl From<SinkFault> for Failure {
 
 impl From<AllocError> for Failure {
     fn from(_e: AllocError) -> Failure {
+        Failure::Graph(Error::OutOfMemory)
+    }
+}
+
+impl<T: Drop> From<AllocFailed<T>> for Failure {
+    fn from(_e: AllocFailed<T>) -> Failure {
         Failure::Graph(Error::OutOfMemory)
     }
 }

@@ -29,6 +29,7 @@ pub fn command<'a>(alloc: Global) -> Command<'a> {
 }
 
 /// Writes the edges.
+#[inline(never)]
 pub fn answer(rt: HostRuntime, graph: &Graph) -> Result<Status, Failure> {
     let mut out = WriteSink::new(rt.stdout());
     match write_edge_objects(rt.alloc(), graph, &mut out) {

@@ -54,6 +54,7 @@ pub fn command<'a>(alloc: Global) -> Result<Command<'a>, AllocError> {
 }
 
 /// Writes the keys that the options request.
+#[inline(never)]
 pub fn answer(rt: HostRuntime, options: &ArgMatches<'_>) -> Result<Status, Failure> {
     let bases = bases_of(rt.alloc(), options.get_strs("base").unwrap_or(&[]))?;
     let mark = mark_of(rt.alloc(), options.get_str("resume"))?;
@@ -67,6 +68,7 @@ pub fn answer(rt: HostRuntime, options: &ArgMatches<'_>) -> Result<Status, Failu
 }
 
 /// The page of a graph that the options request, after a mark.
+#[inline(never)]
 fn page_of(
     alloc: Global,
     graph: &Graph,
@@ -80,6 +82,7 @@ fn page_of(
 }
 
 /// The directories at these paths, which have to be absolute.
+#[inline(never)]
 fn bases_of(alloc: Global, paths: &[&str]) -> Result<Bases, Failure> {
     let mut bases = Bases::new(alloc);
     'paths: for path in paths {
@@ -91,6 +94,7 @@ fn bases_of(alloc: Global, paths: &[&str]) -> Result<Bases, Failure> {
 }
 
 /// The mark in a text; without one that of the start.
+#[inline(never)]
 fn mark_of(alloc: Global, text: Option<&str>) -> Result<Mark, Error> {
     Ok(Mark::read(alloc, text.unwrap_or("start"))?)
 }

@@ -28,6 +28,7 @@ use crate::status::Status;
 use clap::ArgMatches;
 use clap::error::ErrorKind as WordError;
 use nj_tools::Error;
+use std::alloc::Global;
 use std::io::{ErrorKind, Write};
 use std::process::ExitCode;
 use std::{env, mem};
@@ -42,6 +43,7 @@ fn main(rt: HostRuntime) -> ExitCode {
 
 /// Reports why there is no answer. Where an output stream failed, that is not reported on the other
 /// one.
+#[inline(never)]
 fn report_failure(rt: HostRuntime, failure: &Failure) -> Status {
     let status = failure.status();
     if matches!(status, Status::OutputFailed) {
@@ -65,13 +67,21 @@ fn report_out_of_memory(rt: HostRuntime) -> Status {
 /// Runs the program with its words.
 fn run(rt: HostRuntime) -> Result<Status, Failure> {
     let words = arguments(rt)?;
-    match words::command(rt.alloc())?.try_get_matches_from(&words) {
+    match matches_of(rt.alloc(), &words) {
         Ok(matches) => answer(rt, &matches),
         Err(error) => print_error(rt, &error),
     }
 }
 
+/// The values of the words. What describes the command line takes much of the stack, and is gone
+/// before a file is read.
+#[inline(never)]
+fn matches_of<'a>(alloc: Global, words: &'a [String]) -> Result<ArgMatches<'a>, clap::Error> {
+    words::command(alloc)?.try_get_matches_from(words)
+}
+
 /// The program's arguments, without its name.
+#[inline(never)]
 fn arguments(rt: HostRuntime) -> Result<Vec<String>, Failure> {
     match env::args(&rt) {
         Ok(words) => match words.skip(1).collect(rt.alloc()) {
@@ -90,6 +100,7 @@ fn arguments(rt: HostRuntime) -> Result<Vec<String>, Failure> {
 /// # Errors
 ///
 /// `OutOfMemory` if `clap` had none for its text; then nothing is printed.
+#[inline(never)]
 fn print_error(rt: HostRuntime, error: &clap::Error) -> Result<Status, Failure> {
     let kind = error.kind();
     if matches!(kind, WordError::OutOfMemory) {
@@ -118,6 +129,7 @@ fn answer(rt: HostRuntime, matches: &ArgMatches<'_>) -> Result<Status, Failure> 
 }
 
 /// Runs a subcommand on its graph.
+#[inline(never)]
 fn answer_about_graph(
     rt: HostRuntime,
     name: &str,

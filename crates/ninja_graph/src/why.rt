@@ -41,6 +41,7 @@ fn word<'a>(alloc: Global, name: &'a str, help: &'a str) -> Arg<'a> {
 }
 
 /// Writes a chain by which the first of the two files needs the second.
+#[inline(never)]
 pub fn answer(rt: HostRuntime, graph: &Graph, options: &ArgMatches<'_>) -> Result<Status, Failure> {
     let from = file_at(rt.alloc(), graph, options.get_str("A").unwrap_or(""))?;
     let to = file_at(rt.alloc(), graph, options.get_str("B").unwrap_or(""))?;
