@@ -235,7 +235,13 @@ EXPLAIN_NESTED = (
 
 GRAPH_TOOLS = {
     "affected": Tool(
-        {"--source-dir": "DIR", "--rule": "NAME", "--prefix": "TEXT", "--no-phony": None},
+        {
+            "--source-dir": "DIR",
+            "--rule": "NAME",
+            "--prefix": "TEXT",
+            "--no-phony": None,
+            "--allow-empty": None,
+        },
         looks=((ANYTHING, LINES),),
     ),
     "audit": Tool(
@@ -254,6 +260,7 @@ GRAPH_RUNS = {
         "affected --rule mk < nothing b1 build.ninja",
         "affected --rule nothing < a",
         "affected",
+        "affected --allow-empty",
         "audit",
         "audit --only unused-output --except repeated-command",
         "draw d",
@@ -347,6 +354,7 @@ GRAPH_CHAIN = (
 GRAPH_NESTED = (
     "affected --rule deep --prefix a --no-phony --source-dir . < d",
     "affected --deps-log < h f7",
+    "affected --allow-empty",
     "audit --deps-log-file log --only unused-output --except missing-source --json",
     "audit --list",
     "audit",
