@@ -1,8 +1,8 @@
 """Compares the subcommands and options of ninja-graph with its man page and its completions.
 
 The subcommands are those of lib/tools.py, and the options are read off the modules that name them to
-`clap`; smoke/graph.py compares its table with the output of `--help`. The bash completion is run, if
-bash is installed; the other two are read.
+`clap`; smoke/graph.py compares them with the output of `--help`. The bash completion is run, if bash is
+installed; the other two are read.
 """
 
 import re
@@ -11,7 +11,6 @@ from lib.checks import check
 from lib.options import END, compare, offered_by_bash
 from lib.programs import CRATES, ROOT
 from lib.tools import GRAPH, PROGRAMS
-from smoke import graph
 
 NAME = GRAPH
 SUBCOMMANDS = list(PROGRAMS[GRAPH].tools)
@@ -31,16 +30,6 @@ def options_in(module):
 
 def every_subcommand():
     return options_in("words") | HELP
-
-
-@check
-def table_of_subcommands():
-    """The table of smoke/graph.py has the subcommands and options that the modules name."""
-    text = (SOURCE / "words.rt").read_text()
-    named = set(re.findall(r"of_graph\(\s*alloc,\s*(\w+)::command", text))
-    yield from compare("smoke/graph.py", "the subcommand", set(graph.SUBCOMMANDS), named)
-    for name, (options, _) in graph.SUBCOMMANDS.items():
-        yield from compare("smoke/graph.py", f"the option of {name}", set(options), options_in(name))
 
 
 def tagged(section):

@@ -8,6 +8,7 @@ from lib.checks import check, expect
 from lib.programs import EXAMPLES, ROOT, compiled, shown
 from lib.projects import write_files
 from lib.random_builds import deps_log
+from lib.tools import GRAPH, PROGRAMS
 from smoke.system import KILOBYTES, MOST_OPEN, nested
 
 PROJECT = EXAMPLES / "project"
@@ -15,17 +16,11 @@ PROJECT = EXAMPLES / "project"
 DONE, FAULT, USAGE, LOOK, OUTPUT_FAILED = range(5)
 # The subcommands, each with the options that it has besides those of all, and arguments with which it
 # answers on examples/project.
-SUBCOMMANDS = {
-    "affected": (["--source-dir", "--rule", "--prefix", "--no-phony", "--allow-empty"], []),
-    "audit": (["--only", "--except", "--json", "--list"], []),
-    "draw": (["--affected", "--fold", "--limit", "--inputs"], []),
-    "json": ([], []),
-    "keys": (["--base", "--take", "--resume"], []),
-    "why": (["--validations"], ["test", "text/words.c"]),
-}
+ROWS = PROGRAMS[GRAPH]
+SUBCOMMANDS = {name: (list(tool.options), list(tool.words)) for name, tool in ROWS.tools.items()}
 # Of those whose answer there is something to look at.
 LOOKS = {"audit"}
-EVERY_SUBCOMMAND = ["-C", "-f", "--dyndep", "--deps-log", "--deps-log-file", "-h, --help"]
+EVERY_SUBCOMMAND = [*ROWS.every, "-h, --help"]
 # A changed path for those who read some.
 CHANGED = b"main.c\n"
 
