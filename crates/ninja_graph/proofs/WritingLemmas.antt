@@ -3,8 +3,7 @@ use Rattle.std.proofs.Common.{◌≡◌, ◌≢◌, ℕ, ◌==◌, true, false, 
 use Rattle.std.proofs.lemmas.Bool.Decides.{eqb_tells}
 use Rattle.std.proofs.lemmas.Result.{err_from_is_err_and}
 use Rattle.std.specs.Result.{IsErrAnd}
-use Rattle.nj_tools.specs.Sinks.{SinkState, Takes}
-use Rattle.nj_tools.specs.Texts.{FailsWithin}
+use Rattle.nj_tools.specs.Sinks.{SinkState, Takes, FailsWithin}
 use Rattle.nj_tools.specs.declared.error.Error.{Error}
 use Rattle.nj_tools.specs.declared.error.Error.TheVariants.{OutOfMemory, Write}
 use Rattle.ninja_graph.specs.Reports.{Reports}

@@ -8,8 +8,7 @@ use Rattle.nj_graph.specs.declared.Step.{Step}
 use Rattle.nj_graph.specs.Built.{detail_at}
 use Rattle.nj_graph.specs.Files.{path_at}
 use Rattle.nj_graph.specs.Graph.{GraphModel, files_of, rule_name}
-use Rattle.nj_tools.specs.Sinks.{SinkState, Takes}
-use Rattle.nj_tools.specs.Texts.{FailsWithin}
+use Rattle.nj_tools.specs.Sinks.{SinkState, Takes, FailsWithin}
 use Rattle.nj_tools.specs.declared.error.Error.{Error}
 use Rattle.nj_tools.specs.declared.error.Error.TheVariants as error
 use Rattle.ninja_graph.specs.declared.status.Status.{Status}

@@ -4,8 +4,7 @@ use Rattle.std.specs.List.{filter_map}
 use Rattle.nj_graph.specs.ReadingList.{ReadStatement}
 use Rattle.nj_graph.specs.Changes.{IsAffected}
 use Rattle.nj_graph.specs.Graph.{GraphModel, edges_of, files_of}
-use Rattle.nj_tools.specs.Sinks.{SinkState, Takes}
-use Rattle.nj_tools.specs.Texts.{FailsWithin}
+use Rattle.nj_tools.specs.Sinks.{SinkState, Takes, FailsWithin}
 use Rattle.nj_tools.specs.declared.error.Error.{Error}
 use Rattle.nj_tools.specs.declared.error.Error.TheVariants.{OutOfMemory, Write}
 use Rattle.ninja_graph.specs.Affected.{Asked, changed_file, line, ListsOutputs}

@@ -1,17 +1,16 @@
 -- The session after a run.
-use Rattle.std.proofs.Common.{◌≡◌, ◌≢◌, ◌⊎◌, inl, inr, ℕ, ℤ, pos, Bool, true, false, Ok, Err, Result, List, [], refl, sym, ap, subst, ◌∙◌, arith, true≢false}
+use Rattle.std.proofs.Common.{◌≡◌, ◌≢◌, ◌⊎◌, inl, inr, ℕ, ◌+◌, ◌-◌, ◌^◌, min, ℤ, pos, Bool, true, false, Ok, Err, Result, List, [], refl, sym, ap, subst, ◌∙◌, arith, true≢false}
 use Rattle.nj_tools.specs.MemorySinks.{state_of}
 use Rattle.nj_requests.specs.Actions.{ActionModel, RequestModel}
 use Rattle.nj_args.specs.Requests.{request_of}
 use Rattle.nj_args.specs.declared.usage_fault.UsageFault.{UsageFault}
 use Rattle.nj_scope.specs.ReadingList.{ReadStatement}
-use Rattle.nj_tools.specs.Sinks.{SinkState, FailsAfter, one_more}
+use Rattle.nj_tools.specs.Sinks.{SinkState, FailsAfter, FailsWithin}
 use Rattle.nj_cli.specs.declared.status.Status as run
 use Rattle.nj_cli.specs.declared.status.Status.TheVariants as cli
 use Rattle.nj_cli.specs.declared.status.Status.TheVariants.{OutputFailed, Usage}
 use Rattle.nj_cli.specs.Answers.{Ending, finished, stopped, faulty, follows_validations, error_of, status_of, status_untold}
 use Rattle.nj_cli.specs.Reported.{Took}
-use Rattle.nj_tools.specs.Texts.{FailsWithin}
 use Rattle.nj_cli.specs.Runs.{Around, RunsWith, RunsWords, around}
 use Rattle.nj_cli.specs.Inside.RunSteps.{RunEnds}
 use Rattle.nj_cli.specs.Status.{exit_code}
@@ -157,7 +156,8 @@ reported-status (faulty text) = refl
 
 -- a sink that failed counts that
 fails-once : (old new : SinkState) (front : List ℕ) → old ≡ untouched → FailsAfter old new front → new.failures ≡ 0 → ⊥
-fails-once old new front begun fails none = let one : one_more 0 ≡ 0 = sym (fails.failures ∙ ap (λ s. one_more s.failures) begun) ∙ none in absurd (omega (arith, one))
+fails-once old new front begun fails none =
+    let one : min (0 + 1) (2 ^ 64 - 1) ≡ 0 = sym (fails.failures ∙ ap (λ s. min (s.failures + 1) (2 ^ 64 - 1)) begun) ∙ none in absurd (omega (arith, one))
 
 ends-so : (entries : List ReadStatement) (action : ActionModel) (old new : Around) (ended : run.Status) → old.output ≡ untouched → old.error ≡ untouched
     → new.output.failures ≡ 0 → new.error.failures ≡ 0 → RunEnds entries action old new ended → ended ≢ OutputFailed

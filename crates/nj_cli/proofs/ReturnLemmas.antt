@@ -31,7 +31,8 @@ use Rattle.nj_needs.proofs.Bridges.{paths-at, row-paths}
 use Rattle.nj_requests.specs.Actions.{ActionModel, commands, single_commands}
 use Rattle.nj_requests.specs.Actions as ask
 use Rattle.nj_needs.specs.PageWalks.{written, left_after, StopsAt}
-use Rattle.nj_tools.specs.CommandStrings.{command_lines, single, own_commands_in, own_commands}
+use Rattle.nj_tools.specs.CommandStrings.{command_lines, own_commands_in, own_commands}
+use Rattle.nj_tools.specs.Inside.Collections.{single}
 use Rattle.nj_tools.specs.Sinks.{SinkState, Takes}
 use Rattle.nj_tools.specs.Compdb.{compdb_text, unheld_edge}
 use Rattle.nj_tools.specs.Listings.{inputs_text}

@@ -1,7 +1,6 @@
 -- A text that was passed to a sink.
 use Rattle.std.specs.Prelude.{◌≡◌, ◌⊎◌, ℕ, List, [], ◌∷◌}
-use Rattle.nj_tools.specs.Sinks.{SinkState, Takes}
-use Rattle.nj_tools.specs.Texts.{FailsWithin}
+use Rattle.nj_tools.specs.Sinks.{SinkState, Takes, FailsWithin}
 
 -- the sink took the whole text; an empty one was not passed to it
 abbrev pub Took : (old new : SinkState) → List ℕ → Type 0

@@ -11,8 +11,8 @@ use Rattle.nj_graph.specs.Joining.{joined_after}
 use Rattle.nj_graph.specs.Loads.{LoadedModel, IsWhole, LoadingFails, main_reached}
 use Rattle.nj_graph.specs.Runs.{IsRead}
 use Rattle.nj_tools.specs.Lines.{line}
-use Rattle.nj_tools.specs.Sinks.{SinkState, Takes}
-use Rattle.nj_tools.specs.Texts.{FailsWithin, TakesFront}
+use Rattle.nj_tools.specs.Sinks.{SinkState, Takes, FailsWithin}
+use Rattle.nj_tools.specs.Texts.{TakesFront}
 use Rattle.nj_args.specs.FaultLines as usage
 use Rattle.nj_requests.specs.Actions.{ActionModel, RequestModel}
 use Rattle.nj_args.specs.Requests.{request_of}

@@ -3,11 +3,11 @@ use Rattle.std.proofs.Common.{◌≡◌, ℕ, List, [], ◌∷◌, ◌++◌, Res
 use Rattle.std.proofs.lemmas.Result.{err_from_is_err_and}
 use Rattle.std.specs.Result.{IsErrAnd}
 use Rattle.nj_scope.specs.Readings.{IsPrefix}
-use Rattle.nj_tools.specs.Sinks.{SinkState, Takes}
+use Rattle.nj_tools.specs.Sinks.{SinkState, Takes, FailsWithin}
 use Rattle.nj_tools.specs.declared.tool_fault.ToolFault.{ToolFault}
 use Rattle.nj_tools.specs.declared.tool_fault.ToolFault.TheVariants.{TextNotUtf8, Write, OutOfMemory}
 use Rattle.nj_tools.specs.Inside.Blocks.{IsUnderway, PutsText}
-use Rattle.nj_tools.specs.Texts.{FailsWithin, TakesFront, StopsWithin, WritesText}
+use Rattle.nj_tools.specs.Texts.{TakesFront, StopsWithin, WritesText}
 use Rattle.nj_tools.proofs.SinkLemmas.{Takes-nil, Takes-trans, FailsAfter-trans}
 
 -- a part more

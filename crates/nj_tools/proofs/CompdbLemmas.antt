@@ -19,12 +19,12 @@ use Rattle.nj_graph.proofs.Stated.{graph-edges}
 use Rattle.nj_tools.specs.declared.tool_fault.ToolFault.{ToolFault}
 use Rattle.nj_edges.specs.declared.edges.EdgeNo.{EdgeNo}
 use Rattle.nj_tools.specs.declared.tool_fault.ToolFault.TheVariants.{TextNotUtf8, Write, OutOfMemory}
-use Rattle.nj_tools.specs.Sinks.{SinkState, Takes}
+use Rattle.nj_tools.specs.Sinks.{SinkState, Takes, FailsWithin}
 use Rattle.nj_tools.specs.Inside.Blocks.{IsUnderway}
-use Rattle.nj_tools.specs.Texts.{FailsWithin, TakesFront, StopsWithin}
+use Rattle.nj_tools.specs.Texts.{TakesFront, StopsWithin}
 use Rattle.nj_tools.specs.Lines.{line}
-use Rattle.nj_tools.specs.Compdb.{Compilation, is_chosen, has_object, listed_edges, compilation_of, first_path, is_text, json_string, object_text, objects_text, held_before, unheld_edge, end_text, compdb_text, NamesEdge, WritesCompdb}
-use Rattle.nj_tools.specs.Inside.CompdbHeld.{in_json, held_compilation, object_of_strings}
+use Rattle.nj_tools.specs.Compdb.{Compilation, is_chosen, has_object, listed_edges, compilation_of, is_text, json_string, object_text, objects_text, held_before, unheld_edge, compdb_text, NamesEdge, WritesCompdb}
+use Rattle.nj_tools.specs.Inside.CompdbHeld.{end_text, first_path, in_json, held_compilation, object_of_strings}
 use Rattle.nj_tools.proofs.BlockLemmas.{TakesFront-whole, StopsWithin-whole, StopsWithin-more, IsUnderway-more, FailsWithin-unjoined, Takes-unjoined, puts-no_memory}
 use Rattle.nj_tools.proofs.SinkLemmas.{Takes-nil}
 

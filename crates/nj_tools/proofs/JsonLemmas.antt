@@ -11,7 +11,8 @@ use Rattle.json.proofs.OnLiterals.{json_on_literals}
 use Rattle.json.proofs.Printed.Strings.{content-escape, lex-escape}
 use Rattle.json.proofs.Printed.Trees.{value-json_tokens}
 use Rattle.nj_tools.specs.Lines.{line}
-use Rattle.nj_tools.specs.Compdb.{Compilation, is_text, json_string, object_text, objects_text, listed_edges, compilation_of, held_before, end_text, compdb_text}
+use Rattle.nj_tools.specs.Inside.CompdbHeld.{end_text}
+use Rattle.nj_tools.specs.Compdb.{Compilation, is_text, json_string, object_text, objects_text, listed_edges, compilation_of, held_before, compdb_text}
 use Rattle.nj_tools.specs.CompdbJson.{object_of, objects_of, CompdbIsJson}
 use Rattle.nj_tools.proofs.CompdbLemmas.{held-front}
 

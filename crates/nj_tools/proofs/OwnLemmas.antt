@@ -11,13 +11,13 @@ use Rattle.nj_names.specs.declared.files.FileNo.{FileNo}
 use Rattle.nj_edges.specs.EdgeGraphs.{EdgeGraph}
 use Rattle.nj_edges.specs.Edges.{maker_of}
 use Rattle.nj_names.specs.Files.{path_at}
-use Rattle.nj_needs.specs.Graphs.{row_of, is_phony}
+use Rattle.nj_needs.specs.Graphs.{row_of, row_of_paths, is_phony}
 use Rattle.nj_needs.specs.Marks.{without}
 use Rattle.nj_needs.specs.Order.{made_by}
 use Rattle.nj_edges.specs.Repeats.{each_once}
 use Rattle.nj_needs.proofs.Striking.{filter-filter, without-none}
-use Rattle.nj_tools.specs.CommandStrings.{command_lines, single, own_makers_in, own_commands}
-use Rattle.nj_tools.specs.Inside.Collections.{own_makers}
+use Rattle.nj_tools.specs.CommandStrings.{command_lines, own_commands}
+use Rattle.nj_tools.specs.Inside.Collections.{single, own_makers}
 use Rattle.nj_tools.specs.Inside.Seen.{AreSeen, new_commands}
 use Rattle.nj_tools.proofs.CommandLemmas.{lines-front}
 
@@ -48,7 +48,7 @@ first-append (x ∷ xs) ys =
 
 makers-append : (g : EdgeGraph) (files more : List FileNo) → own_makers g (files ++ more) ≡ own_makers g files ++ own_makers g more
 makers-append g files more =
-    ap (λ paths. own_makers_in g.edges paths) (map-append (path_at g.files) files more)
+    ap (λ paths. flat_map (made_by single) (row_of_paths g.edges paths)) (map-append (path_at g.files) files more)
     ∙ ap (flat_map (made_by single)) (map-append (maker_of g.edges) (map (path_at g.files) files) (map (path_at g.files) more))
     ∙ flat_map-append (made_by single) (row_of g files) (row_of g more)
 

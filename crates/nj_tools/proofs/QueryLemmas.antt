@@ -10,10 +10,11 @@ use Rattle.nj_edges.specs.declared.edges.EdgeNo.{EdgeNo}
 use Rattle.nj_names.specs.declared.files.FileNo.{FileNo}
 use Rattle.nj_edges.specs.Edges.{EdgePaths, edge_at, outputs_of, maker_of, users_of, validation_users_of}
 use Rattle.nj_names.specs.Files.{path_at}
+use Rattle.nj_statements.specs.EdgeList.{edges_read, paths_of_edges}
 use Rattle.nj_graph.specs.Graph.{GraphModel, IsGraphOf, edges_of, files_of, rule_name_at}
 use Rattle.nj_graph.proofs.Stated.{graph-edges}
 use Rattle.nj_tools.specs.Lines.{line, lines_after}
-use Rattle.nj_tools.specs.Queries.{section, inputs_by_kind, maker_text, outputs_of_all, query_in, query_text, file_query}
+use Rattle.nj_tools.specs.Queries.{section, inputs_by_kind, maker_text, outputs_of_all, query_in, query_text}
 use Rattle.nj_tools.specs.Inside.QueriesHeld.{validations_section, validated_section}
 
 -- ---- files and edges
@@ -52,7 +53,7 @@ pub file_strings-are : (entries : List ReadStatement) (g : GraphModel) (numbers 
     → flat_map (file_text entries g) numbers ≡ query_text entries (map (path_at (files_of g)) numbers)
 file_strings-are entries g numbers is =
     ap (λ edges. flat_map (λ file. query_in entries edges (path_at (files_of g) file)) numbers) (graph-edges is)
-    ∙ sym (flat_map-map (file_query entries) (path_at (files_of g)) numbers)
+    ∙ sym (flat_map-map (query_in entries (paths_of_edges (edges_read entries))) (path_at (files_of g)) numbers)
 
 -- ---- sections
 

@@ -19,18 +19,11 @@ command_lines entries numbers = flat_map (λ number. line (late_text_of entries 
 
 -- ---- the targets' own makers
 
--- an edge by itself
-abbrev pub single : ℕ → List ℕ
-single e = e ∷ []
-
--- the makers of files, in their order, with repeats
-abbrev pub own_makers_in : List EdgePaths → (paths : List (List ℕ)) → List ℕ
-own_makers_in edges paths = flat_map (made_by single) (row_of_paths edges paths)
-
 -- the makers of the targets, without duplicates, each where it comes first, except the phony ones, which have no
 -- command
 abbrev pub own_commands_in : List EdgePaths → (targets : List (List ℕ)) → List ℕ
-own_commands_in edges targets = filter (λ e. not (is_phony_in edges e)) (each_once nat_eq (own_makers_in edges targets))
+own_commands_in edges targets =
+    filter (λ e. not (is_phony_in edges e)) (each_once nat_eq (flat_map (made_by (λ e. e ∷ [])) (row_of_paths edges targets)))
 
 abbrev pub own_commands : EdgeGraph → (targets : List FileNo) → List ℕ
 own_commands g targets = own_commands_in g.edges (map (path_at g.files) targets)

@@ -1,12 +1,12 @@
 -- The output of `compdb`: a compilation database, which is a list of objects in JSON.
-use Rattle.std.specs.Prelude.{◌≡◌, ℕ, ◌<◌, Bool, ◌&&◌, ◌||◌, not, if◌then◌else◌, Option, Some, None, unwrap_or, List, [], ◌∷◌, ◌++◌}
+use Rattle.std.specs.Prelude.{◌≡◌, ℕ, ◌<◌, Bool, ◌&&◌, ◌||◌, not, if◌then◌else◌, Option, Some, None, unwrap_or, is_some, List, [], ◌∷◌, ◌++◌}
 use Rattle.std.specs.Prelude.{map, find, take_while, flat_map, slice_get, codes, Result, Ok, Err}
 use Rattle.std.specs.Str.{is_utf8}
 use Rattle.serde_json.specs.Data.{string}
 use Rattle.serde_json.specs.Written.{compact_text}
 use Rattle.nj_text.specs.Calls.{is_empty}
 use Rattle.nj_scope.specs.ReadingList.{ReadStatement}
-use Rattle.nj_edges.specs.Edges.{edge_at, inputs_of, outputs_of, is_among, edges_from}
+use Rattle.nj_edges.specs.Edges.{edge_at, inputs_of, first_output, is_among, edges_from}
 use Rattle.nj_statements.specs.EdgeList.{EdgeModel, edges_read, paths_of_edges}
 use Rattle.nj_graph.specs.Graph.{late_text_of, rule_name_of}
 use Rattle.nj_graph.specs.ResponseFiles.{command_with_rsp_of}
@@ -38,20 +38,14 @@ pub record Compilation : Type 0 where
   pub file : List ℕ
   pub output : List ℕ
 
--- the command, or with `expand` the command with the contents of its response file in place of the name
-abbrev pub command_text : List ReadStatement → (expand : Bool) → (edge : ℕ) → List ℕ
-command_text entries expand edge = if expand then command_with_rsp_of entries edge else late_text_of entries edge (codes "command")
-
-abbrev pub first_path : List (List ℕ) → List ℕ
-first_path paths = unwrap_or (slice_get paths 0) []
-
+-- with `expand` the command has the contents of its response file in place of the name
 abbrev pub compilation_of : List ReadStatement → (expand : Bool) → (edge : ℕ) → Compilation
 compilation_of entries expand edge =
     let e = edge_at (paths_of_edges (edges_read entries)) edge in
     record {
-      command = command_text entries expand edge;
-      file = first_path (inputs_of e);
-      output = first_path (outputs_of e);
+      command = if expand then command_with_rsp_of entries edge else late_text_of entries edge (codes "command");
+      file = unwrap_or (slice_get (inputs_of e) 0) [];
+      output = unwrap_or (first_output e) [];
     }
 
 -- JSON can contain it
@@ -88,14 +82,11 @@ held_before entries rules expand = take_while is_text (map (compilation_of entri
 abbrev pub unheld_edge : List ReadStatement → (rules : List (List ℕ)) → (expand : Bool) → Option ℕ
 unheld_edge entries rules expand = find (λ edge. not (is_text (compilation_of entries expand edge))) (listed_edges entries rules)
 
--- the end of the list, which is not written if there is such an edge
-abbrev pub end_text : (unheld : Option ℕ) → List ℕ
-end_text None = 10 ∷ line (codes "]")
-end_text (Some edge) = []
-
+-- the end of the list is not written if there is such an edge
 unfoldable pub compdb_text : List ReadStatement → (directory : List ℕ) → (rules : List (List ℕ)) → (expand : Bool) → List ℕ
 compdb_text entries directory rules expand =
-    codes "[" ++ objects_text (json_string directory) (held_before entries rules expand) ++ end_text (unheld_edge entries rules expand)
+    codes "[" ++ objects_text (json_string directory) (held_before entries rules expand)
+    ++ (if is_some (unheld_edge entries rules expand) then [] else codes "\n]\n")
 
 -- ---- the tool and its sink
 

@@ -69,10 +69,6 @@ outputs_of_rule entries rule =
 abbrev pub sources_in : List EdgePaths → List (List ℕ)
 sources_in edges = filter (λ path. is_none (maker_of edges path)) (flat_map inputs_of edges)
 
--- a line for each path, once, in byte order
-abbrev pub sorted_lines : List (List ℕ) → List ℕ
-sorted_lines paths = lines (sorted (each_once bytes_eq paths))
-
 -- `PATH: RULE`
 abbrev pub made_line : (path rule : List ℕ) → List ℕ
 made_line path rule = line (path ++ codes ": " ++ rule)
@@ -119,9 +115,10 @@ trees_text entries depth =
 
 -- ---- `targets`
 
+-- the outputs of a rule and the sources have a line each, once, in byte order
 abbrev pub targets_text : List ReadStatement → TargetsView → List ℕ
-targets_text entries (OfRule rule) = sorted_lines (outputs_of_rule entries rule)
-targets_text entries Sources = sorted_lines (sources_in (paths_of_edges (edges_read entries)))
+targets_text entries (OfRule rule) = lines (sorted (each_once bytes_eq (outputs_of_rule entries rule)))
+targets_text entries Sources = lines (sorted (each_once bytes_eq (sources_in (paths_of_edges (edges_read entries)))))
 targets_text entries (Depth depth) = trees_text entries depth
 targets_text entries All = outputs_text entries
 

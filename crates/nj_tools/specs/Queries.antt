@@ -30,7 +30,7 @@ maker_text entries edges (Some edge) =
 abbrev pub outputs_of_all : List EdgePaths → (numbers : List ℕ) → List (List ℕ)
 outputs_of_all edges numbers = flat_map (λ edge. outputs_of (edge_at edges edge)) numbers
 
--- a section of validations only where an edge names the file as one
+-- the text of one file; a section of validations only where an edge names the file as one
 unfoldable pub query_in : List ReadStatement → List EdgePaths → (path : List ℕ) → List ℕ
 query_in entries edges path =
     let users = validation_users_of edges path in
@@ -39,10 +39,6 @@ query_in entries edges path =
     ++ section (codes "  outputs:") (outputs_of_all edges (users_of edges path))
     ++ (if is_empty users then [] else section (codes "  validation for:") (outputs_of_all edges users))
 
--- of one file
-abbrev pub file_query : List ReadStatement → (path : List ℕ) → List ℕ
-file_query entries path = query_in entries (paths_of_edges (edges_read entries)) path
-
--- of the files in their order; a file that is named twice is listed twice
+-- the texts of the files in their order; a file that is named twice is listed twice
 abbrev pub query_text : List ReadStatement → (paths : List (List ℕ)) → List ℕ
-query_text entries paths = flat_map (file_query entries) paths
+query_text entries paths = flat_map (query_in entries (paths_of_edges (edges_read entries))) paths

@@ -8,14 +8,10 @@ use Rattle.nj_tools.specs.declared.sinks.SinkFault.{SinkFault}
 pub record SinkState : Type 0 where
   -- the bytes that it took so far; `None` for a sink that does not report them
   pub taken : Option (List ℕ)
-  -- how often it failed to take bytes
+  -- how often it failed to take bytes; the count stays at its greatest value
   pub failures : ℕ
   -- whether it took a byte since it was made, or since it last failed
   pub took_since_failure : Bool
-
--- one more failure, in a count that stays at its greatest value
-abbrev pub one_more : ℕ → ℕ
-one_more failures = min (failures + 1) (2 ^ 64 - 1)
 
 -- the sink took these bytes after all that it took before, and did not fail
 pub record Takes (old new : SinkState) (bytes : List ℕ) : Type 0 where
@@ -26,7 +22,7 @@ pub record Takes (old new : SinkState) (bytes : List ℕ) : Type 0 where
 -- the sink took these bytes, then failed once, and took nothing after that
 pub record FailsAfter (old new : SinkState) (bytes : List ℕ) : Type 0 where
   pub taken : Appends old.taken new.taken bytes
-  pub failures : new.failures ≡ one_more old.failures
+  pub failures : new.failures ≡ min (old.failures + 1) (2 ^ 64 - 1)
   pub took_since_failure : new.took_since_failure ≡ false
 
 -- the meaning of a result of `put`: an error, or 0 for a text that is not empty, is a failure
@@ -37,11 +33,11 @@ Puts old new (byte ∷ bytes) (Ok (suc more)) =
     (suc more ≤ length (byte ∷ bytes)) × Takes old new (take (suc more) (byte ∷ bytes))
 Puts old new bytes (Err fault) = FailsAfter old new []
 
--- the front is a proper prefix of the text
-abbrev pub IsCutShort : List ℕ → List ℕ → Type 0
-IsCutShort front text = (rest : List ℕ) × (front ++ rest ≡ text) × (rest ≢ [])
+-- the sink took a proper prefix of the text, then failed once, and took nothing after that
+abbrev pub FailsWithin : (old new : SinkState) → (text : List ℕ) → Type 0
+FailsWithin old new text = (front : List ℕ) × ((rest : List ℕ) × (front ++ rest ≡ text) × (rest ≢ [])) × FailsAfter old new front
 
--- the meaning of the result of a whole write: the sink took the text, or failed once after a proper prefix of it
+-- the meaning of the result of a whole write
 abbrev pub Writes : SinkState → SinkState → List ℕ → Result Unit SinkFault → Type 0
 Writes old new text (Ok done) = Takes old new text
-Writes old new text (Err fault) = (front : List ℕ) × IsCutShort front text × FailsAfter old new front
+Writes old new text (Err fault) = FailsWithin old new text

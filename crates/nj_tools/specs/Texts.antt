@@ -1,13 +1,9 @@
 -- A tool and its sink.
 use Rattle.std.specs.Prelude.{ℕ, List, Result, Ok, Err}
 use Rattle.nj_scope.specs.Readings.{IsPrefix}
-use Rattle.nj_tools.specs.Sinks.{SinkState, Takes, FailsAfter, IsCutShort}
+use Rattle.nj_tools.specs.Sinks.{SinkState, Takes, FailsWithin}
 use Rattle.nj_tools.specs.declared.tool_fault.ToolFault.{ToolFault}
 use Rattle.nj_tools.specs.declared.tool_fault.ToolFault.TheVariants.{TextNotUtf8, Write, OutOfMemory}
-
--- the sink took a proper prefix of the text, then failed once, and took nothing after that
-abbrev pub FailsWithin : (old new : SinkState) → (text : List ℕ) → Type 0
-FailsWithin old new text = (front : List ℕ) × IsCutShort front text × FailsAfter old new front
 
 -- the sink took a prefix of the text, or all of it, and did not fail
 abbrev pub TakesFront : (old new : SinkState) → (text : List ℕ) → Type 0

@@ -8,9 +8,7 @@ ghost use Rattle.nj_graph.specs.Graph.{edges_of, files_of, IsGraphOf};
 ghost use Rattle.nj_tools.specs.Inside.Blocks.{PutsText};
 ghost use Rattle.nj_tools.specs.Compdb.{
   has_object,
-  command_text,
   compilation_of,
-  first_path,
   objects_text,
   held_before,
   compdb_text,
@@ -18,7 +16,7 @@ ghost use Rattle.nj_tools.specs.Compdb.{
   NamesEdge,
   WritesCompdb,
 };
-ghost use Rattle.nj_tools.specs.Inside.CompdbHeld.{held_compilation, object_of_strings};
+ghost use Rattle.nj_tools.specs.Inside.CompdbHeld.{command_text, first_path, held_compilation, object_of_strings};
 
 use crate::chosen_rules::ChosenRules;
 use crate::json_strings::{held_string, json_string};

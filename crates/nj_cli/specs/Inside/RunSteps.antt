@@ -11,8 +11,8 @@ use Rattle.nj_graph.specs.Graph.{IsGraphOf}
 use Rattle.nj_graph.specs.Loads.{LoadedModel}
 use Rattle.nj_graph.specs.Runs.{IsRead}
 use Rattle.nj_tools.specs.Lines.{line}
-use Rattle.nj_tools.specs.Sinks.{SinkState, Takes}
-use Rattle.nj_tools.specs.Texts.{FailsWithin, TakesFront}
+use Rattle.nj_tools.specs.Sinks.{SinkState, Takes, FailsWithin}
+use Rattle.nj_tools.specs.Texts.{TakesFront}
 use Rattle.nj_requests.specs.Actions.{ActionModel, RequestModel}
 use Rattle.nj_args.specs.FaultLines as lines
 use Rattle.nj_args.specs.declared.usage_fault.UsageFault.{UsageFault}

@@ -1,7 +1,7 @@
 -- Text on its way to a sink: the sink took a prefix of it, and the rest is pending.
 use Rattle.std.specs.Prelude.{◌≡◌, ℕ, List, ◌++◌, Result, Ok, Err}
-use Rattle.nj_tools.specs.Sinks.{SinkState, Takes}
-use Rattle.nj_tools.specs.Texts.{FailsWithin, StopsWithin}
+use Rattle.nj_tools.specs.Sinks.{SinkState, Takes, FailsWithin}
+use Rattle.nj_tools.specs.Texts.{StopsWithin}
 use Rattle.nj_tools.specs.declared.sinks.SinkFault.{SinkFault}
 use Rattle.nj_tools.specs.declared.tool_fault.ToolFault.{ToolFault}
 

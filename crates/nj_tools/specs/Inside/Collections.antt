@@ -1,16 +1,22 @@
 -- How files are collected, without duplicates.
 use Rattle.std.specs.Prelude.{◌≡◌, ℕ, ◌<◌, Bool, false, if◌then◌else◌, List, [], ◌∷◌, ◌++◌, All, map, length, slice_index_or}
 use Rattle.std.specs.Prelude.{bytes_eq}
+use Rattle.std.specs.List.{flat_map}
 use Rattle.nj_names.specs.declared.files.FileNo.{FileNo}
 use Rattle.nj_edges.specs.Inside.EdgesHeld.{has_number}
 use Rattle.nj_names.specs.Files.{path_at}
 use Rattle.nj_edges.specs.Repeats.{each_once}
 use Rattle.nj_edges.specs.EdgeGraphs.{EdgeGraph}
-use Rattle.nj_tools.specs.CommandStrings.{own_makers_in}
+use Rattle.nj_needs.specs.Graphs.{row_of}
+use Rattle.nj_needs.specs.Order.{made_by}
 
--- the same for files by their numbers
+-- an edge by itself
+abbrev pub single : ℕ → List ℕ
+single e = e ∷ []
+
+-- the makers of files, in their order, with repeats
 abbrev pub own_makers : EdgeGraph → (files : List FileNo) → List ℕ
-own_makers g files = own_makers_in g.edges (map (path_at g.files) files)
+own_makers g files = flat_map (made_by single) (row_of g files)
 
 -- files of a graph that has `count` files
 pub record Collection : Type 0 where

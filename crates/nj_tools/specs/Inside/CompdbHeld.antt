@@ -1,8 +1,22 @@
 -- How the objects of a compilation database are written one after another.
-use Rattle.std.specs.Prelude.{ℕ, if◌then◌else◌, Option, Some, None, List, ◌++◌, codes}
+use Rattle.std.specs.Prelude.{ℕ, Bool, if◌then◌else◌, Option, Some, None, is_some, unwrap_or, List, [], ◌++◌, slice_get, codes}
 use Rattle.std.specs.Str.{is_utf8}
+use Rattle.nj_scope.specs.ReadingList.{ReadStatement}
+use Rattle.nj_graph.specs.Graph.{late_text_of}
+use Rattle.nj_graph.specs.ResponseFiles.{command_with_rsp_of}
 use Rattle.nj_tools.specs.Lines.{line}
 use Rattle.nj_tools.specs.Compdb.{Compilation, is_text, json_string}
+
+-- the command of an edge, with the contents of its response file in place of the name if `expand` is set
+abbrev pub command_text : List ReadStatement → (expand : Bool) → (edge : ℕ) → List ℕ
+command_text entries expand edge = if expand then command_with_rsp_of entries edge else late_text_of entries edge (codes "command")
+
+abbrev pub first_path : List (List ℕ) → List ℕ
+first_path paths = unwrap_or (slice_get paths 0) []
+
+-- the end of the list, by the first edge that JSON cannot contain
+abbrev pub end_text : (unheld : Option ℕ) → List ℕ
+end_text unheld = if is_some unheld then [] else codes "\n]\n"
 
 -- a string in JSON, if JSON can contain it
 abbrev pub held_string : (text : List ℕ) → Option (List ℕ)

@@ -2,8 +2,8 @@ use Rattle.std.proofs.Common.{◌++◌, length, option_map, ap, subst, sym, ◌�
 use Rattle.nj_edges.specs.declared.edges.EdgeNo.{EdgeNo}
 use Rattle.nj_graph.specs.Graph.{edges_of}
 use Rattle.nj_tools.specs.EdgeObjects.{edge_lines}
-use Rattle.nj_tools.specs.Sinks.{Takes}
-use Rattle.nj_tools.specs.Texts.{FailsWithin, StopsWithin}
+use Rattle.nj_tools.specs.Sinks.{Takes, FailsWithin}
+use Rattle.nj_tools.specs.Texts.{StopsWithin}
 use Rattle.nj_tools.specs.declared.tool_fault.ToolFault.TheVariants.{Write}
 use Rattle.nj_tools.proofs.BlockLemmas.{FailsWithin-unjoined, Takes-unjoined}
 use Rattle.nj_tools.proofs.CompdbLemmas.{names-with}
