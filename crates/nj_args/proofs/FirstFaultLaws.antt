@@ -6,12 +6,12 @@ use Rattle.nj_manifest.specs.LineSteps.{◌>>=◌}
 use Rattle.clap.specs.Words.{Row, first_of}
 use Rattle.nj_args.specs.Fields.{given_rows, is_on, words_in}
 use Rattle.nj_args.specs.FirstFaults.{Mistake, no_tool, unknown_tool, foreign_option, bad_take, bad_mark, bad_words, bad_depth, all_mistakes, NamesTool, HasMistake, toolless, unknown, no_number, no_mark, Lacks, HasNoMistake, IsFirstOf, first, later, FirstFaultIsReported, FaultlessWordsAreRequests}
-use Rattle.nj_args.specs.Inside.Held.{goes_with}
+use Rattle.nj_args.specs.Inside.Held.{first_foreign, goes_with, query_of, rules_of}
 use Rattle.nj_args.specs.Numbers.{given_number}
 use Rattle.nj_requests.specs.Actions.{ActionModel, commands, single_commands, inputs, targets, query, rules, compdb, RequestModel}
-use Rattle.nj_args.specs.Requests.{main_file, style_of, request_of, request_in, action_of, asked_of, commands_of, take_of, start_of, query_of, rules_of}
+use Rattle.nj_args.specs.Requests.{style_of, request_of, request_in, action_of, asked_of, commands_of, take_of, start_of}
 use Rattle.nj_args.specs.RunMarks.{given_run_mark}
-use Rattle.nj_args.specs.Tools.{tool_named, first_foreign, all_options}
+use Rattle.nj_args.specs.Tools.{tool_named, all_options}
 use Rattle.nj_args.specs.declared.usage_fault.ToolOption.{ToolOption}
 use Rattle.nj_args.specs.declared.usage_fault.ToolOption.TheVariants as option
 use Rattle.nj_args.specs.declared.usage_fault.UsageFault.{UsageFault}
@@ -137,7 +137,7 @@ module _ (rows : List Row) (name : List ℕ) where
 
 abbrev request_for : List Row → ActionModel → RequestModel
 request_for rows action = record {
-  file = unwrap_or (first_of (codes "-f") rows) main_file;
+  file = unwrap_or (first_of (codes "-f") rows) (codes "build.ninja");
   from_stdin = is_on (codes "--stdin") rows;
   dyndep = is_on (codes "--dyndep") rows;
   action = action;

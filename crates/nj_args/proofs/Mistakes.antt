@@ -5,7 +5,8 @@ use Rattle.nj_manifest.specs.LineSteps.{◌>>=◌}
 use Rattle.clap.specs.Words.{Row, first_of}
 use Rattle.nj_args.specs.Fields.{words_in}
 use Rattle.nj_args.specs.FirstFaults.{Mistake, foreign_option, bad_take, bad_mark, bad_words, bad_depth, TakesWords, NamesTool, HasMistake, toolless, unknown, foreign, no_number, no_mark, wrong_words, no_depth, Lacks, IsFirstOf, first, later}
-use Rattle.nj_args.specs.Tools.{tool_named, is_foreign, first_foreign, all_options}
+use Rattle.nj_args.specs.Inside.Held.{first_foreign}
+use Rattle.nj_args.specs.Tools.{tool_named, is_foreign, all_options}
 use Rattle.nj_args.specs.declared.usage_fault.ToolOption.{ToolOption}
 use Rattle.nj_args.specs.declared.usage_fault.ToolOption.TheVariants as option
 use Rattle.nj_args.specs.declared.usage_fault.UsageFault.{UsageFault}

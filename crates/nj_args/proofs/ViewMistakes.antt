@@ -7,7 +7,8 @@ use Rattle.clap.specs.Words.{Row}
 use Rattle.nj_args.specs.Fields.{words_in}
 use Rattle.nj_args.specs.FirstFaults.{bad_words, bad_depth, IsView, roots, one_level, levels, all_outputs, sources, of_rule, NamesTool, no_depth, Lacks, first, later}
 use Rattle.nj_args.specs.Numbers.{given_depth}
-use Rattle.nj_args.specs.Requests.{view_of, depth_of}
+use Rattle.nj_args.specs.Inside.Held.{depth_of}
+use Rattle.nj_args.specs.Requests.{view_of}
 use Rattle.nj_args.specs.declared.usage_fault.UsageFault.TheVariants.{BadNumber, BadWords}
 use Rattle.nj_args.specs.declared.tools.Tool.TheVariants.{Targets}
 use Rattle.nj_requests.specs.declared.view.TargetsView.{TargetsView}

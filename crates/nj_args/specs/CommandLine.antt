@@ -12,30 +12,23 @@ short_option text = record (new_rule text) { short = slice_get text 1 }
 abbrev pub long_option : (text : List ℕ) → Rule
 long_option text = record (new_rule text) { long = Some (drop 2 text) }
 
--- an option without a value: `-L`
-abbrev pub short_flag : (text : List ℕ) → Rule
-short_flag text = record (short_option text) { action = Some SetTrue }
-
--- `--NAME`
-abbrev pub long_flag : (text : List ℕ) → Rule
-long_flag text = record (long_option text) { action = Some SetTrue }
-
--- the arguments that are not options
-abbrev pub all_words : Rule
-all_words = record (new_rule (codes "words")) { action = Some Append }
+-- the option without a value
+abbrev pub flag : Rule → Rule
+flag option = record option { action = Some SetTrue }
 
 -- the command without options and arguments; it knows neither help nor a version
 abbrev pub nothing_yet : App
 nothing_yet = record { top = record (new_shape (codes "ninja-explain")) { no_binary_name = true; disable_help_flag = true }; subs = [] }
 
+-- last the arguments that are not options
 abbrev pub arguments : List Rule
 arguments = short_option (codes "-t") ∷ short_option (codes "-f")
     ∷ long_option (codes "--take") ∷ long_option (codes "--resume")
-    ∷ short_flag (codes "-s") ∷ long_flag (codes "--stdin")
-    ∷ short_flag (codes "-d") ∷ short_flag (codes "-x") ∷ long_option (codes "--directory")
-    ∷ long_flag (codes "--dyndep") ∷ long_flag (codes "--validations")
-    ∷ long_flag (codes "--dependency-order") ∷ long_flag (codes "--no-shell-escape") ∷ long_flag (codes "--print0")
-    ∷ all_words ∷ []
+    ∷ flag (short_option (codes "-s")) ∷ flag (long_option (codes "--stdin"))
+    ∷ flag (short_option (codes "-d")) ∷ flag (short_option (codes "-x")) ∷ long_option (codes "--directory")
+    ∷ flag (long_option (codes "--dyndep")) ∷ flag (long_option (codes "--validations"))
+    ∷ flag (long_option (codes "--dependency-order")) ∷ flag (long_option (codes "--no-shell-escape"))
+    ∷ flag (long_option (codes "--print0")) ∷ record (new_rule (codes "words")) { action = Some Append } ∷ []
 
 unfoldable pub command : App
 command = record nothing_yet { top = record nothing_yet.top { rules = arguments } }

@@ -1,5 +1,5 @@
 -- The values of a command line's arguments, as `clap` reads them: rows of values, each under the text of its option.
-use Rattle.std.specs.Prelude.{ℕ, Bool, false, not, if◌then◌else◌, List, [], codes, Option, Some, None, unwrap_or}
+use Rattle.std.specs.Prelude.{ℕ, Bool, false, if◌then◌else◌, List, [], codes, Option, Some, None, unwrap_or}
 use Rattle.std.specs.Option.{option_map_or}
 use Rattle.std.specs.Str.{bytes_eq}
 use Rattle.clap.specs.Words.{Row, all_of, fault_of, first_of, matches_of}
@@ -14,10 +14,6 @@ is_on option rows = option_map_or (λ text. bytes_eq text (codes "true")) (first
 abbrev pub words_in : List Row → List (List ℕ)
 words_in rows = unwrap_or (all_of (codes "words") rows) []
 
--- `clap` refuses the arguments, for a cause other than memory
-abbrev pub is_refused : (words : List (List ℕ)) → Bool
-is_refused words = not (is_empty (fault_of command words))
-
--- the rows of the arguments, where `clap` does not refuse them
+-- the rows of the arguments, where `clap` does not refuse them for a cause other than memory
 abbrev pub given_rows : (words : List (List ℕ)) → Option (List Row)
-given_rows words = if is_refused words then None else Some (matches_of command words)
+given_rows words = if is_empty (fault_of command words) then Some (matches_of command words) else None

@@ -1,12 +1,12 @@
 -- The numbers of a command line.
-use Rattle.std.specs.Prelude.{ℕ, ◌&&◌, Bool, false, nat_le, if◌then◌else◌, Option, Some, None, List, [], ◌∷◌}
+use Rattle.std.specs.Prelude.{ℕ, ◌&&◌, Bool, not, nat_le, if◌then◌else◌, Option, Some, None, List}
 use Rattle.std.specs.Str.{all_ascii_digits}
 use Rattle.std.specs.Str.Parse.{digits_value}
+use Rattle.nj_text.specs.Calls.{is_empty}
 
 -- one digit or more, and nothing else
 abbrev pub is_digits : List ℕ → Bool
-is_digits [] = false
-is_digits (digit ∷ digits) = all_ascii_digits (digit ∷ digits)
+is_digits text = not (is_empty text) && all_ascii_digits text
 
 -- the number that decimal digits give, with or without leading zeros, up to a greatest one
 abbrev pub given_up_to : (greatest : ℕ) → List ℕ → Option ℕ

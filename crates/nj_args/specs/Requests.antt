@@ -1,8 +1,9 @@
 -- The request of a command line's arguments.
-use Rattle.std.specs.Prelude.{ℕ, Bool, true, false, not, if◌then◌else◌, List, [], ◌∷◌, codes}
+use Rattle.std.specs.Prelude.{ℕ, Bool, true, false, not, if◌then◌else◌, List, [], ◌∷◌, find, codes}
 use Rattle.std.specs.Prelude.{Option, Some, None, option_map, unwrap_or, ok_or, Result, Ok, Err}
 use Rattle.std.specs.Option.{option_map_or}
 use Rattle.std.specs.Str.{bytes_eq}
+use Rattle.nj_text.specs.Calls.{is_empty}
 use Rattle.nj_manifest.specs.LineSteps.{◌>>=◌}
 use Rattle.nj_requests.specs.Actions.{ActionModel, commands, single_commands, inputs, targets, query, rules, compdb, RequestModel}
 use Rattle.nj_requests.specs.declared.style.InputsStyle.{InputsStyle}
@@ -12,7 +13,7 @@ use Rattle.clap.specs.Words.{Row, first_of}
 use Rattle.nj_args.specs.Fields.{given_rows, is_on, words_in}
 use Rattle.nj_args.specs.Numbers.{given_number, given_depth}
 use Rattle.nj_args.specs.RunMarks.{given_run_mark}
-use Rattle.nj_args.specs.Tools.{tool_named, first_foreign}
+use Rattle.nj_args.specs.Tools.{tool_named, is_foreign, all_options}
 use Rattle.nj_args.specs.declared.usage_fault.UsageFault.{UsageFault}
 use Rattle.nj_args.specs.declared.usage_fault.UsageFault.TheVariants.{Unparsed, UnknownTool, ForeignOption, BadNumber, BadMark, BadWords}
 use Rattle.nj_args.specs.declared.tools.Tool.{Tool}
@@ -37,10 +38,6 @@ commands_of rows = if is_on (codes "-s") rows then Ok (single_commands (words_in
 
 -- ---- `targets`
 
--- this many levels
-abbrev pub depth_of : (text : List ℕ) → Result TargetsView UsageFault
-depth_of text = ok_or (option_map Depth (given_depth text)) (BadNumber text)
-
 -- `depth`, `depth N`, `all`, `rule` or `rule NAME`; without arguments as `depth 1`
 abbrev pub view_of : (name : List ℕ) (words : List (List ℕ)) → Result TargetsView UsageFault
 view_of name [] = Ok (Depth 1)
@@ -50,12 +47,12 @@ view_of name (word ∷ []) =
     else if bytes_eq word (codes "rule") then Ok Sources
     else Err (BadWords name)
 view_of name (word ∷ value ∷ []) =
-    if bytes_eq word (codes "depth") then depth_of value
+    if bytes_eq word (codes "depth") then ok_or (option_map Depth (given_depth value)) (BadNumber value)
     else if bytes_eq word (codes "rule") then Ok (OfRule value)
     else Err (BadWords name)
 view_of name (word ∷ value ∷ more ∷ words) = Err (BadWords name)
 
--- ---- the other tools
+-- ---- `inputs`
 
 -- the list is sorted and quoted for a shell, one path a line, unless an option changes that
 abbrev pub style_of : List Row → InputsStyle
@@ -65,37 +62,24 @@ style_of rows = record {
   zero = is_on (codes "--print0") rows;
 }
 
--- one file or more
-abbrev pub query_of : (name : List ℕ) (words : List (List ℕ)) → Result ActionModel UsageFault
-query_of name [] = Err (BadWords name)
-query_of name (word ∷ words) = Ok (query (word ∷ words))
-
--- no arguments
-abbrev pub rules_of : (name : List ℕ) (descriptions : Bool) (words : List (List ℕ)) → Result ActionModel UsageFault
-rules_of name descriptions [] = Ok (rules descriptions)
-rules_of name descriptions (word ∷ words) = Err (BadWords name)
-
 -- ---- the request
 
--- The action of the tool of this name, by options that go with it. `inputs` takes any number of targets, and `compdb` any number of
--- rules; the working directory is its directory where no other is given.
+-- The action of the tool of this name, by options that go with it. `inputs` takes any number of targets, `query` one file or more, `rules`
+-- no arguments, and `compdb` any number of rules; the working directory is its directory where no other is given.
 abbrev pub asked_of : Tool → (name : List ℕ) → List Row → Result ActionModel UsageFault
 asked_of tool.Commands name rows = commands_of rows
 asked_of tool.Inputs name rows = Ok (inputs (words_in rows) (is_on (codes "--validations") rows) (style_of rows))
 asked_of tool.Targets name rows = view_of name (words_in rows) >>= (λ view. Ok (targets view))
-asked_of tool.Query name rows = query_of name (words_in rows)
-asked_of tool.Rules name rows = rules_of name (is_on (codes "-d") rows) (words_in rows)
+asked_of tool.Query name rows = if is_empty (words_in rows) then Err (BadWords name) else Ok (query (words_in rows))
+asked_of tool.Rules name rows = if is_empty (words_in rows) then Ok (rules (is_on (codes "-d") rows)) else Err (BadWords name)
 asked_of tool.Compdb name rows =
     Ok (compdb (words_in rows) (unwrap_or (first_of (codes "--directory") rows) (codes ".")) (is_on (codes "-x") rows))
 
--- an option that does not go with the tool is a fault
+-- the first option that was given and does not go with the tool is a fault
 abbrev pub action_of : (name : List ℕ) → List Row → Result ActionModel UsageFault
 action_of name rows = do
   tool ← ok_or (tool_named name) (UnknownTool name)
-  option_map_or (λ option. Err (ForeignOption option name)) (first_foreign tool rows) (asked_of tool name rows)
-
-abbrev pub main_file : List ℕ
-main_file = codes "build.ninja"
+  option_map_or (λ option. Err (ForeignOption option name)) (find (is_foreign tool rows) all_options) (asked_of tool name rows)
 
 -- a tool is required
 abbrev pub request_in : List Row → Result RequestModel UsageFault
@@ -103,20 +87,13 @@ request_in rows = do
   name ← ok_or (first_of (codes "-t") rows) Unparsed
   action ← action_of name rows
   Ok (record {
-    file = unwrap_or (first_of (codes "-f") rows) main_file;
+    file = unwrap_or (first_of (codes "-f") rows) (codes "build.ninja");
     from_stdin = is_on (codes "--stdin") rows;
     dyndep = is_on (codes "--dyndep") rows;
     action = action;
   })
 
--- the rows are those that `clap` reads in the arguments
-abbrev pub given_request : (words : List (List ℕ)) → Result RequestModel UsageFault
-given_request words = ok_or (given_rows words) Unparsed >>= request_in
-
--- without any arguments: all commands of a file from standard input
-abbrev pub wordless : RequestModel
-wordless = record { file = main_file; from_stdin = true; dyndep = false; action = commands [] false None [] }
-
+-- Without any arguments: all commands of a file from standard input. Else the rows are those that `clap` reads in the arguments.
 unfoldable pub request_of : (words : List (List ℕ)) → Result RequestModel UsageFault
-request_of [] = Ok wordless
-request_of (word ∷ words) = given_request (word ∷ words)
+request_of [] = Ok (record { file = codes "build.ninja"; from_stdin = true; dyndep = false; action = commands [] false None [] })
+request_of (word ∷ words) = ok_or (given_rows (word ∷ words)) Unparsed >>= request_in

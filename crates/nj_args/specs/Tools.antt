@@ -1,5 +1,5 @@
 -- The tools, and which options go with which.
-use Rattle.std.specs.Prelude.{ℕ, ◌&&◌, Bool, true, false, not, if◌then◌else◌, List, [], ◌∷◌, find, codes, Option, Some, None, is_some}
+use Rattle.std.specs.Prelude.{ℕ, ◌&&◌, Bool, true, false, not, if◌then◌else◌, List, [], ◌∷◌, codes, Option, Some, None, is_some}
 use Rattle.std.specs.List.{list_any}
 use Rattle.std.specs.Str.{bytes_eq}
 use Rattle.clap.specs.Words.{Row, first_of}
@@ -44,10 +44,4 @@ is_foreign tool rows option =
 
 -- in the order in which they are reported
 abbrev pub all_options : List ToolOption
-all_options =
-    Single ∷ Descriptions ∷ Expand ∷ Directory ∷ Take ∷ Resume ∷ Validations
-    ∷ DependencyOrder ∷ NoShellEscape ∷ Print0 ∷ []
-
--- the first option that was given and does not go with the tool
-abbrev pub first_foreign : Tool → List Row → Option ToolOption
-first_foreign tool rows = find (is_foreign tool rows) all_options
+all_options = Single ∷ Descriptions ∷ Expand ∷ Directory ∷ Take ∷ Resume ∷ Validations ∷ DependencyOrder ∷ NoShellEscape ∷ Print0 ∷ []

@@ -2,8 +2,8 @@
 
 ghost use Rattle.std.specs.Prelude.{◌≡◌, false, IfOk, Some, codes};
 ghost use Rattle.clap.specs.Words.{app_of, rule_of};
-ghost use Rattle.nj_args.specs.CommandLine.{command, nothing_yet, long_flag, all_words};
-ghost use Rattle.nj_args.specs.Inside.Held.{with_letter, with_name, as_flag};
+ghost use Rattle.nj_args.specs.CommandLine.{command, nothing_yet, flag};
+ghost use Rattle.nj_args.specs.Inside.Held.{with_letter, with_name, all_words};
 
 use clap::{Arg, ArgAction, Command};
 use std::alloc::{AllocError, Global};
@@ -57,7 +57,7 @@ fn long_option<'a>(alloc: Global, text: &'a str, name: &'a str) -> Arg<'a>
 
 // `-L`, kept under this text.
 fn short_flag<'a>(alloc: Global, text: &'a str, letter: char) -> Arg<'a>
-    ensures rule { rule_of result ≡ as_flag (with_letter text.entry.now letter) }
+    ensures rule { rule_of result ≡ flag (with_letter text.entry.now letter) }
     ensures local { result.global ≡ false }
 {
     short_option(alloc, text, letter).action(ArgAction::SetTrue)
@@ -65,7 +65,7 @@ fn short_flag<'a>(alloc: Global, text: &'a str, letter: char) -> Arg<'a>
 
 // `--NAME`, kept under this text.
 fn long_flag<'a>(alloc: Global, text: &'a str, name: &'a str) -> Arg<'a>
-    ensures rule { rule_of result ≡ as_flag (with_name text.entry.now name.entry.now) }
+    ensures rule { rule_of result ≡ flag (with_name text.entry.now name.entry.now) }
     ensures local { result.global ≡ false }
 {
     long_option(alloc, text, name).action(ArgAction::SetTrue)

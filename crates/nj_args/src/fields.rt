@@ -4,8 +4,8 @@ ghost use Rattle.std.specs.Prelude.{◌≡◌, ◌⊎◌, IfOk, IfErr, OnOk, tru
 ghost use Rattle.std.specs.Option.{option_copied};
 ghost use Rattle.clap.specs.Words.{first_of, matches_of};
 ghost use Rattle.nj_args.specs.CommandLine.{command};
-ghost use Rattle.nj_args.specs.Fields.{is_on, words_in, is_refused};
-ghost use Rattle.nj_args.specs.Inside.Held.{rows_in, word_strings, refusal};
+ghost use Rattle.nj_args.specs.Fields.{is_on, words_in};
+ghost use Rattle.nj_args.specs.Inside.Held.{rows_in, word_strings, is_refused, refusal};
 ghost use Rattle.nj_args.specs.declared.usage_fault.UsageFault.TheVariants.{Unparsed, OutOfMemory};
 
 use crate::command::command;

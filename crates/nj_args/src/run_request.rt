@@ -5,7 +5,6 @@ ghost use Rattle.nj_needs.specs.MarkTexts.{given_mark};
 ghost use Rattle.std.specs.Option.{option_copied};
 ghost use Rattle.nj_args.specs.Requests.{
   request_of,
-  given_request,
   request_in,
   action_of,
   asked_of,
@@ -14,18 +13,18 @@ ghost use Rattle.nj_args.specs.Requests.{
   start_of,
   style_of,
   view_of,
-  depth_of,
-  query_of,
-  rules_of,
-  main_file,
-  wordless,
 };
 ghost use Rattle.nj_args.specs.Inside.Held.{
   rows_in,
   word_strings,
+  depth_of,
   inputs_of,
   targets_of,
+  query_of,
+  rules_of,
   compdb_of,
+  given_request,
+  wordless,
 };
 ghost use Rattle.nj_args.specs.RunMarks.{given_run_mark};
 ghost use Rattle.nj_requests.specs.Actions.{action_model, request_model};

@@ -1,23 +1,30 @@
 -- How the code represents the rows of the arguments. Nothing here has to be believed.
-use Rattle.std.specs.Prelude.{ℕ, ◌==◌, Bool, true, false, if◌then◌else◌, List, [], ◌∷◌, map, Option, Some, option_map, unwrap_or, codes, Result, Ok}
+use Rattle.std.specs.Prelude.{ℕ, ◌==◌, Bool, true, false, not, if◌then◌else◌, List, [], ◌∷◌, find, map, codes}
+use Rattle.std.specs.Prelude.{Option, Some, None, option_map, unwrap_or, ok_or, Result, Ok, Err}
 use Rattle.std.specs.Borrow.{Bor}
 use Rattle.std.specs.List.{list_any}
 use Rattle.std.specs.Str.{bytes_eq}
-use Rattle.clap.specs.Words.{Row, Rule, first_of, found_of, new_rule, rows_of}
-use Rattle.clap.specs.declared.builder.ArgAction.TheVariants.{SetTrue}
+use Rattle.clap.specs.Words.{Row, Rule, fault_of, first_of, found_of, new_rule, rows_of}
+use Rattle.clap.specs.Walk as clap
+use Rattle.clap.specs.declared.builder.ArgAction.TheVariants.{Append}
 use Rattle.clap.specs.declared.parser.matches.ArgMatches.{ArgMatches}
 use Rattle.clap.specs.declared.error.kind.ErrorKind.{ErrorKind}
 use Rattle.clap.specs.declared.error.kind.ErrorKind.TheVariants as kind
+use Rattle.nj_text.specs.Calls.{is_empty}
 use Rattle.nj_manifest.specs.LineSteps.{◌>>=◌}
+use Rattle.nj_args.specs.CommandLine.{command}
 use Rattle.nj_args.specs.FaultLines.{option_text}
-use Rattle.nj_args.specs.Fields.{is_on, words_in}
-use Rattle.nj_requests.specs.Actions.{ActionModel, inputs, targets, compdb}
-use Rattle.nj_args.specs.Requests.{style_of, view_of}
-use Rattle.nj_args.specs.Tools.{options_of}
+use Rattle.nj_args.specs.Fields.{given_rows, is_on, words_in}
+use Rattle.nj_args.specs.Numbers.{given_depth}
+use Rattle.nj_requests.specs.Actions.{ActionModel, commands, inputs, targets, query, rules, compdb, RequestModel}
+use Rattle.nj_requests.specs.declared.view.TargetsView.{TargetsView}
+use Rattle.nj_requests.specs.declared.view.TargetsView.TheVariants.{Depth}
+use Rattle.nj_args.specs.Requests.{request_in, style_of, view_of}
+use Rattle.nj_args.specs.Tools.{all_options, is_foreign, options_of}
 use Rattle.nj_args.specs.declared.usage_fault.ToolOption.{ToolOption}
 use Rattle.nj_args.specs.declared.tools.Tool.{Tool}
 use Rattle.nj_args.specs.declared.usage_fault.UsageFault.{UsageFault}
-use Rattle.nj_args.specs.declared.usage_fault.UsageFault.TheVariants.{Unparsed, OutOfMemory}
+use Rattle.nj_args.specs.declared.usage_fault.UsageFault.TheVariants.{Unparsed, BadNumber, BadWords, OutOfMemory}
 
 abbrev pub word_strings : Option (Bor (List (Bor (List ℕ)))) → List (List ℕ)
 word_strings words = unwrap_or (option_map (λ strings. map (λ text. text.now) strings.now) words) []
@@ -33,9 +40,13 @@ with_letter text letter = record (new_rule text) { short = Some letter }
 abbrev pub with_name : (text name : List ℕ) → Rule
 with_name text name = record (new_rule text) { long = Some name }
 
--- without a value
-abbrev pub as_flag : Rule → Rule
-as_flag rule = record rule { action = Some SetTrue }
+-- the arguments that are not options
+abbrev pub all_words : Rule
+all_words = record (new_rule (codes "words")) { action = Some Append }
+
+-- `clap` refuses the arguments, for a cause other than memory
+abbrev pub is_refused : (words : List (List ℕ)) → Bool
+is_refused words = not (clap.is_empty (fault_of command words))
 
 -- a sign that the standard library's reading of numbers takes
 abbrev pub begins_with_plus : List ℕ → Bool
@@ -54,12 +65,33 @@ refusal kind = if is_memory kind then OutOfMemory else Unparsed
 abbrev pub goes_with : Tool → (is_single : Bool) → ToolOption → Bool
 goes_with tool is_single option = list_any (λ one. bytes_eq (option_text one) (option_text option)) (options_of tool is_single)
 
--- the actions of `inputs`, `targets` and `compdb`
+-- the first option that was given and does not go with the tool
+abbrev pub first_foreign : Tool → List Row → Option ToolOption
+first_foreign tool rows = find (is_foreign tool rows) all_options
+
+-- the list of `targets` with this many levels
+abbrev pub depth_of : (text : List ℕ) → Result TargetsView UsageFault
+depth_of text = ok_or (option_map Depth (given_depth text)) (BadNumber text)
+
+-- the actions of the other tools
 abbrev pub inputs_of : List Row → Result ActionModel UsageFault
 inputs_of rows = Ok (inputs (words_in rows) (is_on (codes "--validations") rows) (style_of rows))
 
 abbrev pub targets_of : (name : List ℕ) → List Row → Result ActionModel UsageFault
 targets_of name rows = view_of name (words_in rows) >>= (λ view. Ok (targets view))
 
+abbrev pub query_of : (name : List ℕ) (words : List (List ℕ)) → Result ActionModel UsageFault
+query_of name words = if is_empty words then Err (BadWords name) else Ok (query words)
+
+abbrev pub rules_of : (name : List ℕ) (descriptions : Bool) (words : List (List ℕ)) → Result ActionModel UsageFault
+rules_of name descriptions words = if is_empty words then Ok (rules descriptions) else Err (BadWords name)
+
 abbrev pub compdb_of : List Row → Result ActionModel UsageFault
 compdb_of rows = Ok (compdb (words_in rows) (unwrap_or (first_of (codes "--directory") rows) (codes ".")) (is_on (codes "-x") rows))
+
+-- the request of arguments, and the one without any
+abbrev pub given_request : (words : List (List ℕ)) → Result RequestModel UsageFault
+given_request words = ok_or (given_rows words) Unparsed >>= request_in
+
+abbrev pub wordless : RequestModel
+wordless = record { file = codes "build.ninja"; from_stdin = true; dyndep = false; action = commands [] false None [] }

@@ -1,7 +1,7 @@
 use Rattle.std.proofs.Common.{◌≡◌, List, ℕ, ◌∙◌, map, string_bytes}
 use Rattle.std.proofs.lemmas.Result.{IfOk-weaker, IfErr-weaker}
-use Rattle.nj_args.specs.Inside.Held.{rows_in}
-use Rattle.nj_args.specs.Requests.{given_request, request_in}
+use Rattle.nj_args.specs.Inside.Held.{given_request, rows_in}
+use Rattle.nj_args.specs.Requests.{request_in}
 use Rattle.nj_args.proofs.Given.{given, unparsed, same_fault}
 use Rattle.nj_args.proofs.run_request.given_request.Goals as goal
 
