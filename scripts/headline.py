@@ -24,10 +24,11 @@ PHRASES = {
     ],
     "and every list of targets,": ["nj_cli/Targets targets_of"],
     "`commands` writes the commands of": [
-        "nj_cli/Runs IsReported",
+        "nj_cli/Runs RunEnds",
         "nj_cli/Headline WritesTheNeeded",
         "nj_cli/Answers output_of",
-        "nj_cli/Answers page_text",
+        "nj_cli/Answers asked_targets",
+        "nj_cli/Answers output_for",
         "nj_tools/CommandStrings command_lines",
         "nj_cli/Answers EndsWith",
         "nj_cli/Answers EndsFor",

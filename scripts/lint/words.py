@@ -21,7 +21,7 @@ FAULT_STRINGS = {
     "crates/nj_faults/specs/Versions.antt": ["reader_version_text"],
     "crates/nj_manifest/specs/Faults.antt": ["wanted_text", "syntax_text"],
     "crates/nj_args/specs/FaultLines.antt": ["fault_text"],
-    "crates/nj_cli/specs/Answers.antt": ["out_of_range"],
+    "crates/nj_cli/specs/Answers.antt": ["PageEnds"],
 }
 
 

@@ -1,18 +1,18 @@
 -- The session after a run.
-use Rattle.std.proofs.Common.{◌≡◌, ◌≢◌, ◌⊎◌, inl, inr, ℕ, ◌+◌, ◌-◌, ◌^◌, min, ℤ, pos, Bool, true, false, Ok, Err, Result, List, [], refl, sym, ap, subst, ◌∙◌, arith, true≢false}
+use Rattle.std.proofs.Common.{◌≡◌, ◌≢◌, inl, inr, ℕ, ◌+◌, ◌-◌, ◌^◌, min, ℤ, pos, Bool, true, false, Ok, Err, Result, List, [], refl, sym, ap, subst, ◌∙◌, arith, true≢false}
 use Rattle.nj_tools.specs.MemorySinks.{state_of}
 use Rattle.nj_requests.specs.Actions.{ActionModel, RequestModel}
 use Rattle.nj_args.specs.Requests.{request_of}
 use Rattle.nj_args.specs.declared.usage_fault.UsageFault.{UsageFault}
 use Rattle.nj_scope.specs.ReadingList.{ReadStatement}
-use Rattle.nj_tools.specs.Sinks.{SinkState, FailsAfter, FailsWithin}
+use Rattle.nj_tools.specs.Sinks.{SinkState, FailsAfter}
 use Rattle.nj_cli.specs.declared.status.Status as run
 use Rattle.nj_cli.specs.declared.status.Status.TheVariants as cli
 use Rattle.nj_cli.specs.declared.status.Status.TheVariants.{OutputFailed, Usage}
-use Rattle.nj_cli.specs.Answers.{Ending, finished, stopped, faulty, follows_validations, error_of, status_of, status_untold}
-use Rattle.nj_cli.specs.Reported.{Took}
-use Rattle.nj_cli.specs.Runs.{Around, RunsWith, RunsWords, around}
-use Rattle.nj_cli.specs.Inside.RunSteps.{RunEnds}
+use Rattle.nj_cli.specs.Answers.{Ending, finished, stopped, faulty}
+use Rattle.nj_cli.specs.Reported.{Reports}
+use Rattle.nj_cli.specs.Runs.{Around, RunEnds, RunsWith, RunsWords, around}
+use Rattle.nj_cli.specs.Runs.RunEnds.{reported, output_fails, memory_fails}
 use Rattle.nj_cli.specs.Status.{exit_code}
 use Rattle.nj_c.specs.declared.session_state.Kept.{Kept}
 use Rattle.nj_c.specs.declared.status.Status.{Status}
@@ -149,32 +149,29 @@ is-failed other = false
 other-status : (status is : run.Status) → is-failed is ≡ false → status ≡ is → status ≢ OutputFailed
 other-status status is other same failed = true≢false (ap is-failed (sym failed ∙ same) ∙ other)
 
-reported-status : (ending : Ending) → is-failed (status_of ending) ≡ false
-reported-status finished = refl
-reported-status (stopped mark) = refl
-reported-status (faulty text) = refl
-
 -- a sink that failed counts that
 fails-once : (old new : SinkState) (front : List ℕ) → old ≡ untouched → FailsAfter old new front → new.failures ≡ 0 → ⊥
 fails-once old new front begun fails none =
     let one : min (0 + 1) (2 ^ 64 - 1) ≡ 0 = sym (fails.failures ∙ ap (λ s. min (s.failures + 1) (2 ^ 64 - 1)) begun) ∙ none in absurd (omega (arith, one))
 
+told-so : (ending : Ending) (old new : SinkState) (ended : run.Status) → old ≡ untouched → new.failures ≡ 0 → Reports ending old new ended → ended ≢ OutputFailed
+told-so finished old new ended begun none (same, is) = other-status ended cli.Done refl is
+told-so (stopped mark) old new ended begun none (inl (took, is)) = other-status ended cli.Stopped refl is
+told-so (stopped mark) old new ended begun none (inr (failed, is)) = absurd (fails-once old new failed.0 begun failed.2 none)
+told-so (faulty text) old new ended begun none (told, is) = other-status ended cli.Fault refl is
+
 ends-so : (entries : List ReadStatement) (action : ActionModel) (old new : Around) (ended : run.Status) → old.output ≡ untouched → old.error ≡ untouched
     → new.output.failures ≡ 0 → new.error.failures ≡ 0 → RunEnds entries action old new ended → ended ≢ OutputFailed
-ends-so entries action old new ended out err no-out no-err (inl r) = told r.error
-  where
-    told : (Took old.error new.error (error_of (follows_validations action) r.ending) × (ended ≡ status_of r.ending))
-        ⊎ (FailsWithin old.error new.error (error_of (follows_validations action) r.ending) × (ended ≡ status_untold r.ending)) → ended ≢ OutputFailed
-    told (inl (took, is)) = other-status ended (status_of r.ending) (reported-status r.ending) is
-    told (inr (failed, is)) = absurd (fails-once old.error new.error failed.0 err failed.2 no-err)
-ends-so entries action old new ended out err no-out no-err (inr (inl r)) = absurd (fails-once old.output new.output r.output.0 out r.output.2 no-out)
-ends-so entries action old new ended out err no-out no-err (inr (inr r)) = other-status ended cli.Fault refl r.status_is
+ends-so entries action old new ended out err no-out no-err (reported ending ends took told) = told-so ending old.error new.error ended err no-err told
+ends-so entries action old new _ out err no-out no-err (output_fails failed same) =
+    absurd (fails-once old.output new.output failed.0 out failed.2 no-out)
+ends-so entries action old new _ out err no-out no-err (memory_fails front told) = other-status cli.Fault cli.Fault refl refl
 
 request-ends : (request : Result RequestModel UsageFault) (old new : Around) (ended : run.Status) → old.output ≡ untouched → old.error ≡ untouched
     → new.output.failures ≡ 0 → new.error.failures ≡ 0 → RunsWith request old new ended → ended ≢ OutputFailed
 request-ends (Ok request) old new ended out err no-out no-err (files, read, inl refused) = other-status ended cli.Fault refl refused.status_is
 request-ends (Ok request) old new ended out err no-out no-err (files, read, inr answered) =
-    ends-so answered.entries request.action old new ended out err no-out no-err answered.outcomes
+    ends-so answered.entries request.action old new ended out err no-out no-err answered.ends
 request-ends (Err fault) old new ended out err no-out no-err misused = other-status ended Usage refl misused.1
 
 words-end : (words : List (List ℕ)) (old new : Around) (ended : run.Status) → old.output ≡ untouched → old.error ≡ untouched

@@ -29,7 +29,8 @@ use Rattle.nj_args.specs.declared.usage_fault.UsageFault.TheVariants.{BadMark}
 use Rattle.nj_needs.specs.PageWalks.{written}
 use Rattle.nj_tools.specs.CommandStrings.{command_lines}
 use Rattle.nj_tools.specs.Inside.Commands.{command_line}
-use Rattle.nj_cli.specs.Answers.{leads, commands_left, IsMarkOf, for_targets, page_text, output_of, Ending, finished, stopped, faulty, PageEnds, EndsFor, Finishes, EndsWith}
+use Rattle.nj_cli.specs.Answers.{leads, commands_left, IsMarkOf, output_for, output_of, Ending, finished, stopped, faulty, PageEnds, EndsWith}
+use Rattle.nj_cli.specs.Inside.RunSteps.{for_targets, EndsOr, Finishes}
 use Rattle.nj_cli.specs.Headline.{AreNeeded, WritesTheNeeded, IsRun, ArePageStrings, PageStringsJoin, StoppedRunsContinue, OneEnding}
 use Rattle.nj_cli.specs.Headline.ArePageStrings.{no_runs, finishes, stops}
 use Rattle.nj_graph.specs.Targets.{targets_named}
@@ -47,23 +48,23 @@ pub record Page (entries : List ReadStatement) (take : Option ℕ) (start : List
   pub targets : List (List ℕ)
   pub named : targets_of entries validations words ≡ Ok targets
   pub leads_so : leads entries targets start ≡ true
-  pub ends_so : PageEnds entries take start targets ending
+  pub ends_so : PageEnds entries validations take start targets ending
 
 not-faulty : (ending : Ending) (text : List ℕ) → Goes ending → ending ≡ faulty text → ⊥
 not-faulty finished text goes is = absurd cc
 not-faulty (stopped mark) text goes is = absurd cc
 not-faulty (faulty other) text goes is = goes
 
-leading : (entries : List ReadStatement) (take : Option ℕ) (start : List ℕ) (targets : List (List ℕ)) (ending : Ending) → Goes ending
-    → PageEnds entries take start targets ending → leads entries targets start ≡ true
-leading entries take start targets finished goes ends_so = ends_so.0
-leading entries take start targets (stopped mark) goes ends_so = ends_so.0
-leading entries take start targets (faulty text) goes ends_so = absurd goes
+leading : (entries : List ReadStatement) (validations : Bool) (take : Option ℕ) (start : List ℕ) (targets : List (List ℕ)) (ending : Ending) → Goes ending
+    → PageEnds entries validations take start targets ending → leads entries targets start ≡ true
+leading entries validations take start targets finished goes ends_so = ends_so.0
+leading entries validations take start targets (stopped mark) goes ends_so = ends_so.0
+leading entries validations take start targets (faulty text) goes ends_so = absurd goes
 
 module _ (entries : List ReadStatement) (take : Option ℕ) (start : List ℕ) (words : List (List ℕ)) (validations : Bool) (ending : Ending) (goes : Goes ending) where
-  page-of : (ts : Result (List (List ℕ)) GraphFault) → targets_of entries validations words ≡ ts → EndsFor (PageEnds entries take start) ts ending → Page entries take start words validations ending
+  page-of : (ts : Result (List (List ℕ)) GraphFault) → targets_of entries validations words ≡ ts → EndsOr (PageEnds entries validations take start) ts ending → Page entries take start words validations ending
   page-of (Ok targets) named ends_so =
-      record { targets = targets; named = named; leads_so = leading entries take start targets ending goes ends_so; ends_so = ends_so }
+      record { targets = targets; named = named; leads_so = leading entries validations take start targets ending goes ends_so; ends_so = ends_so }
   page-of (Err f) named refused = absurd (not-faulty ending (fault_line f) goes refused)
 
   pub page : EndsWith entries (commands words validations take start) ending → Page entries take start words validations ending
@@ -73,14 +74,14 @@ module _ (entries : List ReadStatement) (take : Option ℕ) (start : List ℕ) (
 pub output-is : (entries : List ReadStatement) (take : Option ℕ) (start : List ℕ) (words : List (List ℕ)) (validations : Bool) (targets : List (List ℕ)) → targets_of entries validations words ≡ Ok targets → leads entries targets start ≡ true
     → output_of entries (commands words validations take start) ≡ command_lines entries (written take (commands_left entries targets start))
 output-is entries take start words validations targets named leads_so =
-    ap (for_targets (page_text entries take start)) named
+    ap (for_targets (output_for entries (commands words validations take start))) named
     ∙ ap (λ (b : Bool). if b then command_lines entries (written take (commands_left entries targets start)) else []) leads_so
 
 -- a run with a mark that leads to an edge finishes, if nothing limits it
 finishes-unlimited : (entries : List ReadStatement) (start : List ℕ) (words : List (List ℕ)) (validations : Bool) (targets : List (List ℕ)) → targets_of entries validations words ≡ Ok targets → leads entries targets start ≡ true
     → EndsWith entries (commands words validations None start) finished
 finishes-unlimited entries start words validations targets named leads_so =
-    subst (λ (ts : Result (List (List ℕ)) GraphFault). EndsFor (PageEnds entries None start) ts finished) (sym named) (leads_so, refl)
+    subst (λ (ts : Result (List (List ℕ)) GraphFault). EndsOr (PageEnds entries validations None start) ts finished) (sym named) (leads_so, refl)
 
 -- ---- the needed commands
 
@@ -125,9 +126,10 @@ run-is words validations limit resume run start meant (other, given_too, is) =
     let same : other ≡ start = cc in is ∙ ap (commands words validations limit) same
 
 -- a mark that reads back is the mark of its text
-start-meant : (validations : Bool) (mark : List ℕ) → ReadsBack mark → start_of validations (Some (run_mark_text validations mark)) ≡ Ok mark
-start-meant validations mark back =
-    ap (λ (meant : Option (List ℕ)). ok_or meant (BadMark (run_mark_text validations mark))) (run-mark_reads_back validations mark back)
+start-meant : (validations : Bool) (text mark : List ℕ) → ReadsBack mark → text ≡ run_mark_text validations mark → start_of validations (Some text) ≡ Ok mark
+start-meant validations text mark back text_is =
+    ap (λ (t : List ℕ). start_of validations (Some t)) text_is
+    ∙ ap (λ (meant : Option (List ℕ)). ok_or meant (BadMark (run_mark_text validations mark))) (run-mark_reads_back validations mark back)
 
 module _ (entries : List ReadStatement) (words : List (List ℕ)) (validations : Bool) (targets : List (List ℕ)) (named : targets_of entries validations words ≡ Ok targets) (none : NoEdgeNeedsItself (edges_by_path entries)) where
   -- after a page: the mark leads to an edge, and the rest is left there
@@ -157,16 +159,17 @@ module _ (entries : List ReadStatement) (words : List (List ℕ)) (validations :
       ∙ ap (λ (es : List ℕ). command_lines entries (take count left) ++ command_lines entries es) none_left
       ∙ ap (λ (t : List ℕ). t ++ []) (sym (output-is entries (Some count) start words validations targets named leads_so) ∙ ap (output_of entries) (sym run_is) ∙ is)
       ∙ ap (λ (t : List ℕ). t ++ []) (sym (append-nil output))
-  join resume start meant _ _ rest leads_so (stops {takes = takes} {output = output} {take = count} {outputs = outputs} run mark asked ends_so is more) =
+  join resume start meant _ _ rest leads_so (stops {takes = takes} {output = output} {take = count} {outputs = outputs} run text asked ends_so is more) =
       let run_is = run-is words validations (Some count) resume run start meant asked in
-      let p = page entries (Some count) start words validations (stopped mark) tt (subst (λ (a : ActionModel). EndsWith entries a (stopped mark)) run_is ends_so) in
+      let p = page entries (Some count) start words validations (stopped text) tt (subst (λ (a : ActionModel). EndsWith entries a (stopped text)) run_is ends_so) in
+      let (led, some, mark, is_mark, back, text_is) = p.ends_so in
       let left = commands_left entries targets start in
       let marked : IsMarkOf entries targets start (written (Some count) left) mark =
-      subst (λ (ts : List (List ℕ)). IsMarkOf entries ts start (written (Some count) (commands_left entries ts start)) mark) (same-targets entries words validations targets p.targets named p.named) p.ends_so.2 in
+      subst (λ (ts : List (List ℕ)). IsMarkOf entries ts start (written (Some count) (commands_left entries ts start)) mark) (same-targets entries words validations targets p.targets named p.named) is_mark in
       let (leads_on, left_on) = after-page start count mark leads_so marked in
       let on : command_lines entries (drop count left) ≡ concat outputs ++ rest =
       ap (command_lines entries) (sym left_on) ∙ sym (output-is entries None mark words validations targets named leads_on)
-      ∙ join (Some (run_mark_text validations mark)) mark (start-meant validations mark p.ends_so.3) takes outputs rest leads_on more in
+      ∙ join (Some text) mark (start-meant validations text mark back text_is) takes outputs rest leads_on more in
       output-is entries None start words validations targets named leads_so
       ∙ lines-split count left
       ∙ ap (λ (t : List ℕ). t ++ command_lines entries (drop count left)) (sym (output-is entries (Some count) start words validations targets named leads_so) ∙ ap (output_of entries) (sym run_is) ∙ is)
@@ -179,15 +182,16 @@ pages-join entries words validations none resume whole (start, meant, whole_is) 
     ap (output_of entries) whole_is ∙ join entries words validations p.targets p.named none resume start meant takes outputs rest p.leads_so pages
 
 pub stopped-continued : StoppedRunsContinue
-stopped-continued entries words validations none None start mark ends_so = let p = page entries None start words validations (stopped mark) tt ends_so in absurd (p.ends_so.1 refl)
-stopped-continued entries words validations none (Some count) start mark ends_so =
-    let p = page entries (Some count) start words validations (stopped mark) tt ends_so in
-    let leads_on = (after-page entries words validations p.targets p.named none start count mark p.leads_so p.ends_so.2).0 in
-    (commands words validations None mark, (mark, start-meant validations mark p.ends_so.3, refl), finishes-unlimited entries mark words validations p.targets p.named leads_on)
+stopped-continued entries words validations none None start text ends_so = let p = page entries None start words validations (stopped text) tt ends_so in absurd (p.ends_so.1 refl)
+stopped-continued entries words validations none (Some count) start text ends_so =
+    let p = page entries (Some count) start words validations (stopped text) tt ends_so in
+    let (led, some, mark, is_mark, back, text_is) = p.ends_so in
+    let leads_on = (after-page entries words validations p.targets p.named none start count mark p.leads_so is_mark).0 in
+    (commands words validations None mark, (mark, start-meant validations text mark back text_is, refl), finishes-unlimited entries mark words validations p.targets p.named leads_on)
 
 -- ---- one ending
 
-module _ (entries : List ReadStatement) (take : Option ℕ) (start : List ℕ) (targets : List (List ℕ)) (none : NoEdgeNeedsItself (edges_by_path entries)) where
+module _ (entries : List ReadStatement) (validations : Bool) (take : Option ℕ) (start : List ℕ) (targets : List (List ℕ)) (none : NoEdgeNeedsItself (edges_by_path entries)) where
   -- an edge has one first place
   one-mark : (last : Option ℕ) (mark other : List ℕ)
       → MatchOption last (mark ≡ start) (λ e. IsFirstPlace (makers_of_inputs (edges_by_path entries)) (length (edges_by_path entries)) (row_of_paths (edges_by_path entries) targets) mark e)
@@ -198,28 +202,30 @@ module _ (entries : List ReadStatement) (take : Option ℕ) (start : List ℕ) (
       let edges = edges_by_path entries in
       first-places_are_one (makers_of_inputs edges) (length edges) (row_of_paths edges targets) (acyclic edges targets none) (within edges targets none) mark other e is so
 
-  one-page : (ending other : Ending) → PageEnds entries take start targets ending → PageEnds entries take start targets other → ending ≡ other
+  one-page : (ending other : Ending) → PageEnds entries validations take start targets ending → PageEnds entries validations take start targets other → ending ≡ other
   one-page finished finished is so = refl
   one-page finished (stopped mark) is so = absurd (so.1 is.1)
   one-page finished (faulty text) is so = absurd (true≢false (sym is.0 ∙ so.0))
   one-page (stopped mark) finished is so = absurd (is.1 so.1)
-  one-page (stopped mark) (stopped other) is so = ap stopped (one-mark (last_or None (written take (commands_left entries targets start))) mark other is.2 so.2)
+  one-page (stopped text) (stopped other) (led, some, mark, is_mark, back, text_is) (led_too, some_too, another, is_another, back_too, other_is) =
+      let same = one-mark (last_or None (written take (commands_left entries targets start))) mark another is_mark is_another in
+      ap stopped (text_is ∙ ap (run_mark_text validations) same ∙ sym other_is)
   one-page (stopped mark) (faulty text) is so = absurd (true≢false (sym is.0 ∙ so.0))
   one-page (faulty text) finished is so = absurd (true≢false (sym so.0 ∙ is.0))
   one-page (faulty text) (stopped mark) is so = absurd (true≢false (sym so.0 ∙ is.0))
   one-page (faulty text) (faulty other) is so = ap faulty (is.1 ∙ sym so.1)
 
-one-commands : (entries : List ReadStatement) (take : Option ℕ) (start : List ℕ) (targets : Result (List (List ℕ)) GraphFault) (ending other : Ending) → NoEdgeNeedsItself (edges_by_path entries)
-    → EndsFor (PageEnds entries take start) targets ending → EndsFor (PageEnds entries take start) targets other → ending ≡ other
-one-commands entries take start (Ok targets) ending other none is so = one-page entries take start targets none ending other is so
-one-commands entries take start (Err f) ending other none is so = is ∙ sym so
+one-commands : (entries : List ReadStatement) (validations : Bool) (take : Option ℕ) (start : List ℕ) (targets : Result (List (List ℕ)) GraphFault) (ending other : Ending) → NoEdgeNeedsItself (edges_by_path entries)
+    → EndsOr (PageEnds entries validations take start) targets ending → EndsOr (PageEnds entries validations take start) targets other → ending ≡ other
+one-commands entries validations take start (Ok targets) ending other none is so = one-page entries validations take start targets none ending other is so
+one-commands entries validations take start (Err f) ending other none is so = is ∙ sym so
 
-one-for_targets : (targets : Result (List (List ℕ)) GraphFault) (ending other : Ending) → EndsFor Finishes targets ending → EndsFor Finishes targets other → ending ≡ other
+one-for_targets : (targets : Result (List (List ℕ)) GraphFault) (ending other : Ending) → EndsOr Finishes targets ending → EndsOr Finishes targets other → ending ≡ other
 one-for_targets (Ok targets) ending other is so = is ∙ sym so
 one-for_targets (Err f) ending other is so = is ∙ sym so
 
 pub one-ending : OneEnding
-one-ending entries (commands words validations take start) ending other none is so = one-commands entries take start (targets_of entries validations words) ending other none is so
+one-ending entries (commands words validations take start) ending other none is so = one-commands entries validations take start (targets_of entries validations words) ending other none is so
 one-ending entries (single_commands words) ending other none is so = one-for_targets (targets_of entries false words) ending other is so
 one-ending entries (ask.inputs words validations style) ending other none is so = one-for_targets (targets_of entries validations words) ending other is so
 one-ending entries (ask.targets view) ending other none is so = is ∙ sym so

@@ -30,6 +30,7 @@ use Rattle.nj_needs.specs.Walks.{WalkState, BeginsAt, rest_of}
 use Rattle.nj_needs.proofs.Bridges.{paths-at, row-paths}
 use Rattle.nj_requests.specs.Actions.{ActionModel, commands, single_commands}
 use Rattle.nj_requests.specs.Actions as ask
+use Rattle.nj_args.specs.RunMarks.{run_mark_text}
 use Rattle.nj_needs.specs.PageWalks.{written, left_after, StopsAt}
 use Rattle.nj_tools.specs.CommandStrings.{command_lines, own_commands_in, own_commands}
 use Rattle.nj_tools.specs.Inside.Collections.{single}
@@ -43,9 +44,9 @@ use Rattle.nj_requests.specs.declared.style.InputsStyle.{InputsStyle}
 use Rattle.nj_tools.specs.declared.tool_fault.ToolFault.TheVariants as tool
 use Rattle.nj_tools.proofs.SinkLemmas.{Takes-nil}
 use Rattle.nj_graph.specs.Targets.{targets_named, targets_or}
-use Rattle.nj_cli.specs.Targets.{edges_by_path, NoEdgeNeedsItself, with_validations, targets_of}
-use Rattle.nj_cli.specs.Answers.{leads, commands_left, IsMarkOf, for_targets, page_text, single_commands_text, output_of, Ending, finished, stopped, faulty, out_of_range, PageEnds, EndsFor, Finishes, text_fault, EndsWith}
-use Rattle.nj_cli.specs.Inside.RunSteps.{ReturnsFor, fault_of_mark, fault_of_tool}
+use Rattle.nj_cli.specs.Targets.{edges_by_path, NoEdgeNeedsItself, targets_of}
+use Rattle.nj_cli.specs.Answers.{leads, commands_left, IsMarkOf, output_for, output_of, Ending, finished, stopped, faulty, PageEnds, text_fault, EndsWith}
+use Rattle.nj_cli.specs.Inside.RunSteps.{with_validations, for_targets, EndsOr, Finishes, out_of_range, ReturnsFor, fault_of_mark, fault_of_tool}
 use Rattle.nj_cli.specs.declared.run_fault.RunFault.{RunFault}
 use Rattle.nj_cli.specs.declared.run_fault.RunFault.TheVariants as fault
 
@@ -122,23 +123,23 @@ module _ (entries : List ReadStatement) (g : GraphModel) (is : IsGraphOf g entri
       → (f ≡ no_memory) ⊎ (targets_of entries validations words ≡ Err f) → ReturnsFor entries (commands words validations take start) s s (Err (fault.Graph f))
   commands-refused words validations take start f s (inl none) = inl (none, refl)
   commands-refused words validations take start f s (inr named) =
-      inr (subst (λ (ts : Result (List (List ℕ)) GraphFault). EndsFor (PageEnds entries take start) ts (faulty (fault_line f)) × Takes s s (for_targets (page_text entries take start) ts))
+      inr (subst (λ (ts : Result (List (List ℕ)) GraphFault). EndsOr (PageEnds entries validations take start) ts (faulty (fault_line f)) × Takes s s (for_targets (output_for entries (commands words validations take start)) ts))
       (sym named) (refl, Takes-nil s))
 
   for_targets-refused : (text : List (List ℕ) → List ℕ) (ts : Result (List (List ℕ)) GraphFault) (f : GraphFault) (s : SinkState) → ts ≡ Err f
-      → EndsFor Finishes ts (faulty (fault_line f)) × Takes s s (for_targets text ts)
+      → EndsOr Finishes ts (faulty (fault_line f)) × Takes s s (for_targets text ts)
   for_targets-refused text ts f s is =
-      subst (λ (t : Result (List (List ℕ)) GraphFault). EndsFor Finishes t (faulty (fault_line f)) × Takes s s (for_targets text t)) (sym is) (refl, Takes-nil s)
+      subst (λ (t : Result (List (List ℕ)) GraphFault). EndsOr Finishes t (faulty (fault_line f)) × Takes s s (for_targets text t)) (sym is) (refl, Takes-nil s)
 
   pub singles-refused : (words : List (List ℕ)) (f : GraphFault) (s : SinkState)
       → (f ≡ no_memory) ⊎ (targets_of entries false words ≡ Err f) → ReturnsFor entries (single_commands words) s s (Err (fault.Graph f))
   singles-refused words f s (inl none) = inl (none, refl)
-  singles-refused words f s (inr named) = inr (for_targets-refused (single_commands_text entries) (targets_of entries false words) f s named)
+  singles-refused words f s (inr named) = inr (for_targets-refused (output_for entries (single_commands words)) (targets_of entries false words) f s named)
 
   pub inputs-refused : (words : List (List ℕ)) (validations : Bool) (style : InputsStyle) (f : GraphFault) (s : SinkState)
       → (f ≡ no_memory) ⊎ (targets_of entries validations words ≡ Err f) → ReturnsFor entries (ask.inputs words validations style) s s (Err (fault.Graph f))
   inputs-refused words validations style f s (inl none) = inl (none, refl)
-  inputs-refused words validations style f s (inr named) = inr (for_targets-refused (inputs_text style (edges_by_path entries)) (targets_of entries validations words) f s named)
+  inputs-refused words validations style f s (inr named) = inr (for_targets-refused (output_for entries (ask.inputs words validations style)) (targets_of entries validations words) f s named)
 
   files-are : (words : List (List ℕ)) (outcome : Result (List (List ℕ)) GraphFault) → targets_named (edges_of g) words ≡ outcome
       → targets_named (edges_by_path entries) words ≡ outcome
@@ -147,7 +148,7 @@ module _ (entries : List ReadStatement) (g : GraphModel) (is : IsGraphOf g entri
   pub query-refused : (words : List (List ℕ)) (f : GraphFault) (s : SinkState)
       → (f ≡ no_memory) ⊎ (targets_named (edges_of g) words ≡ Err f) → ReturnsFor entries (ask.query words) s s (Err (fault.Graph f))
   query-refused words f s (inl none) = inl (none, refl)
-  query-refused words f s (inr named) = inr (for_targets-refused (query_text entries) (targets_named (edges_by_path entries) words) f s (files-are words (Err f) named))
+  query-refused words f s (inr named) = inr (for_targets-refused (output_for entries (ask.query words)) (targets_named (edges_by_path entries) words) f s (files-are words (Err f) named))
 
   -- ---- tools without targets
 
@@ -169,12 +170,12 @@ module _ (entries : List ReadStatement) (g : GraphModel) (is : IsGraphOf g entri
     query-text : query_text entries (map (path_at (files_of g)) numbers) ≡ output_of entries (ask.query words)
     query-text =
         ap (query_text entries) (paths-at (files_of g) numbers paths are)
-        ∙ ap (for_targets (query_text entries)) (sym (files-are words (Ok paths) named))
+        ∙ ap (for_targets (output_for entries (ask.query words))) (sym (files-are words (Ok paths) named))
 
     pub query-answered : (old new : SinkState) → Takes old new (query_text entries (map (path_at (files_of g)) numbers))
         → ReturnsFor entries (ask.query words) old new (Ok None)
     query-answered old new took = (
-      subst (λ (ts : Result (List (List ℕ)) GraphFault). EndsFor Finishes ts finished) (sym (files-are words (Ok paths) named)) refl,
+      subst (λ (ts : Result (List (List ℕ)) GraphFault). EndsOr Finishes ts finished) (sym (files-are words (Ok paths) named)) refl,
       subst (Takes old new) query-text took,
     )
 
@@ -209,12 +210,12 @@ module _ (entries : List ReadStatement) (g : GraphModel) (is : IsGraphOf g entri
 
     module _ (words : List (List ℕ)) (named : targets_of entries false words ≡ Ok targets) where
       singles-text : command_lines entries (own_commands g.built.graph numbers) ≡ output_of entries (single_commands words)
-      singles-text = ap (command_lines entries) own-are ∙ ap (for_targets (single_commands_text entries)) (sym named)
+      singles-text = ap (command_lines entries) own-are ∙ ap (for_targets (output_for entries (single_commands words))) (sym named)
 
       pub singles-answered : (old new : SinkState) → Takes old new (command_lines entries (own_commands g.built.graph numbers))
           → ReturnsFor entries (single_commands words) old new (Ok None)
       singles-answered old new took =
-          (subst (λ (ts : Result (List (List ℕ)) GraphFault). EndsFor Finishes ts finished) (sym named) refl, subst (Takes old new) singles-text took)
+          (subst (λ (ts : Result (List (List ℕ)) GraphFault). EndsOr Finishes ts finished) (sym named) refl, subst (Takes old new) singles-text took)
 
       pub singles-failed : (old new : SinkState) (f : ToolFault) → StopsWithin old new (command_lines entries (own_commands g.built.graph numbers)) f
           → ReturnsFor entries (single_commands words) old new (Err (fault_of_tool f))
@@ -228,12 +229,12 @@ module _ (entries : List ReadStatement) (g : GraphModel) (is : IsGraphOf g entri
         inputs-are =
             ap (inputs_text style (edges_of g)) (paths-at (files_of g) numbers targets are)
             ∙ ap (λ (es : List EdgePaths). inputs_text style es targets) edges-are
-            ∙ ap (for_targets (inputs_text style (edges_by_path entries))) (sym named)
+            ∙ ap (for_targets (output_for entries (ask.inputs words validations style))) (sym named)
 
         pub inputs-answered : (old new : SinkState) → Takes old new (inputs_text style (edges_of g) (map (path_at (files_of g)) numbers))
             → ReturnsFor entries (ask.inputs words validations style) old new (Ok None)
         inputs-answered old new took =
-            (subst (λ (ts : Result (List (List ℕ)) GraphFault). EndsFor Finishes ts finished) (sym named) refl, subst (Takes old new) inputs-are took)
+            (subst (λ (ts : Result (List (List ℕ)) GraphFault). EndsOr Finishes ts finished) (sym named) refl, subst (Takes old new) inputs-are took)
 
         pub inputs-failed : (old new : SinkState) (f : ToolFault) → StopsWithin old new (inputs_text style (edges_of g) (map (path_at (files_of g)) numbers)) f
             → ReturnsFor entries (ask.inputs words validations style) old new (Err (fault_of_tool f))
@@ -258,8 +259,8 @@ module _ (entries : List ReadStatement) (g : GraphModel) (is : IsGraphOf g entri
             subst (λ (es : List EdgePaths). IsMarkAfter (makers_of_inputs es) (length es) (row_of_paths (edges_by_path entries) targets) start edges mark) edges-are
             (subst (λ (row : List (Option ℕ)). IsMarkAfter (makers_of_inputs (edges_of g)) (length (edges_of g)) row start edges mark) row-is after)
 
-        ends-so : (ending : Ending) → PageEnds entries take start targets ending → EndsWith entries (commands words validations take start) ending
-        ends-so ending ends = subst (λ (ts : Result (List (List ℕ)) GraphFault). EndsFor (PageEnds entries take start) ts ending) (sym named) ends
+        ends-so : (ending : Ending) → PageEnds entries validations take start targets ending → EndsWith entries (commands words validations take start) ending
+        ends-so ending ends = subst (λ (ts : Result (List (List ℕ)) GraphFault). EndsOr (PageEnds entries validations take start) ts ending) (sym named) ends
 
         -- the mark leads to no edge
         commands-out_of_range : (s : SinkState) → is_valid (makers_of g.built.graph) (row_of g.built.graph numbers) start ≡ false
@@ -268,7 +269,7 @@ module _ (entries : List ReadStatement) (g : GraphModel) (is : IsGraphOf g entri
             let misled : leads entries targets start ≡ false = sym leads-is ∙ invalid in (
               ends-so (faulty out_of_range) (misled, refl),
               subst (Takes s s)
-                  (ap (λ (b : Bool). if b then command_lines entries (written take (commands_left entries targets start)) else []) (sym misled) ∙ ap (for_targets (page_text entries take start)) (sym named))
+                  (ap (λ (b : Bool). if b then command_lines entries (written take (commands_left entries targets start)) else []) (sym misled) ∙ ap (for_targets (output_for entries (commands words validations take start))) (sym named))
                   (Takes-nil s),
             )
 
@@ -291,7 +292,7 @@ module _ (entries : List ReadStatement) (g : GraphModel) (is : IsGraphOf g entri
           text-is =
               ap (λ (es : List ℕ). command_lines entries (written take es)) walk-left
               ∙ ap (λ (b : Bool). if b then command_lines entries (written take (commands_left entries targets start)) else []) (sym valid ∙ leads-is)
-              ∙ ap (for_targets (page_text entries take start)) (sym named)
+              ∙ ap (for_targets (output_for entries (commands words validations take start))) (sym named)
 
           leads-so : leads entries targets start ≡ true
           leads-so = sym leads-is ∙ valid
@@ -311,11 +312,13 @@ module _ (entries : List ReadStatement) (g : GraphModel) (is : IsGraphOf g entri
             subst (Takes old new) text-is took,
           )
           commands-answered old new (Some mark) took stops = (
-            ends-so (stopped mark) (
+            ends-so (stopped (run_mark_text validations mark)) (
               leads-so,
               subst (λ (es : List ℕ). left_after take es ≢ []) walk-left stops.0,
+              mark,
               subst (λ (es : List ℕ). IsMarkOf entries targets start (written take es) mark) walk-left (walk-mark (written take w.left) mark stops.1),
               stops.2,
+              refl,
             ),
             subst (Takes old new) text-is took,
           )

@@ -1,5 +1,5 @@
 -- Worked rows, computed on the definitions: the outcomes of runs over one small file.
-use Rattle.std.proofs.Common.{◌≡◌, ℕ, Bool, true, false, true≢false, Some, None, List, [], ◌∷◌, refl, ap}
+use Rattle.std.proofs.Common.{◌≡◌, inl, inr, ℕ, Bool, true, false, true≢false, Some, None, List, [], ◌∷◌, refl, ap}
 use Rattle.std.specs.Fmt.{digits}
 use Rattle.std.specs.Prelude.{⊤, ◌≢◌, codes}
 use Rattle.nj_text.specs.Words.{WordModel, Text, Name}
@@ -11,10 +11,12 @@ use Rattle.nj_scope.specs.ReadingList.{ReadStatement}
 use Rattle.nj_statements.specs.EdgeList.{defaults_read}
 use Rattle.nj_graph.proofs.ReadingRows.{main_file, on_files, read_of}
 use Rattle.nj_needs.specs.MarkTexts.{given_mark, ReadsBack}
+use Rattle.nj_tools.specs.Sinks.{SinkState, Takes, FailsWithin}
 use Rattle.nj_requests.specs.Actions.{ActionModel, commands, single_commands}
 use Rattle.nj_args.specs.RunMarks.{run_mark_text}
-use Rattle.nj_cli.specs.declared.status.Status.TheVariants.{Done, Fault, Stopped}
-use Rattle.nj_cli.specs.Answers.{output_of, Ending, finished, stopped, faulty, EndsWith, error_of, status_of}
+use Rattle.nj_cli.specs.declared.status.Status.TheVariants.{Done, Fault, Stopped, OutputFailed}
+use Rattle.nj_cli.specs.Answers.{output_of, Ending, finished, stopped, faulty, EndsWith}
+use Rattle.nj_cli.specs.Reported.{Reports}
 use Rattle.nj_cli.specs.Headline.{IsRun, ArePageStrings}
 use Rattle.nj_cli.specs.Headline.ArePageStrings.{no_runs, finishes, stops}
 
@@ -121,15 +123,35 @@ reads_0_1 : ReadsBack (0 ∷ 1 ∷ [])
 unfolding digits given_mark
 reads_0_1 = refl
 
+-- ---- the texts of marks
+
+text_start : codes "start" ≡ run_mark_text false []
+text_start = refl
+
+text_0_0 : codes "0.0" ≡ run_mark_text false (0 ∷ 0 ∷ [])
+unfolding digits
+text_0_0 = refl
+
+text_0_1 : codes "0.1" ≡ run_mark_text false (0 ∷ 1 ∷ [])
+unfolding digits
+text_0_1 = refl
+
+text_v0 : codes "v0" ≡ run_mark_text true (0 ∷ [])
+unfolding digits
+text_v0 = refl
+
+text_vstart : codes "vstart" ≡ run_mark_text true []
+text_vstart = refl
+
 -- ---- at most a given number
 
 two : outputs (commands d false (Some 2) []) (codes "mk a\nmk b1\n")
 unfolding on_entries
 two = refl
 
-two_stops : ends_so (commands d false (Some 2) []) (stopped (0 ∷ 0 ∷ []))
+two_stops : ends_so (commands d false (Some 2) []) (stopped (codes "0.0"))
 unfolding on_entries
-two_stops = (refl, more, (refl, (0 ∷ [], refl, refl)), reads_0_0)
+two_stops = (refl, more, 0 ∷ 0 ∷ [], (refl, (0 ∷ [], refl, refl)), reads_0_0, text_0_0)
 
 four : outputs (commands d false (Some 4) []) (codes "mk a\nmk b1\nmk b2\nmk d\n")
 unfolding on_entries
@@ -143,9 +165,9 @@ none : outputs (commands d false (Some 0) []) []
 unfolding on_entries
 none = refl
 
-none_stops : ends_so (commands d false (Some 0) []) (stopped [])
+none_stops : ends_so (commands d false (Some 0) []) (stopped (codes "start"))
 unfolding on_entries
-none_stops = (refl, more, refl, reads_start)
+none_stops = (refl, more, [], refl, reads_start, text_start)
 
 -- ---- from a mark
 
@@ -170,9 +192,9 @@ from_0_1_0 : outputs (commands d false (Some 1) (0 ∷ 1 ∷ 0 ∷ [])) (codes "
 unfolding on_entries
 from_0_1_0 = refl
 
-from_0_1_0_stops : ends_so (commands d false (Some 1) (0 ∷ 1 ∷ 0 ∷ [])) (stopped (0 ∷ 1 ∷ []))
+from_0_1_0_stops : ends_so (commands d false (Some 1) (0 ∷ 1 ∷ 0 ∷ [])) (stopped (codes "0.1"))
 unfolding on_entries
-from_0_1_0_stops = (refl, more, (refl, (0 ∷ 1 ∷ 0 ∷ [], refl, refl)), reads_0_1)
+from_0_1_0_stops = (refl, more, 0 ∷ 1 ∷ [], (refl, (0 ∷ 1 ∷ 0 ∷ [], refl, refl)), reads_0_1, text_0_1)
 
 from_0_2 : outputs (commands d false None (0 ∷ 2 ∷ [])) []
 unfolding on_entries
@@ -216,48 +238,42 @@ five_from_0_0_ends = (refl, refl)
 from_start : IsRun d false (Some 2) None (commands d false (Some 2) [])
 from_start = ([], refl, refl)
 
-five_from_text : IsRun d false (Some 5) (Some (run_mark_text false (0 ∷ 0 ∷ []))) (commands d false (Some 5) (0 ∷ 0 ∷ []))
+five_from_text : IsRun d false (Some 5) (Some (codes "0.0")) (commands d false (Some 5) (0 ∷ 0 ∷ []))
 unfolding digits given_mark
 five_from_text = (0 ∷ 0 ∷ [], refl, refl)
 
-rest_from_text : IsRun d false None (Some (run_mark_text false (0 ∷ 0 ∷ []))) (commands d false None (0 ∷ 0 ∷ []))
+rest_from_text : IsRun d false None (Some (codes "0.0")) (commands d false None (0 ∷ 0 ∷ []))
 unfolding digits given_mark
 rest_from_text = (0 ∷ 0 ∷ [], refl, refl)
 
 two_and_five : ArePageStrings entries d false None (2 ∷ 5 ∷ []) (codes "mk a\nmk b1\n" ∷ codes "mk b2\nmk d\n" ∷ []) []
 two_and_five =
-    stops (commands d false (Some 2) []) (0 ∷ 0 ∷ []) from_start two_stops two
+    stops (commands d false (Some 2) []) (codes "0.0") from_start two_stops two
     (finishes (commands d false (Some 5) (0 ∷ 0 ∷ [])) five_from_text five_from_0_0_ends five_from_0_0)
 
 -- and one run of two edges, before all that is left
 two_and_rest : ArePageStrings entries d false None (2 ∷ []) (codes "mk a\nmk b1\n" ∷ []) (codes "mk b2\nmk d\n")
 two_and_rest =
-    stops (commands d false (Some 2) []) (0 ∷ 0 ∷ []) from_start two_stops two
+    stops (commands d false (Some 2) []) (codes "0.0") from_start two_stops two
     (no_runs (commands d false None (0 ∷ 0 ∷ [])) rest_from_text from_0_0)
 
 -- ---- reports
 
-error_of_ended : error_of false finished ≡ []
-error_of_ended = refl
+module _ (old new : SinkState) where
+  nothing_to_report : Reports finished old old Done
+  nothing_to_report = (refl, refl)
 
-error_of_stopped : error_of false (stopped (0 ∷ 0 ∷ [])) ≡ codes "mark 0.0\n"
-unfolding digits
-error_of_stopped = refl
+  mark_reported : Takes old new (codes "mark 0.0\n") → Reports (stopped (codes "0.0")) old new Stopped
+  mark_reported took = inl (took, refl)
 
-error_of_start : error_of false (stopped []) ≡ codes "mark start\n"
-error_of_start = refl
+  mark_unreported : FailsWithin old new (codes "mark 0.0\n") → Reports (stopped (codes "0.0")) old new OutputFailed
+  mark_unreported failed = inr (failed, refl)
 
-error_of_fault : error_of false (faulty (codes "ninja-explain: unknown target 'x'")) ≡ codes "ninja-explain: unknown target 'x'\n"
-error_of_fault = refl
+  fault_reported : Takes old new (codes "ninja-explain: unknown target 'x'\n") → Reports (faulty (codes "ninja-explain: unknown target 'x'")) old new Fault
+  fault_reported took = (inl took, refl)
 
-status_of_ended : status_of finished ≡ Done
-status_of_ended = refl
-
-status_of_stopped : status_of (stopped (0 ∷ 0 ∷ [])) ≡ Stopped
-status_of_stopped = refl
-
-status_of_fault : status_of (faulty (codes "ninja-explain: unknown target 'x'")) ≡ Fault
-status_of_fault = refl
+  fault_unreported : FailsWithin old new (codes "ninja-explain: unknown target 'x'\n") → Reports (faulty (codes "ninja-explain: unknown target 'x'")) old new Fault
+  fault_unreported failed = (inr failed, refl)
 
 -- ---- validations
 
@@ -287,9 +303,9 @@ one_followed : output_of checked (commands t true (Some 1) []) ≡ codes "mk t\n
 unfolding on_entries
 one_followed = refl
 
-one_followed_stops : EndsWith checked (commands t true (Some 1) []) (stopped (0 ∷ []))
+one_followed_stops : EndsWith checked (commands t true (Some 1) []) (stopped (codes "v0"))
 unfolding on_entries
-one_followed_stops = (refl, more, (refl, ([], refl, refl)), reads_0)
+one_followed_stops = (refl, more, 0 ∷ [], (refl, ([], refl, refl)), reads_0, text_v0)
 
 -- the second target is the validation, whose first input is t
 from_1_0 : output_of checked (commands t true None (1 ∷ 0 ∷ [])) ≡ codes "mk v\n"
@@ -299,10 +315,3 @@ from_1_0 = refl
 from_2_ends : EndsWith checked (commands t true None (2 ∷ [])) (faulty (codes "ninja-explain: mark out of range"))
 unfolding on_entries
 from_2_ends = (refl, refl)
-
-error_of_followed : error_of true (stopped (0 ∷ [])) ≡ codes "mark v0\n"
-unfolding digits
-error_of_followed = refl
-
-error_of_followed_start : error_of true (stopped []) ≡ codes "mark vstart\n"
-error_of_followed_start = refl

@@ -11,14 +11,16 @@ use Rattle.nj_graph.specs.Loads.{LoadedModel}
 use Rattle.nj_graph.specs.Runs.{IsRead}
 use Rattle.nj_requests.specs.Actions.{ActionModel, RequestModel}
 use Rattle.nj_args.specs.Requests.{request_of}
+use Rattle.nj_args.specs.RunMarks.{run_mark_text}
 use Rattle.nj_args.specs.declared.usage_fault.UsageFault.{UsageFault}
 use Rattle.nj_tools.specs.Lines.{line}
 use Rattle.nj_tools.specs.Sinks.{SinkState, Takes}
 use Rattle.nj_tools.specs.Texts.{TakesFront}
-use Rattle.nj_cli.specs.Answers.{output_of, finished, stopped, faulty, out_of_range, EndsWith, follows_validations}
+use Rattle.nj_cli.specs.Answers.{output_of, Ending, finished, stopped, faulty, EndsWith}
 use Rattle.nj_cli.specs.Reported.{Reported}
-use Rattle.nj_cli.specs.Inside.RunSteps.{ReturnsFor, ReportsLine, ReportsMark, Concludes, RunEnds}
-use Rattle.nj_cli.specs.Runs.{Around, out_of_memory, AreStatements, HaveFault, IsAnswered, RunsAs, RunsWith, RunsWords, RunsAsAndKeeps, RunsAndKeepsWith, RunsAndKeeps}
+use Rattle.nj_cli.specs.Inside.RunSteps.{follows_validations, out_of_range, ReturnsFor, ReportsLine, ReportsMark, Concludes}
+use Rattle.nj_cli.specs.Runs.{Around, out_of_memory, RunEnds, AreStatements, HaveFault, IsAnswered, RunsAs, RunsWith, RunsWords, RunsAsAndKeeps, RunsAndKeepsWith, RunsAndKeeps}
+use Rattle.nj_cli.specs.Runs.RunEnds.{reported, output_fails, memory_fails}
 use Rattle.nj_cli.specs.declared.run_fault.RunFault.{RunFault}
 use Rattle.nj_cli.specs.declared.run_fault.RunFault.TheVariants as fault
 use Rattle.nj_cli.specs.declared.status.Status.{Status}
@@ -30,22 +32,19 @@ use Rattle.nj_cli.proofs.ReturnLemmas.{NoEdgeNeedsItself-stated, TakesFront-none
 module _ (entries : List ReadStatement) (action : ActionModel) (old new : Around) where
   -- memory ran out before anything was output
   early : new.output ≡ old.output → Reported old.error new.error (line out_of_memory) → RunEnds entries action old new Fault
-  early same known = inr (inr (record {
-    output = subst (λ (s : SinkState). TakesFront old.output s (output_of entries action)) (sym same) (TakesFront-none old.output (output_of entries action));
-    error = known;
-    status_is = refl;
-  }))
+  early same known =
+      memory_fails
+      (subst (λ (s : SinkState). TakesFront old.output s (output_of entries action)) (sym same) (TakesFront-none old.output (output_of entries action)))
+      known
 
   -- the line of a fault was reported
   reported-fault : (text : List ℕ) → EndsWith entries action (faulty text) → Takes old.output new.output (output_of entries action)
       → Reported old.error new.error (line text) → RunEnds entries action old new Fault
-  reported-fault text ends took (inl reported_so) = inl (record { ending = faulty text; ends = ends; output = took; error = inl (reported_so, refl) })
-  reported-fault text ends took (inr failed) = inl (record { ending = faulty text; ends = ends; output = took; error = inr (failed, refl) })
+  reported-fault text ends took known = reported (faulty text) ends took (known, refl)
 
   -- there was no memory for the line of a fault
   late : Takes old.output new.output (output_of entries action) → Reported old.error new.error (line out_of_memory) → RunEnds entries action old new Fault
-  late took known =
-      inr (inr (record { output = (output_of entries action, ([], sym (append-nil (output_of entries action))), took); error = known; status_is = refl }))
+  late took known = memory_fails (output_of entries action, ([], sym (append-nil (output_of entries action))), took) known
 
   graph-fault : (f : GraphFault)
       → ((f ≡ no_memory) × (new.output ≡ old.output)) ⊎ (EndsWith entries action (faulty (fault_line f)) × Takes old.output new.output (output_of entries action))
@@ -55,36 +54,40 @@ module _ (entries : List ReadStatement) (action : ActionModel) (old new : Around
   graph-fault f (inr (ends, took)) (inl known) = reported-fault (fault_line f) ends took known
   graph-fault f (inr (ends, took)) (inr known) = late took known
 
-  stopped-at : (mark : List ℕ) (status : Status) → EndsWith entries action (stopped mark) → Takes old.output new.output (output_of entries action)
+  abbrev stop : (mark : List ℕ) → Ending
+  stop mark = stopped (run_mark_text (follows_validations action) mark)
+
+  stopped-at : (mark : List ℕ) (status : Status) → EndsWith entries action (stop mark) → Takes old.output new.output (output_of entries action)
       → ReportsMark (follows_validations action) old.error new.error mark status → RunEnds entries action old new status
-  stopped-at mark Stopped ends took known = inl (record { ending = stopped mark; ends = ends; output = took; error = inl (known, refl) })
-  stopped-at mark OutputFailed ends took known = inl (record { ending = stopped mark; ends = ends; output = took; error = inr (known, refl) })
+  stopped-at mark Stopped ends took known = reported (stop mark) ends took (inl (known, refl))
+  stopped-at mark OutputFailed ends took known = reported (stop mark) ends took (inr (known, refl))
   stopped-at mark Fault ends took known = late took known
   stopped-at mark Done ends took known = absurd known
   stopped-at mark Usage ends took known = absurd known
 
   pub Answers-from : (status : Status) (result : Result (Option (List ℕ)) RunFault) → ReturnsFor entries action old.output new.output result
       → Concludes (follows_validations action) old.error new.error result status → RunEnds entries action old new status
-  Answers-from status (Ok None) outcomes concludes =
-      inl (record { ending = finished; ends = outcomes.0; output = outcomes.1; error = inl (concludes.0, concludes.1) })
+  Answers-from status (Ok None) outcomes concludes = reported finished outcomes.0 outcomes.1 concludes
   Answers-from status (Ok (Some mark)) outcomes concludes = stopped-at mark status outcomes.0 outcomes.1 concludes
   Answers-from status (Err (fault.Graph f)) outcomes concludes =
       subst (RunEnds entries action old new) (sym concludes.1) (graph-fault f outcomes concludes.0)
   Answers-from status (Err fault.MarkOutOfRange) outcomes concludes =
       subst (RunEnds entries action old new) (sym concludes.1) (reported-fault out_of_range outcomes.0 outcomes.1 concludes.0)
-  Answers-from status (Err fault.Write) outcomes concludes = inr (inl (record { output = outcomes; error = concludes.0; status_is = concludes.1 }))
-  Answers-from status (Err fault.OutOfMemory) outcomes concludes = inr (inr (record { output = outcomes; error = concludes.0; status_is = concludes.1 }))
+  Answers-from status (Err fault.Write) outcomes concludes =
+      subst (RunEnds entries action old new) (sym concludes.1) (output_fails outcomes concludes.0)
+  Answers-from status (Err fault.OutOfMemory) outcomes concludes =
+      subst (RunEnds entries action old new) (sym concludes.1) (memory_fails outcomes concludes.0)
 
 -- all files were read, and this is the graph of their statements: it is kept
 pub Keeps-answered : (request : RequestModel) (files : List Reading) (old new : Around) (loaded : LoadedModel) (entries : List ReadStatement) (status : Status)
     → IsRead old.source new.source [] files → AreStatements request.file request.dyndep old.source new.source files entries
     → IsGraphOf loaded.graph entries → loaded.files ≡ files → RunEnds entries request.action old new status → RunsAsAndKeeps request old new status (Some loaded)
-Keeps-answered request files old new loaded entries status read statements graph_is files_are outcomes =
+Keeps-answered request files old new loaded entries status read statements graph_is files_are ends =
     let answered : IsAnswered request files old new status = record {
       entries = entries;
       statements = statements;
       acyclic = NoEdgeNeedsItself-stated entries loaded.graph graph_is;
-      outcomes = outcomes;
+      ends = ends;
     } in
     (files, read, inr (answered, (files_are, graph_is)))
 

@@ -11,7 +11,6 @@ use Rattle.nj_needs.specs.Needs.{Reached}
 use Rattle.nj_needs.specs.Order.{needed_commands}
 use Rattle.nj_requests.specs.Actions.{ActionModel, commands}
 use Rattle.nj_args.specs.Requests.{start_of}
-use Rattle.nj_args.specs.RunMarks.{run_mark_text}
 use Rattle.nj_tools.specs.CommandStrings.{command_lines}
 use Rattle.nj_cli.specs.Answers.{output_of, Ending, finished, stopped, EndsWith}
 use Rattle.nj_cli.specs.Targets.{edges_by_path, NoEdgeNeedsItself, targets_of}
@@ -52,7 +51,7 @@ pub data ArePageStrings (entries : List ReadStatement) (words : List (List ℕ))
       → ArePageStrings entries words validations resume (take ∷ []) (output ∷ []) []
   stops : {resume : Option (List ℕ)} {takes output rest : List ℕ} {take : ℕ} {outputs : List (List ℕ)} (run : ActionModel) (mark : List ℕ)
       → IsRun words validations (Some take) resume run → EndsWith entries run (stopped mark) → output_of entries run ≡ output
-      → ArePageStrings entries words validations (Some (run_mark_text validations mark)) takes outputs rest
+      → ArePageStrings entries words validations (Some mark) takes outputs rest
       → ArePageStrings entries words validations resume (take ∷ takes) (output ∷ outputs) rest
 
 -- The pages, followed by the rest, are the output of one run without a limit.
@@ -68,7 +67,7 @@ abbrev pub StoppedRunsContinue : Type 0
 StoppedRunsContinue =
     (entries : List ReadStatement) (words : List (List ℕ)) (validations : Bool) → NoEdgeNeedsItself (edges_by_path entries)
     → (take : Option ℕ) (start mark : List ℕ) → EndsWith entries (commands words validations take start) (stopped mark)
-    → (next : ActionModel) × IsRun words validations None (Some (run_mark_text validations mark)) next × EndsWith entries next finished
+    → (next : ActionModel) × IsRun words validations None (Some mark) next × EndsWith entries next finished
 
 -- A run has one ending, so one mark.
 abbrev pub OneEnding : Type 0

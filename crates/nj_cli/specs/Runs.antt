@@ -17,8 +17,8 @@ use Rattle.nj_args.specs.FaultLines as usage
 use Rattle.nj_requests.specs.Actions.{ActionModel, RequestModel}
 use Rattle.nj_args.specs.Requests.{request_of}
 use Rattle.nj_args.specs.declared.usage_fault.UsageFault.{UsageFault}
-use Rattle.nj_cli.specs.Answers.{output_of, Ending, EndsWith, follows_validations, error_of, status_of, status_untold}
-use Rattle.nj_cli.specs.Reported.{Took, Reported}
+use Rattle.nj_cli.specs.Answers.{output_of, Ending, EndsWith}
+use Rattle.nj_cli.specs.Reported.{Reported, Reports}
 use Rattle.nj_cli.specs.Targets.{edges_by_path, NoEdgeNeedsItself}
 use Rattle.nj_cli.specs.declared.status.Status.{Status}
 use Rattle.nj_cli.specs.declared.status.Status.TheVariants.{Fault, Usage, OutputFailed}
@@ -37,26 +37,15 @@ out_of_memory = fault_line no_memory
 
 -- ---- by the statements of its files
 
--- Standard output took the whole output. Standard error took the report; or it failed, and then a run that stopped
--- cannot be resumed.
-pub record IsReported (entries : List ReadStatement) (action : ActionModel) (old new : Around) (status : Status) : Type 0 where
-  pub ending : Ending
-  pub ends : EndsWith entries action ending
-  pub output : Takes old.output new.output (output_of entries action)
-  pub error : (Took old.error new.error (error_of (follows_validations action) ending) × (status ≡ status_of ending))
-      ⊎ (FailsWithin old.error new.error (error_of (follows_validations action) ending) × (status ≡ status_untold ending))
-
--- standard output failed; nothing is reported
-pub record OutputFails (entries : List ReadStatement) (action : ActionModel) (old new : Around) (status : Status) : Type 0 where
-  pub output : FailsWithin old.output new.output (output_of entries action)
-  pub error : new.error ≡ old.error
-  pub status_is : status ≡ OutputFailed
-
--- an allocation failed, after a prefix of the output
-pub record MemoryFails (entries : List ReadStatement) (action : ActionModel) (old new : Around) (status : Status) : Type 0 where
-  pub output : TakesFront old.output new.output (output_of entries action)
-  pub error : Reported old.error new.error (line out_of_memory)
-  pub status_is : status ≡ Fault
+-- Standard output took the whole output, and the ending is reported; or standard output failed, and nothing is reported; or an allocation
+-- failed, after a prefix of the output.
+pub data RunEnds (entries : List ReadStatement) (action : ActionModel) (old new : Around) : Status → Type 0 where
+  reported : {status : Status} (ending : Ending) → EndsWith entries action ending → Takes old.output new.output (output_of entries action)
+      → Reports ending old.error new.error status → RunEnds entries action old new status
+  output_fails : FailsWithin old.output new.output (output_of entries action) → new.error ≡ old.error
+      → RunEnds entries action old new OutputFailed
+  memory_fails : TakesFront old.output new.output (output_of entries action) → Reported old.error new.error (line out_of_memory)
+      → RunEnds entries action old new Fault
 
 -- ---- by its files
 
@@ -100,8 +89,7 @@ pub record IsAnswered (request : RequestModel) (files : List Reading) (old new :
   pub entries : List ReadStatement
   pub statements : AreStatements request.file request.dyndep old.source new.source files entries
   pub acyclic : NoEdgeNeedsItself (edges_by_path entries)
-  pub outcomes : IsReported entries request.action old new status
-      ⊎ (OutputFails entries request.action old new status ⊎ MemoryFails entries request.action old new status)
+  pub ends : RunEnds entries request.action old new status
 
 -- ---- the run
 

@@ -1,5 +1,5 @@
 -- The targets of a run.
-use Rattle.std.specs.Prelude.{ℕ, Bool, true, false, Result, Ok, List, [], ◌∷◌, length}
+use Rattle.std.specs.Prelude.{ℕ, Bool, if◌then◌else◌, Result, Ok, List, length}
 use Rattle.nj_manifest.specs.LineSteps.{◌>>=◌}
 use Rattle.nj_scope.specs.ReadingList.{ReadStatement}
 use Rattle.nj_edges.specs.Edges.{EdgePaths}
@@ -19,13 +19,8 @@ edges_by_path entries = paths_of_edges (edges_read entries)
 abbrev pub NoEdgeNeedsItself : List EdgePaths → Type 0
 NoEdgeNeedsItself edges = IsAcyclic (makers_of_inputs edges) (length edges)
 
--- with `--validations` the validations of the edges that they need come after them
-abbrev pub with_validations : (validations : Bool) → List EdgePaths → (targets : List (List ℕ)) → List (List ℕ)
-with_validations false edges targets = targets
-with_validations true edges targets = grown_targets edges targets
-
--- the targets of a run with these arguments
+-- the targets of a run with these arguments; with `--validations` the validations of the edges that they need come after them
 abbrev pub targets_of : List ReadStatement → (validations : Bool) → (words : List (List ℕ)) → Result (List (List ℕ)) GraphFault
 targets_of entries validations words = do
   targets ← targets_or (defaults_in_force (defaults_read entries) (edges_by_path entries)) (edges_by_path entries) words
-  Ok (with_validations validations (edges_by_path entries) targets)
+  Ok (if validations then grown_targets (edges_by_path entries) targets else targets)

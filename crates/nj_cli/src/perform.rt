@@ -6,8 +6,8 @@ ghost use Rattle.nj_statements.specs.EdgeList.{edges_read};
 ghost use Rattle.nj_graph.specs.Graph.{edges_of, IsGraphOf};
 ghost use Rattle.nj_requests.specs.Actions.{action_model, commands, single_commands};
 ghost use Rattle.nj_requests.specs.Actions as ask;
-ghost use Rattle.nj_cli.specs.Answers.{text_fault, follows_validations};
-ghost use Rattle.nj_cli.specs.Inside.RunSteps.{ReturnsFor};
+ghost use Rattle.nj_cli.specs.Answers.{text_fault};
+ghost use Rattle.nj_cli.specs.Inside.RunSteps.{follows_validations, ReturnsFor};
 
 use crate::run_fault::RunFault;
 use crate::run_targets::targets_of;

@@ -5,9 +5,8 @@ ghost use Rattle.nj_faults.specs.FaultLines.{fault_line};
 ghost use Rattle.nj_args.specs.FaultLines as usage;
 ghost use Rattle.nj_args.specs.declared.usage_fault.UsageFault.TheVariants.{Unparsed};
 ghost use Rattle.nj_tools.specs.Lines.{line};
-ghost use Rattle.nj_cli.specs.Answers.{mark_line};
 ghost use Rattle.nj_cli.specs.Reported.{Reported};
-ghost use Rattle.nj_cli.specs.Inside.RunSteps.{Concludes, ReportsLine, ReportsMark, ReportsMisuse};
+ghost use Rattle.nj_cli.specs.Inside.RunSteps.{mark_line, Concludes, ReportsLine, ReportsMark, ReportsMisuse};
 ghost use Rattle.nj_cli.specs.Runs.{out_of_memory};
 
 use crate::run_fault::RunFault;
@@ -141,7 +140,5 @@ pub fn report_out_of_memory<E: Sink>(err: &mut E) -> Status
 fn report_line<E: Sink>(err: &mut E, line: &[u8])
     ensures { Reported (E.state err.old) (E.state err.new) line.now }
 {
-    if !line.is_empty() {
-        let _ = write_whole(err, line);
-    }
+    let _ = write_whole(err, line);
 }

@@ -1,5 +1,7 @@
 -- The steps of a run, on the way to its end.
-use Rattle.std.specs.Prelude.{◌≡◌, ◌⊎◌, ℕ, Bool, Option, Some, None, Result, Ok, Err, List, []}
+use Rattle.std.specs.Prelude.{◌≡◌, ◌⊎◌, ℕ, Bool, false, if◌then◌else◌, Option, Some, None, Result, Ok, Err, MatchResult, List, [], ◌++◌, codes}
+use Rattle.std.specs.Option.{option_map_or}
+use Rattle.std.specs.Result.{result_ok}
 use Rattle.nj_scope.specs.Readings.{Reading}
 use Rattle.nj_scope.specs.Sources.{SourceState}
 use Rattle.nj_scope.specs.ReadingList.{ReadStatement}
@@ -13,13 +15,15 @@ use Rattle.nj_graph.specs.Runs.{IsRead}
 use Rattle.nj_tools.specs.Lines.{line}
 use Rattle.nj_tools.specs.Sinks.{SinkState, Takes, FailsWithin}
 use Rattle.nj_tools.specs.Texts.{TakesFront}
-use Rattle.nj_requests.specs.Actions.{ActionModel, RequestModel}
+use Rattle.nj_requests.specs.Actions.{ActionModel, commands, RequestModel}
+use Rattle.nj_requests.specs.Actions as ask
+use Rattle.nj_args.specs.RunMarks.{run_mark_text}
 use Rattle.nj_args.specs.FaultLines as lines
 use Rattle.nj_args.specs.declared.usage_fault.UsageFault.{UsageFault}
 use Rattle.nj_args.specs.declared.usage_fault.UsageFault.TheVariants as usage
-use Rattle.nj_cli.specs.Answers.{output_of, finished, stopped, faulty, out_of_range, EndsWith, mark_line}
+use Rattle.nj_cli.specs.Answers.{output_of, Ending, finished, stopped, faulty, EndsWith}
 use Rattle.nj_cli.specs.Reported.{Reported}
-use Rattle.nj_cli.specs.Runs.{Around, out_of_memory, IsReported, OutputFails, MemoryFails, AreStatements, HaveFault}
+use Rattle.nj_cli.specs.Runs.{out_of_memory, AreStatements, HaveFault}
 use Rattle.nj_cli.specs.declared.run_fault.RunFault.{RunFault}
 use Rattle.nj_cli.specs.declared.run_fault.RunFault.TheVariants as fault
 use Rattle.nj_needs.specs.declared.mark_fault.MarkFault.{MarkFault}
@@ -31,6 +35,8 @@ use Rattle.nj_cli.specs.declared.status.Status.TheVariants.{Done, Fault, Usage, 
 use Rattle.std.specs.Global.{Vec}
 use Rattle.nj_names.specs.declared.files.FileNo.{FileNo}
 use Rattle.nj_names.specs.Files.{AreFiles}
+use Rattle.nj_edges.specs.Edges.{EdgePaths}
+use Rattle.nj_needs.specs.Growing.{grown_targets}
 
 -- the graph of the statements of the files, or their fault
 abbrev pub GraphOr : RequestModel → (before after : SourceState) → List Reading → Result LoadedModel GraphFault → Type 0
@@ -53,15 +59,40 @@ fault_of_tool (tool.TextNotUtf8 edge) = fault.Graph (unplaced TextNotUtf8)
 fault_of_tool tool.Write = fault.Write
 fault_of_tool tool.OutOfMemory = fault.OutOfMemory
 
--- how a run ends by its statements
-abbrev pub RunEnds : (entries : List ReadStatement) (action : ActionModel) (old new : Around) → Status → Type 0
-RunEnds entries action old new status =
-    IsReported entries action old new status ⊎ (OutputFails entries action old new status ⊎ MemoryFails entries action old new status)
+-- with `--validations` the validations of the edges that the targets need come after them
+abbrev pub with_validations : (validations : Bool) → List EdgePaths → (targets : List (List ℕ)) → List (List ℕ)
+with_validations validations edges targets = if validations then grown_targets edges targets else targets
+
+-- a text for targets; empty if they have a fault
+abbrev pub for_targets : (text : List (List ℕ) → List ℕ) → (targets : Result (List (List ℕ)) GraphFault) → List ℕ
+for_targets text targets = option_map_or text (result_ok targets) []
+
+-- how a run ends for targets; if they have a fault, the run ends with it
+abbrev pub EndsOr : (Ends : List (List ℕ) → Ending → Type 0) → (targets : Result (List (List ℕ)) GraphFault) → Ending → Type 0
+EndsOr Ends targets ending = MatchResult targets (λ targets. Ends targets ending) (λ fault. ending ≡ faulty (fault_line fault))
+
+-- all is written
+abbrev pub Finishes : (targets : List (List ℕ)) → Ending → Type 0
+Finishes targets ending = ending ≡ finished
+
+-- whether a run follows validations
+abbrev pub follows_validations : ActionModel → Bool
+follows_validations (commands words validations take start) = validations
+follows_validations (ask.inputs words validations style) = validations
+follows_validations _ = false
+
+abbrev pub out_of_range : List ℕ
+out_of_range = codes "ninja-explain: mark out of range"
+
+-- the line that reports a mark
+abbrev pub mark_line : (validations : Bool) → (mark : List ℕ) → List ℕ
+mark_line validations mark = line (codes "mark " ++ run_mark_text validations mark)
 
 -- the output so far, and how the run ends accordingly
 abbrev pub ReturnsFor : List ReadStatement → ActionModel → (old new : SinkState) → Result (Option (List ℕ)) RunFault → Type 0
 ReturnsFor entries action old new (Ok None) = EndsWith entries action finished × Takes old new (output_of entries action)
-ReturnsFor entries action old new (Ok (Some mark)) = EndsWith entries action (stopped mark) × Takes old new (output_of entries action)
+ReturnsFor entries action old new (Ok (Some mark)) =
+    EndsWith entries action (stopped (run_mark_text (follows_validations action) mark)) × Takes old new (output_of entries action)
 ReturnsFor entries action old new (Err (fault.Graph f)) =
     ((f ≡ no_memory) × (new ≡ old)) ⊎ (EndsWith entries action (faulty (fault_line f)) × Takes old new (output_of entries action))
 ReturnsFor entries action old new (Err fault.MarkOutOfRange) =

@@ -4,7 +4,8 @@ use Rattle.nj_names.specs.Files.{AreFiles, path_at}
 use Rattle.nj_names.specs.declared.files.FileNo.{FileNo}
 use Rattle.nj_graph.specs.Graph.{edges_of, files_of}
 use Rattle.nj_needs.specs.Growing.{grown_targets}
-use Rattle.nj_cli.specs.Targets.{edges_by_path, with_validations}
+use Rattle.nj_cli.specs.Targets.{edges_by_path}
+use Rattle.nj_cli.specs.Inside.RunSteps.{with_validations}
 use Rattle.nj_cli.proofs.ReturnLemmas.{grown-are, targets-picked}
 use Rattle.nj_cli.proofs.run_targets.targets_of.Goals as goal
 
