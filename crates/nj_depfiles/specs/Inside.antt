@@ -1,0 +1,2 @@
+pub mod PiecesCut
+pub mod Readings

@@ -1,0 +1,6 @@
+-- the definitions to believe
+pub mod Pieces
+pub mod Depfiles
+pub mod Faults
+-- how the code does that
+pub mod Inside
