@@ -7,7 +7,7 @@ use Rattle.nj_depfiles.specs.Pieces.Piece.{NameBytes, NameEnd, LineEnd}
 use Rattle.nj_depfiles.specs.declared.depfile_fault.DepfileFault.{DepfileFault}
 use Rattle.nj_depfiles.specs.declared.depfile_fault.DepfileFault.TheVariants.{InputHasInputs, NoColon}
 
--- the targets and the inputs, each once, letter by letter
+-- the targets and the inputs, without duplicates, compared letter by letter
 pub record DepfileModel : Type 0 where
   pub targets : List (List ℕ)
   pub inputs : List (List ℕ)

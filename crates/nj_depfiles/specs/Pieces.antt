@@ -48,7 +48,7 @@ abbrev pub after_backslashes : (count : ℕ) → List ℕ → Cut
 after_backslashes count text =
     let next = byte_at text count in
     if next == 32 then
-    -- an odd number of them: half of the others, and a space; an even number: these, and the name ends
+    -- if their count is even they stay, and the name ends; otherwise half of the others and a space are of the name
     (if count % 2 == 1 then (NameBytes (slice_range text ((count + 1) / 2) (count + 1)), count + 1)
     else (NameBytes (take count text), count))
     else (if next == 35 || (next == 58 && not (ends_targets (byte_at text (count + 1)))) then
