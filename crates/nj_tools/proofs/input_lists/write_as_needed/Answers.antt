@@ -1,13 +1,16 @@
 use Rattle.std.proofs.Common.{ℕ, List, [], ◌∷◌, ◌++◌, length, drop, sym, ap, ◌∙◌, append_assoc, refl, rules, arith}
+use Rattle.std.specs.Prelude.{bytes_eq, flat_map, map}
 use Rattle.std.proofs.lemmas.Grind.{common_steps}
 use Rattle.std.proofs.lemmas.List.{take_at}
+use Rattle.nj_names.specs.Files.{path_at}
 use Rattle.nj_edges.specs.Edges.{edge_at, inputs_of}
 use Rattle.nj_graph.specs.Graph.{edges_of, files_of}
 use Rattle.nj_needs.specs.Walks.{commands_of}
 use Rattle.nj_requests.specs.declared.style.InputsStyle.{InputsStyle}
 use Rattle.nj_tools.specs.Inside.Collections.{IsFlagged, with_files}
-use Rattle.nj_tools.specs.Listings.{printed, terminated}
-use Rattle.nj_tools.proofs.BlockLemmas.{puts-nothing}
+use Rattle.nj_tools.specs.Listings.{each_once, needed_inputs, printed, terminated}
+use Rattle.nj_tools.specs.declared.tool_fault.ToolFault.TheVariants.{OutOfMemory}
+use Rattle.nj_tools.proofs.BlockLemmas.{puts-no_memory, puts-nothing, puts-with}
 use Rattle.nj_tools.proofs.CollectedLemmas.{AreOf-none}
 use Rattle.nj_tools.proofs.InputLemmas.{row-puts, row-stops, rows-put}
 use Rattle.nj_tools.proofs.ListingLemmas.{AreOf-row}
@@ -27,6 +30,14 @@ edges-init g c = record {
   are = AreOf-none (files_of c.args.graph.now);
   underway = puts-nothing _ _;
 }
+
+pub returns-in_err-written : goal.returns-in_err-written
+returns-in_err-written g c =
+    let sink = g.S.Sink.state c.args.out.now in
+    let before = c.args.text.now.items in
+    let paths = map (path_at (files_of c.args.graph.now)) c.args.targets.now in
+    let text = flat_map (print c.args.style) (each_once bytes_eq (needed_inputs (edges_of c.args.graph.now) paths)) in
+    puts-with sink sink before before text OutOfMemory c.from_residual-in_err-written.result c.from_residual-in_err-written.ensures.1 (puts-no_memory sink before text)
 
 pub returns-in_err-write_new_files : goal.returns-in_err-write_new_files
 returns-in_err-write_new_files g c =
