@@ -24,10 +24,12 @@ pub struct Listed<'a> {
 pub fn unknown_rule<'a>(graph: &Graph, names: &[&'a str]) -> Option<&'a str>
     ensures { option_map (λ name. name.now) result ≡ unknown_rule graph.now (texts names.now) }
 {
-    names
-        .iter()
-        .copied()
-        .find(|name| !is_rule(graph, name.as_bytes()))
+    'names: for name in names {
+        if !is_rule(graph, name.as_bytes()) {
+            return Some(*name);
+        }
+    }
+    None
 }
 
 /// Whether a rule of any scope has this name.
