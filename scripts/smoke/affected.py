@@ -17,6 +17,7 @@ from lib.random_builds import HEADERS, SOURCES, deps_log, random_build, some
 from smoke.graph import DONE, FAULT, LOOK, OUTPUT_FAILED, SUBCOMMANDS
 
 PROJECT, CMAKE = EXAMPLES / "project", EXAMPLES / "cmake"
+NO_PATH = "ninja-graph: no changed path was given\n"
 FILES = {
     "build.ninja": b"""\
 anew =
@@ -139,7 +140,7 @@ def unknown_rules(graph, folder):
 @check
 def no_changed_path(graph):
     """What should have listed the paths may have failed, so without one everything may be affected."""
-    caveat = LOOK, "", "ninja-graph: no changed path was given\n"
+    caveat = LOOK, "", NO_PATH
     for text in b"", b"\n", b"\n\n\n":
         ran = graph.run(["affected"], PROJECT, text).as_text()
         yield from expect(text, ran, caveat)
@@ -320,8 +321,8 @@ def wanted_of(build, paths):
         affected = [edge for edge in build.edges if reached & set(edge.paths())]
         reached |= {path for edge in affected for path in edge.outputs}
     outputs = lines(path for edge in affected for path in edge.outputs)
-    unknown = [path for path in paths if path not in named]
-    return LOOK if unknown else DONE, outputs, lines(unknown)
+    told = lines(path for path in paths if path not in named) if paths else NO_PATH
+    return LOOK if told else DONE, outputs, told
 
 
 @check

@@ -168,7 +168,7 @@ ON_NESTED = [
     ["affected"],
     ["affected", "--rule", "deep", "--no-phony"],
     ["audit"],
-    ["audit", *(f"--only={kind}" for kind in ("unused-output", "unused-variable", "undeclared-input"))],
+    ["audit", *(f"--only={kind}" for kind in ("missing-source", "unused-variable", "undeclared-input"))],
     ["draw"],
     ["draw", "--affected", "--fold", "d"],
     ["json"],
