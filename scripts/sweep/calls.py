@@ -133,8 +133,9 @@ def statx_is_wrong(runs, failed, way, ran):
     lines = runs.usual.output.decode().splitlines(True)
     ends = f"missing source '{failed.file}'\n", f'"missing-source","name":"{failed.file}"}}\n'
     left = "".join(line for line in lines if not line.endswith(ends)).encode()
-    told = rb"[^\n]+: cannot look up source '%b'\n" % re.escape(failed.file.encode())
-    is_told = (ran.status, ran.output) == (LOOK, left) and bool(re.fullmatch(told, ran.error))
+    told = re.compile(rb"[^\n]+: cannot look up source '%b'\n" % re.escape(failed.file.encode()))
+    others = b"".join(line for line in ran.error.splitlines(True) if not told.fullmatch(line))
+    is_told = (ran.status, ran.output, others) == (LOOK, left, runs.usual.error) and others != ran.error
     return not is_told and (left != runs.usual.output or ran != runs.usual)
 
 
