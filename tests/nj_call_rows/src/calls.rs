@@ -1,5 +1,6 @@
 //! The outcomes of rows of calls, as text.
 
+use crate::depfiles::put_depfile;
 use crate::deps_logs::put_of_log;
 use crate::joined_logs::{put_joined, put_undeclared};
 use crate::keys::DrawnKeys;
@@ -80,6 +81,7 @@ fn put_of_text(
         "entries" => put_parsed(alloc, text, Grammar::Dyndep, &subject),
         "number" | "version" | "quote" | "lossy" => put_meant(alloc, text, row.kind, &subject),
         "clean" => put_clean(alloc, text, &subject),
+        "depfile" => put_depfile(alloc, text, &subject),
         "mark" => put_mark(alloc, text, &subject),
         _ => return Ok(false),
     };

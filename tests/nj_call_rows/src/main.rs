@@ -1,10 +1,11 @@
-//! Runs the rows of calls: each has results of one library, of those up to the graph or of deps
-//! logs. `nj_run_rows` has the rows of runs.
+//! Runs the rows of calls: each has results of one library, of those up to the graph, of deps
+//! logs or of depfiles. `nj_run_rows` has the rows of runs.
 
 mod calls;
 mod chains;
 mod changes;
 mod declared;
+mod depfiles;
 mod deps_logs;
 mod graphs;
 mod joined_logs;
