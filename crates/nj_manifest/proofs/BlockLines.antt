@@ -8,9 +8,9 @@ use Rattle.nj_text.specs.declared.fault.LexFault.{LexFault}
 use Rattle.nj_text.specs.declared.fault.LexFault.TheVariants as lex
 use Rattle.nj_text.specs.declared.line_start.LineStart.{LineStart}
 use Rattle.nj_text.specs.declared.line_start.LineStart.TheVariants as start
-use Rattle.nj_text.specs.Bytes.{drop_while}
+use Rattle.nj_text.specs.Bytes.{drop_while, begins_with}
 use Rattle.nj_text.specs.Units.{TextUnit}
-use Rattle.nj_text.specs.Lines.{Line, with_units, lines_after, Kind, CommentLine, TabLine, BlankLine, IndentedLine, PlainLine, kind_of, is_space_unit, kind_after_spaces, begins_with_space}
+use Rattle.nj_text.specs.Lines.{Line, with_units, lines_after, Kind, CommentLine, TabLine, BlankLine, IndentedLine, PlainLine, kind_of, is_space_unit, kind_after_spaces}
 use Rattle.nj_text.specs.Inside.States.{reply}
 use Rattle.nj_text.specs.Calls.{State, Between, Inside, Failed, Answers, start_line_of, begun, begun_by, is_comment, is_empty, without_comments, Reply}
 use Rattle.nj_manifest.specs.declared.block_lines.Keys.{Keys}
@@ -81,7 +81,7 @@ blank_is_indented h = absurd cc
 indented-weight : (l : Line) → kind_of l ≡ IndentedLine → line_weight l ≡ 1
 indented-weight l h = by_units l.is_last l.units h
   where
-    by_units : (t : Bool) (us : List TextUnit) → kind_after_spaces (drop_while is_space_unit us) (begins_with_space us) ≡ IndentedLine → cond (t && is_empty us) 0 1 ≡ suc 0
+    by_units : (t : Bool) (us : List TextUnit) → kind_after_spaces (drop_while is_space_unit us) (begins_with is_space_unit us) ≡ IndentedLine → cond (t && is_empty us) 0 1 ≡ suc 0
     by_units t [] h = absurd (blank_is_indented h)
     by_units true (u ∷ us) h = refl
     by_units false (u ∷ us) h = refl

@@ -1,9 +1,9 @@
 -- Each statement takes a line at least, and a text has no more lines than bytes.
 use Rattle.std.proofs.Common.{◌≡◌, ℕ, zero, suc, ◌<◌, ◌≤◌, Bool, true, false, cond, Option, Some, None, Result, Ok, Err, List, [], ◌∷◌, length, take, refl, sym, ap, subst, ◌∙◌, arith}
 use Rattle.nj_text.specs.declared.spot.Spot.{Spot}
-use Rattle.nj_text.specs.Bytes.{drop_while}
+use Rattle.nj_text.specs.Bytes.{drop_while, begins_with}
 use Rattle.nj_text.specs.Units.{TextUnit, Position, found_at, position_after, spot_after, cut}
-use Rattle.nj_text.specs.Lines.{Line, ending_of, lines_before, lines_of, text_lines, line_spot, with_units, lines_after, Kind, CommentLine, TabLine, BlankLine, IndentedLine, PlainLine, kind_after_spaces, begins_with_space, is_space_unit, kind_of}
+use Rattle.nj_text.specs.Lines.{Line, ending_of, lines_before, lines_of, text_lines, line_spot, with_units, lines_after, Kind, CommentLine, TabLine, BlankLine, IndentedLine, PlainLine, kind_after_spaces, is_space_unit, kind_of}
 use Rattle.nj_text.specs.Calls.{Inside, is_empty, without_comments}
 use Rattle.nj_manifest.specs.declared.block_lines.Keys.{Keys}
 use Rattle.nj_manifest.specs.declared.block_lines.Keys.TheVariants as keys
@@ -61,7 +61,7 @@ fewer l ls h = by_last l.is_last refl
 plain-units : (l : Line) → kind_of l ≡ PlainLine → is_empty l.units ≡ false
 plain-units l h = by_units l.units h
   where
-    by_units : (us : List TextUnit) → kind_after_spaces (drop_while is_space_unit us) (begins_with_space us) ≡ PlainLine → is_empty us ≡ false
+    by_units : (us : List TextUnit) → kind_after_spaces (drop_while is_space_unit us) (begins_with is_space_unit us) ≡ PlainLine → is_empty us ≡ false
     by_units [] e = absurd cc
     by_units (u ∷ us) e = refl
 

@@ -3,10 +3,11 @@ use Rattle.std.proofs.Common.{◌≡◌, ℕ, Bool, true, false, not, Option, So
 use Rattle.std.proofs.lemmas.Slice.Eq.{bytes_eq-Decides}
 use Rattle.nj_text.specs.declared.sign.Sign.{Sign}
 use Rattle.nj_text.specs.declared.sign.Sign.TheVariants as sign
+use Rattle.nj_text.specs.Bytes.{begins_with}
 use Rattle.nj_text.specs.Units.{TextUnit}
 use Rattle.nj_text.specs.Lines.{Line, with_units, lines_after}
-use Rattle.nj_text.specs.Words.{WordModel, is_blank, next_fault}
-use Rattle.nj_text.specs.Calls.{State, Between, Inside, Failed, is_sign, begins_word, skip_blanks_of, sign_of, path_word_of, word_at, spot_of}
+use Rattle.nj_text.specs.Words.{WordModel, is_blank, next_fault, opens_word}
+use Rattle.nj_text.specs.Calls.{State, Between, Inside, Failed, is_sign, skip_blanks_of, sign_of, path_word_of, word_at, spot_of}
 use Rattle.nj_text.specs.Inside.States.{unless_bad}
 use Rattle.nj_manifest.specs.declared.cause.Wanted.{Wanted}
 use Rattle.nj_manifest.specs.declared.cause.Wanted.TheVariants as wanted
@@ -52,7 +53,7 @@ no_path-form l ls us s s' e h =
     let words = words-form l ls [] us s' (ap words_next (sym e) ∙ no_path-words l ls s s' h) in
     words.2 ∙ ap (λ (vs : List TextUnit). within l ls (skip vs)) (no_words us words.0 [] refl words.1)
 
-no_path-read : (l : Line) (ls : List Line) (us : List TextUnit) → next_fault (skip us) ≡ None → begins_word (skip us) ≡ false → no_path (within l ls us) ≡ Ok (within l ls (skip us))
+no_path-read : (l : Line) (ls : List Line) (us : List TextUnit) → next_fault (skip us) ≡ None → begins_with opens_word (skip us) ≡ false → no_path (within l ls us) ≡ Ok (within l ls (skip us))
 unfolding no_path
 no_path-read l ls us n b =
     let s = within l ls us in

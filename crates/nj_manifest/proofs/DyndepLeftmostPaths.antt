@@ -6,11 +6,11 @@ use Rattle.std.proofs.lemmas.Bool.{and_parts, and_from, eq-eqb}
 use Rattle.nj_text.specs.declared.fault.UnitFault.{UnitFault}
 use Rattle.nj_text.specs.declared.sign.Sign.{Sign}
 use Rattle.nj_text.specs.declared.spot.Spot.{Spot}
-use Rattle.nj_text.specs.Bytes.{drop_while, is_space}
+use Rattle.nj_text.specs.Bytes.{drop_while, is_space, begins_with}
 use Rattle.nj_text.specs.Units.{TextUnit}
 use Rattle.nj_text.specs.Lines.{Line, with_units, spot_of_first}
 use Rattle.nj_text.specs.Words.{is_blank, opens_word, in_word, next_fault, parts_of, WordModel}
-use Rattle.nj_text.specs.Calls.{State, Between, Inside, Failed, Reply, unless_fault, begins_word, fault_spot, is_empty, is_sign, state_after_sign}
+use Rattle.nj_text.specs.Calls.{State, Between, Inside, Failed, Reply, unless_fault, fault_spot, is_empty, is_sign, state_after_sign}
 use Rattle.nj_text.specs.Inside.States.{reply}
 use Rattle.nj_text.proofs.Lists.{AllIn}
 use Rattle.nj_manifest.specs.declared.cause.Wanted.{Wanted}
@@ -87,10 +87,10 @@ word_by f t g there other = unless_fault f (cond t (unless_fault g there) other)
 
 abbrev path_here : List TextUnit → Line → List Line → Step Bool
 path_here us e ms =
-    let r = word_by (next_fault us) (begins_word us) (next_fault (drop_while in_word us)) (reply (Some (record { spot = spot_of_first us e.end; parts = parts_of (take_while in_word us) })) (at (drop_while in_word us) e ms)) (reply None (at us e ms)) in
+    let r = word_by (next_fault us) (begins_with opens_word us) (next_fault (drop_while in_word us)) (reply (Some (record { spot = spot_of_first us e.end; parts = parts_of (take_while in_word us) })) (at (drop_while in_word us) e ms)) (reply None (at us e ms)) in
     path_by (spot_of_first us e.end) r
 
-begins_word-is : (us : List TextUnit) → begins_word us ≡ begins opens_word us
+begins_word-is : (us : List TextUnit) → begins_with opens_word us ≡ begins opens_word us
 begins_word-is [] = refl
 begins_word-is (u ∷ us) = refl
 
@@ -137,7 +137,7 @@ path_cleared us e ms a = by_fault (next_fault us) refl
 word_again : (us : List TextUnit) (e : Line) (ms : List Line) → path_step (at us e ms) ≡ path_here (skip us) e ms
 word_again us e ms =
     ap (λ (w : List TextUnit).
-    let r = word_by (next_fault w) (begins_word w) (next_fault (drop_while in_word w)) (reply (Some (record { spot = spot_of_first w e.end; parts = parts_of (take_while in_word w) })) (at (drop_while in_word w) e ms)) (reply None (at w e ms)) in
+    let r = word_by (next_fault w) (begins_with opens_word w) (next_fault (drop_while in_word w)) (reply (Some (record { spot = spot_of_first w e.end; parts = parts_of (take_while in_word w) })) (at (drop_while in_word w) e ms)) (reply None (at w e ms)) in
     path_by (spot_of_first (skip us) e.end) r) (skip_again us)
 
 -- Among units that are apart, both give the same.
@@ -155,7 +155,7 @@ path_is_passed us e ms y h = word_again us e ms ∙ by_fault (next_fault v) (beg
     by_fault (Some bad) t i o g = absurd cc
     by_fault None true i o g = absurd cc
     by_fault None false i o g =
-        ap (λ (f : Option UnitFault). by_parts v e ms f (begins_word v) (next_fault (drop_while in_word v))) i
+        ap (λ (f : Option UnitFault). by_parts v e ms f (begins_with opens_word v) (next_fault (drop_while in_word v))) i
         ∙ (ap (λ (t : Bool). by_parts v e ms None t (next_fault (drop_while in_word v))) (begins_word-is v ∙ o) ∙ g)
 
 -- ---- continuing where there is no path

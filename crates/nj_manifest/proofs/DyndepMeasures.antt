@@ -1,8 +1,8 @@
 -- Each entry of a dyndep file takes a line at least, and so does the version.
 use Rattle.std.proofs.Common.{◌≡◌, ℕ, suc, ◌<◌, ◌≤◌, Bool, true, false, cond, Option, Some, None, Ok, List, [], ◌∷◌, length, refl, sym, ap, ◌∙◌, arith}
-use Rattle.nj_text.specs.Bytes.{drop_while}
+use Rattle.nj_text.specs.Bytes.{drop_while, begins_with}
 use Rattle.nj_text.specs.Units.{TextUnit}
-use Rattle.nj_text.specs.Lines.{Line, text_lines, with_units, lines_after, Kind, CommentLine, TabLine, BlankLine, IndentedLine, PlainLine, begins_with_space, kind_after_spaces, is_space_unit, kind_of}
+use Rattle.nj_text.specs.Lines.{Line, text_lines, with_units, lines_after, Kind, CommentLine, TabLine, BlankLine, IndentedLine, PlainLine, kind_after_spaces, is_space_unit, kind_of}
 use Rattle.nj_text.specs.Calls.{State, Inside, is_empty, without_comments}
 use Rattle.nj_manifest.specs.declared.block_lines.Keys.{Keys}
 use Rattle.nj_manifest.specs.Statements.{LineModel, lines_from}
@@ -29,7 +29,7 @@ no_fewer l ls = by_last l.is_last refl
 fewer : (l : Line) (ls : List Line) → kind_of l ≡ PlainLine → ahead (lines_after l ls) < ahead (l ∷ ls)
 fewer l ls k = by_last l.is_last refl (some_unit l.units k)
   where
-    some_unit : (us : List TextUnit) → kind_after_spaces (drop_while is_space_unit us) (begins_with_space us) ≡ PlainLine → is_empty us ≡ false
+    some_unit : (us : List TextUnit) → kind_after_spaces (drop_while is_space_unit us) (begins_with is_space_unit us) ≡ PlainLine → is_empty us ≡ false
     some_unit [] e = absurd cc
     some_unit (u ∷ us) e = refl
 

@@ -7,10 +7,11 @@ use Rattle.std.proofs.lemmas.Bool.{or_from}
 use Rattle.std.proofs.lemmas.Slice.Eq.{bytes_eq-Decides}
 use Rattle.nj_text.specs.declared.sign.Sign.{Sign}
 use Rattle.nj_text.specs.declared.sign.Sign.TheVariants as sign
+use Rattle.nj_text.specs.Bytes.{begins_with}
 use Rattle.nj_text.specs.Units.{TextUnit}
 use Rattle.nj_text.specs.Lines.{Line, lines_after}
-use Rattle.nj_text.specs.Words.{WordModel, next_fault}
-use Rattle.nj_text.specs.Calls.{State, Between, Inside, is_empty, begins_word, is_sign, path_word_of, spot_of}
+use Rattle.nj_text.specs.Words.{WordModel, next_fault, opens_word}
+use Rattle.nj_text.specs.Calls.{State, Between, Inside, is_empty, is_sign, path_word_of, spot_of}
 use Rattle.nj_manifest.specs.declared.cause.Wanted.{Wanted}
 use Rattle.nj_manifest.specs.declared.cause.Wanted.TheVariants as wanted
 use Rattle.nj_manifest.specs.Faults.{Fault, Expected}
@@ -139,7 +140,7 @@ pub section_after-form : (want : Sign) (l : Line) (ls : List Line) (us : List Te
 section_after-form want l ls us s s' words n e h = section-form want l ls us words s' n (sym (section_skips want l ls us) ∙ sym (ap (section_next want) e) ∙ h)
 
 pub section_after-read : (want : Sign) (l : Line) (ls : List Line) {us rest : List TextUnit} {words : List WordModel} → (want ≡ sign.LineEnd → ⊥) → SectionForm want us words rest
-    → next_fault (skip rest) ≡ None → begins_word (skip rest) ≡ false → is_sign want (skip rest) ≡ false → section_next want (within l ls (skip us)) ≡ Ok (words, within l ls (skip rest))
+    → next_fault (skip rest) ≡ None → begins_with opens_word (skip rest) ≡ false → is_sign want (skip rest) ≡ false → section_next want (within l ls (skip us)) ≡ Ok (words, within l ls (skip rest))
 section_after-read want l ls {us = us} n f a b c = section_skips want l ls us ∙ section-read want l ls n f a b c
 
 -- `OUTPUTS | IMPLICIT-OUTPUTS`

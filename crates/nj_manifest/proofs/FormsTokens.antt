@@ -6,14 +6,14 @@ use Rattle.nj_text.specs.declared.fault.UnitFault.{UnitFault}
 use Rattle.nj_text.specs.declared.sign.Sign.{Sign}
 use Rattle.nj_text.specs.declared.sign.Sign.TheVariants as sign
 use Rattle.nj_text.specs.declared.spot.Spot.{Spot}
-use Rattle.nj_text.specs.Bytes.{drop_while, is_space, is_identifier_byte}
+use Rattle.nj_text.specs.Bytes.{drop_while, is_space, is_identifier_byte, begins_with}
 use Rattle.nj_text.specs.Units.{Meaning, Ordinary, Escape, Reference, Join, OpeningJoin, Comment, LeadingTab, LineEnd, TextEnd, BadByte, BadEscape, TextUnit, is_ordinary_in}
 use Rattle.nj_text.specs.Lines.{Line, with_units, lines_after, spot_of_first}
-use Rattle.nj_text.specs.Words.{is_blank, in_identifier, begins_with_byte, fault_of, next_fault}
+use Rattle.nj_text.specs.Words.{is_blank, in_identifier, begins_with_byte, fault_of, next_fault, opens_word}
 use Rattle.nj_text.specs.Inside.Meanings.{is_blank_meaning, opens_word_meaning}
 use Rattle.nj_text.specs.Calls as calls
 use Rattle.nj_text.specs.Inside.States.{reply, unless_bad}
-use Rattle.nj_text.specs.Calls.{State, Between, Inside, Reply, bytes_of, some_bytes, is_empty, begins_word, is_sign, state_after_sign, sign_of}
+use Rattle.nj_text.specs.Calls.{State, Between, Inside, Reply, bytes_of, some_bytes, is_empty, is_sign, state_after_sign, sign_of}
 use Rattle.nj_manifest.specs.declared.cause.Wanted.{Wanted}
 use Rattle.nj_manifest.specs.LineSteps.{Step, ◌>>=◌, called, NameModel, name_next, expect_sign}
 use Rattle.nj_manifest.specs.Grammar.{begins, AreBlanks, IdentifierForm, SignForm}
@@ -214,7 +214,7 @@ two_bytes b c us gap (u ∷ v ∷ []) rest n e g m =
 -- the next units, where they are not a word
 pub record Stops (us : List TextUnit) (pipe pipe2 pipe_at : Bool) : Type 0 where
   pub no_fault : next_fault (skip us) ≡ None
-  pub no_word : begins_word (skip us) ≡ false
+  pub no_word : begins_with opens_word (skip us) ≡ false
   pub is_pipe : is_sign sign.Pipe (skip us) ≡ pipe
   pub is_pipe2 : is_sign sign.Pipe2 (skip us) ≡ pipe2
   pub is_pipe_at : is_sign sign.PipeAt (skip us) ≡ pipe_at
@@ -225,7 +225,7 @@ end_stops us h = let e = blanks_end us h in record { no_fault = rw e refl; no_wo
 pub colon_stops : (us rest : List TextUnit) → SignForm sign.Colon us rest → Stops us false false false
 colon_stops us rest f =
     let it = one_byte 58 us f.gap f.run rest refl f.cut f.blanks f.of_sign in
-    record { no_fault = rw (it.1, it.2) refl; no_word = ap begins_word it.1 ∙ ap opens_word_meaning it.2; is_pipe = rw (it.1, it.2) refl; is_pipe2 = rw (it.1, it.2) refl; is_pipe_at = rw (it.1, it.2) refl }
+    record { no_fault = rw (it.1, it.2) refl; no_word = ap (begins_with opens_word) it.1 ∙ ap opens_word_meaning it.2; is_pipe = rw (it.1, it.2) refl; is_pipe2 = rw (it.1, it.2) refl; is_pipe_at = rw (it.1, it.2) refl }
 
 pub pipe_stops : (us rest : List TextUnit) → SignForm sign.Pipe us rest → Stops us true false false
 pipe_stops us rest f =
@@ -233,17 +233,17 @@ pipe_stops us rest f =
     let alone = and_parts (not (begins_with_byte 124 rest)) (not (begins_with_byte 64 rest)) f.longest in
     let one = not-true (begins_with_byte 124 rest) alone.0 in
     let other = not-true (begins_with_byte 64 rest) alone.1 in
-    record { no_fault = rw (it.1, it.2) refl; no_word = ap begins_word it.1 ∙ ap opens_word_meaning it.2; is_pipe = rw (it.1, it.2, one, other) refl; is_pipe2 = rw (it.1, it.2, one) refl; is_pipe_at = rw (it.1, it.2, other) refl }
+    record { no_fault = rw (it.1, it.2) refl; no_word = ap (begins_with opens_word) it.1 ∙ ap opens_word_meaning it.2; is_pipe = rw (it.1, it.2, one, other) refl; is_pipe2 = rw (it.1, it.2, one) refl; is_pipe_at = rw (it.1, it.2, other) refl }
 
 pub pipe2_stops : (us rest : List TextUnit) → SignForm sign.Pipe2 us rest → Stops us false true false
 pipe2_stops us rest f =
     let it = two_bytes 124 124 us f.gap f.run rest refl f.cut f.blanks f.of_sign in
-    record { no_fault = rw (it.2, it.3) refl; no_word = ap begins_word it.2 ∙ ap opens_word_meaning it.3; is_pipe = rw (it.2, it.3, it.4) refl; is_pipe2 = rw (it.2, it.3, it.4) refl; is_pipe_at = rw (it.2, it.3, it.4) refl }
+    record { no_fault = rw (it.2, it.3) refl; no_word = ap (begins_with opens_word) it.2 ∙ ap opens_word_meaning it.3; is_pipe = rw (it.2, it.3, it.4) refl; is_pipe2 = rw (it.2, it.3, it.4) refl; is_pipe_at = rw (it.2, it.3, it.4) refl }
 
 pub pipe_at_stops : (us rest : List TextUnit) → SignForm sign.PipeAt us rest → Stops us false false true
 pipe_at_stops us rest f =
     let it = two_bytes 124 64 us f.gap f.run rest refl f.cut f.blanks f.of_sign in
-    record { no_fault = rw (it.2, it.3) refl; no_word = ap begins_word it.2 ∙ ap opens_word_meaning it.3; is_pipe = rw (it.2, it.3, it.4) refl; is_pipe2 = rw (it.2, it.3, it.4) refl; is_pipe_at = rw (it.2, it.3, it.4) refl }
+    record { no_fault = rw (it.2, it.3) refl; no_word = ap (begins_with opens_word) it.2 ∙ ap opens_word_meaning it.3; is_pipe = rw (it.2, it.3, it.4) refl; is_pipe2 = rw (it.2, it.3, it.4) refl; is_pipe_at = rw (it.2, it.3, it.4) refl }
 
 -- ---- a sign that is there
 

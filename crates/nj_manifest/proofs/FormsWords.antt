@@ -5,14 +5,14 @@ use Rattle.nj_text.specs.declared.fault.UnitFault.{UnitFault}
 use Rattle.nj_text.specs.declared.sign.Sign.{Sign}
 use Rattle.nj_text.specs.declared.sign.Sign.TheVariants as sign
 use Rattle.nj_text.specs.declared.spot.Spot.{Spot}
-use Rattle.nj_text.specs.Bytes.{drop_while, is_word_byte}
+use Rattle.nj_text.specs.Bytes.{drop_while, is_word_byte, begins_with}
 use Rattle.nj_text.specs.Units.{Meaning, Ordinary, Escape, Reference, Join, OpeningJoin, Comment, LeadingTab, LineEnd, TextEnd, BadByte, BadEscape, TextUnit}
 use Rattle.nj_text.specs.Lines.{Line, spot_of_first}
 use Rattle.nj_text.specs.Words.{WordModel, is_blank, in_word, opens_word, fault_of, next_fault, parts_of}
 use Rattle.nj_text.specs.Inside.Meanings.{is_blank_meaning, opens_word_meaning}
 use Rattle.nj_text.specs.Calls as calls
 use Rattle.nj_text.specs.Inside.States.{reply}
-use Rattle.nj_text.specs.Calls.{State, begins_word, is_sign, sign_of, path_word_of}
+use Rattle.nj_text.specs.Calls.{State, is_sign, sign_of, path_word_of}
 use Rattle.nj_text.proofs.Lists.{take_while-cons_yes}
 use Rattle.nj_manifest.specs.LineSteps.{Step, ◌>>=◌, called, words_next, section_next}
 use Rattle.nj_manifest.specs.Grammar.{WordForm, WordsForm, none, more, SectionForm, left_out, there}
@@ -57,10 +57,10 @@ word_by l ls f g t us run rest =
     called (calls.unless_fault f (cond t (calls.unless_fault g (reply (Some (record { spot = spot_of_first us l.end; parts = parts_of run })) (within l ls rest))) (reply None (within l ls us))))
 
 abbrev WordRead : Line → List Line → List TextUnit → Option WordModel → State → Type 0
-WordRead l ls us None s = (begins_word us ≡ false) × (s ≡ within l ls us)
-WordRead l ls us (Some word) s = (begins_word us ≡ true) × (word ≡ record { spot = spot_of_first us l.end; parts = parts_of (take_while in_word us) }) × (s ≡ within l ls (drop_while in_word us))
+WordRead l ls us None s = (begins_with opens_word us ≡ false) × (s ≡ within l ls us)
+WordRead l ls us (Some word) s = (begins_with opens_word us ≡ true) × (word ≡ record { spot = spot_of_first us l.end; parts = parts_of (take_while in_word us) }) × (s ≡ within l ls (drop_while in_word us))
 
-word_by-read : (l : Line) (ls : List Line) (f g : Option UnitFault) (t : Bool) (us : List TextUnit) (found : Option WordModel) (s : State) → begins_word us ≡ t → word_by l ls f g t us (take_while in_word us) (drop_while in_word us) ≡ Ok (found, s) → WordRead l ls us found s
+word_by-read : (l : Line) (ls : List Line) (f g : Option UnitFault) (t : Bool) (us : List TextUnit) (found : Option WordModel) (s : State) → begins_with opens_word us ≡ t → word_by l ls f g t us (take_while in_word us) (drop_while in_word us) ≡ Ok (found, s) → WordRead l ls us found s
 word_by-read l ls (Some f) g t us found s b h = absurd cc
 word_by-read l ls None g false us None s b h = (b, sym (after-is _ _ (None, s) h))
 word_by-read l ls None g false us (Some word) s b h = absurd (none_is_none (value-is None (within l ls us) (Some word, s) h))
@@ -79,9 +79,9 @@ word_by-read l ls None None true us (Some word) s b h =
     some_is e = cc
 
 word-cases : (l : Line) (ls : List Line) (us : List TextUnit) (found : Option WordModel) (s : State) → called (path_word_of (within l ls us)) ≡ Ok (found, s) → WordRead l ls (skip us) found s
-word-cases l ls us found s h = word_by-read l ls (next_fault (skip us)) (next_fault (drop_while in_word (skip us))) (begins_word (skip us)) (skip us) found s refl h
+word-cases l ls us found s h = word_by-read l ls (next_fault (skip us)) (next_fault (drop_while in_word (skip us))) (begins_with opens_word (skip us)) (skip us) found s refl h
 
-form_of_word : (us vs : List TextUnit) (end : Spot) (word : WordModel) → skip us ≡ vs → begins_word vs ≡ true → word ≡ record { spot = spot_of_first vs end; parts = parts_of (take_while in_word vs) } → WordForm us word (drop_while in_word vs)
+form_of_word : (us vs : List TextUnit) (end : Spot) (word : WordModel) → skip us ≡ vs → begins_with opens_word vs ≡ true → word ≡ record { spot = spot_of_first vs end; parts = parts_of (take_while in_word vs) } → WordForm us word (drop_while in_word vs)
 form_of_word us [] end word e b is = absurd cc
 form_of_word us (u ∷ vs) end word e b is =
     let inside = opening_is_within u.means b in
@@ -135,13 +135,13 @@ word-read l ls us rest word f n =
     let run = f.first ∷ f.others in
     let next = word_next f in
     let left = run_passed in_word run rest f.of_word f.longest in
-    ap (λ (vs : List TextUnit). word_by l ls (next_fault vs) (next_fault (drop_while in_word vs)) (begins_word vs) vs (take_while in_word vs) (drop_while in_word vs)) next
-    ∙ word_by-gives l ls (next_fault (run ++ rest)) (next_fault (drop_while in_word (run ++ rest))) (begins_word (run ++ rest)) (run ++ rest) (take_while in_word (run ++ rest)) (drop_while in_word (run ++ rest)) run rest word
+    ap (λ (vs : List TextUnit). word_by l ls (next_fault vs) (next_fault (drop_while in_word vs)) (begins_with opens_word vs) vs (take_while in_word vs) (drop_while in_word vs)) next
+    ∙ word_by-gives l ls (next_fault (run ++ rest)) (next_fault (drop_while in_word (run ++ rest))) (begins_with opens_word (run ++ rest)) (run ++ rest) (take_while in_word (run ++ rest)) (drop_while in_word (run ++ rest)) run rest word
     (opens_without_fault f.first f.opens) f.opens (run_taken in_word run rest f.of_word f.longest) left (ap next_fault left ∙ n) f.place f.parts
 
-pub no_word-read : (l : Line) (ls : List Line) (us : List TextUnit) → next_fault (skip us) ≡ None → begins_word (skip us) ≡ false → called (path_word_of (within l ls us)) ≡ Ok (None, within l ls (skip us))
+pub no_word-read : (l : Line) (ls : List Line) (us : List TextUnit) → next_fault (skip us) ≡ None → begins_with opens_word (skip us) ≡ false → called (path_word_of (within l ls us)) ≡ Ok (None, within l ls (skip us))
 no_word-read l ls us n b =
-    ap (λ (f : Option UnitFault). word_by l ls f (next_fault (drop_while in_word (skip us))) (begins_word (skip us)) (skip us) (take_while in_word (skip us)) (drop_while in_word (skip us))) n
+    ap (λ (f : Option UnitFault). word_by l ls f (next_fault (drop_while in_word (skip us))) (begins_with opens_word (skip us)) (skip us) (take_while in_word (skip us)) (drop_while in_word (skip us))) n
     ∙ ap (λ (t : Bool). word_by l ls None (next_fault (drop_while in_word (skip us))) t (skip us) (take_while in_word (skip us)) (drop_while in_word (skip us))) b
 
 -- ---- words
@@ -202,7 +202,7 @@ words_without_fault none n = n
 words_without_fault (more f fs) n = word_without_fault f
 
 -- Words that are there are read, where neither a word nor a bad unit is next.
-pub words-read : (l : Line) (ls : List Line) {us rest : List TextUnit} {words : List WordModel} → WordsForm us words rest → next_fault (skip rest) ≡ None → begins_word (skip rest) ≡ false → words_next (within l ls us) ≡ Ok (words, within l ls (skip rest))
+pub words-read : (l : Line) (ls : List Line) {us rest : List TextUnit} {words : List WordModel} → WordsForm us words rest → next_fault (skip rest) ≡ None → begins_with opens_word (skip rest) ≡ false → words_next (within l ls us) ≡ Ok (words, within l ls (skip rest))
 words-read l ls {us = us} none n b = words_next-ends (within l ls us) (within l ls (skip us)) (no_word-read l ls us n b)
 words-read l ls {us = us} {rest = rest} (more {after = remainder} {word = word} f fs) n b =
     let first = word-read l ls us remainder word f (fault_after_blanks remainder (words_without_fault fs n)) in
@@ -231,7 +231,7 @@ section-form want l ls us words s n h =
 
 -- A section that is there is read, and one that is left out is not.
 pub section-read : (want : Sign) (l : Line) (ls : List Line) {us rest : List TextUnit} {words : List WordModel} → (want ≡ sign.LineEnd → ⊥) → SectionForm want us words rest
-    → next_fault (skip rest) ≡ None → begins_word (skip rest) ≡ false → is_sign want (skip rest) ≡ false → section_next want (within l ls us) ≡ Ok (words, within l ls (skip rest))
+    → next_fault (skip rest) ≡ None → begins_with opens_word (skip rest) ≡ false → is_sign want (skip rest) ≡ false → section_next want (within l ls us) ≡ Ok (words, within l ls (skip rest))
 unfolding section_next
 section-read want l ls {us = us} n left_out f b i = rw (sign-none want l ls us f i) refl
 section-read want l ls {us = us} n (there {after = remainder} s ws) f b i = rw (sign-read want l ls us remainder n s) (words-read l ls ws f b)

@@ -7,13 +7,13 @@ use Rattle.nj_text.specs.declared.fault.UnitFault.{UnitFault}
 use Rattle.nj_text.specs.declared.sign.Sign.{Sign}
 use Rattle.nj_text.specs.declared.sign.Sign.TheVariants as sign
 use Rattle.nj_text.specs.declared.spot.Spot.{Spot}
-use Rattle.nj_text.specs.Bytes.{drop_while}
+use Rattle.nj_text.specs.Bytes.{drop_while, begins_with}
 use Rattle.nj_text.specs.Units.{TextUnit}
 use Rattle.nj_text.specs.Lines.{Line, with_units, lines_after}
-use Rattle.nj_text.specs.Words.{WordModel, in_identifier, is_blank, after_opening, in_word, next_fault, first_fault}
+use Rattle.nj_text.specs.Words.{WordModel, in_identifier, is_blank, after_opening, in_word, next_fault, first_fault, opens_word}
 use Rattle.nj_text.specs.Calls as calls
 use Rattle.nj_text.specs.Inside.States.{reply}
-use Rattle.nj_text.specs.Calls.{State, Between, Inside, Failed, Reply, skip_blanks_of, ident_of, sign_of, path_word_of, value_of, spot_of, after_blanks, state_after_sign, is_sign, is_empty, begins_word, word_here, some_bytes, bytes_of}
+use Rattle.nj_text.specs.Calls.{State, Between, Inside, Failed, Reply, skip_blanks_of, ident_of, sign_of, path_word_of, value_of, spot_of, after_blanks, state_after_sign, is_sign, is_empty, word_here, some_bytes, bytes_of}
 use Rattle.nj_manifest.specs.declared.cause.Wanted.{Wanted}
 use Rattle.nj_manifest.specs.declared.cause.Wanted.TheVariants as wanted
 use Rattle.nj_manifest.specs.declared.block_lines.Keys.{Keys}
@@ -107,7 +107,7 @@ pub word-inside : (l : Line) (ls : List Line) (s : State) (y : Option WordModel 
 word-inside l ls s y o h =
     let m = after_blanks (with_units o.0 l) in
     let e = called-fault (next_fault m.units) _ y (ap (λ s. called (path_word_of s)) (sym o.1) ∙ h) in
-    let p = word_here-inside m ls (begins_word m.units) y e in
+    let p = word_here-inside m ls (begins_with opens_word m.units) y e in
     (p.0, p.1)
 
 words_from-inside : (l : Line) (ls : List Line) (word : Option WordModel) (s : State) (others : Step (List WordModel)) (y : List WordModel × State) → On l ls s

@@ -2,8 +2,9 @@
 use Rattle.std.proofs.Common.{◌≡◌, ℕ, Bool, true, false, cond, inl, inr, Result, Ok, Err, List, [], ◌∷◌, ◌++◌, refl, sym, ap, subst, ◌∙◌, append_assoc}
 use Rattle.nj_text.specs.declared.fault.UnitFault.TheVariants as lex
 use Rattle.nj_text.specs.declared.spot.Spot.{Spot}
+use Rattle.nj_text.specs.Bytes.{begins_with}
 use Rattle.nj_text.specs.Units.{TextUnit}
-use Rattle.nj_text.specs.Lines.{Line, with_units, lines_after, Kind, CommentLine, TabLine, BlankLine, IndentedLine, PlainLine, kind_of, is_space_unit, begins_with_space}
+use Rattle.nj_text.specs.Lines.{Line, with_units, lines_after, Kind, CommentLine, TabLine, BlankLine, IndentedLine, PlainLine, kind_of, is_space_unit}
 use Rattle.nj_text.specs.Inside.Meanings.{text_kind}
 use Rattle.nj_text.specs.Calls.{State, Between, without_comments}
 use Rattle.nj_text.proofs.Lists.{AllIn}
@@ -126,7 +127,7 @@ one_space : (sp : List TextUnit) → AllIn is_space_unit sp → AllIn is_space_u
 one_space [] a = (refl, tt)
 one_space (u ∷ sp) a = (a.0, one_space sp a.1)
 
-one_space_begins : (sp : List TextUnit) → AllIn is_space_unit sp → begins_with_space (sp ++ written_unit 32 ∷ []) ≡ true
+one_space_begins : (sp : List TextUnit) → AllIn is_space_unit sp → begins_with is_space_unit (sp ++ written_unit 32 ∷ []) ≡ true
 one_space_begins [] a = refl
 one_space_begins (u ∷ sp) a = a.0
 

@@ -2,9 +2,9 @@
 use Rattle.std.proofs.Common.{◌≡◌, Bool, true, false, List, [], ◌∷◌, ◌++◌, take, refl, sym, ap, ◌∙◌}
 use Rattle.std.specs.List.{take_while}
 use Rattle.nj_text.specs.declared.spot.Spot.{Spot}
-use Rattle.nj_text.specs.Bytes.{drop_while, is_space, is_identifier_byte}
+use Rattle.nj_text.specs.Bytes.{drop_while, is_space, is_identifier_byte, begins_with}
 use Rattle.nj_text.specs.Units.{Meaning, Ordinary, Comment, LeadingTab, TextUnit, is_ordinary_in}
-use Rattle.nj_text.specs.Lines.{Kind, TabLine, IndentedLine, PlainLine, is_space_unit, kind_with, kind_after_spaces, begins_with_space, spot_of_first}
+use Rattle.nj_text.specs.Lines.{Kind, TabLine, IndentedLine, PlainLine, is_space_unit, kind_with, kind_after_spaces, spot_of_first}
 use Rattle.nj_text.specs.Inside.Meanings.{text_kind}
 use Rattle.nj_text.specs.Words.{in_identifier}
 use Rattle.nj_text.proofs.Lists.{AllIn, AllIn-take_while}
@@ -13,7 +13,7 @@ use Rattle.nj_manifest.proofs.LeftmostFronts.{front, same-head, begins-same}
 
 -- the kind of a line with these units
 abbrev pub kind_units : List TextUnit → Kind
-kind_units us = kind_after_spaces (drop_while is_space_unit us) (begins_with_space us)
+kind_units us = kind_after_spaces (drop_while is_space_unit us) (begins_with is_space_unit us)
 
 abbrev pub spaces_of : List TextUnit → List TextUnit
 spaces_of us = take_while is_space_unit us
@@ -30,11 +30,11 @@ spaces_pass us = AllIn-take_while is_space_unit us
 pub spaces_stop : (us : List TextUnit) → begins is_space_unit (after_spaces us) ≡ false
 spaces_stop us = after_stops is_space_unit us
 
-no_space_begins : (us : List TextUnit) → begins is_space_unit us ≡ false → begins_with_space us ≡ false
+no_space_begins : (us : List TextUnit) → begins is_space_unit us ≡ false → begins_with is_space_unit us ≡ false
 no_space_begins [] h = refl
 no_space_begins (u ∷ us) h = h
 
-spaced_begins : (sp x : List TextUnit) → begins is_space_unit x ≡ false → begins_with_space (sp ++ x) ≡ begins_with_space sp
+spaced_begins : (sp x : List TextUnit) → begins is_space_unit x ≡ false → begins_with is_space_unit (sp ++ x) ≡ begins_with is_space_unit sp
 spaced_begins [] x h = no_space_begins x h
 spaced_begins (u ∷ sp) x h = refl
 
@@ -42,11 +42,11 @@ pub unspaced : (sp x : List TextUnit) → AllIn is_space_unit sp → begins is_s
 unspaced sp x a h = run_passed is_space_unit sp x a h
 
 -- after some spaces, or none
-pub kind_spaced : (sp x : List TextUnit) → AllIn is_space_unit sp → begins is_space_unit x ≡ false → kind_units (sp ++ x) ≡ kind_after_spaces x (begins_with_space sp)
-kind_spaced sp x a h = ap (λ (y : List TextUnit). kind_after_spaces y (begins_with_space (sp ++ x))) (unspaced sp x a h) ∙ ap (λ (t : Bool). kind_after_spaces x t) (spaced_begins sp x h)
+pub kind_spaced : (sp x : List TextUnit) → AllIn is_space_unit sp → begins is_space_unit x ≡ false → kind_units (sp ++ x) ≡ kind_after_spaces x (begins_with is_space_unit sp)
+kind_spaced sp x a h = ap (λ (y : List TextUnit). kind_after_spaces y (begins_with is_space_unit (sp ++ x))) (unspaced sp x a h) ∙ ap (λ (t : Bool). kind_after_spaces x t) (spaced_begins sp x h)
 
 -- the kind of the whole is that after its own spaces
-pub kind_here : (us : List TextUnit) → kind_units us ≡ kind_after_spaces (after_spaces us) (begins_with_space (spaces_of us))
+pub kind_here : (us : List TextUnit) → kind_units us ≡ kind_after_spaces (after_spaces us) (begins_with is_space_unit (spaces_of us))
 kind_here us = ap kind_units (spaces_cut us) ∙ kind_spaced (spaces_of us) (after_spaces us) (spaces_pass us) (spaces_stop us)
 
 kind_head : (x : List TextUnit) (t : Bool) → kind_after_spaces x t ≡ kind_after_spaces (take 1 x) t
@@ -62,7 +62,7 @@ no_space_same us x h = begins-same is_space_unit x (after_spaces us) h ∙ space
 -- units in place of those after the spaces
 pub kind_replaced : (us x : List TextUnit) → front x ≡ front (after_spaces us) → kind_units (spaces_of us ++ x) ≡ kind_units us
 kind_replaced us x h =
-    kind_spaced (spaces_of us) x (spaces_pass us) (no_space_same us x h) ∙ (kind_same x (after_spaces us) (begins_with_space (spaces_of us)) h ∙ sym (kind_here us))
+    kind_spaced (spaces_of us) x (spaces_pass us) (no_space_same us x h) ∙ (kind_same x (after_spaces us) (begins_with is_space_unit (spaces_of us)) h ∙ sym (kind_here us))
 
 -- ---- plain lines
 
@@ -84,7 +84,7 @@ plain_begins (u ∷ us) h = by_test (is_space_unit u) refl
     by_test false e = refl
 
 unspaced_kind : (us : List TextUnit) → begins is_space_unit us ≡ false → kind_units us ≡ kind_after_spaces us false
-unspaced_kind us h = ap (λ (y : List TextUnit). kind_after_spaces y (begins_with_space us)) (none_passed is_space_unit us h) ∙ ap (λ (t : Bool). kind_after_spaces us t) (no_space_begins us h)
+unspaced_kind us h = ap (λ (y : List TextUnit). kind_after_spaces y (begins_with is_space_unit us)) (none_passed is_space_unit us h) ∙ ap (λ (t : Bool). kind_after_spaces us t) (no_space_begins us h)
 
 pub plain_same : (us x : List TextUnit) → kind_units us ≡ PlainLine → front x ≡ front us → kind_units x ≡ PlainLine
 plain_same us x h e =
@@ -108,8 +108,8 @@ identifier_text (u ∷ x) t h = identifier_kind u.means u.spot t h
 pub identifier_plain : (x : List TextUnit) → begins in_identifier x ≡ true → kind_units x ≡ PlainLine
 identifier_plain x h = unspaced_kind x (identifier_no_space x h) ∙ identifier_text x false h
 
-pub identifier_spaced : (sp x : List TextUnit) → AllIn is_space_unit sp → begins in_identifier x ≡ true → kind_units (sp ++ x) ≡ text_kind (begins_with_space sp)
-identifier_spaced sp x a h = kind_spaced sp x a (identifier_no_space x h) ∙ identifier_text x (begins_with_space sp) h
+pub identifier_spaced : (sp x : List TextUnit) → AllIn is_space_unit sp → begins in_identifier x ≡ true → kind_units (sp ++ x) ≡ text_kind (begins_with is_space_unit sp)
+identifier_spaced sp x a h = kind_spaced sp x a (identifier_no_space x h) ∙ identifier_text x (begins_with is_space_unit sp) h
 
 -- an indented line begins with a space
 unindented_kind : (m : Meaning) (spot : Spot) → kind_with m spot false ≡ IndentedLine → ⊥
@@ -122,8 +122,8 @@ unindented us true h = refl
 unindented [] false h = absurd cc
 unindented (u ∷ us) false h = absurd (unindented_kind u.means u.spot h)
 
-pub indented_spaces : (us : List TextUnit) → kind_units us ≡ IndentedLine → begins_with_space (spaces_of us) ≡ true
-indented_spaces us h = unindented (after_spaces us) (begins_with_space (spaces_of us)) (sym (kind_here us) ∙ h)
+pub indented_spaces : (us : List TextUnit) → kind_units us ≡ IndentedLine → begins_with is_space_unit (spaces_of us) ≡ true
+indented_spaces us h = unindented (after_spaces us) (begins_with is_space_unit (spaces_of us)) (sym (kind_here us) ∙ h)
 
 -- ---- tabs
 
@@ -143,4 +143,4 @@ tab_first [] t tab end h = absurd cc
 tab_first (u ∷ us) t tab end h = tab_spot u.means u.spot t tab h
 
 pub tab_place : (us : List TextUnit) (tab end : Spot) → kind_units us ≡ TabLine tab → tab ≡ spot_of_first (after_spaces us) end
-tab_place us tab end h = tab_first (after_spaces us) (begins_with_space (spaces_of us)) tab end (sym (kind_here us) ∙ h)
+tab_place us tab end h = tab_first (after_spaces us) (begins_with is_space_unit (spaces_of us)) tab end (sym (kind_here us) ∙ h)

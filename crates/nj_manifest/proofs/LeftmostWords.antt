@@ -4,12 +4,12 @@ use Rattle.std.specs.List.{take_while}
 use Rattle.std.proofs.lemmas.Bool.{and_parts}
 use Rattle.nj_text.specs.declared.fault.UnitFault.{UnitFault}
 use Rattle.nj_text.specs.declared.spot.Spot.{Spot}
-use Rattle.nj_text.specs.Bytes.{drop_while, is_word_byte}
+use Rattle.nj_text.specs.Bytes.{drop_while, is_word_byte, begins_with}
 use Rattle.nj_text.specs.Units.{Meaning, Ordinary, Escape, Reference, Join, LeadingTab, BadByte, BadEscape, TextUnit, is_ordinary_in}
 use Rattle.nj_text.specs.Lines.{Line, spot_of_first}
 use Rattle.nj_text.specs.Words.{is_blank, opens_word, in_word, fault_of, next_fault, parts_of, WordModel}
 use Rattle.nj_text.specs.Inside.Meanings.{is_blank_meaning, opens_word_meaning, in_word_meaning}
-use Rattle.nj_text.specs.Calls.{State, unless_fault, begins_word, path_word_of}
+use Rattle.nj_text.specs.Calls.{State, unless_fault, path_word_of}
 use Rattle.nj_text.specs.Inside.States.{reply}
 use Rattle.nj_text.proofs.Lists.{AllIn, AllIn-take_while, take_while-cons_yes}
 use Rattle.nj_manifest.specs.Faults.{Fault, Bad}
@@ -117,7 +117,7 @@ pub bad_ends : (us : List TextUnit) (bad : UnitFault) → next_fault us ≡ Some
 bad_ends [] bad h = absurd cc
 bad_ends (u ∷ us) bad h = bad_no_word u.means u.spot bad h
 
-begins_word-is : (us : List TextUnit) → begins_word us ≡ begins opens_word us
+begins_word-is : (us : List TextUnit) → begins_with opens_word us ≡ begins opens_word us
 begins_word-is [] = refl
 begins_word-is (u ∷ us) = refl
 
@@ -132,7 +132,7 @@ word_by f t g w there other = called (unless_fault f (cond t (unless_fault g (re
 
 abbrev word_here : List TextUnit → Line → List Line → Step (Option WordModel)
 word_here us e ms =
-    word_by (next_fault us) (begins_word us) (next_fault (drop_while in_word us)) (record { spot = spot_of_first us e.end; parts = parts_of (take_while in_word us) }) (at (drop_while in_word us) e ms) (at us e ms)
+    word_by (next_fault us) (begins_with opens_word us) (next_fault (drop_while in_word us)) (record { spot = spot_of_first us e.end; parts = parts_of (take_while in_word us) }) (at (drop_while in_word us) e ms) (at us e ms)
 
 word_is_here : (us : List TextUnit) (e : Line) (ms : List Line) → word_call (at us e ms) ≡ word_here (skip us) e ms
 word_is_here us e ms = refl

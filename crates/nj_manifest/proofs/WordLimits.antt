@@ -2,12 +2,12 @@
 use Rattle.std.proofs.Common.{◌≡◌, ℕ, zero, suc, ◌<◌, ◌≤◌, Bool, true, false, cond, Option, Some, None, Ok, Err, List, [], ◌∷◌, ◌++◌, length, refl, sym, ap, ◌∙◌, append_assoc, arith}
 use Rattle.std.proofs.lemmas.List.{append-nil}
 use Rattle.nj_text.specs.declared.fault.UnitFault.{UnitFault}
-use Rattle.nj_text.specs.Bytes.{drop_while}
+use Rattle.nj_text.specs.Bytes.{drop_while, begins_with}
 use Rattle.nj_text.specs.Units.{Meaning, Ordinary, Escape, Reference, Join, OpeningJoin, Comment, LeadingTab, LineEnd, TextEnd, BadByte, BadEscape, TextUnit}
 use Rattle.nj_text.specs.Lines.{Line, with_units}
-use Rattle.nj_text.specs.Words.{is_blank, in_word, next_fault, WordModel}
+use Rattle.nj_text.specs.Words.{is_blank, in_word, next_fault, WordModel, opens_word}
 use Rattle.nj_text.specs.Inside.Meanings.{in_word_meaning, opens_word_meaning}
-use Rattle.nj_text.specs.Calls.{State, Between, Inside, Failed, unless_fault, after_blanks, begins_word, word_here, path_word_of}
+use Rattle.nj_text.specs.Calls.{State, Between, Inside, Failed, unless_fault, after_blanks, word_here, path_word_of}
 use Rattle.nj_text.specs.Inside.States.{reply}
 use Rattle.nj_manifest.specs.Faults.{Fault}
 use Rattle.nj_manifest.specs.LineSteps.{Step, ◌>>=◌, called, words_within, words_next}
@@ -34,7 +34,7 @@ opening_is_within TextEnd h = h
 opening_is_within BadByte h = h
 opening_is_within BadEscape h = h
 
-word_takes : (us : List TextUnit) → begins_word us ≡ true → length (drop_while in_word us) < length us
+word_takes : (us : List TextUnit) → begins_with opens_word us ≡ true → length (drop_while in_word us) < length us
 word_takes [] h = absurd cc
 word_takes (u ∷ us) h =
     let passes : drop_while in_word (u ∷ us) ≡ drop_while in_word us = rw (opening_is_within u.means h) refl in
@@ -51,7 +51,7 @@ none_is_not_word : {w : WordModel} → ◌≡◌ {A = Option WordModel} None (So
 none_is_not_word e = absurd cc
 
 -- the rest after a call that returns a word
-word_left : (l : Line) (ls : List Line) (w : WordModel) (after : State) (f g : Option UnitFault) (t : Bool) → begins_word l.units ≡ t
+word_left : (l : Line) (ls : List Line) (w : WordModel) (after : State) (f g : Option UnitFault) (t : Bool) → begins_with opens_word l.units ≡ t
     → ◌≡◌ {A = Step (Option WordModel)} (called (unless_fault f (cond t (unless_fault g (reply (Some (word_here l)) (Inside (with_units (drop_while in_word l.units) l) ls))) (reply None (Inside l ls))))) (Ok (Some w, after))
     → units_left after < length l.units
 word_left l ls w after (Some f) g t b e = absurd cc
@@ -69,7 +69,7 @@ units_left-word (Failed f) w after h = absurd cc
 units_left-word (Inside l ls) w after h =
     let b = after_blanks l in
     let short = drop_while_shortens is_blank l.units in
-    let left = word_left b ls w after (next_fault b.units) (next_fault (drop_while in_word b.units)) (begins_word b.units) refl h in
+    let left = word_left b ls w after (next_fault b.units) (next_fault (drop_while in_word b.units)) (begins_with opens_word b.units) refl h in
     omega arith
 
 words_within-limits : (m n : ℕ) (s : State) → units_left s < m → units_left s < n → words_within m s ≡ words_within n s

@@ -7,13 +7,13 @@ use Rattle.std.proofs.lemmas.Bool.{false≢true}
 use Rattle.nj_text.specs.declared.spot.Spot.{Spot}
 use Rattle.nj_text.specs.declared.fault.UnitFault.{UnitFault}
 use Rattle.nj_text.specs.declared.fault.UnitFault.TheVariants as fault
-use Rattle.nj_text.specs.Bytes.{is_identifier_byte, drop_while}
+use Rattle.nj_text.specs.Bytes.{is_identifier_byte, drop_while, begins_with}
 use Rattle.nj_text.specs.Units.{Meaning, Ordinary, Escape, Reference, Join, OpeningJoin, Comment, LeadingTab, LineEnd, TextEnd, BadByte, BadEscape, TextUnit, is_ordinary_in, Position, AtStart, found_at, position_after, spot_after, cut}
 use Rattle.nj_text.specs.Lines.{Line, ending_of, before_first_line, lines_before, lines_of, with_units, lines_after, line_spot}
 use Rattle.nj_text.specs.Inside.Scans.{units_within, Begins, BeginsBadly}
-use Rattle.nj_text.specs.Words.{is_blank, in_identifier, in_word, next_fault, fault_of, first_fault, begins_with_byte}
+use Rattle.nj_text.specs.Words.{is_blank, in_identifier, in_word, next_fault, fault_of, first_fault, begins_with_byte, opens_word}
 use Rattle.nj_text.specs.Inside.Meanings.{is_blank_meaning, in_word_meaning, opens_word_meaning}
-use Rattle.nj_text.specs.Calls.{Inside, begins_word}
+use Rattle.nj_text.specs.Calls.{Inside}
 use Rattle.nj_text.specs.declared.parts.TextKind.TheVariants as kind
 use Rattle.nj_text.specs.Inside.Gathering.{in_value_meaning, in_text}
 use Rattle.nj_text.specs.Inside.States.{first_line, other_lines, inside, lines_from, lines_within, ends_next}
@@ -169,10 +169,10 @@ next_fault_of_line us h = same (first_line (lines_of us)).units ∙ first_of_lin
     same [] = refl
     same (v ∷ vs) = refl
 
-pub begins_word_of_line : (us : List TextUnit) → HasLine (lines_of us) → begins_word (first_line (lines_of us)).units ≡ begins_word us
+pub begins_word_of_line : (us : List TextUnit) → HasLine (lines_of us) → begins_with opens_word (first_line (lines_of us)).units ≡ begins_with opens_word us
 begins_word_of_line us h = same (first_line (lines_of us)).units ∙ first_of_line (λ m s. opens_word_meaning m) false (λ s. refl) (λ s. refl) us h ∙ sym (same us)
   where
-    same : (vs : List TextUnit) → begins_word vs ≡ of_first (λ m s. opens_word_meaning m) false (λ s. refl) (λ s. refl) vs
+    same : (vs : List TextUnit) → begins_with opens_word vs ≡ of_first (λ m s. opens_word_meaning m) false (λ s. refl) (λ s. refl) vs
     same [] = refl
     same (v ∷ vs) = refl
 

@@ -1,5 +1,5 @@
 -- Gathering the parts of a word or a value, one after another.
-use Rattle.std.proofs.Common.{◌≡◌, ℕ, Bool, true, false, cond, not, ◌&&◌, ◌||◌, eqb, List, [], ◌∷◌, ◌++◌, length, take, Some, None, refl, sym, ap, ◌∙◌, append_assoc}
+use Rattle.std.proofs.Common.{◌≡◌, ℕ, Bool, true, false, cond, ◌&&◌, eqb, List, [], ◌∷◌, ◌++◌, length, take, Some, None, refl, sym, ap, ◌∙◌, append_assoc}
 use Rattle.std.specs.List.{take_while}
 use Rattle.std.proofs.lemmas.Bool.{false≢true}
 use Rattle.std.proofs.lemmas.List.{append-nil}
@@ -12,8 +12,8 @@ use Rattle.nj_text.specs.Bytes.{is_ordinary_byte, is_identifier_byte, is_name_by
 use Rattle.nj_text.specs.Units.{Meaning, Ordinary, LineEnd, BadByte, BadEscape, TextUnit, is_ordinary_in, Within, position_after, spot_after, unit_at, after_dollar, named, Found, cut}
 use Rattle.nj_text.specs.declared.runs.Run.{Run}
 use Rattle.nj_text.specs.Inside.Runs.{in_run}
-use Rattle.nj_text.specs.Inside.Scans.{advance, units_within, Begins, BeginsBadly}
-use Rattle.nj_text.specs.Words.{fault_of, next_fault, parts_of, PartModel, Text, begins_with_ordinary, longer_run}
+use Rattle.nj_text.specs.Inside.Scans.{advance, units_within, Begins, BeginsBadly, is_first}
+use Rattle.nj_text.specs.Words.{fault_of, next_fault, parts_of, PartModel, Text, longer_run, is_ordinary}
 use Rattle.nj_text.specs.Inside.Gathering.{run_of, in_text, gathered, after_text, NoneInRun}
 use Rattle.nj_text.proofs.Lists.{AllIn, AllIn-weaker, AllIn-take_while, drop_while-append, take_while-append, take_while-cons_yes, take_while-cons_no, drop_while-cons_no}
 use Rattle.nj_text.proofs.Cuts.{plain_units, cut-run, unit-ordinary}
@@ -96,29 +96,29 @@ dollar_is_not_byte : (bs : List ℕ) → is_byte (after_dollar bs) ≡ false
 dollar_is_not_byte [] = refl
 dollar_is_not_byte (b ∷ bs) =
     choice_is_not_byte (eqb b 10) _ _ refl
-    (choice_is_not_byte (eqb b 13 && begins_with 10 bs) _ _ refl
-    (choice_is_not_byte (eqb b 123) _ _ (named_is_not_byte (take_while is_identifier_byte bs) (begins_with 125 (drop_while is_identifier_byte bs)))
+    (choice_is_not_byte (eqb b 13 && is_first 10 bs) _ _ refl
+    (choice_is_not_byte (eqb b 123) _ _ (named_is_not_byte (take_while is_identifier_byte bs) (is_first 125 (drop_while is_identifier_byte bs)))
     (choice_is_not_byte (is_escapable b) _ _ refl (choice_is_not_byte (is_name_byte b) _ _ refl refl))))
 
 pub not_ordinary : (b : ℕ) (bs : List ℕ) → is_ordinary_byte b ≡ false → is_byte (unit_at b bs) ≡ false
 not_ordinary b bs h =
     rw h (choice_is_not_byte (eqb b 36) _ _ (dollar_is_not_byte bs)
-    (choice_is_not_byte (eqb b 10) _ _ refl (choice_is_not_byte (eqb b 13 && begins_with 10 bs) _ _ refl refl)))
+    (choice_is_not_byte (eqb b 10) _ _ refl (choice_is_not_byte (eqb b 13 && is_first 10 bs) _ _ refl refl)))
 
 -- after a run the text does not continue with an ordinary byte
-front_is_not_byte : (t : TextUnit → Bool) (u : TextUnit) (us : List TextUnit) → (t u ≡ true → is_ordinary_in (λ c. true) u.means ≡ false) → begins_with_ordinary (take_while t (u ∷ us)) ≡ false
+front_is_not_byte : (t : TextUnit → Bool) (u : TextUnit) (us : List TextUnit) → (t u ≡ true → is_ordinary_in (λ c. true) u.means ≡ false) → begins_with is_ordinary (take_while t (u ∷ us)) ≡ false
 front_is_not_byte t u us h = by_test (t u) refl
   where
-    by_test : (v : Bool) → t u ≡ v → begins_with_ordinary (take_while t (u ∷ us)) ≡ false
-    by_test true e = ap begins_with_ordinary (take_while-cons_yes t u us e) ∙ h e
-    by_test false e = ap begins_with_ordinary (take_while-cons_no t u us e)
+    by_test : (v : Bool) → t u ≡ v → begins_with is_ordinary (take_while t (u ∷ us)) ≡ false
+    by_test true e = ap (begins_with is_ordinary) (take_while-cons_yes t u us e) ∙ h e
+    by_test false e = ap (begins_with is_ordinary) (take_while-cons_no t u us e)
 
 run_is_over : (k : TextKind) (b : ℕ) (bs : List ℕ) (spot : Spot) (bytes : List ℕ) (t : Bool) → is_ordinary_byte b ≡ t → in_run (run_of k) b ≡ false → in_text k (record { spot = spot; bytes = bytes; means = (unit_at b bs).0 }) ≡ true → is_byte (unit_at b bs) ≡ false
 run_is_over k b bs spot bytes false e h i = not_ordinary b bs e
 run_is_over kind.Word b bs spot bytes true e h i = absurd (false≢true (sym h ∙ rw (unit-ordinary b bs e) at i))
 run_is_over kind.Value b bs spot bytes true e h i = absurd (false≢true (sym h ∙ e))
 
-run_ends : (k : TextKind) (spot : Spot) (ys : List ℕ) → NoneInRun (in_run (run_of k)) ys → begins_with_ordinary (take_while (in_text k) (units_within spot ys)) ≡ false
+run_ends : (k : TextKind) (spot : Spot) (ys : List ℕ) → NoneInRun (in_run (run_of k)) ys → begins_with is_ordinary (take_while (in_text k) (units_within spot ys)) ≡ false
 unfolding cut
 run_ends kind.Word spot [] h = refl
 run_ends kind.Value spot [] h = refl
@@ -127,7 +127,7 @@ run_ends k spot (b ∷ bs) h =
     (run_is_over k b bs spot (b ∷ take (unit_at b bs).1 bs) (is_ordinary_byte b) refl h)
 
 -- the parts of a run, and of the units after it
-run_parts : (spot : Spot) (x : ℕ) (xs : List ℕ) (us : List TextUnit) → begins_with_ordinary us ≡ false → parts_of (plain_units spot (x ∷ xs) ++ us) ≡ Text (x ∷ xs) ∷ parts_of us
+run_parts : (spot : Spot) (x : ℕ) (xs : List ℕ) (us : List TextUnit) → begins_with is_ordinary us ≡ false → parts_of (plain_units spot (x ∷ xs) ++ us) ≡ Text (x ∷ xs) ∷ parts_of us
 run_parts spot x [] us h = rw h refl
 run_parts spot x (y ∷ ys) us h = ap (λ ps. longer_run x ps) (run_parts (advance 1 spot) y ys us h)
 

@@ -10,9 +10,9 @@ use Rattle.nj_text.specs.declared.fault.UnitFault.TheVariants as fault
 use Rattle.nj_text.specs.Bytes.{is_space, is_line_feed, is_ordinary_byte, is_name_byte, is_identifier_byte, is_escapable, begins_with, drop_while}
 use Rattle.nj_text.specs.Units.{Meaning, Ordinary, Escape, Reference, Join, OpeningJoin, Comment, LeadingTab, LineEnd, TextEnd, BadByte, BadEscape, TextUnit, is_ordinary_in, Position, AtStart, AfterSpaces, Within, after_dollar, named, Found, unit_at, found_at, opening, opens_comment, position_after, spot_after, cut}
 use Rattle.nj_text.specs.Inside.Scans.{spots_after}
-use Rattle.nj_text.specs.Lines.{Line, ending_of, before_first_line, lines_before, lines_of, with_units, Kind, IndentedLine, PlainLine, is_space_unit, kind_with, kind_after_spaces, begins_with_space, kind_of}
+use Rattle.nj_text.specs.Lines.{Line, ending_of, before_first_line, lines_before, lines_of, with_units, Kind, IndentedLine, PlainLine, is_space_unit, kind_with, kind_after_spaces, kind_of}
 use Rattle.nj_text.specs.Inside.Meanings.{text_kind}
-use Rattle.nj_text.specs.Inside.Scans.{advance, on_next_line, units_within, Begins, BeginsBadly, begins_with_space_byte}
+use Rattle.nj_text.specs.Inside.Scans.{advance, on_next_line, units_within, Begins, BeginsBadly, begins_with_space_byte, is_first}
 use Rattle.nj_text.specs.Calls.{Between, Inside, begun, begun_by, is_comment, without_comments}
 use Rattle.nj_text.specs.declared.cursor.Cursor.{Cursor}
 use Rattle.nj_text.specs.declared.line_start.Begun.{Begun}
@@ -150,20 +150,20 @@ spaces_position BadByte h = refl
 spaces_position BadEscape h = refl
 
 -- the start of a line, where that is neither a comment, nor a space, nor a tab
-cut-start : (spot : Spot) (bs : List ℕ) → opens_comment bs ≡ false → begins_with_space_byte bs ≡ false → begins_with 9 bs ≡ false → cut AtStart 0 spot bs ≡ reopened (cut Within 0 spot bs)
+cut-start : (spot : Spot) (bs : List ℕ) → opens_comment bs ≡ false → begins_with_space_byte bs ≡ false → is_first 9 bs ≡ false → cut AtStart 0 spot bs ≡ reopened (cut Within 0 spot bs)
 unfolding cut
 cut-start spot [] c s t = refl
 cut-start spot (b ∷ bs) c s t =
     let same = start_position (unit_at b bs).0 (unit_is_not_space b bs s) in
     rw (c, t, same) refl
 
-cut-spaces : (spot : Spot) (bs : List ℕ) → begins_with_space_byte bs ≡ false → begins_with 9 bs ≡ false → cut AfterSpaces 0 spot bs ≡ cut Within 0 spot bs
+cut-spaces : (spot : Spot) (bs : List ℕ) → begins_with_space_byte bs ≡ false → is_first 9 bs ≡ false → cut AfterSpaces 0 spot bs ≡ cut Within 0 spot bs
 unfolding cut
 cut-spaces spot [] s t = refl
 cut-spaces spot (b ∷ bs) s t = rw (t, spaces_position (unit_at b bs).0 (unit_is_not_space b bs s)) refl
 
 -- a unit that is not a tab does not begin with one
-no_tab : (spot : Spot) (bs : List ℕ) (m : Meaning) (n : ℕ) (remainder : List TextUnit) → Begins spot bs m n remainder → (m ≡ Ordinary 9 → ⊥) → begins_with 9 bs ≡ false
+no_tab : (spot : Spot) (bs : List ℕ) (m : Meaning) (n : ℕ) (remainder : List TextUnit) → Begins spot bs m n remainder → (m ≡ Ordinary 9 → ⊥) → is_first 9 bs ≡ false
 unfolding cut
 no_tab spot [] m n remainder e h = refl
 no_tab spot (b ∷ bs) m n remainder e h = by_test (eqb b 9) refl
@@ -212,7 +212,7 @@ at_once_join spot there bs n c s e =
 tab_by : (spot : Spot) (bytes : List ℕ) (us : List TextUnit) → HasLine (lines_of us) → begun (lines_of (record { spot = spot; bytes = bytes; means = LeadingTab } ∷ us)) ≡ failing (fault.Tab spot)
 tab_by spot bytes us h = rw h.2 refl
 
-pub at_once_tab : (spot : Spot) (b : ℕ) (bs : List ℕ) → opens_comment bs ≡ false → begins_with b bs ≡ true → b ≡ 9 → begun (lines_from spot bs) ≡ failing (fault.Tab spot)
+pub at_once_tab : (spot : Spot) (b : ℕ) (bs : List ℕ) → opens_comment bs ≡ false → is_first b bs ≡ true → b ≡ 9 → begun (lines_from spot bs) ≡ failing (fault.Tab spot)
 unfolding cut
 at_once_tab spot b [] c e t = absurd cc
 at_once_tab spot b (x ∷ bs) c e t =
@@ -284,7 +284,7 @@ pub after_badly : (spot : Spot) (b : ℕ) (bs : List ℕ) (here : Spot) (rest : 
     → BeginsBadly here rest m → begun (lines_of (space_units spot (b ∷ bs) ++ cut AfterSpaces 0 here rest)) ≡ reply start.Indented (inside (lines_within here rest))
 after_badly spot b bs here rest m h s t p bad = after_plain spot b bs here rest m bad.0 bad.1 h s t p bad.2
 
-pub after_tab : (spot : Spot) (b : ℕ) (bs : List ℕ) (here : Spot) (byte : ℕ) (rest : List ℕ) → AreSpaces (b ∷ bs) → begins_with byte rest ≡ true → byte ≡ 9
+pub after_tab : (spot : Spot) (b : ℕ) (bs : List ℕ) (here : Spot) (byte : ℕ) (rest : List ℕ) → AreSpaces (b ∷ bs) → is_first byte rest ≡ true → byte ≡ 9
     → begun (lines_of (space_units spot (b ∷ bs) ++ cut AfterSpaces 0 here rest)) ≡ failing (fault.Tab here)
 unfolding cut
 after_tab spot b bs here byte [] h e t = absurd cc
@@ -398,7 +398,7 @@ lines_moved spot there bs rest n s r = let e : n + 0 ≡ n = omega arith in ap (
 pub within_moved : (spot there : Spot) (bs rest : List ℕ) (n k : ℕ) → there ≡ spot → rest ≡ drop ((n - k) + k) bs → k < n → lines_within there rest ≡ lines_within spot (drop n bs)
 within_moved spot there bs rest n k s r h = let e : (n - k) + k ≡ n = omega arith in ap (λ p. lines_within p rest) s ∙ ap (lines_within spot) (r ∙ ap (λ m. drop m bs) e)
 
-pub plain_ordinary : (b : ℕ) (bs : List ℕ) → begins_with b bs ≡ true → begins_with_space_byte bs ≡ false → starts_plainly (Ordinary b) ≡ true
+pub plain_ordinary : (b : ℕ) (bs : List ℕ) → is_first b bs ≡ true → begins_with_space_byte bs ≡ false → starts_plainly (Ordinary b) ≡ true
 plain_ordinary b bs e s = rw (first_is_not_space b bs e s) refl
 
 -- how a line begins, after its leading spaces were read
@@ -409,7 +409,7 @@ begun_after_spaces spot bytes xs c found whole run there no_comment some h =
     subst (λ us. BegunIs (lines_of us) found) (sym s.3) (h spot s.0 s.1 s.2)
 
 pub comment_opens : (bytes remainder rest : List ℕ) (b : ℕ) → remainder ≡ drop_while is_space bytes → remainder ≡ b ∷ rest → b ≡ 35 → opens_comment bytes ≡ true
-comment_opens bytes remainder rest b d e h = ap (begins_with 35) (sym d ∙ e) ∙ rw h refl
+comment_opens bytes remainder rest b d e h = ap (is_first 35) (sym d ∙ e) ∙ rw h refl
 
 pub over_comment_read : (spot there end : Spot) (bs rest after : List ℕ) → opens_comment bs ≡ true → there ≡ advance (length (take_while no_feed bs)) spot → rest ≡ drop_while no_feed bs → eqb (length rest) 0 ≡ false → end ≡ on_next_line 0 there → after ≡ drop 1 rest
     → without_comments (lines_from spot bs) ≡ without_comments (lines_from end after)
@@ -445,15 +445,15 @@ module _ (q : Meaning → Bool) (unsaid : IsUnsaid q) where
   dollar_is_unsaid [] = unsaid.bad_escape
   dollar_is_unsaid (b ∷ bs) =
       choice_is_unsaid (eqb b 10) _ _ unsaid.join
-      (choice_is_unsaid (eqb b 13 && begins_with 10 bs) _ _ unsaid.join
-      (choice_is_unsaid (eqb b 123) _ _ (named_is_unsaid (take_while is_identifier_byte bs) (begins_with 125 (drop_while is_identifier_byte bs)))
+      (choice_is_unsaid (eqb b 13 && is_first 10 bs) _ _ unsaid.join
+      (choice_is_unsaid (eqb b 123) _ _ (named_is_unsaid (take_while is_identifier_byte bs) (is_first 125 (drop_while is_identifier_byte bs)))
       (choice_is_unsaid (is_escapable b) _ _ (unsaid.escape b) (choice_is_unsaid (is_name_byte b) _ _ (unsaid.reference (b ∷ take_while is_name_byte bs)) unsaid.bad_escape))))
 
   pub unit_is_unsaid : (b : ℕ) (bs : List ℕ) → q (unit_at b bs).0 ≡ false
   unit_is_unsaid b bs =
       choice_is_unsaid (is_ordinary_byte b) _ _ (unsaid.ordinary b)
       (choice_is_unsaid (eqb b 36) _ _ (dollar_is_unsaid bs)
-      (choice_is_unsaid (eqb b 10) _ _ unsaid.line_end (choice_is_unsaid (eqb b 13 && begins_with 10 bs) _ _ unsaid.line_end unsaid.bad_byte)))
+      (choice_is_unsaid (eqb b 10) _ _ unsaid.line_end (choice_is_unsaid (eqb b 13 && is_first 10 bs) _ _ unsaid.line_end unsaid.bad_byte)))
 
 comment_is_unsaid : IsUnsaid gives_comment
 comment_is_unsaid = record { ordinary = λ b. refl; escape = λ b. refl; reference = λ n. refl; join = refl; line_end = refl; bad_byte = refl; bad_escape = refl }
@@ -565,7 +565,7 @@ is_not_comment spot [] h = refl
 is_not_comment spot (b ∷ bs) h =
     let lines = lines_from spot (b ∷ bs) in
     let split = inside_is lines (cut_has_line AtStart 0 spot (b ∷ bs)) in
-    ap without_comments split ∙ rw (start_is_none spot b bs (begins_with_space (first_line lines).units) h) (sym split)
+    ap without_comments split ∙ rw (start_is_none spot b bs (begins_with is_space_unit (first_line lines).units) h) (sym split)
 
 pub nil_if_empty : (bs : List ℕ) → eqb (length bs) 0 ≡ true → bs ≡ []
 nil_if_empty bs h = nil_from_length bs (eqb-true (length bs) 0 h)

@@ -1,12 +1,12 @@
 -- The next unit of a line, as an equation on the units that are left.
-use Rattle.std.proofs.Common.{◌≡◌, ℕ, suc, ◌+◌, ◌≤◌, Bool, true, false, cond, not, ◌&&◌, ◌||◌, eqb, List, [], ◌∷◌, length, take, drop, refl, sym, ap, subst, ◌∙◌, arith, eq-eqb}
+use Rattle.std.proofs.Common.{◌≡◌, ℕ, suc, ◌+◌, ◌≤◌, Bool, true, false, cond, ◌&&◌, eqb, List, [], ◌∷◌, length, take, drop, refl, sym, ap, subst, ◌∙◌, arith, eq-eqb}
 use Rattle.std.proofs.Math.Numerals.{one-add}
 use Rattle.std.proofs.lemmas.Bool.{eqb-true, false≢true}
 use Rattle.nj_text.specs.declared.spot.Spot.{Spot}
-use Rattle.nj_text.specs.Bytes.{is_ordinary_byte, begins_with}
+use Rattle.nj_text.specs.Bytes.{is_ordinary_byte}
 use Rattle.nj_text.specs.Units.{Meaning, Ordinary, Escape, Reference, Join, LineEnd, BadByte, BadEscape, Found, AtStart, Within, position_after, spot_after, after_dollar, unit_at, cut}
 use Rattle.nj_text.specs.Inside.Scans.{spots_after}
-use Rattle.nj_text.specs.Inside.Scans.{advance, on_next_line, line_end_length, units_within, Begins, BeginsBadly}
+use Rattle.nj_text.specs.Inside.Scans.{advance, on_next_line, line_end_length, units_within, Begins, BeginsBadly, is_first}
 use Rattle.nj_text.proofs.Cuts.{cut-skip, cut-ordinary}
 
 pub cut-dollar : (spot : Spot) (bs : List ℕ) (m : Meaning) (n : ℕ) → ◌≡◌ {A = Found} (m, n) (after_dollar bs) → n ≤ length bs
@@ -48,7 +48,7 @@ return_unit bs spot = refl
 abbrev EndsHere : List ℕ → ℕ → Type 0
 EndsHere bytes n = (spot : Spot) → Begins spot bytes LineEnd n (cut AtStart 0 (on_next_line 0 spot) (drop n bytes))
 
-return_ends : (bs : List ℕ) (t : Bool) → begins_with 10 bs ≡ t → t ≡ true → EndsHere (13 ∷ bs) 2
+return_ends : (bs : List ℕ) (t : Bool) → is_first 10 bs ≡ t → t ≡ true → EndsHere (13 ∷ bs) 2
 return_ends [] t e h = absurd (false≢true (e ∙ h))
 return_ends (b ∷ bs) t e h = subst (λ x. EndsHere (13 ∷ x ∷ bs) 2) (sym (eqb-true b 10 (e ∙ h))) (return_unit bs)
 
@@ -56,17 +56,17 @@ pub line_end_unit : (bytes : List ℕ) (n : ℕ) → n ≡ line_end_length bytes
 line_end_unit [] n e h = absurd (false≢true (sym h ∙ ap (λ k. eqb k 0) e))
 line_end_unit (b ∷ bs) n e h = by_feed (eqb b 10) refl
   where
-    by_follower : (t : Bool) → begins_with 10 bs ≡ t → b ≡ 13 → n ≡ cond t 2 0 → EndsHere (b ∷ bs) n
+    by_follower : (t : Bool) → is_first 10 bs ≡ t → b ≡ 13 → n ≡ cond t 2 0 → EndsHere (b ∷ bs) n
     by_follower true f r k = rw (r, k) (return_ends bs true f refl)
     by_follower false f r k = absurd (false≢true (sym h ∙ ap (λ x. eqb x 0) k))
 
-    by_return : (t : Bool) → eqb b 13 ≡ t → n ≡ cond (t && begins_with 10 bs) 2 0 → EndsHere (b ∷ bs) n
-    by_return true f k = by_follower (begins_with 10 bs) refl (eqb-true b 13 f) k
+    by_return : (t : Bool) → eqb b 13 ≡ t → n ≡ cond (t && is_first 10 bs) 2 0 → EndsHere (b ∷ bs) n
+    by_return true f k = by_follower (is_first 10 bs) refl (eqb-true b 13 f) k
     by_return false f k = absurd (false≢true (sym h ∙ ap (λ x. eqb x 0) k))
 
     by_feed : (t : Bool) → eqb b 10 ≡ t → EndsHere (b ∷ bs) n
-    by_feed true f = rw (eqb-true b 10 f, e ∙ ap (λ t. cond t 1 (cond (eqb b 13 && begins_with 10 bs) 2 0)) f) (feed_unit bs)
-    by_feed false f = by_return (eqb b 13) refl (e ∙ ap (λ t. cond t 1 (cond (eqb b 13 && begins_with 10 bs) 2 0)) f)
+    by_feed true f = rw (eqb-true b 10 f, e ∙ ap (λ t. cond t 1 (cond (eqb b 13 && is_first 10 bs) 2 0)) f) (feed_unit bs)
+    by_feed false f = by_return (eqb b 13) refl (e ∙ ap (λ t. cond t 1 (cond (eqb b 13 && is_first 10 bs) 2 0)) f)
 
 suc_not_zero : {n : ℕ} → suc n ≡ 0 → ⊥
 suc_not_zero e = omega arith
@@ -76,7 +76,7 @@ unfolding cut
 bad_byte b bs e spot = (1, cut Within 0 (spot_after b spot) bs, rw e refl)
 
 pub bad_byte_unit : (b : ℕ) (bs : List ℕ) → is_ordinary_byte b ≡ false → eqb b 36 ≡ false → line_end_length (b ∷ bs) ≡ 0 → (spot : Spot) → BeginsBadly spot (b ∷ bs) BadByte
-bad_byte_unit b bs o d l = bad_byte b bs (rw (o, d) (by_tests (eqb b 10) (eqb b 13 && begins_with 10 bs) l))
+bad_byte_unit b bs o d l = bad_byte b bs (rw (o, d) (by_tests (eqb b 10) (eqb b 13 && is_first 10 bs) l))
   where
     Zero : ℕ → Type 0
     Zero n = n ≡ 0

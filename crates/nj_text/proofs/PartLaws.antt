@@ -6,9 +6,10 @@ use Rattle.std.proofs.lemmas.List.{append-nil}
 use Rattle.nj_text.specs.declared.spot.Spot.{Spot}
 use Rattle.nj_text.specs.Bytes.{is_identifier_byte, is_name_byte, is_ordinary_byte, is_escapable, begins_with, drop_while}
 use Rattle.nj_text.specs.Units.{Meaning, Ordinary, Escape, Reference, Join, TextUnit, is_ordinary_in, Found, named, after_dollar, unit_at, opening, opens_comment, Position, AtStart, AfterSpaces, Within, found_at, position_after, spot_after, first_spot, cut}
-use Rattle.nj_text.specs.Words.{PartModel, Text, longer_run, part_before, begins_with_ordinary, parts_of}
+use Rattle.nj_text.specs.Words.{PartModel, Text, longer_run, part_before, parts_of, is_ordinary}
 use Rattle.nj_text.specs.Calls.{bytes_of}
 use Rattle.nj_text.specs.Laws.{part_bytes, AreInOrder, PartsComeInOrder}
+use Rattle.nj_text.specs.Inside.Scans.{is_first}
 use Rattle.nj_text.proofs.Lists.{take_while-cons_yes, take_while-cons_no}
 use Rattle.nj_text.proofs.UnitLaws.{are_the_text}
 
@@ -58,14 +59,14 @@ dollar_gives b [] = tt
 dollar_gives b (c ∷ cs) =
     let bs = c ∷ cs in
     choice b bs (eqb c 10) _ _ tt
-    (choice b bs (eqb c 13 && begins_with 10 cs) _ _ tt
-    (choice b bs (eqb c 123) _ _ (named_gives b c cs (take_while is_identifier_byte cs) (drop_while is_identifier_byte cs) (begins_with 125 (drop_while is_identifier_byte cs)) (run_and_rest is_identifier_byte cs))
+    (choice b bs (eqb c 13 && is_first 10 cs) _ _ tt
+    (choice b bs (eqb c 123) _ _ (named_gives b c cs (take_while is_identifier_byte cs) (drop_while is_identifier_byte cs) (is_first 125 (drop_while is_identifier_byte cs)) (run_and_rest is_identifier_byte cs))
     (choice b bs (is_escapable c) _ _ (b, refl) (choice b bs (is_name_byte c) _ _ (name_gives b c cs) tt))))
 
 unit_gives : (b : ℕ) (bs : List ℕ) → GivesFound b bs (unit_at b bs)
 unit_gives b bs =
     choice b bs (is_ordinary_byte b) _ _ refl
-    (choice b bs (eqb b 36) _ _ (dollar_gives b bs) (choice b bs (eqb b 10) _ _ tt (choice b bs (eqb b 13 && begins_with 10 bs) _ _ tt tt)))
+    (choice b bs (eqb b 36) _ _ (dollar_gives b bs) (choice b bs (eqb b 10) _ _ tt (choice b bs (eqb b 13 && is_first 10 bs) _ _ tt tt)))
 
 opening_gives : (m : Meaning) (bytes : List ℕ) → Denotes m bytes → Denotes (opening m) bytes
 opening_gives Join bytes h = tt
@@ -129,9 +130,9 @@ unit_before (Escape b) bytes t ps rest h s = ((h.0 ∷ [], rest, ap (λ zs. zs +
 unit_before (Reference name) bytes t ps rest h s = ((h.0, h.1 ++ rest, ap (λ zs. zs ++ rest) h.2 ∙ append_assoc (h.0 ++ name) h.1 rest, after_gap h.1 (map part_bytes ps) rest s.0), λ e. absurd cc)
 unit_before m bytes t ps rest h s = (after_gap bytes (map part_bytes ps) rest s.0, λ e. absurd cc)
 
-in_order : (us : List TextUnit) → AllGive us → InOrder (parts_of us) (bytes_of us) (begins_with_ordinary us)
+in_order : (us : List TextUnit) → AllGive us → InOrder (parts_of us) (bytes_of us) (begins_with is_ordinary us)
 in_order [] h = (tt, λ e. absurd cc)
-in_order (u ∷ us) h = unit_before u.means u.bytes (begins_with_ordinary us) (parts_of us) (bytes_of us) h.0 (in_order us h.1)
+in_order (u ∷ us) h = unit_before u.means u.bytes (begins_with is_ordinary us) (parts_of us) (bytes_of us) h.0 (in_order us h.1)
 
 bytes_of-append : (us vs : List TextUnit) → bytes_of (us ++ vs) ≡ bytes_of us ++ bytes_of vs
 bytes_of-append [] vs = refl

@@ -3,9 +3,9 @@ use Rattle.std.proofs.Common.{◌≡◌, ℕ, Bool, true, false, cond, List, [],
 use Rattle.std.specs.List.{take_while}
 use Rattle.std.proofs.lemmas.Bool.{eqb-true}
 use Rattle.nj_text.specs.declared.spot.Spot.{Spot}
-use Rattle.nj_text.specs.Bytes.{is_space, is_ordinary_byte, begins_with, drop_while}
+use Rattle.nj_text.specs.Bytes.{is_space, is_ordinary_byte, drop_while}
 use Rattle.nj_text.specs.Units.{Meaning, Join, TextUnit, cut}
-use Rattle.nj_text.specs.Inside.Scans.{advance, units_within, Begins, BeginsBadly, begins_with_space_byte}
+use Rattle.nj_text.specs.Inside.Scans.{advance, units_within, Begins, BeginsBadly, begins_with_space_byte, is_first}
 use Rattle.nj_text.specs.Words.{is_blank}
 use Rattle.nj_text.specs.Inside.Meanings.{is_blank_meaning}
 use Rattle.nj_text.proofs.Lists.{AllIn, AllIn-weaker, AllIn-take_while, drop_while-append}
@@ -22,7 +22,7 @@ pub blanks_stop_at_end : (spot : Spot) (bytes : List ℕ) → bytes ≡ [] → d
 unfolding cut
 blanks_stop_at_end spot bytes e = rw e refl
 
-pub first_is_not_space : (b : ℕ) (bytes : List ℕ) → begins_with b bytes ≡ true → begins_with_space_byte bytes ≡ false → is_space b ≡ false
+pub first_is_not_space : (b : ℕ) (bytes : List ℕ) → is_first b bytes ≡ true → begins_with_space_byte bytes ≡ false → is_space b ≡ false
 first_is_not_space b [] e h = absurd cc
 first_is_not_space b (x ∷ bs) e h = ap is_space (sym (eqb-true x b e)) ∙ h
 

@@ -5,11 +5,11 @@ use Rattle.std.proofs.lemmas.Bool.{eqb-true, false≢true}
 use Rattle.nj_text.specs.declared.spot.Spot.{Spot}
 use Rattle.nj_text.specs.declared.parts.TextKind.TheVariants as kind
 use Rattle.nj_text.specs.declared.runs.Run.TheVariants as run
-use Rattle.nj_text.specs.Bytes.{is_space, is_ordinary_byte, is_word_byte, drop_while}
+use Rattle.nj_text.specs.Bytes.{is_space, is_ordinary_byte, is_word_byte, drop_while, begins_with}
 use Rattle.nj_text.specs.Units.{TextUnit, cut}
 use Rattle.nj_text.specs.Inside.Scans.{advance, units_within}
-use Rattle.nj_text.specs.Words.{is_blank, next_fault, Text, plain_model}
-use Rattle.nj_text.specs.Calls.{begins_word, word_at, path_word_of}
+use Rattle.nj_text.specs.Words.{is_blank, next_fault, Text, plain_model, opens_word}
+use Rattle.nj_text.specs.Calls.{word_at, path_word_of}
 use Rattle.nj_text.specs.Inside.Gathering.{gathered, after_text}
 use Rattle.nj_text.specs.Inside.States.{reply, unless_bad, inside, lines_within}
 use Rattle.nj_text.specs.Inside.PlainWords.{no_word_begins, word_ends}
@@ -30,7 +30,7 @@ over_space spot there b bytes rest tail e is_space r t =
 
 -- the units at a place begin with no blank and with no fault, and whether they begin a word
 abbrev StartsWith : Bool → List TextUnit → Type 0
-StartsWith t us = (drop_while is_blank us ≡ us) × (next_fault us ≡ None) × (begins_word us ≡ t)
+StartsWith t us = (drop_while is_blank us ≡ us) × (next_fault us ≡ None) × (begins_with opens_word us ≡ t)
 
 feed_starts : (spot : Spot) (bs : List ℕ) → StartsWith false (units_within spot (10 ∷ bs))
 unfolding cut

@@ -6,11 +6,11 @@ use Rattle.nj_text.specs.declared.spot.Spot.{Spot}
 use Rattle.nj_text.specs.declared.fault.UnitFault.{UnitFault}
 use Rattle.nj_text.specs.declared.sign.Sign.{Sign}
 use Rattle.nj_text.specs.declared.sign.Sign.TheVariants as sign
-use Rattle.nj_text.specs.Bytes.{is_ordinary_byte, begins_with}
+use Rattle.nj_text.specs.Bytes.{is_ordinary_byte}
 use Rattle.nj_text.specs.Units.{Ordinary, TextUnit, Within, unit_at, is_ordinary_in, cut}
 use Rattle.nj_text.specs.Lines.{Line, ending_of, lines_of, lines_before, before_first_line, with_units, lines_after}
 use Rattle.nj_text.specs.Words.{begins_with_byte, next_fault}
-use Rattle.nj_text.specs.Inside.Scans.{advance, units_within, has_sign, sign_size, sign_length}
+use Rattle.nj_text.specs.Inside.Scans.{advance, units_within, has_sign, sign_size, sign_length, is_first}
 use Rattle.nj_text.specs.Calls.{State, Between, Inside, Reply, is_empty, is_sign, state_after_sign, sign_at}
 use Rattle.nj_text.specs.Inside.States.{reply, failing, unless_bad, first_line, other_lines, inside, lines_within, ends_next}
 use Rattle.nj_text.proofs.Cuts.{unit-ordinary, cut-ordinary, advance-advance}
@@ -52,7 +52,7 @@ no_line_end want spot bytes w n e = rw w (sign_by sign.LineEnd spot bytes false 
 -- ---- bytes
 
 -- an ordinary byte comes next where it is the next byte
-byte_here : (b : ℕ) → is_ordinary_byte b ≡ true → (spot : Spot) (bytes : List ℕ) → begins_with_byte b (units_within spot bytes) ≡ begins_with b bytes
+byte_here : (b : ℕ) → is_ordinary_byte b ≡ true → (spot : Spot) (bytes : List ℕ) → begins_with_byte b (units_within spot bytes) ≡ is_first b bytes
 unfolding cut
 byte_here b o spot [] = refl
 byte_here b o spot (x ∷ xs) = by_test (is_ordinary_byte x) refl
@@ -65,7 +65,7 @@ byte_here b o spot (x ∷ xs) = by_test (is_ordinary_byte x) refl
     by_test true e = rw (unit-ordinary x xs e) refl
     by_test false e = fails_if_no_byte (λ c. eqb c b) (unit_at x xs).0 (not_ordinary x xs e) ∙ sym (other (eqb x b) refl e)
 
-byte_of_line : (b : ℕ) → is_ordinary_byte b ≡ true → (spot : Spot) (bytes : List ℕ) → begins_with_byte b (line spot bytes).units ≡ begins_with b bytes
+byte_of_line : (b : ℕ) → is_ordinary_byte b ≡ true → (spot : Spot) (bytes : List ℕ) → begins_with_byte b (line spot bytes).units ≡ is_first b bytes
 byte_of_line b o spot bytes = begins_with_byte_of_line b (units_within spot bytes) (cut_has_line Within 0 spot bytes) ∙ byte_here b o spot bytes
 
 abbrev plain_unit : Spot → ℕ → TextUnit
@@ -98,32 +98,32 @@ after_two spot x y ys o p =
     ∙ after_one (advance 1 spot) y ys p ∙ ap (λ q. inside (lines_within q ys)) (advance-advance 1 1 spot)
 
 -- the second byte, after an ordinary one
-second_byte : (b : ℕ) → is_ordinary_byte b ≡ true → (spot : Spot) (x : ℕ) (xs : List ℕ) → is_ordinary_byte x ≡ true → begins_with_byte b (drop 1 (line spot (x ∷ xs)).units) ≡ begins_with b xs
+second_byte : (b : ℕ) → is_ordinary_byte b ≡ true → (spot : Spot) (x : ℕ) (xs : List ℕ) → is_ordinary_byte x ≡ true → begins_with_byte b (drop 1 (line spot (x ∷ xs)).units) ≡ is_first b xs
 second_byte b o spot x xs p = ap (λ s. begins_with_byte b (drop 1 (line_in s).units)) (line_after_byte spot x xs p) ∙ byte_of_line b o (advance 1 spot) xs
 
 -- ---- signs of one byte and of two
 
-seconds : (spot : Spot) (bytes : List ℕ) → begins_with 124 bytes ≡ true
-    → (begins_with_byte 124 (drop 1 (line spot bytes).units) ≡ begins_with 124 (drop 1 bytes)) × (begins_with_byte 64 (drop 1 (line spot bytes).units) ≡ begins_with 64 (drop 1 bytes))
+seconds : (spot : Spot) (bytes : List ℕ) → is_first 124 bytes ≡ true
+    → (begins_with_byte 124 (drop 1 (line spot bytes).units) ≡ is_first 124 (drop 1 bytes)) × (begins_with_byte 64 (drop 1 (line spot bytes).units) ≡ is_first 64 (drop 1 bytes))
 seconds spot [] e = absurd cc
 seconds spot (x ∷ xs) e = let p : is_ordinary_byte x ≡ true = rw (eqb-true x 124 e) refl in (second_byte 124 refl spot x xs p, second_byte 64 refl spot x xs p)
 
 same_sign : (want : Sign) (spot : Spot) (bytes : List ℕ) → (want ≡ sign.LineEnd → ⊥) → is_sign want (line spot bytes).units ≡ has_sign want bytes
 same_sign sign.Colon spot bytes n = byte_of_line 58 refl spot bytes
 same_sign sign.Equals spot bytes n = byte_of_line 61 refl spot bytes
-same_sign sign.Pipe spot bytes n = by_test (begins_with 124 bytes) refl
+same_sign sign.Pipe spot bytes n = by_test (is_first 124 bytes) refl
   where
-    by_test : (t : Bool) → begins_with 124 bytes ≡ t → is_sign sign.Pipe (line spot bytes).units ≡ has_sign sign.Pipe bytes
+    by_test : (t : Bool) → is_first 124 bytes ≡ t → is_sign sign.Pipe (line spot bytes).units ≡ has_sign sign.Pipe bytes
     by_test true e = let s = seconds spot bytes e in rw (byte_of_line 124 refl spot bytes, s.0, s.1) refl
     by_test false e = rw (byte_of_line 124 refl spot bytes, e) refl
-same_sign sign.Pipe2 spot bytes n = by_test (begins_with 124 bytes) refl
+same_sign sign.Pipe2 spot bytes n = by_test (is_first 124 bytes) refl
   where
-    by_test : (t : Bool) → begins_with 124 bytes ≡ t → is_sign sign.Pipe2 (line spot bytes).units ≡ has_sign sign.Pipe2 bytes
+    by_test : (t : Bool) → is_first 124 bytes ≡ t → is_sign sign.Pipe2 (line spot bytes).units ≡ has_sign sign.Pipe2 bytes
     by_test true e = rw (byte_of_line 124 refl spot bytes, (seconds spot bytes e).0) refl
     by_test false e = rw (byte_of_line 124 refl spot bytes, e) refl
-same_sign sign.PipeAt spot bytes n = by_test (begins_with 124 bytes) refl
+same_sign sign.PipeAt spot bytes n = by_test (is_first 124 bytes) refl
   where
-    by_test : (t : Bool) → begins_with 124 bytes ≡ t → is_sign sign.PipeAt (line spot bytes).units ≡ has_sign sign.PipeAt bytes
+    by_test : (t : Bool) → is_first 124 bytes ≡ t → is_sign sign.PipeAt (line spot bytes).units ≡ has_sign sign.PipeAt bytes
     by_test true e = rw (byte_of_line 124 refl spot bytes, (seconds spot bytes e).1) refl
     by_test false e = rw (byte_of_line 124 refl spot bytes, e) refl
 same_sign sign.LineEnd spot bytes n = absurd (n refl)
@@ -154,12 +154,12 @@ first_true : (s t : Bool) → (s && t) ≡ true → s ≡ true
 first_true s t h = (both_true s t h).0
 
 -- one byte of a sign
-one_taken : (b : ℕ) → is_ordinary_byte b ≡ true → (spot : Spot) (bytes : List ℕ) → begins_with b bytes ≡ true
+one_taken : (b : ℕ) → is_ordinary_byte b ≡ true → (spot : Spot) (bytes : List ℕ) → is_first b bytes ≡ true
     → Inside (with_units (drop 1 (line spot bytes).units) (line spot bytes)) (others spot bytes) ≡ inside (lines_within (advance 1 spot) (drop 1 bytes))
 one_taken b o spot [] e = absurd cc
 one_taken b o spot (x ∷ xs) e = after_one spot x xs (ap is_ordinary_byte (eqb-true x b e) ∙ o)
 
-two_taken : (b c : ℕ) → is_ordinary_byte b ≡ true → is_ordinary_byte c ≡ true → (spot : Spot) (bytes : List ℕ) → (begins_with b bytes && begins_with c (drop 1 bytes)) ≡ true
+two_taken : (b c : ℕ) → is_ordinary_byte b ≡ true → is_ordinary_byte c ≡ true → (spot : Spot) (bytes : List ℕ) → (is_first b bytes && is_first c (drop 1 bytes)) ≡ true
     → Inside (with_units (drop 2 (line spot bytes).units) (line spot bytes)) (others spot bytes) ≡ inside (lines_within (advance 2 spot) (drop 2 bytes))
 two_taken b c o p spot [] e = absurd cc
 two_taken b c o p spot (x ∷ []) e = absurd (no_second (eqb x b) e)
@@ -174,7 +174,7 @@ two_taken b c o p spot (x ∷ y ∷ ys) e =
 taken_by : (want : Sign) (spot : Spot) (bytes : List ℕ) → has_sign want bytes ≡ true → state_after_sign want (line spot bytes) (others spot bytes) ≡ inside (lines_within (advance (sign_size want) spot) (drop (sign_size want) bytes))
 taken_by sign.Colon spot bytes e = one_taken 58 refl spot bytes e
 taken_by sign.Equals spot bytes e = one_taken 61 refl spot bytes e
-taken_by sign.Pipe spot bytes e = one_taken 124 refl spot bytes (first_true (begins_with 124 bytes) _ (first_true (begins_with 124 bytes && not (begins_with 124 (drop 1 bytes))) _ e))
+taken_by sign.Pipe spot bytes e = one_taken 124 refl spot bytes (first_true (is_first 124 bytes) _ (first_true (is_first 124 bytes && not (is_first 124 (drop 1 bytes))) _ e))
 taken_by sign.Pipe2 spot bytes e = two_taken 124 124 refl refl spot bytes e
 taken_by sign.PipeAt spot bytes e = two_taken 124 64 refl refl spot bytes e
 taken_by sign.LineEnd spot bytes e = absurd cc

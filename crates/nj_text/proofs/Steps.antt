@@ -8,13 +8,13 @@ use Rattle.nj_text.specs.declared.fault.UnitFault.{UnitFault}
 use Rattle.nj_text.specs.declared.fault.WordFault.{WordFault}
 use Rattle.nj_text.specs.declared.fault.WordFault.TheVariants as word_fault
 use Rattle.nj_text.specs.declared.parts.TextKind.TheVariants as kind
-use Rattle.nj_text.specs.Bytes.{is_ordinary_byte, is_identifier_byte, drop_while}
+use Rattle.nj_text.specs.Bytes.{is_ordinary_byte, is_identifier_byte, drop_while, begins_with}
 use Rattle.nj_text.specs.Units.{Meaning, Within, unit_at, position_after, spot_after, is_ordinary_in, cut}
 use Rattle.nj_text.specs.Lines.{Line, lines_of, with_units, line_spot}
 use Rattle.nj_text.specs.Inside.Scans.{advance, units_within, BeginsBadly}
-use Rattle.nj_text.specs.Words.{is_blank, in_identifier, in_word, next_fault, parts_of, PartModel, WordModel}
+use Rattle.nj_text.specs.Words.{is_blank, in_identifier, in_word, next_fault, parts_of, PartModel, WordModel, opens_word}
 use Rattle.nj_text.specs.Inside.Meanings.{opens_word_meaning}
-use Rattle.nj_text.specs.Calls.{State, Inside, Reply, unless_fault, after_blanks, bytes_of, some_bytes, ident_at, begins_word, word_here, word_at, value_at}
+use Rattle.nj_text.specs.Calls.{State, Inside, Reply, unless_fault, after_blanks, bytes_of, some_bytes, ident_at, word_here, word_at, value_at}
 use Rattle.nj_text.specs.Inside.Gathering.{gathered, after_text, FailsText}
 use Rattle.nj_text.specs.Inside.States.{reply, failing, unless_bad, first_line, other_lines, inside, lines_within, FailsStep}
 use Rattle.nj_text.proofs.Lists.{AllIn, AllIn-weaker, AllIn-take_while, take_while-append, take_while-cons_no, drop_while-append, drop_while-cons_no}
@@ -133,7 +133,7 @@ word_line spot bytes = ap (λ s. (line_of_state s).units) (passed_by in_word wor
 fault_after_word : (spot : Spot) (bytes : List ℕ) → next_fault (drop_while in_word (line spot bytes).units) ≡ next_fault (drop_while in_word (units_within spot bytes))
 fault_after_word spot bytes = ap next_fault (sym (word_line spot bytes)) ∙ next_fault_of_line (drop_while in_word (units_within spot bytes)) (passed_has_line in_word words_end (units_within spot bytes) (cut_has_line Within 0 spot bytes))
 
-begins_here : (spot : Spot) (bytes : List ℕ) → begins_word (line spot bytes).units ≡ begins_word (units_within spot bytes)
+begins_here : (spot : Spot) (bytes : List ℕ) → begins_with opens_word (line spot bytes).units ≡ begins_with opens_word (units_within spot bytes)
 begins_here spot bytes = begins_word_of_line (units_within spot bytes) (cut_has_line Within 0 spot bytes)
 
 abbrev word_or_none : Spot → List ℕ → Bool → Reply (Option WordModel)
@@ -142,18 +142,18 @@ word_or_none spot bytes t =
     (unless_fault (next_fault (drop_while in_word (line spot bytes).units)) (reply (Some (word_here (line spot bytes))) (Inside (with_units (drop_while in_word (line spot bytes).units) (line spot bytes)) (others spot bytes))))
     (reply None (Inside (line spot bytes) (others spot bytes)))
 
-pub no_word_here : (spot : Spot) (bytes : List ℕ) → None ≡ next_fault (units_within spot bytes) → begins_word (units_within spot bytes) ≡ false
+pub no_word_here : (spot : Spot) (bytes : List ℕ) → None ≡ next_fault (units_within spot bytes) → begins_with opens_word (units_within spot bytes) ≡ false
     → unless_bad word_at (line spot bytes) (others spot bytes) ≡ reply None (inside (lines_within spot bytes))
 no_word_here spot bytes f b =
-    continues_here spot bytes (word_or_none spot bytes (begins_word (line spot bytes).units)) f ∙ ap (word_or_none spot bytes) (begins_here spot bytes ∙ b)
+    continues_here spot bytes (word_or_none spot bytes (begins_with opens_word (line spot bytes).units)) f ∙ ap (word_or_none spot bytes) (begins_here spot bytes ∙ b)
 
-pub word_fails_here : (spot : Spot) (bytes : List ℕ) (f : UnitFault) → None ≡ next_fault (units_within spot bytes) → begins_word (units_within spot bytes) ≡ true → next_fault (after_text kind.Word (units_within spot bytes)) ≡ Some f
+pub word_fails_here : (spot : Spot) (bytes : List ℕ) (f : UnitFault) → None ≡ next_fault (units_within spot bytes) → begins_with opens_word (units_within spot bytes) ≡ true → next_fault (after_text kind.Word (units_within spot bytes)) ≡ Some f
     → unless_bad word_at (line spot bytes) (others spot bytes) ≡ failing f
 word_fails_here spot bytes f n b e =
-    continues_here spot bytes (word_or_none spot bytes (begins_word (line spot bytes).units)) n ∙ ap (word_or_none spot bytes) (begins_here spot bytes ∙ b)
+    continues_here spot bytes (word_or_none spot bytes (begins_with opens_word (line spot bytes).units)) n ∙ ap (word_or_none spot bytes) (begins_here spot bytes ∙ b)
     ∙ ap (λ o. unless_fault o (reply (Some (word_here (line spot bytes))) (Inside (with_units (drop_while in_word (line spot bytes).units) (line spot bytes)) (others spot bytes)))) (fault_after_word spot bytes ∙ e)
 
-pub word_is_here : (spot : Spot) (bytes : List ℕ) (parts : List PartModel) (there : Spot) (rest : List ℕ) → None ≡ next_fault (units_within spot bytes) → begins_word (units_within spot bytes) ≡ true
+pub word_is_here : (spot : Spot) (bytes : List ℕ) (parts : List PartModel) (there : Spot) (rest : List ℕ) → None ≡ next_fault (units_within spot bytes) → begins_with opens_word (units_within spot bytes) ≡ true
     → next_fault (after_text kind.Word (units_within spot bytes)) ≡ None → parts ≡ gathered kind.Word (units_within spot bytes) → units_within there rest ≡ after_text kind.Word (units_within spot bytes)
     → unless_bad word_at (line spot bytes) (others spot bytes) ≡ reply (Some (record { spot = spot; parts = parts })) (inside (lines_within there rest))
 word_is_here spot bytes parts there rest n b e p r =
@@ -161,7 +161,7 @@ word_is_here spot bytes parts there rest n b e p r =
     let place : line_spot (line spot bytes) ≡ spot = spot_of_line Within spot bytes in
     let text : parts_of (take_while in_word (line spot bytes).units) ≡ parts = ap parts_of (front_of in_word words_end us (cut_has_line Within 0 spot bytes)) ∙ sym p in
     let after : Inside (with_units (drop_while in_word (line spot bytes).units) (line spot bytes)) (others spot bytes) ≡ inside (lines_within there rest) = sym (passed_by in_word words_end us) ∙ ap (λ vs. inside (lines_of vs)) (sym r) in
-    continues_here spot bytes (word_or_none spot bytes (begins_word (line spot bytes).units)) n ∙ ap (word_or_none spot bytes) (begins_here spot bytes ∙ b)
+    continues_here spot bytes (word_or_none spot bytes (begins_with opens_word (line spot bytes).units)) n ∙ ap (word_or_none spot bytes) (begins_here spot bytes ∙ b)
     ∙ ap (λ o. unless_fault o (reply (Some (word_here (line spot bytes))) (Inside (with_units (drop_while in_word (line spot bytes).units) (line spot bytes)) (others spot bytes)))) (fault_after_word spot bytes ∙ e)
     ∙ ap (λ s. reply (Some (word_here (line spot bytes))) s) after
     ∙ ap (λ x. reply (Some (record { spot = x; parts = parts_of (take_while in_word (line spot bytes).units) })) (inside (lines_within there rest))) place
@@ -190,10 +190,10 @@ value_is_here spot bytes parts there rest e p r =
 
 -- ---- begin words
 
-pub begins_badly : (spot : Spot) (bytes : List ℕ) (m : Meaning) → BeginsBadly spot bytes m → opens_word_meaning m ≡ false → false ≡ begins_word (units_within spot bytes)
+pub begins_badly : (spot : Spot) (bytes : List ℕ) (m : Meaning) → BeginsBadly spot bytes m → opens_word_meaning m ≡ false → false ≡ begins_with opens_word (units_within spot bytes)
 begins_badly spot bytes m b e = rw b.2 (sym e)
 
-pub begins_at_end : (spot : Spot) (bytes : List ℕ) → bytes ≡ [] → false ≡ begins_word (units_within spot bytes)
+pub begins_at_end : (spot : Spot) (bytes : List ℕ) → bytes ≡ [] → false ≡ begins_with opens_word (units_within spot bytes)
 unfolding cut
 begins_at_end spot bytes e = rw e refl
 
@@ -202,9 +202,9 @@ identifier_fails spot bytes f e =
     fails_here spot bytes f (reply (some_bytes (bytes_of (take_while in_identifier (line spot bytes).units))) (Inside (with_units (drop_while in_identifier (line spot bytes).units) (line spot bytes)) (others spot bytes))) e
 
 pub word_fails_at_once : (spot : Spot) (bytes : List ℕ) (f : UnitFault) → Some f ≡ next_fault (units_within spot bytes) → unless_bad word_at (line spot bytes) (others spot bytes) ≡ failing f
-word_fails_at_once spot bytes f e = fails_here spot bytes f (word_or_none spot bytes (begins_word (line spot bytes).units)) e
+word_fails_at_once spot bytes f e = fails_here spot bytes f (word_or_none spot bytes (begins_with opens_word (line spot bytes).units)) e
 
-pub word_fails_or_lacks : (spot : Spot) (bytes : List ℕ) (f : WordFault) → None ≡ next_fault (units_within spot bytes) → begins_word (units_within spot bytes) ≡ true → FailsText f (next_fault (after_text kind.Word (units_within spot bytes)))
+pub word_fails_or_lacks : (spot : Spot) (bytes : List ℕ) (f : WordFault) → None ≡ next_fault (units_within spot bytes) → begins_with opens_word (units_within spot bytes) ≡ true → FailsText f (next_fault (after_text kind.Word (units_within spot bytes)))
     → FailsStep (unless_bad word_at (line spot bytes) (others spot bytes)) f
 word_fails_or_lacks spot bytes (word_fault.Unit f) n b e = word_fails_here spot bytes f n b e
 word_fails_or_lacks spot bytes word_fault.OutOfMemory n b e = tt

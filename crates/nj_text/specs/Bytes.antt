@@ -38,7 +38,7 @@ abbrev pub drop_while : {X : Type 0} → (X → Bool) → List X → List X
 drop_while p [] = []
 drop_while p (x ∷ xs) = cond (p x) (drop_while p xs) (x ∷ xs)
 
--- whether the bytes begin with this one
-abbrev pub begins_with : ℕ → List ℕ → Bool
-begins_with b [] = false
-begins_with b (x ∷ xs) = x == b
+-- whether the list has a first element, and it passes the test
+abbrev pub begins_with : {X : Type 0} → (X → Bool) → List X → Bool
+begins_with p [] = false
+begins_with p (x ∷ xs) = p x

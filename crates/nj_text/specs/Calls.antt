@@ -13,7 +13,7 @@ use Rattle.nj_text.specs.declared.line_start.LineStart.TheVariants as start
 use Rattle.nj_text.specs.declared.plain_words.PlainWord.{PlainWord}
 use Rattle.nj_text.specs.declared.plain_words.PlainWord.TheVariants as plain
 use Rattle.nj_text.specs.declared.spot.Spot.{Spot}
-use Rattle.nj_text.specs.Bytes.{drop_while}
+use Rattle.nj_text.specs.Bytes.{drop_while, begins_with}
 use Rattle.nj_text.specs.Units.{TextUnit, first_spot}
 use Rattle.nj_text.specs.Lines.{Line, text_lines, line_spot, with_units, lines_after, Kind, CommentLine, TabLine, BlankLine, IndentedLine, PlainLine, kind_of, is_space_unit}
 use Rattle.nj_text.specs.Words.{is_blank, after_opening, in_identifier, opens_word, in_word, begins_with_byte, next_fault, first_fault, parts_of, WordModel, plain_model}
@@ -124,17 +124,13 @@ sign_of want s = in_line false (sign_at want) (skip_blanks_of s)
 
 -- ---- path_word
 
-abbrev pub begins_word : List TextUnit → Bool
-begins_word [] = false
-begins_word (u ∷ us) = opens_word u
-
 abbrev pub word_here : Line → WordModel
 word_here l = record { spot = line_spot l; parts = parts_of (take_while in_word l.units) }
 
 abbrev pub word_at : Line → List Line → Reply (Option WordModel)
 word_at l ls =
     let rest = drop_while in_word l.units in
-    if begins_word l.units then unless_fault (next_fault rest) (Ok (Some (word_here l), Inside (with_units rest l) ls))
+    if begins_with opens_word l.units then unless_fault (next_fault rest) (Ok (Some (word_here l), Inside (with_units rest l) ls))
     else Ok (None, Inside l ls)
 
 abbrev pub path_word_of : State → Reply (Option WordModel)

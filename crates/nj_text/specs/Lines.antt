@@ -1,7 +1,7 @@
 -- The logical lines of a text: its units, cut after each line end.
 use Rattle.std.specs.Prelude.{ℕ, Bool, true, false, if◌then◌else◌, Option, Some, None, List, [], ◌∷◌}
 use Rattle.nj_text.specs.declared.spot.Spot.{Spot}
-use Rattle.nj_text.specs.Bytes.{is_space, drop_while}
+use Rattle.nj_text.specs.Bytes.{is_space, drop_while, begins_with}
 use Rattle.nj_text.specs.Units.{Meaning, Comment, LeadingTab, LineEnd, TextEnd, TextUnit, is_ordinary_in, units}
 
 -- a line: its units, the place where it ends, and whether the text ends there too
@@ -77,9 +77,5 @@ abbrev pub kind_after_spaces : List TextUnit → (indented : Bool) → Kind
 kind_after_spaces [] indented = BlankLine
 kind_after_spaces (u ∷ us) indented = kind_with u.means u.spot indented
 
-abbrev pub begins_with_space : List TextUnit → Bool
-begins_with_space [] = false
-begins_with_space (u ∷ us) = is_space_unit u
-
 abbrev pub kind_of : Line → Kind
-kind_of l = kind_after_spaces (drop_while is_space_unit l.units) (begins_with_space l.units)
+kind_of l = kind_after_spaces (drop_while is_space_unit l.units) (begins_with is_space_unit l.units)

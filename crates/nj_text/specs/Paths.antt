@@ -2,7 +2,7 @@
 use Rattle.std.specs.Prelude.{◌≡◌, ℕ, ◌==◌, Bool, true, false, not, ◌&&◌, if◌then◌else◌, List, [], ◌∷◌, length}
 use Rattle.std.specs.List.{filter, slice_split, join_with_byte, list_any}
 use Rattle.std.specs.Fn.{iterate}
-use Rattle.nj_text.specs.Bytes.{drop_while}
+use Rattle.nj_text.specs.Bytes.{drop_while, begins_with}
 
 abbrev pub is_slash : ℕ → Bool
 is_slash b = b == 47
@@ -44,8 +44,7 @@ abbrev pub without_pairs : List (List ℕ) → List (List ℕ)
 without_pairs components = iterate without_leftmost_pair (length components) components
 
 abbrev pub is_absolute : List ℕ → Bool
-is_absolute [] = false
-is_absolute (b ∷ bs) = is_slash b
+is_absolute path = begins_with is_slash path
 
 -- the text of a relative path: its components, joined by slashes, or `.` where there are none
 abbrev pub relative_text : List (List ℕ) → List ℕ

@@ -63,14 +63,14 @@ named (b ∷ bs) false = (BadEscape, 0)
 named (b ∷ bs) true = (Reference (b ∷ bs), length (b ∷ bs) + 2)
 
 abbrev pub in_braces : List ℕ → Found
-in_braces bytes = named (take_while is_identifier_byte bytes) (begins_with 125 (drop_while is_identifier_byte bytes))
+in_braces bytes = named (take_while is_identifier_byte bytes) (begins_with (λ b. b == 125) (drop_while is_identifier_byte bytes))
 
 -- the unit of a `$` and the bytes after it
 abbrev pub after_dollar : List ℕ → Found
 after_dollar [] = (BadEscape, 0)
 after_dollar (b ∷ bs) =
     if b == 10 then (Join, suc (spaces_in bs))
-    else (if b == 13 && begins_with 10 bs then (Join, suc (suc (spaces_in (drop 1 bs))))
+    else (if b == 13 && begins_with is_line_feed bs then (Join, suc (suc (spaces_in (drop 1 bs))))
     else (if b == 123 then in_braces bs
     else (if is_escapable b then (Escape b, 1)
     else (if is_name_byte b then (Reference (b ∷ take_while is_name_byte bs), suc (length (take_while is_name_byte bs)))
@@ -82,7 +82,7 @@ unit_at b bs =
     if is_ordinary_byte b then (Ordinary b, 0)
     else (if b == 36 then after_dollar bs
     else (if b == 10 then (LineEnd, 0)
-    else (if b == 13 && begins_with 10 bs then (LineEnd, 1) else (BadByte, 0))))
+    else (if b == 13 && begins_with is_line_feed bs then (LineEnd, 1) else (BadByte, 0))))
 
 abbrev pub opening : Meaning → Meaning
 opening Join = OpeningJoin
@@ -90,7 +90,7 @@ opening m = m
 
 -- A comment has `#` as the first byte after the leading spaces.
 abbrev pub opens_comment : List ℕ → Bool
-opens_comment bytes = begins_with 35 (drop_while is_space bytes)
+opens_comment bytes = begins_with (λ b. b == 35) (drop_while is_space bytes)
 
 -- the same where the position matters: comments, tabs after leading spaces, joins that open a line
 abbrev pub found_at : Position → ℕ → List ℕ → Found

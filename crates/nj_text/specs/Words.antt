@@ -7,7 +7,7 @@ use Rattle.nj_text.specs.declared.spot.Spot.{Spot}
 use Rattle.nj_text.specs.declared.word.Part.{Part}
 use Rattle.nj_text.specs.declared.word.Part.TheVariants as part
 use Rattle.nj_text.specs.declared.word.Word.{Word}
-use Rattle.nj_text.specs.Bytes.{is_space, is_identifier_byte, is_word_byte}
+use Rattle.nj_text.specs.Bytes.{is_space, is_identifier_byte, is_word_byte, begins_with}
 use Rattle.nj_text.specs.Units.{Meaning, Ordinary, Escape, Reference, Join, OpeningJoin, LeadingTab, BadByte, BadEscape, TextUnit, is_ordinary_in}
 
 -- ---- tests on units
@@ -28,6 +28,9 @@ after_opening (u ∷ us) = if opens_line u then us else u ∷ us
 abbrev pub in_identifier : TextUnit → Bool
 in_identifier u = is_ordinary_in is_identifier_byte u.means
 
+abbrev pub is_ordinary : TextUnit → Bool
+is_ordinary u = is_ordinary_in (λ b. true) u.means
+
 abbrev pub opens_word : TextUnit → Bool
 opens_word u = elim u.means [ Ordinary b ↦ is_word_byte b | Escape b ↦ true | Reference name ↦ true | other ↦ false ]
 
@@ -37,8 +40,7 @@ in_word u = elim u.means [ Join ↦ true | other ↦ opens_word u ]
 
 -- whether the units begin with this ordinary byte
 abbrev pub begins_with_byte : ℕ → List TextUnit → Bool
-begins_with_byte b [] = false
-begins_with_byte b (u ∷ us) = is_ordinary_in (λ c. c == b) u.means
+begins_with_byte b us = begins_with (λ u. is_ordinary_in (λ c. c == b) u.means) us
 
 -- ---- bad units
 
@@ -79,14 +81,10 @@ part_before (Escape b) run_continues ps = Text (b ∷ []) ∷ ps
 part_before (Reference name) run_continues ps = Name name ∷ ps
 part_before m run_continues ps = ps
 
-abbrev pub begins_with_ordinary : List TextUnit → Bool
-begins_with_ordinary [] = false
-begins_with_ordinary (u ∷ us) = is_ordinary_in (λ b. true) u.means
-
 -- A longest run of ordinary bytes is one part; an escape and a reference are a part each; joins mean nothing.
 abbrev pub parts_of : List TextUnit → List PartModel
 parts_of [] = []
-parts_of (u ∷ us) = part_before u.means (begins_with_ordinary us) (parts_of us)
+parts_of (u ∷ us) = part_before u.means (begins_with is_ordinary us) (parts_of us)
 
 -- a word or a value: its place and its parts
 pub record WordModel : Type 0 where

@@ -4,7 +4,8 @@ ghost use Rattle.std.specs.Prelude.{◌≡◌, ◌<◌, ◌+◌, [], ◌∷◌, 
 ghost use Rattle.nj_text.specs.declared.fault.WordFault.TheVariants.{OutOfMemory};
 ghost use Rattle.nj_text.specs.Inside.Scans.{units_within};
 ghost use Rattle.nj_text.specs.Inside.Runs.{in_run};
-ghost use Rattle.nj_text.specs.Calls.{begins_word};
+ghost use Rattle.nj_text.specs.Bytes.{begins_with};
+ghost use Rattle.nj_text.specs.Words.{opens_word};
 ghost use Rattle.nj_text.specs.Inside.Gathering.{run_of, Gathers, NextPartIs, TakesRun, NoneInRun, IsShorter};
 
 use crate::cursor::Cursor;
@@ -138,7 +139,7 @@ pub fn gather<'a>(
 /// Whether a word begins.
 #[inline(always)]
 pub fn begins_word(cursor: Cursor<'_>) -> bool
-    ensures { result ≡ begins_word (units_within cursor.entry.spot cursor.entry.rest.now) }
+    ensures { result ≡ begins_with opens_word (units_within cursor.entry.spot cursor.entry.rest.now) }
 {
     match next_unit(cursor.rest) {
         NextUnit::Ordinary(byte) => in_run(Run::Word, byte),

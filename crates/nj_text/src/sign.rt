@@ -3,8 +3,7 @@
 ghost use Rattle.std.specs.Prelude.{◌≡◌, None};
 ghost use Rattle.nj_text.specs.Inside.Scans.{units_within};
 ghost use Rattle.nj_text.specs.Words.{next_fault};
-ghost use Rattle.nj_text.specs.Bytes.{begins_with};
-ghost use Rattle.nj_text.specs.Inside.Scans.{sign_length};
+ghost use Rattle.nj_text.specs.Inside.Scans.{is_first, sign_length};
 ghost use Rattle.nj_text.specs.Calls.{after_blanks, sign_at};
 ghost use Rattle.nj_text.specs.Inside.States.{EndsLine, SignIs, unless_bad, line_at, other_lines_at};
 
@@ -51,7 +50,7 @@ pub fn past_line_end(cursor: Cursor<'_>) -> Option<Cursor<'_>>
 
 #[inline(always)]
 fn begins_with(byte: u8, bytes: &[u8]) -> bool
-    ensures { result ≡ begins_with byte bytes.now }
+    ensures { result ≡ is_first byte bytes.now }
 {
     match first_byte(bytes) {
         Some((first, _)) => first == byte,

@@ -1,5 +1,5 @@
 -- The results of the lexer's scans of bytes, in terms of units.
-use Rattle.std.specs.Prelude.{◌≡◌, ℕ, ◌+◌, ◌<◌, Bool, true, false, not, ◌&&◌, if◌then◌else◌, List, [], ◌∷◌, take, drop}
+use Rattle.std.specs.Prelude.{◌≡◌, ℕ, ◌+◌, ◌<◌, Bool, true, false, not, ◌&&◌, ◌==◌, if◌then◌else◌, List, [], ◌∷◌, take, drop}
 use Rattle.nj_text.specs.declared.spot.Spot.{Spot}
 use Rattle.nj_text.specs.declared.dollar.Dollar.{Dollar}
 use Rattle.nj_text.specs.declared.dollar.Dollar.TheVariants as dollar
@@ -24,9 +24,13 @@ advance n spot = record { line = spot.line; column = spot.column + n }
 abbrev pub on_next_line : ℕ → Spot → Spot
 on_next_line spaces spot = record { line = spot.line + 1; column = spaces + 1 }
 
+-- whether this byte is the first of the bytes
+abbrev pub is_first : ℕ → List ℕ → Bool
+is_first b bytes = begins_with (λ x. x == b) bytes
+
 -- the length of the line end at the front
 abbrev pub line_end_length : List ℕ → ℕ
-line_end_length bytes = if begins_with 10 bytes then 1 else (if begins_with 13 bytes && begins_with 10 (drop 1 bytes) then 2 else 0)
+line_end_length bytes = if is_first 10 bytes then 1 else (if is_first 13 bytes && is_first 10 (drop 1 bytes) then 2 else 0)
 
 -- the unit that was found after a `$`
 abbrev pub dollar_found : Dollar → Found
@@ -59,7 +63,7 @@ abbrev pub NextUnitIs : NextUnit → List ℕ → Type 0
 NextUnitIs unit.End bytes = bytes ≡ []
 NextUnitIs (unit.Ordinary b) bytes =
     (is_ordinary_byte b ≡ true)
-    × (begins_with b bytes ≡ true)
+    × (is_first b bytes ≡ true)
     × ((spot : Spot) → Begins spot bytes (Ordinary b) 1 (units_within (advance 1 spot) (drop 1 bytes)))
 NextUnitIs (unit.Join n spaces) bytes = (spot : Spot) → Begins spot bytes Join n (units_within (on_next_line spaces spot) (drop n bytes))
 NextUnitIs (unit.Escape byte) bytes =
@@ -92,11 +96,11 @@ begins_with_space_byte (b ∷ bs) = is_space b
 
 -- whether the bytes begin with a sign that is not a line end
 abbrev pub has_sign : Sign → List ℕ → Bool
-has_sign sign.Colon bytes = begins_with 58 bytes
-has_sign sign.Equals bytes = begins_with 61 bytes
-has_sign sign.Pipe bytes = begins_with 124 bytes && not (begins_with 124 (drop 1 bytes)) && not (begins_with 64 (drop 1 bytes))
-has_sign sign.Pipe2 bytes = begins_with 124 bytes && begins_with 124 (drop 1 bytes)
-has_sign sign.PipeAt bytes = begins_with 124 bytes && begins_with 64 (drop 1 bytes)
+has_sign sign.Colon bytes = is_first 58 bytes
+has_sign sign.Equals bytes = is_first 61 bytes
+has_sign sign.Pipe bytes = is_first 124 bytes && not (is_first 124 (drop 1 bytes)) && not (is_first 64 (drop 1 bytes))
+has_sign sign.Pipe2 bytes = is_first 124 bytes && is_first 124 (drop 1 bytes)
+has_sign sign.PipeAt bytes = is_first 124 bytes && is_first 64 (drop 1 bytes)
 has_sign sign.LineEnd bytes = false
 
 abbrev pub sign_size : Sign → ℕ

@@ -1,6 +1,6 @@
 use Rattle.std.proofs.Common.{sym, ap, ◌∙◌}
 use Rattle.std.proofs.lemmas.Bool.{ne_eqb}
-use Rattle.nj_text.specs.Bytes.{begins_with}
+use Rattle.nj_text.specs.Inside.Scans.{is_first}
 use Rattle.nj_text.proofs.NextUnits.{line_end_unit, bad_byte_unit, ordinary_unit, eqb_self}
 use Rattle.nj_text.proofs.unit.next_unit.Goals as goal
 
@@ -10,7 +10,7 @@ returns-then-is_ordinary_byte-clause-unit c =
     let remainder = c.in-Some.remainder.now in
     let first = c.in-Some.ensures in
     let ordinary = sym c.is_ordinary_byte.ensures ∙ c.if-is_ordinary_byte.true in
-    (ordinary, ap (begins_with byte) first ∙ eqb_self byte, rw first (ordinary_unit byte remainder ordinary))
+    (ordinary, ap (is_first byte) first ∙ eqb_self byte, rw first (ordinary_unit byte remainder ordinary))
 
 pub returns-then-end-eq0-clause-unit : goal.returns-then-end-eq0-clause-unit
 returns-then-end-eq0-clause-unit c =
