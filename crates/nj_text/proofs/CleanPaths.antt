@@ -1,9 +1,10 @@
 -- The clean paths: the results of cleaning, and the paths that it leaves unchanged.
 use Rattle.std.proofs.Common.{◌≡◌, ◌≢◌, ℕ, zero, suc, ◌+◌, ◌<◌, Bool, true, false, eqb, List, [], ◌∷◌, ◌++◌, length, drop, replicate, refl, sym, ap, ◌∙◌, subst, arith, append_assoc, length-append}
-use Rattle.std.specs.Prelude.{◌||◌, ◌↔◌, IsTrue}
+use Rattle.std.specs.Prelude.{◌||◌, ◌↔◌, IsTrue, codes}
 use Rattle.std.specs.List.{slice_split, AllByRecursion}
 use Rattle.std.proofs.lemmas.Bool.Decides.{nat_tests}
 use Rattle.std.proofs.lemmas.List.Elements.{All-from_recursion, recursion_from_All}
+use Rattle.std.proofs.lemmas.Slice.Eq.{bytes_eq-Decides}
 use Rattle.std.proofs.lemmas.List.Splits.{length-slice_split, join_with_byte-slice_split}
 use Rattle.nj_text.specs.Bytes.{drop_while}
 use Rattle.nj_text.specs.Paths.{is_slash, is_up, leads_nowhere, is_absolute, IsName, without_leftmost_pair, relative_text, absolute_text, clean_path_of}
@@ -18,8 +19,7 @@ use Rattle.nj_text.proofs.CleanStrings.{AllWhole, kept_of, names-kept, relative-
 
 here_is : (path : List ℕ) → is_here path ≡ true → path ≡ 46 ∷ []
 here_is [] h = absurd (cc)
-here_is (b ∷ []) h = let e : b ≡ 46 = grind (arith, nat_tests, h) in rw e refl
-here_is (b ∷ c ∷ path) h = absurd (cc)
+here_is (b ∷ bs) h = (bytes_eq-Decides (b ∷ bs) (codes ".")).0 h
 
 absolute_is : (path : List ℕ) → is_absolute path ≡ true → path ≡ 47 ∷ drop 1 path
 absolute_is [] e = absurd (cc)

@@ -1,8 +1,9 @@
 -- The components that are left when a path is cleaned, one after another, are the components of its clean path.
-use Rattle.std.proofs.Common.{◌≡◌, ℕ, zero, suc, Bool, true, false, not, List, [], ◌∷◌, ◌++◌, replicate, refl, sym, ap, ◌∙◌, arith, append_assoc}
+use Rattle.std.proofs.Common.{◌≡◌, ℕ, zero, suc, Bool, true, false, not, List, [], ◌∷◌, ◌++◌, replicate, refl, sym, ap, ◌∙◌, append_assoc}
+use Rattle.std.specs.Prelude.{codes}
 use Rattle.std.specs.List.{filter, AllByRecursion}
-use Rattle.std.proofs.lemmas.Bool.Decides.{nat_tests}
 use Rattle.std.proofs.lemmas.List.{append-nil}
+use Rattle.std.proofs.lemmas.Slice.Eq.{bytes_eq-Decides}
 use Rattle.nj_text.specs.declared.components.Component.{Component}
 use Rattle.nj_text.specs.declared.components.Component.TheVariants.{Nowhere, Up, Name}
 use Rattle.nj_text.specs.Bytes.{drop_while}
@@ -35,13 +36,7 @@ component-name p e u = rw (e, u) refl
 
 -- `..` is two dots
 pub up_is : (p : List ℕ) → is_up p ≡ true → p ≡ 46 ∷ 46 ∷ []
-up_is [] h = absurd (cc)
-up_is (a ∷ []) h = absurd (cc)
-up_is (a ∷ b ∷ []) h =
-    let x : a ≡ 46 = grind (arith, nat_tests, h) in
-    let y : b ≡ 46 = grind (arith, nat_tests, h) in
-    rw (x, y) refl
-up_is (a ∷ b ∷ c ∷ p) h = absurd (cc)
+up_is p h = (bytes_eq-Decides p (codes "..")).0 h
 
 pub replicate-push : {X : Type 0} (n : ℕ) (x : X) (xs : List X) → replicate n x ++ x ∷ xs ≡ replicate (suc n) x ++ xs
 replicate-push zero x xs = refl

@@ -1,6 +1,7 @@
 -- Where no slash comes before a slash or a dot, and the ends are the ends of names, each component is a name.
 use Rattle.std.proofs.Common.{◌≡◌, ℕ, suc, Bool, true, false, not, List, [], ◌∷◌, drop, refl, sym, ap, ◌∙◌, subst, arith, get_or, length, ◌<◌, ◌-◌}
-use Rattle.std.specs.Prelude.{◌||◌, ◌&&◌, ◌==◌}
+use Rattle.std.specs.Prelude.{◌||◌, ◌&&◌, ◌==◌, codes}
+use Rattle.std.specs.Str.{bytes_eq}
 use Rattle.std.specs.Bool.{OnTrue}
 use Rattle.std.specs.List.{slice_split, onto_first, list_any, AllByRecursion}
 use Rattle.std.proofs.lemmas.List.Splits.{slice_split-cons_yes, slice_split-cons_no}
@@ -14,13 +15,9 @@ abbrev BeginsName : ℕ → Type 0
 BeginsName b = is_slash b || b == 46 ≡ false
 
 name_begun : (b : ℕ) (p : List ℕ) → BeginsName b → list_any is_slash (b ∷ p) ≡ false → IsName (b ∷ p)
-name_begun b [] begins whole = record { leads_somewhere = (or_false (is_slash b) (b == 46) begins).1; leads_down = refl; has_no_slash = whole }
-name_begun b (c ∷ []) begins whole = record {
-  leads_somewhere = refl;
-  leads_down = ap (λ t. t && c == 46) (or_false (is_slash b) (b == 46) begins).1;
-  has_no_slash = whole;
-}
-name_begun b (c ∷ d ∷ p) begins whole = record { leads_somewhere = refl; leads_down = refl; has_no_slash = whole }
+name_begun b p begins whole =
+    let low = (or_false (is_slash b) (b == 46) begins).1 in
+    record { leads_somewhere = ap (λ t. t && bytes_eq p []) low; leads_down = ap (λ t. t && bytes_eq p (codes ".")) low; has_no_slash = whole }
 
 -- all components but the first are names
 abbrev Continues : List ℕ → Type 0

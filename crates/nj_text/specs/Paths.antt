@@ -1,6 +1,7 @@
 -- The clean path of a path.
-use Rattle.std.specs.Prelude.{◌≡◌, ℕ, ◌==◌, Bool, true, false, not, ◌&&◌, if◌then◌else◌, List, [], ◌∷◌, length}
+use Rattle.std.specs.Prelude.{◌≡◌, ℕ, ◌==◌, Bool, false, not, ◌&&◌, ◌||◌, if◌then◌else◌, List, [], ◌∷◌, length, codes}
 use Rattle.std.specs.List.{filter, slice_split, join_with_byte, list_any}
+use Rattle.std.specs.Str.{bytes_eq}
 use Rattle.std.specs.Fn.{iterate}
 use Rattle.nj_text.specs.Bytes.{drop_while, begins_with}
 
@@ -9,14 +10,11 @@ is_slash b = b == 47
 
 -- `..`, the parent directory
 abbrev pub is_up : List ℕ → Bool
-is_up (a ∷ b ∷ []) = a == 46 && b == 46
-is_up component = false
+is_up component = bytes_eq component (codes "..")
 
 -- an empty component or `.`: it leads to where one is
 abbrev pub leads_nowhere : List ℕ → Bool
-leads_nowhere [] = true
-leads_nowhere (b ∷ []) = b == 46
-leads_nowhere component = false
+leads_nowhere component = bytes_eq component [] || bytes_eq component (codes ".")
 
 -- a component that leads into a directory or to a file: neither empty nor `.` nor `..`, and without a slash
 pub record IsName (component : List ℕ) : Type 0 where
