@@ -20,7 +20,7 @@ use Rattle.nj_manifest.specs.Leftmost.{written, are_plain, offers_next, offers}
 use Rattle.nj_manifest.specs.Dyndeps.{is_same_spot}
 use Rattle.nj_manifest.specs.DyndepLeftmost.{are_apart}
 use Rattle.nj_manifest.proofs.Choices.{unless_missing}
-use Rattle.nj_manifest.proofs.LeftmostRuns.{begins, none_passed, skip, skip_again, skip_stops, skip_gap, gap_of, gap_passes, gap_cut}
+use Rattle.nj_manifest.proofs.LeftmostRuns.{none_passed, skip, skip_again, skip_stops, skip_gap, gap_of, gap_passes, gap_cut}
 use Rattle.nj_manifest.proofs.LeftmostFronts.{front, begins-same, fault-same, sign-same, front-append, element-front}
 use Rattle.nj_manifest.proofs.LeftmostSteps.{at, text, after_name, after_words, Fits, fits-gap, Passes, FailsAt, fault-place, Claim, Along, Outcome, stuck, stick, pass}
 use Rattle.nj_manifest.proofs.LeftmostNames.{NamePasses, name_skips, no_blank_there}
@@ -69,7 +69,7 @@ clear_by None true spot s = Err (marked spot)
 clear_by None false spot s = Ok (true, s)
 
 abbrev clear_at : List TextUnit → Line → List Line → Step Bool
-clear_at us e ms = clear_by (next_fault us) (begins opens_word us) (spot_of_first us e.end) (at us e ms)
+clear_at us e ms = clear_by (next_fault us) (begins_with opens_word us) (spot_of_first us e.end) (at us e ms)
 
 -- No path may come here, whatever becomes of one that does.
 abbrev pub clear_step : State → Step Bool
@@ -90,10 +90,6 @@ path_here us e ms =
     let r = word_by (next_fault us) (begins_with opens_word us) (next_fault (drop_while in_word us)) (reply (Some (record { spot = spot_of_first us e.end; parts = parts_of (take_while in_word us) })) (at (drop_while in_word us) e ms)) (reply None (at us e ms)) in
     path_by (spot_of_first us e.end) r
 
-begins_word-is : (us : List TextUnit) → begins_with opens_word us ≡ begins opens_word us
-begins_word-is [] = refl
-begins_word-is (u ∷ us) = refl
-
 module _ (us : List TextUnit) (e : Line) (ms : List Line) where
   abbrev by_parts : Option UnitFault → Bool → Option UnitFault → Step Bool
   by_parts f t g =
@@ -103,7 +99,7 @@ module _ (us : List TextUnit) (e : Line) (ms : List Line) where
   same_spot : (bad : UnitFault) (t : Bool) → is_same_spot (fault_spot bad) (spot_of_first us e.end) ≡ t → path_by (spot_of_first us e.end) (Err bad) ≡ unless_missing t (marked (spot_of_first us e.end)) (Err (Bad bad))
   same_spot bad t h = ap (λ (t : Bool). unless_missing t (marked (spot_of_first us e.end)) (Err (Bad bad))) h
 
-word_after : (us : List TextUnit) (e : Line) (bad : UnitFault) → are_apart us ≡ true → begins opens_word us ≡ true → next_fault (drop_while in_word us) ≡ Some bad → is_same_spot (fault_spot bad) (spot_of_first us e.end) ≡ false
+word_after : (us : List TextUnit) (e : Line) (bad : UnitFault) → are_apart us ≡ true → begins_with opens_word us ≡ true → next_fault (drop_while in_word us) ≡ Some bad → is_same_spot (fault_spot bad) (spot_of_first us e.end) ≡ false
 word_after [] e bad a o h = absurd cc
 word_after (u ∷ us) e bad a o h =
     let dropped : drop_while in_word (u ∷ us) ≡ drop_while in_word us = ap (λ (t : Bool). cond t (drop_while in_word us) (u ∷ us)) (opening_in u.means o) in
@@ -114,25 +110,22 @@ word_after (u ∷ us) e bad a o h =
 path_cleared : (us : List TextUnit) (e : Line) (ms : List Line) → are_apart us ≡ true → path_here us e ms ≡ clear_at us e ms
 path_cleared us e ms a = by_fault (next_fault us) refl
   where
-    by_after : (g : Option UnitFault) → next_fault (drop_while in_word us) ≡ g → begins opens_word us ≡ true → by_parts us e ms None true g ≡ Err (marked (spot_of_first us e.end))
+    by_after : (g : Option UnitFault) → next_fault (drop_while in_word us) ≡ g → begins_with opens_word us ≡ true → by_parts us e ms None true g ≡ Err (marked (spot_of_first us e.end))
     by_after None h o = refl
     by_after (Some bad) h o = same_spot us e ms bad false (word_after us e bad a o h)
 
-    by_opens : (t : Bool) → begins opens_word us ≡ t → by_parts us e ms None t (next_fault (drop_while in_word us)) ≡ clear_by None t (spot_of_first us e.end) (at us e ms)
+    by_opens : (t : Bool) → begins_with opens_word us ≡ t → by_parts us e ms None t (next_fault (drop_while in_word us)) ≡ clear_by None t (spot_of_first us e.end) (at us e ms)
     by_opens true o = by_after (next_fault (drop_while in_word us)) refl o
     by_opens false o = refl
 
-    none : path_here us e ms ≡ by_parts us e ms (next_fault us) (begins opens_word us) (next_fault (drop_while in_word us))
-    none = ap (λ (t : Bool). by_parts us e ms (next_fault us) t (next_fault (drop_while in_word us))) (begins_word-is us)
-
-    by_fault : (f : Option UnitFault) → next_fault us ≡ f → path_here us e ms ≡ clear_by (next_fault us) (begins opens_word us) (spot_of_first us e.end) (at us e ms)
+    by_fault : (f : Option UnitFault) → next_fault us ≡ f → path_here us e ms ≡ clear_by (next_fault us) (begins_with opens_word us) (spot_of_first us e.end) (at us e ms)
     by_fault None h =
-        none ∙ (ap (λ (f : Option UnitFault). by_parts us e ms f (begins opens_word us) (next_fault (drop_while in_word us))) h
-        ∙ (by_opens (begins opens_word us) refl ∙ ap (λ (f : Option UnitFault). clear_by f (begins opens_word us) (spot_of_first us e.end) (at us e ms)) (sym h)))
+        ap (λ (f : Option UnitFault). by_parts us e ms f (begins_with opens_word us) (next_fault (drop_while in_word us))) h
+        ∙ (by_opens (begins_with opens_word us) refl ∙ ap (λ (f : Option UnitFault). clear_by f (begins_with opens_word us) (spot_of_first us e.end) (at us e ms)) (sym h))
     by_fault (Some bad) h =
-        none ∙ (ap (λ (f : Option UnitFault). by_parts us e ms f (begins opens_word us) (next_fault (drop_while in_word us))) h
+        ap (λ (f : Option UnitFault). by_parts us e ms f (begins_with opens_word us) (next_fault (drop_while in_word us))) h
         ∙ (same_spot us e ms bad true (ap (λ (p : Spot). is_same_spot p (spot_of_first us e.end)) (fault-place us e.end bad h) ∙ same_itself (spot_of_first us e.end))
-        ∙ ap (λ (f : Option UnitFault). clear_by f (begins opens_word us) (spot_of_first us e.end) (at us e ms)) (sym h)))
+        ∙ ap (λ (f : Option UnitFault). clear_by f (begins_with opens_word us) (spot_of_first us e.end) (at us e ms)) (sym h))
 
 word_again : (us : List TextUnit) (e : Line) (ms : List Line) → path_step (at us e ms) ≡ path_here (skip us) e ms
 word_again us e ms =
@@ -146,17 +139,17 @@ path_is_clear us e ms a = word_again us e ms ∙ path_cleared (skip us) e ms (ap
 
 -- Where there is no path, both report it, whether or not the units are apart.
 pub path_is_passed : (us : List TextUnit) (e : Line) (ms : List Line) (y : Bool × State) → clear_step (at us e ms) ≡ Ok y → path_step (at us e ms) ≡ Ok y
-path_is_passed us e ms y h = word_again us e ms ∙ by_fault (next_fault v) (begins opens_word v) refl refl h
+path_is_passed us e ms y h = word_again us e ms ∙ by_fault (next_fault v) (begins_with opens_word v) refl refl h
   where
     v : List TextUnit
     v = skip us
 
-    by_fault : (f : Option UnitFault) (t : Bool) → next_fault v ≡ f → begins opens_word v ≡ t → clear_by f t (spot_of_first v e.end) (at v e ms) ≡ Ok y → path_here v e ms ≡ Ok y
+    by_fault : (f : Option UnitFault) (t : Bool) → next_fault v ≡ f → begins_with opens_word v ≡ t → clear_by f t (spot_of_first v e.end) (at v e ms) ≡ Ok y → path_here v e ms ≡ Ok y
     by_fault (Some bad) t i o g = absurd cc
     by_fault None true i o g = absurd cc
     by_fault None false i o g =
         ap (λ (f : Option UnitFault). by_parts v e ms f (begins_with opens_word v) (next_fault (drop_while in_word v))) i
-        ∙ (ap (λ (t : Bool). by_parts v e ms None t (next_fault (drop_while in_word v))) (begins_word-is v ∙ o) ∙ g)
+        ∙ (ap (λ (t : Bool). by_parts v e ms None t (next_fault (drop_while in_word v))) o ∙ g)
 
 -- ---- continuing where there is no path
 
@@ -169,10 +162,10 @@ clear_word f t spot s h g = rw (h, g) refl
 clear_bad : (f : Option UnitFault) (t : Bool) (spot : Spot) (s : State) (bad : UnitFault) → f ≡ Some bad → clear_by f t spot s ≡ Err (Bad bad)
 clear_bad f t spot s bad h = rw h refl
 
-clear_after : (gap x : List TextUnit) (d : Line) (ms : List Line) → AllIn is_blank gap → begins is_blank x ≡ false → clear_step (at (gap ++ x) d ms) ≡ clear_at x d ms
+clear_after : (gap x : List TextUnit) (d : Line) (ms : List Line) → AllIn is_blank gap → begins_with is_blank x ≡ false → clear_step (at (gap ++ x) d ms) ≡ clear_at x d ms
 clear_after gap x d ms a n = ap (λ (y : List TextUnit). clear_at y d ms) (skip_gap gap x a ∙ none_passed is_blank x n)
 
-settled_opens : (us : List TextUnit) → settled us ≡ true → begins opens_word us ≡ false
+settled_opens : (us : List TextUnit) → settled us ≡ true → begins_with opens_word us ≡ false
 settled_opens us h = not_so _ (and_parts _ _ (and_parts _ _ h).1).0
 
 abbrev clear_passes : (t : List TextUnit → Bool) (us : List TextUnit) → ((x : List TextUnit) → after_words x ≡ true → t x ≡ true) → settled (skip us) ≡ true → Passes clear_step t after_words us
@@ -199,11 +192,11 @@ bad_there us e bad f = record {
   refuses = λ x d ms same. clear_after (gap_of us) x d ms (gap_passes us) (no_blank_there us x same) ∙ clear_bad _ _ _ _ bad (fault-same x (skip us) (element-front x (skip us) same) ∙ f);
 }
 
-opening_there : (us : List TextUnit) → begins opens_word us ≡ true → is_empty us ≡ false
+opening_there : (us : List TextUnit) → begins_with opens_word us ≡ true → is_empty us ≡ false
 opening_there [] h = absurd cc
 opening_there (u ∷ us) h = refl
 
-word_there : (us : List TextUnit) (e : Line) → next_fault (skip us) ≡ None → begins opens_word (skip us) ≡ true → FailsAt clear_step us e (marked (spot_of_first (skip us) e.end)) (gap_of us) (skip us)
+word_there : (us : List TextUnit) (e : Line) → next_fault (skip us) ≡ None → begins_with opens_word (skip us) ≡ true → FailsAt clear_step us e (marked (spot_of_first (skip us) e.end)) (gap_of us) (skip us)
 word_there us e f o = record {
   cut = gap_cut us;
   place = refl;
@@ -288,7 +281,7 @@ module _ {B : Type 0} {P : Claim B} {whole : List TextUnit} (e : Line) where
       stuck_at fault of n = stuck fault (stick k clear_step g so a n tail plain (of tail) done.0 (fits-gap t us (text tail) (more (text tail) fit))
           (λ ms. so (at (gap_of us ++ text tail) (written []) ms) ∙ (ap (λ r. r >>= g) (clear_skips (gap_of us) (text tail) (written []) ms (gap_passes us)) ∙ done.1 ms)))
 
-      by_word : (b : Bool) → begins opens_word (skip us) ≡ b → next_fault (skip us) ≡ None → Outcome P whole e
+      by_word : (b : Bool) → begins_with opens_word (skip us) ≡ b → next_fault (skip us) ≡ None → Outcome P whole e
       by_word true o f = stuck_at (marked (spot_of_first (skip us) e.end)) (λ bytes. refl) (word_there us e f o)
       by_word false o f =
           let h = settled_so (skip us) (skip_stops us) o f in
@@ -296,9 +289,9 @@ module _ {B : Type 0} {P : Claim B} {whole : List TextUnit} (e : Line) where
 
       by_fault : (f : Option UnitFault) → next_fault (skip us) ≡ f → Outcome P whole e
       by_fault (Some bad) f = stuck_at (Bad bad) (λ bytes. refl) (bad_there us e bad f)
-      by_fault None f = by_word (begins opens_word (skip us)) refl f
+      by_fault None f = by_word (begins_with opens_word (skip us)) refl f
 
-  -- No section begins here with this sign.
+  -- No section begins_with here with this sign.
   pub bar_turn : {us : List TextUnit} (want : Sign) → IsMark want → is_sign want [] ≡ false → (k : State → Step B) (g : Bool × State → Step B) → ((s : State) → k s ≡ (bar_step want s >>= g)) → Along P whole k after_words us → settled us ≡ true
       → ReadTo (λ ms. bar_step want (at [] (written []) ms) >>= g) → (Along P whole (λ s. g (true, s)) after_words us → Outcome P whole e) → Outcome P whole e
   bar_turn {us = us} want is none k g so a h done next = by_sign (is_sign want us) refl

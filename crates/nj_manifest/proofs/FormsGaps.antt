@@ -2,11 +2,11 @@
 use Rattle.std.proofs.Common.{◌≡◌, Bool, true, false, cond, ◌&&◌, List, [], ◌∷◌, ◌++◌, refl, ap, ◌∙◌}
 use Rattle.std.specs.List.{list_all, take_while}
 use Rattle.std.proofs.lemmas.Bool.{and_parts}
-use Rattle.nj_text.specs.Bytes.{drop_while}
+use Rattle.nj_text.specs.Bytes.{drop_while, begins_with}
 use Rattle.nj_text.specs.Units.{TextUnit}
 use Rattle.nj_text.specs.Words.{is_blank}
 use Rattle.nj_text.proofs.Lists.{take_while-cons_yes, take_while-cons_no}
-use Rattle.nj_manifest.specs.Grammar.{begins, AreBlanks}
+use Rattle.nj_manifest.specs.Grammar.{AreBlanks}
 
 -- the front and the rest
 pub both_parts : (p : TextUnit → Bool) (us : List TextUnit) → us ≡ take_while p us ++ drop_while p us
@@ -25,11 +25,11 @@ front_passes p (u ∷ us) = by_test (p u) refl (front_passes p us)
     by_test true e rest = rw (take_while-cons_yes p u us e, e) rest
     by_test false e rest = rw (take_while-cons_no p u us e) refl
 
-pub after_stops : (p : TextUnit → Bool) (us : List TextUnit) → begins p (drop_while p us) ≡ false
+pub after_stops : (p : TextUnit → Bool) (us : List TextUnit) → begins_with p (drop_while p us) ≡ false
 after_stops p [] = refl
 after_stops p (u ∷ us) = by_test (p u) refl (after_stops p us)
   where
-    by_test : (t : Bool) → p u ≡ t → begins p (drop_while p us) ≡ false → begins p (cond t (drop_while p us) (u ∷ us)) ≡ false
+    by_test : (t : Bool) → p u ≡ t → begins_with p (drop_while p us) ≡ false → begins_with p (cond t (drop_while p us) (u ∷ us)) ≡ false
     by_test true e rest = rest
     by_test false e rest = e
 
@@ -40,19 +40,19 @@ passed_over p (u ∷ run) us h =
     let both = and_parts (p u) (list_all p run) h in
     rw both.0 (passed_over p run us both.1)
 
-pub none_passed : (p : TextUnit → Bool) (us : List TextUnit) → begins p us ≡ false → drop_while p us ≡ us
+pub none_passed : (p : TextUnit → Bool) (us : List TextUnit) → begins_with p us ≡ false → drop_while p us ≡ us
 none_passed p [] h = refl
 none_passed p (u ∷ us) h = rw h refl
 
-pub none_taken : (p : TextUnit → Bool) (us : List TextUnit) → begins p us ≡ false → take_while p us ≡ []
+pub none_taken : (p : TextUnit → Bool) (us : List TextUnit) → begins_with p us ≡ false → take_while p us ≡ []
 none_taken p [] h = refl
 none_taken p (u ∷ us) h = take_while-cons_no p u us h
 
 -- a run that is as long as can be
-pub run_passed : (p : TextUnit → Bool) (run us : List TextUnit) → list_all p run ≡ true → begins p us ≡ false → drop_while p (run ++ us) ≡ us
+pub run_passed : (p : TextUnit → Bool) (run us : List TextUnit) → list_all p run ≡ true → begins_with p us ≡ false → drop_while p (run ++ us) ≡ us
 run_passed p run us h n = passed_over p run us h ∙ none_passed p us n
 
-pub run_taken : (p : TextUnit → Bool) (run us : List TextUnit) → list_all p run ≡ true → begins p us ≡ false → take_while p (run ++ us) ≡ run
+pub run_taken : (p : TextUnit → Bool) (run us : List TextUnit) → list_all p run ≡ true → begins_with p us ≡ false → take_while p (run ++ us) ≡ run
 run_taken p [] us h n = none_taken p us n
 run_taken p (u ∷ run) us h n =
     let both = and_parts (p u) (list_all p run) h in
@@ -67,10 +67,10 @@ skip us = drop_while is_blank us
 pub skip_again : (us : List TextUnit) → skip (skip us) ≡ skip us
 skip_again us = none_passed is_blank (skip us) (after_stops is_blank us)
 
-pub skip_stops : (us : List TextUnit) → begins is_blank (skip us) ≡ false
+pub skip_stops : (us : List TextUnit) → begins_with is_blank (skip us) ≡ false
 skip_stops us = after_stops is_blank us
 
-pub skip_gap : (us gap others : List TextUnit) → us ≡ gap ++ others → AreBlanks gap → begins is_blank others ≡ false → skip us ≡ others
+pub skip_gap : (us gap others : List TextUnit) → us ≡ gap ++ others → AreBlanks gap → begins_with is_blank others ≡ false → skip us ≡ others
 skip_gap us gap others e h n = ap skip e ∙ run_passed is_blank gap others h n
 
 abbrev pub gap_of : List TextUnit → List TextUnit

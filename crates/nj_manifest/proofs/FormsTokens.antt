@@ -16,7 +16,7 @@ use Rattle.nj_text.specs.Inside.States.{reply, unless_bad}
 use Rattle.nj_text.specs.Calls.{State, Between, Inside, Reply, bytes_of, some_bytes, is_empty, is_sign, state_after_sign, sign_of}
 use Rattle.nj_manifest.specs.declared.cause.Wanted.{Wanted}
 use Rattle.nj_manifest.specs.LineSteps.{Step, ◌>>=◌, called, NameModel, name_next, expect_sign}
-use Rattle.nj_manifest.specs.Grammar.{begins, AreBlanks, IdentifierForm, SignForm}
+use Rattle.nj_manifest.specs.Grammar.{AreBlanks, IdentifierForm, SignForm}
 use Rattle.nj_manifest.proofs.Choices.{named, if_there}
 use Rattle.nj_manifest.proofs.Framing.{bind-ok, called-fault, after-is, value-is}
 use Rattle.nj_manifest.proofs.FormsGaps.{both_parts, front_passes, after_stops, run_passed, run_taken, skip, skip_again, skip_gap, gap_of, gap_passes, gap_cut, blanks_end, end_of_blanks}
@@ -113,7 +113,7 @@ name_of-read : (want : Wanted) (f : Option UnitFault) (spot : Spot) (run : List 
 name_of-read want (Some f) spot run s y h = absurd cc
 name_of-read want None spot run s y h = some-bytes want spot (bytes_of run) s y h
 
-form_of_run : (us run rest : List TextUnit) (end : Spot) (name : NameModel) → skip us ≡ run ++ rest → list_all in_identifier run ≡ true → begins in_identifier rest ≡ false → is_empty (bytes_of run) ≡ false
+form_of_run : (us run rest : List TextUnit) (end : Spot) (name : NameModel) → skip us ≡ run ++ rest → list_all in_identifier run ≡ true → begins_with in_identifier rest ≡ false → is_empty (bytes_of run) ≡ false
     → name ≡ record { spot = spot_of_first (skip us) end; name = bytes_of run } → IdentifierForm us name rest
 form_of_run us [] rest end name e all n some is = absurd cc
 form_of_run us (u ∷ run) rest end name e all n some is =

@@ -4,6 +4,7 @@ use Rattle.std.proofs.lemmas.Bool.{false≢true}
 use Rattle.nj_text.specs.declared.fault.UnitFault.{UnitFault}
 use Rattle.nj_text.specs.declared.sign.Sign.TheVariants as sign
 use Rattle.nj_text.specs.declared.spot.Spot.{Spot}
+use Rattle.nj_text.specs.Bytes.{begins_with}
 use Rattle.nj_text.specs.Units.{TextUnit}
 use Rattle.nj_text.specs.Lines.{Line, spot_of_first, lines_after}
 use Rattle.nj_text.specs.Words.{WordModel, opens_line, after_opening, first_fault, parts_of}
@@ -13,7 +14,7 @@ use Rattle.nj_text.specs.Calls.{State, Between, value_of}
 use Rattle.nj_manifest.specs.declared.cause.Wanted.TheVariants as wanted
 use Rattle.nj_manifest.specs.LineSteps.{Step, called, expect_sign}
 use Rattle.nj_manifest.specs.Statements.{equals_value}
-use Rattle.nj_manifest.specs.Grammar.{begins, is_opening, SignForm, ValueForm}
+use Rattle.nj_manifest.specs.Grammar.{is_opening, SignForm, ValueForm}
 use Rattle.nj_manifest.proofs.Framing.{bind-ok, after-is, value-is}
 use Rattle.nj_manifest.proofs.FormsGaps.{skip, skip_gap, skip_stops, gap_of, gap_passes, gap_cut}
 use Rattle.nj_manifest.proofs.FormsTokens.{within, after-form, after-read, end-form, end-read}
@@ -22,7 +23,7 @@ use Rattle.nj_manifest.proofs.FormsTokens.{within, after-form, after-read, end-f
 pub record Opening (us opening others : List TextUnit) : Type 0 where
   pub cut : us ≡ opening ++ others
   pub opens : is_opening opening ≡ true
-  pub longest : opening ≡ [] → begins opens_line us ≡ false
+  pub longest : opening ≡ [] → begins_with opens_line us ≡ false
 
 opening_here : (us : List TextUnit) → (opening : List TextUnit) × Opening us opening (after_opening us)
 opening_here [] = ([], record { cut = refl; opens = refl; longest = λ e. refl })
@@ -35,7 +36,7 @@ opening_here (u ∷ us) = by_test (opens_line u) refl
         some_is_none g = absurd cc
     by_test false e = ([], record { cut = refl; opens = refl; longest = λ g. e })
 
-no_opening : (us : List TextUnit) → begins opens_line us ≡ false → after_opening us ≡ us
+no_opening : (us : List TextUnit) → begins_with opens_line us ≡ false → after_opening us ≡ us
 no_opening [] h = refl
 no_opening (u ∷ us) h = rw h refl
 

@@ -2,7 +2,7 @@
 use Rattle.std.proofs.Common.{◌≡◌, ℕ, Bool, true, false, Option, Some, None, Ok, Err, inl, inr, List, [], ◌∷◌, ◌++◌, refl, sym, ap, ◌∙◌, append_assoc}
 use Rattle.std.specs.List.{take_while}
 use Rattle.nj_text.specs.declared.fault.UnitFault.{UnitFault}
-use Rattle.nj_text.specs.Bytes.{drop_while}
+use Rattle.nj_text.specs.Bytes.{drop_while, begins_with}
 use Rattle.nj_text.specs.Units.{TextUnit}
 use Rattle.nj_text.specs.Lines.{Line, spot_of_first}
 use Rattle.nj_text.specs.Words.{opens_word, in_word, next_fault, WordModel}
@@ -13,7 +13,7 @@ use Rattle.nj_manifest.specs.Faults.{Fault, Bad, Expected}
 use Rattle.nj_manifest.specs.LineSteps.{Step, ◌>>=◌}
 use Rattle.nj_manifest.specs.Leftmost.{are_plain, offers}
 use Rattle.nj_manifest.proofs.Choices.{path_there}
-use Rattle.nj_manifest.proofs.LeftmostRuns.{begins, both_parts, after_stops, skip, skip_stops, gap_of, gap_passes, gap_cut}
+use Rattle.nj_manifest.proofs.LeftmostRuns.{both_parts, after_stops, skip, skip_stops, gap_of, gap_passes, gap_cut}
 use Rattle.nj_manifest.proofs.LeftmostFronts.{fault-same, element-front}
 use Rattle.nj_manifest.proofs.LeftmostSteps.{at, text, after_name, after_words, Fits, fits-gap, Passes, FailsAt, fault-place}
 use Rattle.nj_manifest.proofs.LeftmostNames.{no_blank_there}
@@ -117,11 +117,11 @@ module _ (us : List TextUnit) (u : TextUnit) (run rest : List TextUnit) (e : Lin
 pub file_seen : (us : List TextUnit) (e : Line) → FileSeen us e
 file_seen us e = by_fault (next_fault (skip us)) refl
   where
-    by_end : (u : TextUnit) (run rest : List TextUnit) → opens_word u ≡ true → AllIn in_word (u ∷ run) → begins in_word rest ≡ false → us ≡ (gap_of us ++ u ∷ run) ++ rest → (f : Option UnitFault) → next_fault rest ≡ f → FileSeen us e
+    by_end : (u : TextUnit) (run rest : List TextUnit) → opens_word u ≡ true → AllIn in_word (u ∷ run) → begins_with in_word rest ≡ false → us ≡ (gap_of us ++ u ∷ run) ++ rest → (f : Option UnitFault) → next_fault rest ≡ f → FileSeen us e
     by_end u run rest o a n c (Some bad) f = ends_here (Bad bad) (bad_after us u run rest e o a c bad f)
     by_end u run rest o a n c None f = reads_on (file_passes us u run rest e o a c (both_so _ _ (so_not _ n) (is-sound _ f)))
 
-    by_run : (run : List TextUnit) → AllIn in_word run → (r : List TextUnit) → skip us ≡ r → begins opens_word r ≡ true → take_while in_word r ≡ run → FileSeen us e
+    by_run : (run : List TextUnit) → AllIn in_word run → (r : List TextUnit) → skip us ≡ r → begins_with opens_word r ≡ true → take_while in_word r ≡ run → FileSeen us e
     by_run run a [] r o t = absurd cc
     by_run [] a (v ∷ vs) r o t = absurd (no_units v (take_while in_word vs) run_there)
       where
@@ -138,10 +138,10 @@ file_seen us e = by_fault (next_fault (skip us)) refl
         let cut : us ≡ (gap_of us ++ u ∷ run) ++ rest = gap_cut us ∙ (ap (λ (y : List TextUnit). gap_of us ++ y) parts ∙ sym (append_assoc (gap_of us) (u ∷ run) rest)) in
         by_end u run rest (ap opens_word (sym first) ∙ o) a (after_stops in_word (v ∷ vs)) cut (next_fault rest) refl
 
-    by_word : (b : Bool) → begins opens_word (skip us) ≡ b → next_fault (skip us) ≡ None → FileSeen us e
+    by_word : (b : Bool) → begins_with opens_word (skip us) ≡ b → next_fault (skip us) ≡ None → FileSeen us e
     by_word false w f = ends_here _ (first_stuck us e _ refl (none_first us e (settled_so (skip us) (skip_stops us) w f)))
     by_word true w f = by_run (take_while in_word (skip us)) (AllIn-take_while in_word (skip us)) (skip us) refl w refl
 
     by_fault : (f : Option UnitFault) → next_fault (skip us) ≡ f → FileSeen us e
     by_fault (Some bad) f = ends_here (Bad bad) (first_stuck us e (Bad bad) refl (bad_first us e bad f))
-    by_fault None f = by_word (begins opens_word (skip us)) refl f
+    by_fault None f = by_word (begins_with opens_word (skip us)) refl f

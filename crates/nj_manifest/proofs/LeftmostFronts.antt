@@ -4,13 +4,13 @@ use Rattle.std.proofs.Common.{◌≡◌, ℕ, Bool, true, false, ◌&&◌, ◌||
 use Rattle.std.specs.List.{take_while}
 use Rattle.nj_text.specs.declared.sign.Sign.{Sign}
 use Rattle.nj_text.specs.declared.sign.Sign.TheVariants as sign
-use Rattle.nj_text.specs.Bytes.{is_identifier_byte}
+use Rattle.nj_text.specs.Bytes.{is_identifier_byte, begins_with}
 use Rattle.nj_text.specs.Units.{TextUnit, is_ordinary_in}
 use Rattle.nj_text.specs.Words.{in_identifier, begins_with_byte, next_fault}
 use Rattle.nj_text.specs.Calls.{is_sign}
 use Rattle.nj_text.proofs.Lists.{take_while-cons_yes}
-use Rattle.nj_manifest.specs.Leftmost.{begins_identifier, element_by, element}
-use Rattle.nj_manifest.proofs.LeftmostRuns.{begins, no_other, not_byte}
+use Rattle.nj_manifest.specs.Leftmost.{element_by, element}
+use Rattle.nj_manifest.proofs.LeftmostRuns.{no_other, not_byte}
 
 abbrev pub front : List TextUnit → List TextUnit
 front us = element_by false (is_sign sign.Pipe2 us || is_sign sign.PipeAt us) us
@@ -29,14 +29,14 @@ front-head us = by_two (is_sign sign.Pipe2 us || is_sign sign.PipeAt us) us
 pub same-head : (x y : List TextUnit) → front x ≡ front y → take 1 x ≡ take 1 y
 same-head x y h = sym (front-head x) ∙ (ap (take 1) h ∙ front-head y)
 
-begins-head : (p : TextUnit → Bool) (x : List TextUnit) → begins p x ≡ begins p (take 1 x)
+begins-head : (p : TextUnit → Bool) (x : List TextUnit) → begins_with p x ≡ begins_with p (take 1 x)
 begins-head p [] = refl
 begins-head p (u ∷ us) = refl
 
-begins-heads : (p : TextUnit → Bool) (x y : List TextUnit) → take 1 x ≡ take 1 y → begins p x ≡ begins p y
-begins-heads p x y h = begins-head p x ∙ (ap (begins p) h ∙ sym (begins-head p y))
+begins-heads : (p : TextUnit → Bool) (x y : List TextUnit) → take 1 x ≡ take 1 y → begins_with p x ≡ begins_with p y
+begins-heads p x y h = begins-head p x ∙ (ap (begins_with p) h ∙ sym (begins-head p y))
 
-pub begins-same : (p : TextUnit → Bool) (x y : List TextUnit) → front x ≡ front y → begins p x ≡ begins p y
+pub begins-same : (p : TextUnit → Bool) (x y : List TextUnit) → front x ≡ front y → begins_with p x ≡ begins_with p y
 begins-same p x y h = begins-heads p x y (same-head x y h)
 
 byte-head : (b : ℕ) (x : List TextUnit) → begins_with_byte b x ≡ begins_with_byte b (take 1 x)
@@ -145,28 +145,24 @@ front-bare u x h g =
 pub identifier_no_pipe : (u : TextUnit) → in_identifier u ≡ true → begins_with_byte 124 (u ∷ []) ≡ false
 identifier_no_pipe u h = no_other is_identifier_byte (is_ordinary_in (λ c. eqb c 124)) (not_byte is_identifier_byte 124 refl) u.means h
 
-identifier-front : (x : List TextUnit) → begins in_identifier x ≡ true → front x ≡ take 1 x
+identifier-front : (x : List TextUnit) → begins_with in_identifier x ≡ true → front x ≡ take 1 x
 identifier-front [] h = absurd cc
 identifier-front (u ∷ us) h = front-alone u us (identifier_no_pipe u h)
 
-begins_identifier-is : (x : List TextUnit) → begins_identifier x ≡ begins in_identifier x
-begins_identifier-is [] = refl
-begins_identifier-is (u ∷ us) = refl
+pub element-identifier : (x : List TextUnit) → begins_with in_identifier x ≡ true → element x ≡ take_while in_identifier x
+element-identifier x h = ap (λ (t : Bool). element_by t (is_sign sign.Pipe2 x || is_sign sign.PipeAt x) x) h
 
-pub element-identifier : (x : List TextUnit) → begins in_identifier x ≡ true → element x ≡ take_while in_identifier x
-element-identifier x h = ap (λ (t : Bool). element_by t (is_sign sign.Pipe2 x || is_sign sign.PipeAt x) x) (begins_identifier-is x ∙ h)
+pub element-other : (x : List TextUnit) → begins_with in_identifier x ≡ false → element x ≡ front x
+element-other x h = ap (λ (t : Bool). element_by t (is_sign sign.Pipe2 x || is_sign sign.PipeAt x) x) h
 
-pub element-other : (x : List TextUnit) → begins in_identifier x ≡ false → element x ≡ front x
-element-other x h = ap (λ (t : Bool). element_by t (is_sign sign.Pipe2 x || is_sign sign.PipeAt x) x) (begins_identifier-is x ∙ h)
-
-run-head : (x : List TextUnit) → begins in_identifier x ≡ true → take 1 (take_while in_identifier x) ≡ take 1 x
+run-head : (x : List TextUnit) → begins_with in_identifier x ≡ true → take 1 (take_while in_identifier x) ≡ take 1 x
 run-head [] h = absurd cc
 run-head (u ∷ us) h = ap (take 1) (take_while-cons_yes in_identifier u us h)
 
 element-head : (x : List TextUnit) → take 1 (element x) ≡ take 1 x
-element-head x = by_test (begins in_identifier x) refl
+element-head x = by_test (begins_with in_identifier x) refl
   where
-    by_test : (t : Bool) → begins in_identifier x ≡ t → take 1 (element x) ≡ take 1 x
+    by_test : (t : Bool) → begins_with in_identifier x ≡ t → take 1 (element x) ≡ take 1 x
     by_test true h = ap (take 1) (element-identifier x h) ∙ run-head x h
     by_test false h = ap (take 1) (element-other x h) ∙ front-head x
 
@@ -175,8 +171,8 @@ element-heads x y h = sym (element-head x) ∙ (ap (take 1) h ∙ element-head y
 
 -- Units that begin with the same element are seen alike.
 pub element-front : (x y : List TextUnit) → element x ≡ element y → front x ≡ front y
-element-front x y h = by_test (begins in_identifier y) refl
+element-front x y h = by_test (begins_with in_identifier y) refl
   where
-    by_test : (t : Bool) → begins in_identifier y ≡ t → front x ≡ front y
+    by_test : (t : Bool) → begins_with in_identifier y ≡ t → front x ≡ front y
     by_test true e = identifier-front x (begins-heads in_identifier x y (element-heads x y h) ∙ e) ∙ (element-heads x y h ∙ sym (identifier-front y e))
     by_test false e = sym (element-other x (begins-heads in_identifier x y (element-heads x y h) ∙ e)) ∙ (h ∙ element-other y e)

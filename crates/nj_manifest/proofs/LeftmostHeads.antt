@@ -3,6 +3,7 @@ use Rattle.std.proofs.Common.{◌≡◌, ℕ, Bool, true, false, cond, Option, S
 use Rattle.std.specs.Prelude.{ok_or}
 use Rattle.std.specs.Str.{bytes_eq}
 use Rattle.nj_text.specs.declared.sign.Sign.TheVariants as sign
+use Rattle.nj_text.specs.Bytes.{begins_with}
 use Rattle.nj_text.specs.Units.{TextUnit, first_spot}
 use Rattle.nj_text.specs.Lines.{Line, spot_of_first}
 use Rattle.nj_text.specs.Words.{in_identifier, WordModel}
@@ -16,7 +17,6 @@ use Rattle.nj_manifest.specs.Leftmost.{written, offers_next}
 use Rattle.nj_manifest.specs.Grammar.{HeadModel, Alone, RuleHead, PoolHead}
 use Rattle.nj_manifest.specs.Inside.Heads.{build_head, as_head, head_after, head_next, name_alone}
 use Rattle.nj_manifest.proofs.Choices.{unless_none, path_there}
-use Rattle.nj_manifest.proofs.LeftmostRuns.{begins}
 use Rattle.nj_manifest.proofs.LeftmostFronts.{element-front}
 use Rattle.nj_manifest.proofs.LeftmostSteps.{at, text, after_name, after_words, FailsAt, Claim, Along, Outcome, stuck, stick, pass}
 use Rattle.nj_manifest.proofs.LeftmostSigns.{ending, finish}
@@ -116,7 +116,7 @@ no_target head e us n empty = record {
 
 -- a line begins with a name
 abbrev pub starts : List TextUnit → Bool
-starts us = begins in_identifier us
+starts us = begins_with in_identifier us
 
 module _ {P : Claim HeadModel} {whole : List TextUnit} (e : Line) where
   alone_turn : (want : Wanted) (head : NameModel → HeadModel) (us : List TextUnit) → offers_next want (114 ∷ []) ≡ true → Along P whole (λ s. as_head head (name_alone want s)) after_name us → Outcome P whole e

@@ -8,7 +8,7 @@ use Rattle.nj_text.specs.Lines.{Kind, TabLine, IndentedLine, PlainLine, is_space
 use Rattle.nj_text.specs.Inside.Meanings.{text_kind}
 use Rattle.nj_text.specs.Words.{in_identifier}
 use Rattle.nj_text.proofs.Lists.{AllIn, AllIn-take_while}
-use Rattle.nj_manifest.proofs.LeftmostRuns.{begins, both_parts, after_stops, run_passed, none_passed, no_other, not_byte}
+use Rattle.nj_manifest.proofs.LeftmostRuns.{both_parts, after_stops, run_passed, none_passed, no_other, not_byte}
 use Rattle.nj_manifest.proofs.LeftmostFronts.{front, same-head, begins-same}
 
 -- the kind of a line with these units
@@ -27,22 +27,18 @@ spaces_cut us = both_parts is_space_unit us
 pub spaces_pass : (us : List TextUnit) → AllIn is_space_unit (spaces_of us)
 spaces_pass us = AllIn-take_while is_space_unit us
 
-pub spaces_stop : (us : List TextUnit) → begins is_space_unit (after_spaces us) ≡ false
+pub spaces_stop : (us : List TextUnit) → begins_with is_space_unit (after_spaces us) ≡ false
 spaces_stop us = after_stops is_space_unit us
 
-no_space_begins : (us : List TextUnit) → begins is_space_unit us ≡ false → begins_with is_space_unit us ≡ false
-no_space_begins [] h = refl
-no_space_begins (u ∷ us) h = h
-
-spaced_begins : (sp x : List TextUnit) → begins is_space_unit x ≡ false → begins_with is_space_unit (sp ++ x) ≡ begins_with is_space_unit sp
-spaced_begins [] x h = no_space_begins x h
+spaced_begins : (sp x : List TextUnit) → begins_with is_space_unit x ≡ false → begins_with is_space_unit (sp ++ x) ≡ begins_with is_space_unit sp
+spaced_begins [] x h = h
 spaced_begins (u ∷ sp) x h = refl
 
-pub unspaced : (sp x : List TextUnit) → AllIn is_space_unit sp → begins is_space_unit x ≡ false → after_spaces (sp ++ x) ≡ x
+pub unspaced : (sp x : List TextUnit) → AllIn is_space_unit sp → begins_with is_space_unit x ≡ false → after_spaces (sp ++ x) ≡ x
 unspaced sp x a h = run_passed is_space_unit sp x a h
 
 -- after some spaces, or none
-pub kind_spaced : (sp x : List TextUnit) → AllIn is_space_unit sp → begins is_space_unit x ≡ false → kind_units (sp ++ x) ≡ kind_after_spaces x (begins_with is_space_unit sp)
+pub kind_spaced : (sp x : List TextUnit) → AllIn is_space_unit sp → begins_with is_space_unit x ≡ false → kind_units (sp ++ x) ≡ kind_after_spaces x (begins_with is_space_unit sp)
 kind_spaced sp x a h = ap (λ (y : List TextUnit). kind_after_spaces y (begins_with is_space_unit (sp ++ x))) (unspaced sp x a h) ∙ ap (λ (t : Bool). kind_after_spaces x t) (spaced_begins sp x h)
 
 -- the kind of the whole is that after its own spaces
@@ -56,7 +52,7 @@ kind_head (u ∷ x) t = refl
 kind_same : (x y : List TextUnit) (t : Bool) → front x ≡ front y → kind_after_spaces x t ≡ kind_after_spaces y t
 kind_same x y t h = kind_head x t ∙ (ap (λ (z : List TextUnit). kind_after_spaces z t) (same-head x y h) ∙ sym (kind_head y t))
 
-pub no_space_same : (us x : List TextUnit) → front x ≡ front (after_spaces us) → begins is_space_unit x ≡ false
+pub no_space_same : (us x : List TextUnit) → front x ≡ front (after_spaces us) → begins_with is_space_unit x ≡ false
 no_space_same us x h = begins-same is_space_unit x (after_spaces us) h ∙ spaces_stop us
 
 -- units in place of those after the spaces
@@ -75,7 +71,7 @@ indented_plain : (us : List TextUnit) → kind_after_spaces us true ≡ PlainLin
 indented_plain [] h = absurd cc
 indented_plain (u ∷ us) h = indented_kind u.means u.spot h
 
-pub plain_begins : (us : List TextUnit) → kind_units us ≡ PlainLine → begins is_space_unit us ≡ false
+pub plain_begins : (us : List TextUnit) → kind_units us ≡ PlainLine → begins_with is_space_unit us ≡ false
 plain_begins [] h = refl
 plain_begins (u ∷ us) h = by_test (is_space_unit u) refl
   where
@@ -83,8 +79,8 @@ plain_begins (u ∷ us) h = by_test (is_space_unit u) refl
     by_test true e = absurd (indented_plain (after_spaces (u ∷ us)) (ap (λ (t : Bool). kind_after_spaces (after_spaces (u ∷ us)) t) (sym e) ∙ h))
     by_test false e = refl
 
-unspaced_kind : (us : List TextUnit) → begins is_space_unit us ≡ false → kind_units us ≡ kind_after_spaces us false
-unspaced_kind us h = ap (λ (y : List TextUnit). kind_after_spaces y (begins_with is_space_unit us)) (none_passed is_space_unit us h) ∙ ap (λ (t : Bool). kind_after_spaces us t) (no_space_begins us h)
+unspaced_kind : (us : List TextUnit) → begins_with is_space_unit us ≡ false → kind_units us ≡ kind_after_spaces us false
+unspaced_kind us h = ap (λ (y : List TextUnit). kind_after_spaces y (begins_with is_space_unit us)) (none_passed is_space_unit us h) ∙ ap (λ (t : Bool). kind_after_spaces us t) h
 
 pub plain_same : (us x : List TextUnit) → kind_units us ≡ PlainLine → front x ≡ front us → kind_units x ≡ PlainLine
 plain_same us x h e =
@@ -97,18 +93,18 @@ identifier_kind : (m : Meaning) (spot : Spot) (t : Bool) → is_ordinary_in is_i
 identifier_kind (Ordinary b) spot t h = refl
 identifier_kind m spot t h = absurd cc
 
-pub identifier_no_space : (x : List TextUnit) → begins in_identifier x ≡ true → begins is_space_unit x ≡ false
+pub identifier_no_space : (x : List TextUnit) → begins_with in_identifier x ≡ true → begins_with is_space_unit x ≡ false
 identifier_no_space [] h = refl
 identifier_no_space (u ∷ x) h = no_other is_identifier_byte (is_ordinary_in is_space) (not_byte is_identifier_byte 32 refl) u.means h
 
-identifier_text : (x : List TextUnit) (t : Bool) → begins in_identifier x ≡ true → kind_after_spaces x t ≡ text_kind t
+identifier_text : (x : List TextUnit) (t : Bool) → begins_with in_identifier x ≡ true → kind_after_spaces x t ≡ text_kind t
 identifier_text [] t h = absurd cc
 identifier_text (u ∷ x) t h = identifier_kind u.means u.spot t h
 
-pub identifier_plain : (x : List TextUnit) → begins in_identifier x ≡ true → kind_units x ≡ PlainLine
+pub identifier_plain : (x : List TextUnit) → begins_with in_identifier x ≡ true → kind_units x ≡ PlainLine
 identifier_plain x h = unspaced_kind x (identifier_no_space x h) ∙ identifier_text x false h
 
-pub identifier_spaced : (sp x : List TextUnit) → AllIn is_space_unit sp → begins in_identifier x ≡ true → kind_units (sp ++ x) ≡ text_kind (begins_with is_space_unit sp)
+pub identifier_spaced : (sp x : List TextUnit) → AllIn is_space_unit sp → begins_with in_identifier x ≡ true → kind_units (sp ++ x) ≡ text_kind (begins_with is_space_unit sp)
 identifier_spaced sp x a h = kind_spaced sp x a (identifier_no_space x h) ∙ identifier_text x (begins_with is_space_unit sp) h
 
 -- an indented line begins with a space

@@ -3,7 +3,7 @@ use Rattle.std.proofs.Common.{◌≡◌, ℕ, Bool, true, false, Option, Some, N
 use Rattle.std.specs.List.{take_while}
 use Rattle.nj_text.specs.declared.fault.UnitFault.{UnitFault}
 use Rattle.nj_text.specs.declared.spot.Spot.{Spot}
-use Rattle.nj_text.specs.Bytes.{drop_while, is_identifier_byte}
+use Rattle.nj_text.specs.Bytes.{drop_while, is_identifier_byte, begins_with}
 use Rattle.nj_text.specs.Units.{TextUnit, is_ordinary_in}
 use Rattle.nj_text.specs.Lines.{Line, spot_of_first}
 use Rattle.nj_text.specs.Words.{is_blank, in_identifier, fault_of, next_fault}
@@ -16,7 +16,7 @@ use Rattle.nj_manifest.specs.Faults.{Fault, Bad, Expected}
 use Rattle.nj_manifest.specs.LineSteps.{Step, ◌>>=◌, called, NameModel, name_next}
 use Rattle.nj_manifest.specs.Leftmost.{element}
 use Rattle.nj_manifest.proofs.Choices.{named}
-use Rattle.nj_manifest.proofs.LeftmostRuns.{begins, both_parts, after_stops, none_passed, none_taken, run_passed, run_taken, skip, skip_again, skip_stops, skip_gap, gap_of, gap_passes, gap_cut, no_other, not_byte}
+use Rattle.nj_manifest.proofs.LeftmostRuns.{both_parts, after_stops, none_passed, none_taken, run_passed, run_taken, skip, skip_again, skip_stops, skip_gap, gap_of, gap_passes, gap_cut, no_other, not_byte}
 use Rattle.nj_manifest.proofs.LeftmostFronts.{identifier_no_pipe, begins-same, fault-same, element-front, element-identifier}
 use Rattle.nj_manifest.proofs.LeftmostSteps.{at, blank_no_pipe, Fits, by_fits, fits-alone, Passes, FailsAt, fault-place, opens-none, after_name, is_separator, separator_is, ordinary_no_fault, OfWanted}
 
@@ -40,7 +40,7 @@ unfolding name_next
 name_is_here want us e ms = rw (skip_again us) refl
 
 -- after blanks
-name_after : (want : Wanted) (gap x : List TextUnit) (e : Line) (ms : List Line) → AllIn is_blank gap → begins is_blank x ≡ false → name_next want (at (gap ++ x) e ms) ≡ name_here want x e ms
+name_after : (want : Wanted) (gap x : List TextUnit) (e : Line) (ms : List Line) → AllIn is_blank gap → begins_with is_blank x ≡ false → name_next want (at (gap ++ x) e ms) ≡ name_here want x e ms
 name_after want gap x e ms h n = name_is_here want (gap ++ x) e ms ∙ ap (λ (y : List TextUnit). name_here want y e ms) (skip_gap gap x h ∙ none_passed is_blank x n)
 
 -- blanks before a name do not matter
@@ -57,7 +57,7 @@ named_none : (want : Wanted) (f : Option UnitFault) (run : List TextUnit) (spot 
 named_none want f run spot s e g = rw (e, g) refl
 
 -- the name that a run of units makes
-pub name_reads : (want : Wanted) (gap run x : List TextUnit) (u : TextUnit) (e : Line) (ms : List Line) (b : ℕ) (bs : List ℕ) → AllIn is_blank gap → AllIn in_identifier (u ∷ run) → bytes_of (u ∷ run) ≡ b ∷ bs → begins in_identifier x ≡ false
+pub name_reads : (want : Wanted) (gap run x : List TextUnit) (u : TextUnit) (e : Line) (ms : List Line) (b : ℕ) (bs : List ℕ) → AllIn is_blank gap → AllIn in_identifier (u ∷ run) → bytes_of (u ∷ run) ≡ b ∷ bs → begins_with in_identifier x ≡ false
     → name_next want (at ((gap ++ u ∷ run) ++ x) e ms) ≡ Ok (record { spot = u.spot; name = b ∷ bs }, at x e ms)
 name_reads want gap run x u e ms b bs g i h n =
     ap (λ (y : List TextUnit). name_next want (at y e ms)) (append_assoc gap (u ∷ run) x)
@@ -69,17 +69,17 @@ name_reads want gap run x u e ms b bs g i h n =
 
 -- the same element means the same identifier
 pub same_run : (x y : List TextUnit) → element x ≡ element y → take_while in_identifier x ≡ take_while in_identifier y
-same_run x y h = by_test (begins in_identifier y) refl
+same_run x y h = by_test (begins_with in_identifier y) refl
   where
-    seen : begins in_identifier x ≡ begins in_identifier y
+    seen : begins_with in_identifier x ≡ begins_with in_identifier y
     seen = begins-same in_identifier x y (element-front x y h)
 
-    by_test : (t : Bool) → begins in_identifier y ≡ t → take_while in_identifier x ≡ take_while in_identifier y
+    by_test : (t : Bool) → begins_with in_identifier y ≡ t → take_while in_identifier x ≡ take_while in_identifier y
     by_test true e = sym (element-identifier x (seen ∙ e)) ∙ (h ∙ element-identifier y e)
     by_test false e = none_taken in_identifier x (seen ∙ e) ∙ sym (none_taken in_identifier y e)
 
 -- the units after the blanks are seen as if they came in their place
-pub no_blank_there : (us x : List TextUnit) → element x ≡ element (skip us) → begins is_blank x ≡ false
+pub no_blank_there : (us x : List TextUnit) → element x ≡ element (skip us) → begins_with is_blank x ≡ false
 no_blank_there us x h = begins-same is_blank x (skip us) (element-front x (skip us) h) ∙ skip_stops us
 
 -- The name that is read; with the same element in its place it is read too.
@@ -112,7 +112,7 @@ passes_name want t us e run u b bs r i h =
     let left = drop_while in_identifier (skip us) in
     let parts : skip us ≡ (u ∷ run) ++ left = both_parts in_identifier (skip us) ∙ ap (λ (y : List TextUnit). y ++ left) r in
     let cut : us ≡ (gap_of us ++ u ∷ run) ++ left = gap_cut us ∙ (ap (λ (y : List TextUnit). gap_of us ++ y) parts ∙ sym (append_assoc (gap_of us) (u ∷ run) left)) in
-    let stops = λ (x : List TextUnit) (fit : Fits after_name left x). by_fits left x (begins in_identifier) (λ y o. opens-none is_separator (is_ordinary_in is_identifier_byte) (separator_is (λ c. is_identifier_byte c ≡ false) refl refl refl) y o) (λ y f. begins-same in_identifier y left f) (after_stops in_identifier (skip us)) fit in
+    let stops = λ (x : List TextUnit) (fit : Fits after_name left x). by_fits left x (begins_with in_identifier) (λ y o. opens-none is_separator (is_ordinary_in is_identifier_byte) (separator_is (λ c. is_identifier_byte c ≡ false) refl refl refl) y o) (λ y f. begins-same in_identifier y left f) (after_stops in_identifier (skip us)) fit in
     record {
       passes = record {
         used = gap_of us ++ u ∷ run;

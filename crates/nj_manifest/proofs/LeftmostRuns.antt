@@ -2,15 +2,10 @@
 use Rattle.std.proofs.Common.{◌≡◌, ℕ, Bool, true, false, cond, eqb, List, [], ◌∷◌, ◌++◌, refl, sym, ap, ◌∙◌}
 use Rattle.std.specs.List.{take_while}
 use Rattle.std.proofs.lemmas.Bool.{eqb-true, false≢true}
-use Rattle.nj_text.specs.Bytes.{drop_while}
+use Rattle.nj_text.specs.Bytes.{drop_while, begins_with}
 use Rattle.nj_text.specs.Units.{Meaning, Ordinary, Escape, Reference, Join, OpeningJoin, Comment, LeadingTab, LineEnd, TextEnd, BadByte, BadEscape, TextUnit, is_ordinary_in}
 use Rattle.nj_text.specs.Words.{is_blank}
 use Rattle.nj_text.proofs.Lists.{AllIn, AllIn-take_while, take_while-cons_yes, take_while-cons_no, drop_while-append}
-
--- whether there is a first unit that passes
-abbrev pub begins : (TextUnit → Bool) → List TextUnit → Bool
-begins p [] = false
-begins p (u ∷ us) = p u
 
 -- the front and the rest
 pub both_parts : (p : TextUnit → Bool) (us : List TextUnit) → us ≡ take_while p us ++ drop_while p us
@@ -21,27 +16,27 @@ both_parts p (u ∷ us) = by_test (p u) refl (both_parts p us)
     by_test true e rest = rw (take_while-cons_yes p u us e) (ap (λ (vs : List TextUnit). u ∷ vs) rest)
     by_test false e rest = rw (take_while-cons_no p u us e) refl
 
-pub after_stops : (p : TextUnit → Bool) (us : List TextUnit) → begins p (drop_while p us) ≡ false
+pub after_stops : (p : TextUnit → Bool) (us : List TextUnit) → begins_with p (drop_while p us) ≡ false
 after_stops p [] = refl
 after_stops p (u ∷ us) = by_test (p u) refl (after_stops p us)
   where
-    by_test : (t : Bool) → p u ≡ t → begins p (drop_while p us) ≡ false → begins p (cond t (drop_while p us) (u ∷ us)) ≡ false
+    by_test : (t : Bool) → p u ≡ t → begins_with p (drop_while p us) ≡ false → begins_with p (cond t (drop_while p us) (u ∷ us)) ≡ false
     by_test true e rest = rest
     by_test false e rest = e
 
-pub none_passed : (p : TextUnit → Bool) (us : List TextUnit) → begins p us ≡ false → drop_while p us ≡ us
+pub none_passed : (p : TextUnit → Bool) (us : List TextUnit) → begins_with p us ≡ false → drop_while p us ≡ us
 none_passed p [] h = refl
 none_passed p (u ∷ us) h = rw h refl
 
-pub none_taken : (p : TextUnit → Bool) (us : List TextUnit) → begins p us ≡ false → take_while p us ≡ []
+pub none_taken : (p : TextUnit → Bool) (us : List TextUnit) → begins_with p us ≡ false → take_while p us ≡ []
 none_taken p [] h = refl
 none_taken p (u ∷ us) h = take_while-cons_no p u us h
 
 -- a run that is as long as can be
-pub run_passed : (p : TextUnit → Bool) (run us : List TextUnit) → AllIn p run → begins p us ≡ false → drop_while p (run ++ us) ≡ us
+pub run_passed : (p : TextUnit → Bool) (run us : List TextUnit) → AllIn p run → begins_with p us ≡ false → drop_while p (run ++ us) ≡ us
 run_passed p run us h n = drop_while-append p run us h ∙ none_passed p us n
 
-pub run_taken : (p : TextUnit → Bool) (run us : List TextUnit) → AllIn p run → begins p us ≡ false → take_while p (run ++ us) ≡ run
+pub run_taken : (p : TextUnit → Bool) (run us : List TextUnit) → AllIn p run → begins_with p us ≡ false → take_while p (run ++ us) ≡ run
 run_taken p [] us h n = none_taken p us n
 run_taken p (u ∷ run) us h n = take_while-cons_yes p u (run ++ us) h.0 ∙ ap (λ (vs : List TextUnit). u ∷ vs) (run_taken p run us h.1 n)
 
@@ -54,7 +49,7 @@ skip us = drop_while is_blank us
 abbrev pub gap_of : List TextUnit → List TextUnit
 gap_of us = take_while is_blank us
 
-pub skip_stops : (us : List TextUnit) → begins is_blank (skip us) ≡ false
+pub skip_stops : (us : List TextUnit) → begins_with is_blank (skip us) ≡ false
 skip_stops us = after_stops is_blank us
 
 pub skip_again : (us : List TextUnit) → skip (skip us) ≡ skip us

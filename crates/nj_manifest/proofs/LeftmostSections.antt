@@ -12,7 +12,7 @@ use Rattle.nj_text.specs.Inside.States.{reply}
 use Rattle.nj_manifest.specs.Faults.{Fault}
 use Rattle.nj_manifest.specs.LineSteps.{Step, ◌>>=◌, called, words_next, section_next}
 use Rattle.nj_manifest.proofs.Choices.{words_if}
-use Rattle.nj_manifest.proofs.LeftmostRuns.{begins, none_passed}
+use Rattle.nj_manifest.proofs.LeftmostRuns.{none_passed}
 use Rattle.nj_manifest.proofs.LeftmostFronts.{front, byte-same, sign-same, front-append, front-two, front-bare, element-front}
 use Rattle.nj_manifest.proofs.LeftmostSteps.{at, Fits, Passes, FailsAt, opens-none, opens-no_fault, after_words, is_colon, colon_is}
 use Rattle.nj_manifest.proofs.LeftmostWords.{settled, settled_blank, settled_fault, settled_so, settled_same, one_more, WordsRun, WordsPass, WordsSeen, there, broken, words_seen}
@@ -27,12 +27,8 @@ colon_settled us h =
     (opens-none is_colon opens_word_meaning (colon_is (λ b. opens_word_meaning (Ordinary b) ≡ false) refl) us h)
     (opens-no_fault is_colon us h)
 
-byte-begins : (n : ℕ) (us : List TextUnit) → begins_with_byte n us ≡ begins (λ u. is_ordinary_in (λ c. eqb c n) u.means) us
-byte-begins n [] = refl
-byte-begins n (u ∷ us) = refl
-
 colon_is_not : (n : ℕ) → eqb 58 n ≡ false → (us : List TextUnit) → after_words us ≡ true → begins_with_byte n us ≡ false
-colon_is_not n e us h = byte-begins n us ∙ opens-none is_colon (is_ordinary_in (λ c. eqb c n)) (colon_is (λ b. eqb b n ≡ false) e) us h
+colon_is_not n e us h = opens-none is_colon (is_ordinary_in (λ c. eqb c n)) (colon_is (λ b. eqb b n ≡ false) e) us h
 
 colon_no_pipe : (us : List TextUnit) → after_words us ≡ true → begins_with_byte 124 us ≡ false
 colon_no_pipe us h = colon_is_not 124 refl us h

@@ -3,6 +3,7 @@ use Rattle.std.proofs.Common.{◌≡◌, ℕ, Bool, true, false, cond, eqb, Opti
 use Rattle.nj_text.specs.declared.fault.UnitFault.{UnitFault}
 use Rattle.nj_text.specs.declared.sign.Sign.{Sign}
 use Rattle.nj_text.specs.declared.sign.Sign.TheVariants as sign
+use Rattle.nj_text.specs.Bytes.{begins_with}
 use Rattle.nj_text.specs.Units.{TextUnit, is_ordinary_in}
 use Rattle.nj_text.specs.Lines.{Line, with_units, lines_after, spot_of_first}
 use Rattle.nj_text.specs.Words.{is_blank, begins_with_byte, next_fault}
@@ -15,7 +16,7 @@ use Rattle.nj_manifest.specs.Faults.{Fault, Bad, Expected}
 use Rattle.nj_manifest.specs.LineSteps.{Step, ◌>>=◌, called, expect_sign}
 use Rattle.nj_manifest.specs.Leftmost.{element, written, offers}
 use Rattle.nj_manifest.proofs.Choices.{if_there}
-use Rattle.nj_manifest.proofs.LeftmostRuns.{begins, none_passed, skip, skip_stops, skip_gap, gap_of, gap_passes, gap_cut, no_other, not_byte}
+use Rattle.nj_manifest.proofs.LeftmostRuns.{none_passed, skip, skip_stops, skip_gap, gap_of, gap_passes, gap_cut, no_other, not_byte}
 use Rattle.nj_manifest.proofs.LeftmostFronts.{fault-same, sign-same, element-front}
 use Rattle.nj_manifest.proofs.LeftmostSteps.{at, blank_no_pipe, Fits, fits-alone, fits-gap, Passes, FailsAt, fault-place, ordinary_no_fault, Claim, Along, Outcome, stuck, stick, arrive, OfWanted}
 use Rattle.nj_manifest.proofs.LeftmostNames.{no_blank_there}
@@ -116,7 +117,7 @@ no_unit want s h = false_is_true (sym s.none ∙ h)
 passes_sign : (want : Sign) (miss : Wanted) (t t' : List TextUnit → Bool) (us : List TextUnit) → IsSingle want → (u : TextUnit) (left : List TextUnit) → skip us ≡ u ∷ left → is_sign want (u ∷ left) ≡ true → Passes (sign_step want miss) t t' us
 passes_sign want miss t t' us s u left r h =
     let is = sym (s.one u left) ∙ h in
-    let blank : is_blank u ≡ false = ap (λ (y : List TextUnit). begins is_blank y) (sym r) ∙ skip_stops us in
+    let blank : is_blank u ≡ false = ap (λ (y : List TextUnit). begins_with is_blank y) (sym r) ∙ skip_stops us in
     let cut : us ≡ (gap_of us ++ u ∷ []) ++ left = gap_cut us ∙ (ap (λ (y : List TextUnit). gap_of us ++ y) r ∙ sym (append_assoc (gap_of us) (u ∷ []) left)) in
     record {
       used = gap_of us ++ u ∷ [];

@@ -5,7 +5,7 @@ use Rattle.std.proofs.lemmas.Bool.{eqb-true}
 use Rattle.nj_text.specs.declared.fault.UnitFault.{UnitFault}
 use Rattle.nj_text.specs.declared.fault.UnitFault.TheVariants as lex
 use Rattle.nj_text.specs.declared.spot.Spot.{Spot}
-use Rattle.nj_text.specs.Bytes.{is_space, drop_while}
+use Rattle.nj_text.specs.Bytes.{is_space, drop_while, begins_with}
 use Rattle.nj_text.specs.Units.{Meaning, Ordinary, LeadingTab, BadByte, BadEscape, TextUnit, is_ordinary_in}
 use Rattle.nj_text.specs.Lines.{Line, with_units, lines_after, spot_of_first}
 use Rattle.nj_text.specs.Words.{is_blank, begins_with_byte, fault_of, next_fault}
@@ -16,7 +16,7 @@ use Rattle.nj_manifest.specs.declared.cause.Wanted.{Wanted}
 use Rattle.nj_manifest.specs.Faults.{Fault}
 use Rattle.nj_manifest.specs.LineSteps.{Step, ◌>>=◌}
 use Rattle.nj_manifest.specs.Leftmost.{element, written_unit, written, are_plain, NamesThePlaceOf, met_before, offers_next, offers}
-use Rattle.nj_manifest.proofs.LeftmostRuns.{begins, no_other, not_byte, gap_of, skip, gap_passes, gap_cut}
+use Rattle.nj_manifest.proofs.LeftmostRuns.{no_other, not_byte, gap_of, skip, gap_passes, gap_cut}
 use Rattle.nj_manifest.proofs.LeftmostFronts.{front, front-append, front-alone, element-front}
 
 -- the lexer within a line, before these units
@@ -74,7 +74,7 @@ separator_is Q p q r b h = by_test (eqb b 32) (eqb b 58) refl refl h
     by_test false true e f g = subst Q (sym (eqb-true b 58 f)) q
     by_test false false e f g = subst Q (sym (eqb-true b 61 g)) r
 
-pub opens-none : (t : ℕ → Bool) (test : Meaning → Bool) → ((b : ℕ) → t b ≡ true → test (Ordinary b) ≡ false) → (us : List TextUnit) → opens t us ≡ true → begins (λ u. test u.means) us ≡ false
+pub opens-none : (t : ℕ → Bool) (test : Meaning → Bool) → ((b : ℕ) → t b ≡ true → test (Ordinary b) ≡ false) → (us : List TextUnit) → opens t us ≡ true → begins_with (λ u. test u.means) us ≡ false
 opens-none t test f [] h = refl
 opens-none t test f (u ∷ us) h = no_other t test f u.means h
 

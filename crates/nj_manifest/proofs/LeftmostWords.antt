@@ -17,7 +17,7 @@ use Rattle.nj_manifest.specs.LineSteps.{Step, called, words_next}
 use Rattle.nj_manifest.specs.Leftmost.{written_unit, offers}
 use Rattle.nj_manifest.proofs.Choices.{words_from}
 use Rattle.nj_manifest.proofs.WordLimits.{words_next-fails, words_next-ends, words_next-more}
-use Rattle.nj_manifest.proofs.LeftmostRuns.{begins, both_parts, after_stops, none_passed, run_passed, run_taken, skip, skip_stops, skip_gap, gap_of, gap_passes, gap_cut, not_byte}
+use Rattle.nj_manifest.proofs.LeftmostRuns.{both_parts, after_stops, none_passed, run_passed, run_taken, skip, skip_stops, skip_gap, gap_of, gap_passes, gap_cut, not_byte}
 use Rattle.nj_manifest.proofs.LeftmostFronts.{front, begins-same, fault-same, front-append, element-front}
 use Rattle.nj_manifest.proofs.LeftmostSteps.{at, blank_no_pipe, Fits, fits-alone, fits-gap, FailsAt, fault-place}
 use Rattle.nj_manifest.proofs.LeftmostNames.{no_blank_there}
@@ -30,11 +30,11 @@ is_sound (Some bad) = false
 
 -- a word may end before these units
 abbrev pub ends_word : List TextUnit → Bool
-ends_word us = not (begins in_word us) && is_sound (next_fault us)
+ends_word us = not (begins_with in_word us) && is_sound (next_fault us)
 
 -- words end before these units
 abbrev pub settled : List TextUnit → Bool
-settled us = not (begins is_blank us) && (not (begins opens_word us) && is_sound (next_fault us))
+settled us = not (begins_with is_blank us) && (not (begins_with opens_word us) && is_sound (next_fault us))
 
 pub not_so : (t : Bool) → not t ≡ true → t ≡ false
 not_so true h = absurd cc
@@ -53,38 +53,38 @@ is-sound f h = rw h refl
 pub both_so : (s t : Bool) → s ≡ true → t ≡ true → (s && t) ≡ true
 both_so s t h g = rw (h, g) refl
 
-pub settled_blank : (us : List TextUnit) → settled us ≡ true → begins is_blank us ≡ false
+pub settled_blank : (us : List TextUnit) → settled us ≡ true → begins_with is_blank us ≡ false
 settled_blank us h = not_so _ (and_parts _ _ h).0
 
-settled_word : (us : List TextUnit) → settled us ≡ true → begins opens_word us ≡ false
+settled_word : (us : List TextUnit) → settled us ≡ true → begins_with opens_word us ≡ false
 settled_word us h = not_so _ (and_parts _ _ (and_parts _ _ h).1).0
 
 pub settled_fault : (us : List TextUnit) → settled us ≡ true → next_fault us ≡ None
 settled_fault us h = sound-is _ (and_parts _ _ (and_parts _ _ h).1).1
 
-pub settled_so : (us : List TextUnit) → begins is_blank us ≡ false → begins opens_word us ≡ false → next_fault us ≡ None → settled us ≡ true
+pub settled_so : (us : List TextUnit) → begins_with is_blank us ≡ false → begins_with opens_word us ≡ false → next_fault us ≡ None → settled us ≡ true
 settled_so us b w f = both_so _ _ (so_not _ b) (both_so _ _ (so_not _ w) (is-sound _ f))
 
-ends_in : (us : List TextUnit) → ends_word us ≡ true → begins in_word us ≡ false
+ends_in : (us : List TextUnit) → ends_word us ≡ true → begins_with in_word us ≡ false
 ends_in us h = not_so _ (and_parts _ _ h).0
 
 ends_fault : (us : List TextUnit) → ends_word us ≡ true → next_fault us ≡ None
 ends_fault us h = sound-is _ (and_parts _ _ h).1
 
 pub ends_same : (x y : List TextUnit) → front x ≡ front y → ends_word x ≡ ends_word y
-ends_same x y h = ap (λ (t : Bool). not t && is_sound (next_fault x)) (begins-same in_word x y h) ∙ ap (λ (f : Option UnitFault). not (begins in_word y) && is_sound f) (fault-same x y h)
+ends_same x y h = ap (λ (t : Bool). not t && is_sound (next_fault x)) (begins-same in_word x y h) ∙ ap (λ (f : Option UnitFault). not (begins_with in_word y) && is_sound f) (fault-same x y h)
 
 pub settled_same : (x y : List TextUnit) → front x ≡ front y → settled x ≡ settled y
 settled_same x y h =
-    ap (λ (t : Bool). not t && (not (begins opens_word x) && is_sound (next_fault x))) (begins-same is_blank x y h)
-    ∙ (ap (λ (t : Bool). not (begins is_blank y) && (not t && is_sound (next_fault x))) (begins-same opens_word x y h)
-    ∙ ap (λ (f : Option UnitFault). not (begins is_blank y) && (not (begins opens_word y) && is_sound f)) (fault-same x y h))
+    ap (λ (t : Bool). not t && (not (begins_with opens_word x) && is_sound (next_fault x))) (begins-same is_blank x y h)
+    ∙ (ap (λ (t : Bool). not (begins_with is_blank y) && (not t && is_sound (next_fault x))) (begins-same opens_word x y h)
+    ∙ ap (λ (f : Option UnitFault). not (begins_with is_blank y) && (not (begins_with opens_word y) && is_sound f)) (fault-same x y h))
 
 neither_in : (m : Meaning) → is_blank_meaning m ≡ false → opens_word_meaning m ≡ false → in_word_meaning m ≡ false
 neither_in Join h g = absurd cc
 neither_in m h g = g
 
-unit_no_word : (us : List TextUnit) → begins is_blank us ≡ false → begins opens_word us ≡ false → begins in_word us ≡ false
+unit_no_word : (us : List TextUnit) → begins_with is_blank us ≡ false → begins_with opens_word us ≡ false → begins_with in_word us ≡ false
 unit_no_word [] b w = refl
 unit_no_word (u ∷ us) b w = neither_in u.means b w
 
@@ -113,13 +113,9 @@ bad_no_word (Reference n) spot bad h = absurd cc
 bad_no_word Join spot bad h = absurd cc
 bad_no_word m spot bad h = refl
 
-pub bad_ends : (us : List TextUnit) (bad : UnitFault) → next_fault us ≡ Some bad → begins in_word us ≡ false
+pub bad_ends : (us : List TextUnit) (bad : UnitFault) → next_fault us ≡ Some bad → begins_with in_word us ≡ false
 bad_ends [] bad h = absurd cc
 bad_ends (u ∷ us) bad h = bad_no_word u.means u.spot bad h
-
-begins_word-is : (us : List TextUnit) → begins_with opens_word us ≡ begins opens_word us
-begins_word-is [] = refl
-begins_word-is (u ∷ us) = refl
 
 -- ---- one word
 
@@ -167,7 +163,7 @@ run_fails u run x e ms bad o a h =
     word_bad_after _ _ _ _ _ _ bad (opening_no_fault u.means u.spot o) o (ap next_fault rest ∙ h)
 
 none_reads : (x : List TextUnit) (e : Line) (ms : List Line) → settled x ≡ true → word_here x e ms ≡ Ok (None, at x e ms)
-none_reads x e ms h = word_none _ _ _ _ _ _ (settled_fault x h) (begins_word-is x ∙ settled_word x h)
+none_reads x e ms h = word_none _ _ _ _ _ _ (settled_fault x h) (settled_word x h)
 
 bad_reads : (x : List TextUnit) (e : Line) (ms : List Line) (bad : UnitFault) → next_fault x ≡ Some bad → word_here x e ms ≡ Err (Bad bad)
 bad_reads x e ms bad h = word_bad _ _ _ _ _ _ bad h
@@ -195,7 +191,7 @@ word_fails gap u run x e ms bad g o a h =
 pub no_word_reads : (gap x : List TextUnit) (e : Line) (ms : List Line) → AllIn is_blank gap → settled x ≡ true → word_call (at (gap ++ x) e ms) ≡ Ok (None, at x e ms)
 no_word_reads gap x e ms g h = word_at_units (gap ++ x) x e ms (skip_gap gap x g ∙ none_passed is_blank x (settled_blank x h)) ∙ none_reads x e ms h
 
-pub bad_word_reads : (gap x : List TextUnit) (e : Line) (ms : List Line) (bad : UnitFault) → AllIn is_blank gap → begins is_blank x ≡ false → next_fault x ≡ Some bad → word_call (at (gap ++ x) e ms) ≡ Err (Bad bad)
+pub bad_word_reads : (gap x : List TextUnit) (e : Line) (ms : List Line) (bad : UnitFault) → AllIn is_blank gap → begins_with is_blank x ≡ false → next_fault x ≡ Some bad → word_call (at (gap ++ x) e ms) ≡ Err (Bad bad)
 bad_word_reads gap x e ms bad g n h = word_at_units (gap ++ x) x e ms (skip_gap gap x g ∙ none_passed is_blank x n) ∙ bad_reads x e ms bad h
 
 -- ` x`, written after blanks
@@ -361,14 +357,14 @@ words_seen_in : (limit : ℕ) (us : List TextUnit) (e : Line) → length us < li
 words_seen_in zero us e h = absurd (omega arith)
 words_seen_in (suc limit) us e h = by_fault (next_fault (skip us)) refl (λ rest shorter. words_seen_in limit rest e shorter)
   where
-    by_end : (u : TextUnit) (run rest : List TextUnit) → opens_word u ≡ true → AllIn in_word (u ∷ run) → begins in_word rest ≡ false → us ≡ (gap_of us ++ u ∷ run) ++ rest → (f : Option UnitFault) → next_fault rest ≡ f
+    by_end : (u : TextUnit) (run rest : List TextUnit) → opens_word u ≡ true → AllIn in_word (u ∷ run) → begins_with in_word rest ≡ false → us ≡ (gap_of us ++ u ∷ run) ++ rest → (f : Option UnitFault) → next_fault rest ≡ f
         → ((rest : List TextUnit) → length rest < limit → WordsSeen rest e) → WordsSeen us e
     by_end u run rest o a n c (Some bad) f more = broken_after us (gap_of us) u run rest e (gap_passes us) o a c bad f
     by_end u run rest o a n c None f more =
         let short = shorter us (gap_of us) u run rest c in
         longer us (gap_of us) u run rest e (gap_passes us) o a c (both_so _ _ (so_not _ n) (is-sound _ f)) (more rest (omega arith))
 
-    by_run : (run : List TextUnit) → AllIn in_word run → (r : List TextUnit) → skip us ≡ r → begins opens_word r ≡ true → take_while in_word r ≡ run → ((rest : List TextUnit) → length rest < limit → WordsSeen rest e) → WordsSeen us e
+    by_run : (run : List TextUnit) → AllIn in_word run → (r : List TextUnit) → skip us ≡ r → begins_with opens_word r ≡ true → take_while in_word r ≡ run → ((rest : List TextUnit) → length rest < limit → WordsSeen rest e) → WordsSeen us e
     by_run run a [] r o t more = absurd cc
     by_run [] a (v ∷ vs) r o t more = absurd (no_units v (take_while in_word vs) run_there)
       where
@@ -385,13 +381,13 @@ words_seen_in (suc limit) us e h = by_fault (next_fault (skip us)) refl (λ rest
         let cut : us ≡ (gap_of us ++ u ∷ run) ++ rest = gap_cut us ∙ (ap (λ (y : List TextUnit). gap_of us ++ y) parts ∙ sym (append_assoc (gap_of us) (u ∷ run) rest)) in
         by_end u run rest (ap opens_word (sym first) ∙ o) a (after_stops in_word (v ∷ vs)) cut (next_fault rest) refl more
 
-    by_word : (b : Bool) → begins opens_word (skip us) ≡ b → next_fault (skip us) ≡ None → ((rest : List TextUnit) → length rest < limit → WordsSeen rest e) → WordsSeen us e
+    by_word : (b : Bool) → begins_with opens_word (skip us) ≡ b → next_fault (skip us) ≡ None → ((rest : List TextUnit) → length rest < limit → WordsSeen rest e) → WordsSeen us e
     by_word false w f more = no_first us e (settled_so (skip us) (skip_stops us) w f)
     by_word true w f more = by_run (take_while in_word (skip us)) (AllIn-take_while in_word (skip us)) (skip us) refl w refl more
 
     by_fault : (f : Option UnitFault) → next_fault (skip us) ≡ f → ((rest : List TextUnit) → length rest < limit → WordsSeen rest e) → WordsSeen us e
     by_fault (Some bad) f more = bad_first us e bad f
-    by_fault None f more = by_word (begins opens_word (skip us)) refl f more
+    by_fault None f more = by_word (begins_with opens_word (skip us)) refl f more
 
 pub words_seen : (us : List TextUnit) (e : Line) → WordsSeen us e
 words_seen us e = words_seen_in (suc (length us)) us e (omega arith)

@@ -6,6 +6,7 @@ use Rattle.std.specs.Str.{bytes_eq}
 use Rattle.nj_text.specs.declared.sign.Sign.{Sign}
 use Rattle.nj_text.specs.declared.sign.Sign.TheVariants as sign
 use Rattle.nj_text.specs.declared.spot.Spot.{Spot}
+use Rattle.nj_text.specs.Bytes.{begins_with}
 use Rattle.nj_text.specs.Units.{Ordinary, TextUnit}
 use Rattle.nj_text.specs.Lines.{Line, line_spot, lines_after, spot_of_first, CommentLine, BlankLine, IndentedLine, PlainLine, kind_of}
 use Rattle.nj_text.specs.Words.{WordModel, is_blank, opens_line, in_identifier, opens_word, in_word, first_fault, parts_of}
@@ -20,11 +21,6 @@ use Rattle.nj_manifest.specs.Statements.{PoolModel, BuildModel, DefaultModel, In
 
 -- ---- parts of a line
 
--- whether the units begin with one that passes the test
-abbrev pub begins : (TextUnit → Bool) → List TextUnit → Bool
-begins p [] = false
-begins p (u ∷ us) = p u
-
 -- units that are blanks, all of them
 abbrev pub AreBlanks : List TextUnit → Type 0
 AreBlanks us = list_all is_blank us ≡ true
@@ -37,7 +33,7 @@ pub record IdentifierForm (us : List TextUnit) (name : NameModel) (rest : List T
   pub cut : us ≡ gap ++ first ∷ others ++ rest
   pub blanks : AreBlanks gap
   pub of_name : list_all in_identifier (first ∷ others) ≡ true
-  pub longest : begins in_identifier rest ≡ false
+  pub longest : begins_with in_identifier rest ≡ false
   pub place : name.spot ≡ first.spot
   pub bytes : name.name ≡ bytes_of (first ∷ others)
   pub some_byte : is_empty name.name ≡ false
@@ -60,7 +56,7 @@ pub record WordForm (us : List TextUnit) (word : WordModel) (rest : List TextUni
   pub blanks : AreBlanks gap
   pub opens : opens_word first ≡ true
   pub of_word : list_all in_word (first ∷ others) ≡ true
-  pub longest : begins in_word rest ≡ false
+  pub longest : begins_with in_word rest ≡ false
   pub place : word.spot ≡ first.spot
   pub parts : word.parts ≡ parts_of (first ∷ others)
 
@@ -113,9 +109,9 @@ pub record ValueForm (us : List TextUnit) (end : Spot) (value : WordModel) : Typ
   pub run : List TextUnit
   pub cut : us ≡ opening ++ gap ++ run
   pub opens : is_opening opening ≡ true
-  pub longest_opening : opening ≡ [] → begins opens_line us ≡ false
+  pub longest_opening : opening ≡ [] → begins_with opens_line us ≡ false
   pub blanks : AreBlanks gap
-  pub longest : begins is_blank run ≡ false
+  pub longest : begins_with is_blank run ≡ false
   pub good : first_fault run ≡ None
   pub place : value.spot ≡ spot_of_first run end
   pub parts : value.parts ≡ parts_of run

@@ -3,7 +3,7 @@
 use Rattle.std.specs.Prelude.{◌≡◌, ℕ, Bool, true, false, ◌||◌, ◌==◌, Some, Ok, Err, List, [], ◌∷◌, ◌++◌, map, take}
 use Rattle.std.specs.List.{take_while, list_all}
 use Rattle.nj_text.specs.declared.sign.Sign.TheVariants as sign
-use Rattle.nj_text.specs.Bytes.{is_space, is_identifier_byte, is_ordinary_byte, is_word_byte, drop_while}
+use Rattle.nj_text.specs.Bytes.{is_space, is_identifier_byte, is_ordinary_byte, is_word_byte, drop_while, begins_with}
 use Rattle.nj_text.specs.Units.{Ordinary, TextUnit, first_spot}
 use Rattle.nj_text.specs.Lines.{Line, line_spot, with_units}
 use Rattle.nj_text.specs.Words.{in_identifier}
@@ -19,10 +19,6 @@ continues before begun l ls = before ++ with_units (begun ++ l.units) l ∷ ls
 
 -- ---- elements
 
-abbrev pub begins_identifier : List TextUnit → Bool
-begins_identifier [] = false
-begins_identifier (u ∷ us) = in_identifier u
-
 abbrev pub element_by : (identifier two_bytes : Bool) → List TextUnit → List TextUnit
 element_by true two_bytes us = take_while in_identifier us
 element_by false true us = take 2 us
@@ -30,7 +26,7 @@ element_by false false us = take 1 us
 
 -- The first element of the units: a whole identifier; `||` or `|@`; else one unit. There is none where a line ends.
 abbrev pub element : List TextUnit → List TextUnit
-element us = element_by (begins_identifier us) (is_sign sign.Pipe2 us || is_sign sign.PipeAt us) us
+element us = element_by (begins_with in_identifier us) (is_sign sign.Pipe2 us || is_sign sign.PipeAt us) us
 
 -- ---- lines that are written after a front
 
@@ -61,21 +57,17 @@ met_before l (Expected spot wanted) = Expected (line_spot l) wanted
 met_before l (UnexpectedIndent spot) = UnexpectedIndent (record { line = (line_spot l).line; column = 1 })
 met_before l fault = fault
 
-abbrev pub begins_in : (ℕ → Bool) → List ℕ → Bool
-begins_in p [] = false
-begins_in p (b ∷ bs) = p b
-
 -- whether these bytes, which follow spaces, begin with an element that is wanted
 abbrev pub offers_next : Wanted → List ℕ → Bool
-offers_next wanted.Statement bytes = begins_in is_identifier_byte bytes
-offers_next wanted.RuleName bytes = begins_in is_identifier_byte bytes
-offers_next wanted.PoolName bytes = begins_in is_identifier_byte bytes
-offers_next wanted.Path bytes = begins_in is_word_byte bytes
-offers_next wanted.Colon bytes = begins_in (λ b. b == 58) bytes
-offers_next wanted.CommandName bytes = begins_in is_identifier_byte bytes
-offers_next wanted.TargetName bytes = begins_in is_word_byte bytes
-offers_next wanted.VariableName bytes = begins_in is_identifier_byte bytes
-offers_next wanted.Equals bytes = begins_in (λ b. b == 61) bytes
+offers_next wanted.Statement bytes = begins_with is_identifier_byte bytes
+offers_next wanted.RuleName bytes = begins_with is_identifier_byte bytes
+offers_next wanted.PoolName bytes = begins_with is_identifier_byte bytes
+offers_next wanted.Path bytes = begins_with is_word_byte bytes
+offers_next wanted.Colon bytes = begins_with (λ b. b == 58) bytes
+offers_next wanted.CommandName bytes = begins_with is_identifier_byte bytes
+offers_next wanted.TargetName bytes = begins_with is_word_byte bytes
+offers_next wanted.VariableName bytes = begins_with is_identifier_byte bytes
+offers_next wanted.Equals bytes = begins_with (λ b. b == 61) bytes
 offers_next wanted.Newline bytes = is_empty bytes
 
 -- whether the bytes begin with an element that the fault names as expected
