@@ -1,4 +1,4 @@
-use Rattle.std.proofs.Common.{◌≡◌, ◌<◌, false, length, nat_eq, ap, subst, sym, ◌∙◌}
+use Rattle.std.proofs.Common.{◌<◌, length, nat_eq, ap, subst, sym, ◌∙◌}
 use Rattle.std.proofs.lemmas.List.{get_or_read}
 use Rattle.nj_names.specs.NumberSets.{NumberSetModel}
 use Rattle.nj_names.proofs.RoundLemmas.{apart-eqb, marked-push}

@@ -1,4 +1,4 @@
-use Rattle.std.proofs.Common.{◌≡◌, ◌<◌, refl, replicate, arith}
+use Rattle.std.proofs.Common.{◌<◌, replicate, arith}
 use Rattle.std.proofs.lemmas.List.Elements.{All-replicate}
 use Rattle.nj_names.proofs.RoundLemmas.{marked-none}
 use Rattle.nj_names.proofs.round_set.RoundSet.none_below.Goals as goal
