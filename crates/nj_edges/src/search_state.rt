@@ -104,7 +104,7 @@ impl SearchState {
         }
         mem::swap(&mut self.next, &mut self.starts);
         self.place = 0;
-        self.found.clear()?;
+        self.found.clear();
         add_all(&mut self.found, &self.starts)?;
         Ok(())
     }

@@ -62,7 +62,7 @@ impl<'a> FoundInputs<'a> {
             (each_once bytes_eq (map clean_path_of (map (name_at paths) numbers.now))))
             (map (input_of_edge graph.now.files) self.new.inputs.items)) }
     {
-        self.files.clear()?;
+        self.files.clear();
         'numbers: for number in numbers {
             self.add_input(graph, edge, made[*number as usize])?;
         }

@@ -68,18 +68,19 @@ impl RoundSet {
         Ok(true)
     }
 
-    /// Takes all numbers from the set. Fails only at the 2^64th time.
-    pub fn clear(&mut self) -> Result<(), AllocError>
-        ensures emptied { OnOk result (self.new ≡ record { limit = self.old.limit; numbers = [] }) }
-        ensures refused { OnErr result (self.new ≡ self.old) }
+    /// Takes all numbers from the set. It takes no pass over the numbers below the limit, except
+    /// every 2^64 - 1 times: then no round is left, all marks are reset, and the rounds start anew.
+    pub fn clear(&mut self)
+        ensures { self.new ≡ record { limit = self.old.limit; numbers = [] } }
     {
-        let round = match self.round.checked_add(1) {
-            Some(round) => round,
-            None => return Err(AllocError),
-        };
         self.numbers.clear();
-        self.round = round;
-        Ok(())
+        match self.round.checked_add(1) {
+            Some(round) => self.round = round,
+            None => {
+                self.marks.fill(0);
+                self.round = 1;
+            }
+        }
     }
 
     /// The numbers, in the order in which they were added.

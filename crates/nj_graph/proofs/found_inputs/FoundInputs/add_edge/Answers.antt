@@ -11,11 +11,11 @@ use Rattle.nj_graph.proofs.found_inputs.FoundInputs.add_edge.Goals as goal
 pub numbers-init : goal.numbers-init
 numbers-init c = record {
   found = record {
-    limit = ap (λ (s : NumberSetModel). s.limit) c.in_ok-clear.ensures.emptied ∙ c.requires.found.limit;
+    limit = ap (λ (s : NumberSetModel). s.limit) c.clear.ensures ∙ c.requires.found.limit;
     search = c.requires.found.search;
     known = c.requires.found.known;
   };
-  added = λ paths before made those. finds-none c.args.graph.now c.args.edge.0 before _ (ap (λ (s : NumberSetModel). s.numbers) c.in_ok-clear.ensures.emptied) those;
+  added = λ paths before made those. finds-none c.args.graph.now c.args.edge.0 before _ (ap (λ (s : NumberSetModel). s.numbers) c.clear.ensures) those;
 }
 
 pub numbers-preserved : goal.numbers-preserved
