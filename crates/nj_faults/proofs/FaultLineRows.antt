@@ -3,8 +3,8 @@ use Rattle.std.proofs.Common.{◌≡◌, ℕ, refl}
 use Rattle.std.specs.Prelude.{codes}
 use Rattle.std.specs.Fmt.{digits}
 use Rattle.nj_text.specs.declared.spot.Spot.{Spot}
-use Rattle.nj_text.specs.declared.fault.UnitFault.TheVariants as unit
-use Rattle.nj_manifest.specs.Faults.{Fault, Bad, Expected, UnknownKey, OutOfMemory}
+use Rattle.nj_manifest.specs.declared.cause.SyntaxCause.TheVariants as cause
+use Rattle.nj_manifest.specs.Faults.{Fault, Placed, OutOfMemory}
 use Rattle.nj_manifest.specs.declared.cause.Wanted.TheVariants as wanted
 use Rattle.nj_faults.specs.declared.fault.Cause.{Cause}
 use Rattle.nj_faults.specs.declared.fault.GraphFault.{GraphFault}
@@ -23,15 +23,15 @@ at line column cause = fault_at (codes "build.ninja") (spot line column) cause
 abbrev reported : Fault → GraphFault
 reported fault = fault_in (codes "build.ninja") fault
 
-byte_row : fault_line (reported (Bad (unit.Tab (spot 1 3)))) ≡ codes "build.ninja:1:3: tabs are not allowed, use spaces"
+byte_row : fault_line (reported (Placed (spot 1 3) cause.Tab)) ≡ codes "build.ninja:1:3: tabs are not allowed, use spaces"
 unfolding digits
 byte_row = refl
 
-wanted_row : fault_line (reported (Expected (spot 1 2) wanted.Equals)) ≡ codes "build.ninja:1:2: expected '='"
+wanted_row : fault_line (reported (Placed (spot 1 2) (cause.Expected wanted.Equals))) ≡ codes "build.ninja:1:2: expected '='"
 unfolding digits
 wanted_row = refl
 
-key_row : fault_line (reported (UnknownKey (spot 3 3) (codes "depth"))) ≡ codes "build.ninja:3:3: unexpected variable 'depth'"
+key_row : fault_line (reported (Placed (spot 3 3) (cause.UnknownKey (codes "depth")))) ≡ codes "build.ninja:3:3: unexpected variable 'depth'"
 unfolding digits
 key_row = refl
 

@@ -7,8 +7,7 @@ use Rattle.std.specs.Bool.{then_some}
 use Rattle.std.specs.Option.{option_or, option_to_list}
 use Rattle.nj_text.specs.declared.spot.Spot.{Spot}
 use Rattle.nj_text.specs.Words.{WordModel}
-use Rattle.nj_text.specs.declared.fault.UnitFault.TheVariants as unit
-use Rattle.nj_manifest.specs.Faults.{Fault, Bad}
+use Rattle.nj_manifest.specs.Faults.{Fault, Placed, OutOfMemory}
 use Rattle.nj_manifest.specs.Statements.{StatementModel, BindingModel, RuleModel, PoolModel, BuildModel, DefaultModel, IncludeModel, SubninjaModel, LineModel, OutputsModel, InputsModel}
 use Rattle.nj_scope.specs.Readings.{Reading, EachPathOnce, IsPrefix, paths_of}
 use Rattle.nj_scope.specs.Scopes.{child, parent_at, first_given}
@@ -107,10 +106,8 @@ item-names e before (IncludeModel word) = or-names _ _ (if-names _ e.file word.s
 item-names e before (SubninjaModel word) = or-names _ _ (if-names _ e.file word.spot _ refl) (if-names _ e.file word.spot _ refl)
 
 pub syntax-names : (file : List ℕ) (fault : Fault) → path_at_fault (fault_in file fault).cause ≡ []
-syntax-names file (Bad (unit.BadByte spot)) = refl
-syntax-names file (Bad (unit.Tab spot)) = refl
-syntax-names file (Bad (unit.BadEscape spot)) = refl
-syntax-names file fault = refl
+syntax-names file (Placed spot cause) = refl
+syntax-names file OutOfMemory = refl
 
 -- ---- the two kinds of statements that name a file
 

@@ -16,7 +16,7 @@ use Rattle.nj_text.specs.Calls.{State, Between, Inside, Failed, Answers, start_l
 use Rattle.nj_manifest.specs.declared.block_lines.Keys.{Keys}
 use Rattle.nj_manifest.specs.declared.parse_fault.ParseFault.{ParseFault}
 use Rattle.nj_manifest.specs.declared.parse_fault.ParseFault.TheVariants as fault
-use Rattle.nj_manifest.specs.Faults.{Fault, Bad}
+use Rattle.nj_manifest.specs.Faults.{Fault, bad_unit}
 use Rattle.nj_manifest.specs.LineSteps.{Step, ◌>>=◌}
 use Rattle.nj_manifest.specs.Parsers.{Fails}
 use Rattle.nj_manifest.specs.Statements.{LineModel, line_next, lines_from, block_by, block}
@@ -60,7 +60,7 @@ abbrev pub Begins : Keys → (limit : ℕ) → Parse (List LineModel) → Reply 
 Begins allowed limit whole (Ok (start.Indented, s)) = BeginsLine allowed limit whole s
 Begins allowed limit whole (Ok (start.Middle, s)) = ⊥
 Begins allowed limit whole (Ok (other, s)) = (whole ≡ no_lines (lines_from s)) × IsBetweenStatements s
-Begins allowed limit whole (Err f) = whole ≡ Err (Bad f)
+Begins allowed limit whole (Err f) = whole ≡ Err (bad_unit f)
 
 after-last : (l : Line) (ls : List Line) → l.is_last ≡ true → lines_after l ls ≡ with_units [] l ∷ ls
 after-last l ls h = ap (λ t. cond t (with_units [] l ∷ ls) ls) h

@@ -8,7 +8,7 @@ use Rattle.nj_text.specs.declared.fault.LexFault.TheVariants as lex
 use Rattle.nj_text.specs.Calls.{State, Reply, FailsOrLacksMemory, unit_of}
 use Rattle.nj_manifest.specs.declared.parse_fault.ParseFault.{ParseFault}
 use Rattle.nj_manifest.specs.declared.parse_fault.ParseFault.TheVariants as fault
-use Rattle.nj_manifest.specs.Faults.{Fault, Bad, fault_text}
+use Rattle.nj_manifest.specs.Faults.{Fault, bad_unit, fault_text}
 use Rattle.nj_manifest.specs.LineSteps.{Step, called}
 use Rattle.nj_manifest.specs.Parsers.{Fails}
 use Rattle.nj_manifest.specs.Inside.ParserContracts.{TakesStep}
@@ -16,11 +16,11 @@ use Rattle.nj_manifest.specs.Inside.ParserContracts.{TakesStep}
 pub gave : {Y : Type 0} (y : Y) (after : State) (r : Reply Y) → r ≡ Ok (y, after) → called r ≡ Ok (y, after)
 gave y after r h = ap called h
 
-failed-so : {Y : Type 0} (f : UnitFault) (r : Reply Y) → r ≡ Err f → called r ≡ Err (Bad f)
+failed-so : {Y : Type 0} (f : UnitFault) (r : Reply Y) → r ≡ Err f → called r ≡ Err (bad_unit f)
 failed-so f r h = ap called h
 
 -- a step that fails with a fault of the lexer
-pub fails-by : {X Y : Type 0} (f : LexFault) (before after : State) (r : Reply X) (whole : Result Y Fault) → FailsOrLacksMemory (unit_of f) before after r → ((unit : UnitFault) → called r ≡ Err (Bad unit) → whole ≡ Err (Bad unit)) → Fails (fault.Lex f) whole
+pub fails-by : {X Y : Type 0} (f : LexFault) (before after : State) (r : Reply X) (whole : Result Y Fault) → FailsOrLacksMemory (unit_of f) before after r → ((unit : UnitFault) → called r ≡ Err (bad_unit unit) → whole ≡ Err (bad_unit unit)) → Fails (fault.Lex f) whole
 fails-by lex.OutOfMemory before after r whole h so = tt
 fails-by (lex.BadByte spot) before after r whole h so = so (unit_fault.BadByte spot) (failed-so (unit_fault.BadByte spot) r h.0)
 fails-by (lex.Tab spot) before after r whole h so = so (unit_fault.Tab spot) (failed-so (unit_fault.Tab spot) r h.0)

@@ -6,9 +6,10 @@ use Rattle.nj_text.specs.declared.spot.Spot.{Spot}
 use Rattle.nj_text.specs.Lines.{Line}
 use Rattle.nj_text.specs.Words.{WordModel}
 use Rattle.nj_text.specs.Calls.{State, Between, Inside, Failed, spot_of}
+use Rattle.nj_manifest.specs.declared.cause.SyntaxCause.TheVariants as cause
 use Rattle.nj_manifest.specs.declared.cause.Wanted.{Wanted}
 use Rattle.nj_manifest.specs.declared.cause.Wanted.TheVariants as wanted
-use Rattle.nj_manifest.specs.Faults.{Fault, Expected, UnknownKey}
+use Rattle.nj_manifest.specs.Faults.{Fault, Placed}
 use Rattle.nj_manifest.specs.LineSteps.{Step, ◌>>=◌, NameModel, words_within, words_next}
 use Rattle.nj_manifest.specs.Openings.{Parse}
 use Rattle.nj_manifest.specs.Statements.{LineModel}
@@ -16,10 +17,10 @@ use Rattle.nj_manifest.specs.Statements.{LineModel}
 -- ---- along a line
 
 abbrev pub named : Wanted → Spot → Option (List ℕ) → State → Step NameModel
-named wanted spot found after = ok_or found (Expected spot wanted) >>= λ name. Ok (record { spot = spot; name = name }, after)
+named wanted spot found after = ok_or found (Placed spot (cause.Expected wanted)) >>= λ name. Ok (record { spot = spot; name = name }, after)
 
 abbrev pub if_there : Wanted → Bool → State → Result State Fault
-if_there wanted there after = cond there (Ok after) (Err (Expected (spot_of after) wanted))
+if_there wanted there after = cond there (Ok after) (Err (Placed (spot_of after) (cause.Expected wanted)))
 
 -- a word before those that follow it; none ends them
 abbrev pub words_from : Option WordModel → State → Step (List WordModel) → Step (List WordModel)
@@ -51,13 +52,13 @@ abbrev pub ended : List Line → Parse (Option Line)
 ended rest = Ok (None, rest)
 
 abbrev pub if_allowed : {A : Type 0} → Bool → NameModel → Result A Fault → Result A Fault
-if_allowed allowed key others = cond allowed others (Err (UnknownKey key.spot key.name))
+if_allowed allowed key others = cond allowed others (Err (Placed key.spot (cause.UnknownKey key.name)))
 
 abbrev pub unless_none : {A : Type 0} → (none : Bool) → Wanted → State → Result A Fault → Result A Fault
-unless_none none want s others = cond none (Err (Expected (spot_of s) want)) others
+unless_none none want s others = cond none (Err (Placed (spot_of s) (cause.Expected want))) others
 
 abbrev pub path_there : Option WordModel → State → Step WordModel
-path_there found after = ok_or found (Expected (spot_of after) wanted.Path) >>= λ word. Ok (word, after)
+path_there found after = ok_or found (Placed (spot_of after) (cause.Expected wanted.Path)) >>= λ word. Ok (word, after)
 
 abbrev pub unless_missing : {A : Type 0} → (there : Bool) → Fault → Result A Fault → Result A Fault
 unless_missing there fault others = cond there others (Err fault)

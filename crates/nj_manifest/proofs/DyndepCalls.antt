@@ -3,9 +3,10 @@ use Rattle.std.proofs.Common.{◌≡◌, true, false, Some, option_map, Result, 
 use Rattle.nj_text.specs.declared.spot.Spot.{Spot}
 use Rattle.nj_text.specs.Lines.{Line, lines_after}
 use Rattle.nj_text.specs.Calls.{State, Between, Inside, Failed, spot_of}
+use Rattle.nj_manifest.specs.declared.cause.SyntaxCause.TheVariants as cause
 use Rattle.nj_manifest.specs.declared.parse_fault.ParseFault.{ParseFault}
 use Rattle.nj_manifest.specs.declared.entries.Entry.{Entry}
-use Rattle.nj_manifest.specs.Faults.{DyndepVersion}
+use Rattle.nj_manifest.specs.Faults.{Placed}
 use Rattle.nj_manifest.specs.LineSteps.{◌>>=◌}
 use Rattle.nj_manifest.specs.Statements.{lines_from}
 use Rattle.nj_manifest.specs.Openings.{opening}
@@ -26,8 +27,8 @@ version-is ls = refl
 pub version-no_opening : (f : ParseFault) (before after : State) → FindsOpening before after (Err f) → ReadsVersion before after (Err f)
 version-no_opening f before after h = subst (Fails f) (sym (version-is (lines_from before))) (fails-on f (opening (lines_from before)) version_from h)
 
-pub version-at_end : (before after : State) (spot : Spot) → FindsOpening before after (Ok false) → spot ≡ spot_of after → version_next (lines_from before) ≡ Err (DyndepVersion spot)
-version-at_end before (Between ls) spot h s = version-is (lines_from before) ∙ (ap (λ o. o >>= version_from) h.0 ∙ ap (λ p. Err (DyndepVersion p)) (sym s))
+pub version-at_end : (before after : State) (spot : Spot) → FindsOpening before after (Ok false) → spot ≡ spot_of after → version_next (lines_from before) ≡ Err (Placed spot cause.DyndepVersion)
+version-at_end before (Between ls) spot h s = version-is (lines_from before) ∙ (ap (λ o. o >>= version_from) h.0 ∙ ap (λ p. Err (Placed p cause.DyndepVersion)) (sym s))
 version-at_end before (Inside l ls) spot h s = absurd (apart h.2)
   where
     apart : true ≡ false → ⊥

@@ -9,10 +9,11 @@ use Rattle.nj_text.specs.Bytes.{drop_while}
 use Rattle.nj_text.specs.Lines.{Line, lines_after}
 use Rattle.nj_text.specs.Words.{WordModel, is_blank}
 use Rattle.nj_text.specs.Calls.{State, Between, Inside, start_line_of, skip_blanks_of, sign_of, path_word_of, spot_of, fault_spot, Reply}
+use Rattle.nj_manifest.specs.declared.cause.SyntaxCause.TheVariants as cause
 use Rattle.nj_manifest.specs.declared.block_lines.Keys.TheVariants as keys
 use Rattle.nj_manifest.specs.declared.cause.Wanted.{Wanted}
 use Rattle.nj_manifest.specs.declared.cause.Wanted.TheVariants as wanted
-use Rattle.nj_manifest.specs.Faults.{Fault, Bad, Expected, DyndepShape}
+use Rattle.nj_manifest.specs.Faults.{Fault, Placed, bad_unit}
 use Rattle.nj_manifest.specs.LineSteps.{Step, ◌>>=◌, called, name_next, expect_sign, section_next}
 use Rattle.nj_manifest.specs.Statements.{equals_value, block}
 use Rattle.nj_manifest.specs.Dyndeps.{is_same_spot, version_line, word_of_form, no_path_by, no_path, no_section, output_next, added_inputs, EntryModel, entry_line, if_indented, restat_block}
@@ -58,7 +59,7 @@ module _ (l : Line) (ls : List Line) where
   no_path-called spot (Ok (Some word, after)) s' h = no_ok h
   no_path-called spot (Err unit) s' h = by_test (is_same_spot (fault_spot unit) spot) h
     where
-      by_test : (t : Bool) → ◌≡◌ {A = Result State Fault} (unless_missing t (DyndepShape spot) (Err (Bad unit))) (Ok s') → ◌≡◌ {A = Step (Option WordModel)} (Err (Bad unit)) (Ok (None, s'))
+      by_test : (t : Bool) → ◌≡◌ {A = Result State Fault} (unless_missing t (Placed spot cause.DyndepShape) (Err (bad_unit unit))) (Ok s') → ◌≡◌ {A = Step (Option WordModel)} (Err (bad_unit unit)) (Ok (None, s'))
       by_test true g = no_ok g
       by_test false g = no_ok g
 
@@ -79,7 +80,7 @@ module _ (l : Line) (ls : List Line) where
   first_output-after (Some word) after y h = after-is word after y h
   first_output-after None after y h =
       let pipe = bind-ok (called (sign_of sign.Pipe after)) _ y h in
-      no_ok (unless_missing-ok _ _ (Err (Expected (spot_of after) wanted.Path)) y pipe.2).1
+      no_ok (unless_missing-ok _ _ (Err (Placed (spot_of after) (cause.Expected wanted.Path))) y pipe.2).1
 
   output_next-inside : (s : State) (y : WordModel × State) → On l ls s → output_next s ≡ Ok y → On l ls y.1
   output_next-inside s y o h =

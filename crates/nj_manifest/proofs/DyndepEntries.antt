@@ -9,9 +9,10 @@ use Rattle.nj_text.specs.Lines.{Line, with_units, lines_after}
 use Rattle.nj_text.specs.Words.{WordModel, is_blank, next_fault, opens_word}
 use Rattle.nj_text.specs.Calls.{State, Between, Inside, Failed, is_sign, skip_blanks_of, sign_of, path_word_of, word_at, spot_of}
 use Rattle.nj_text.specs.Inside.States.{unless_bad}
+use Rattle.nj_manifest.specs.declared.cause.SyntaxCause.TheVariants as cause
 use Rattle.nj_manifest.specs.declared.cause.Wanted.{Wanted}
 use Rattle.nj_manifest.specs.declared.cause.Wanted.TheVariants as wanted
-use Rattle.nj_manifest.specs.Faults.{Expected}
+use Rattle.nj_manifest.specs.Faults.{Placed}
 use Rattle.nj_manifest.specs.LineSteps.{Step, called, name_next, expect_sign, words_next, section_next}
 use Rattle.nj_manifest.specs.Grammar.{AreBlanks, KeywordForm, WordForm, WordsForm, SectionForm}
 use Rattle.nj_manifest.specs.Dyndeps.{EntryModel, word_of_form, no_path_by, no_path, no_section, output_next, added_inputs, entry_line}
@@ -106,9 +107,9 @@ some_output : (found : Option WordModel) (after : State) (y : WordModel × State
 some_output (Some word) after y h = ap Some (ap (λ (r : WordModel × State). r.0) (oks h))
 some_output None after y h =
     let pipe = bind-ok (called (sign_of sign.Pipe after)) _ y h in
-    absurd (no_err (unless_missing-ok _ _ (Err (Expected (spot_of after) wanted.Path)) y pipe.2).1)
+    absurd (no_err (unless_missing-ok _ _ (Err (Placed (spot_of after) (cause.Expected wanted.Path))) y pipe.2).1)
   where
-    no_err : ◌≡◌ {A = Step WordModel} (Err (Expected (spot_of after) wanted.Path)) (Ok y) → ⊥
+    no_err : ◌≡◌ {A = Step WordModel} (Err (Placed (spot_of after) (cause.Expected wanted.Path))) (Ok y) → ⊥
     no_err e = absurd cc
 
 output-form : (l : Line) (ls : List Line) (us : List TextUnit) (s : State) (y : WordModel × State) → s ≡ within l ls us → output_next s ≡ Ok y → (rest : List TextUnit) × WordForm us y.0 rest × (y.1 ≡ within l ls (skip rest))

@@ -2,7 +2,6 @@
 use Rattle.std.proofs.Common.{◌≡◌, ℕ, Bool, true, false, cond, ◌&&◌, inl, inr, Result, Ok, Err, List, [], ◌∷◌, ◌++◌, refl, sym, ap, subst, ◌∙◌, append_assoc, codes}
 use Rattle.std.specs.List.{list_all}
 use Rattle.std.proofs.lemmas.Bool.{and_from}
-use Rattle.nj_text.specs.declared.fault.UnitFault.TheVariants as lex
 use Rattle.nj_text.specs.declared.line_start.LineStart.{LineStart}
 use Rattle.nj_text.specs.declared.line_start.LineStart.TheVariants as start
 use Rattle.nj_text.specs.declared.spot.Spot.{Spot}
@@ -13,8 +12,9 @@ use Rattle.nj_text.specs.Words.{is_blank}
 use Rattle.nj_text.specs.Inside.States.{reply}
 use Rattle.nj_text.specs.Calls.{State, Between, Reply, start_line_of, begun, begun_by, is_comment, is_empty, without_comments}
 use Rattle.nj_text.proofs.Lists.{AllIn}
+use Rattle.nj_manifest.specs.declared.cause.SyntaxCause.TheVariants as cause
 use Rattle.nj_manifest.specs.declared.cause.Wanted.TheVariants as wanted
-use Rattle.nj_manifest.specs.Faults.{Fault, Bad, Expected, UnexpectedIndent, MissingCommand, RspPair, UnknownKey, MissingDepth, DyndepVersion, DyndepShape, OutOfMemory}
+use Rattle.nj_manifest.specs.Faults.{Fault, Placed, OutOfMemory}
 use Rattle.nj_manifest.specs.LineSteps.{Step, ◌>>=◌, called, NameModel, name_next, expect_sign}
 use Rattle.nj_manifest.specs.Statements.{equals_value}
 use Rattle.nj_manifest.specs.Leftmost.{continues, element, written, are_plain, NamesThePlaceOf, met_before, offers}
@@ -38,39 +38,42 @@ use Rattle.nj_manifest.proofs.DyndepLeftmostPaths.{word_turn}
 
 -- ---- marks, reported
 
--- the intended place of a fault
-abbrev pub Placed : Fault → Line → Type 0
-Placed f l = NamesPlaceInEntry (real f) l
-
-pub real_place : (f : Fault) (l : Line) → NamesThePlaceOf f l → Placed f l
-real_place (Bad unit) l h = h
-real_place (Expected spot wanted) l h = h
-real_place (UnexpectedIndent spot) l h = h
-real_place (UnknownKey spot key) l h = h
+-- the intended fault names its place too
+pub real_place : (f : Fault) (l : Line) → NamesThePlaceOf f l → NamesPlaceInEntry (real f) l
+real_place (Placed spot cause.BadByte) l h = h
+real_place (Placed spot cause.Tab) l h = h
+real_place (Placed spot cause.BadEscape) l h = h
+real_place (Placed spot (cause.Expected wanted)) l h = h
+real_place (Placed spot cause.UnexpectedIndent) l h = h
+real_place (Placed spot (cause.UnknownKey key)) l h = h
 real_place f l h = absurd h
 
 pub real_before : (f : Fault) (l : Line) → real (met_before l f) ≡ met_before l (real f)
-real_before (Bad unit) l = refl
-real_before (Expected spot wanted) l = refl
-real_before (UnexpectedIndent spot) l = refl
-real_before (MissingCommand spot) l = refl
-real_before (RspPair spot) l = refl
-real_before (UnknownKey spot key) l = refl
-real_before (MissingDepth spot) l = refl
-real_before (DyndepVersion spot) l = refl
-real_before (DyndepShape spot) l = refl
+real_before (Placed spot cause.BadByte) l = refl
+real_before (Placed spot cause.Tab) l = refl
+real_before (Placed spot cause.BadEscape) l = refl
+real_before (Placed spot (cause.Expected wanted)) l = refl
+real_before (Placed spot cause.UnexpectedIndent) l = refl
+real_before (Placed spot cause.MissingCommand) l = refl
+real_before (Placed spot cause.RspPair) l = refl
+real_before (Placed spot (cause.UnknownKey key)) l = refl
+real_before (Placed spot cause.MissingDepth) l = refl
+real_before (Placed spot cause.DyndepVersion) l = refl
+real_before (Placed spot cause.DyndepShape) l = refl
 real_before OutOfMemory l = refl
 
 pub real_offers : (f : Fault) (bytes : List ℕ) → offers f bytes ≡ true → offers (real f) bytes ≡ true
-real_offers (Bad unit) bytes h = refl
-real_offers (Expected spot wanted) bytes h = h
-real_offers (UnexpectedIndent spot) bytes h = refl
-real_offers (MissingCommand spot) bytes h = refl
-real_offers (RspPair spot) bytes h = refl
-real_offers (UnknownKey spot key) bytes h = refl
-real_offers (MissingDepth spot) bytes h = refl
-real_offers (DyndepVersion spot) bytes h = refl
-real_offers (DyndepShape spot) bytes h = refl
+real_offers (Placed spot cause.BadByte) bytes h = refl
+real_offers (Placed spot cause.Tab) bytes h = refl
+real_offers (Placed spot cause.BadEscape) bytes h = refl
+real_offers (Placed spot (cause.Expected wanted)) bytes h = h
+real_offers (Placed spot cause.UnexpectedIndent) bytes h = refl
+real_offers (Placed spot cause.MissingCommand) bytes h = refl
+real_offers (Placed spot cause.RspPair) bytes h = refl
+real_offers (Placed spot (cause.UnknownKey key)) bytes h = refl
+real_offers (Placed spot cause.MissingDepth) bytes h = refl
+real_offers (Placed spot cause.DyndepVersion) bytes h = refl
+real_offers (Placed spot cause.DyndepShape) bytes h = refl
 real_offers OutOfMemory bytes h = refl
 
 -- ---- the start of a line
@@ -88,7 +91,7 @@ module _ (k : State → Result State Fault) where
       ap (λ (t : Bool). of_reply (begun (cond t (lines_after l (without_comments ms)) (l ∷ ms)))) (ap is_comment h ∙ n)
       ∙ ap (λ (q : Kind). of_reply (begun_by q l ms)) h
 
-  pub in_tab : (l : Line) (ms : List Line) (tab : Spot) → kind_of l ≡ TabLine tab → in_lines k (l ∷ ms) ≡ Err (Bad (lex.Tab tab))
+  pub in_tab : (l : Line) (ms : List Line) (tab : Spot) → kind_of l ≡ TabLine tab → in_lines k (l ∷ ms) ≡ Err (Placed tab cause.Tab)
   in_tab l ms tab h = in_kind l ms (TabLine tab) h refl
 
   pub in_indented : (l : Line) (ms : List Line) → kind_of l ≡ IndentedLine → in_lines k (l ∷ ms) ≡ k (at (after_spaces l.units) l ms)
@@ -170,7 +173,7 @@ blank_there k sp a = in_blank k (with_units (sp ++ []) (written [])) [] (kind_sp
 as_fault : (k : State → Result State Fault) (ls : List Line) (f g : Fault) → g ≡ f → LinesStuck k ls g → LinesStuck k ls f
 as_fault k ls f g e s = subst (λ (h : Fault). LinesStuck k ls h) e s
 
-tab_here : (k : State → Result State Fault) (l : Line) (ls : List Line) (tab : Spot) → kind_of l ≡ TabLine tab → LinesStuck k (l ∷ ls) (Bad (lex.Tab tab))
+tab_here : (k : State → Result State Fault) (l : Line) (ls : List Line) (tab : Spot) → kind_of l ≡ TabLine tab → LinesStuck k (l ∷ ls) (Placed tab cause.Tab)
 tab_here k l ls tab h =
     let ends = blank_there k (spaces_of l.units) (spaces_pass l.units) in
     record {
@@ -195,7 +198,7 @@ lines_stuck k (l ∷ ls) fault here h = by_kind (kind_of l) refl (lines_stuck k 
 
     by_kind : (q : Kind) → kind_of l ≡ q → (in_lines k ls ≡ Err fault → LinesStuck k ls fault) → LinesStuck k (l ∷ ls) fault
     by_kind CommentLine e rest = by_last l.is_last refl e rest
-    by_kind (TabLine tab) e rest = as_fault k (l ∷ ls) fault (Bad (lex.Tab tab)) (errs (sym (in_tab k l ls tab e) ∙ h)) (tab_here k l ls tab e)
+    by_kind (TabLine tab) e rest = as_fault k (l ∷ ls) fault (Placed tab cause.Tab) (errs (sym (in_tab k l ls tab e) ∙ h)) (tab_here k l ls tab e)
     by_kind IndentedLine e rest = here l ls e (sym (in_indented k l ls e) ∙ h)
     by_kind BlankLine e rest = let r = in_blank k l ls e in no_fault (in_lines k (l ∷ ls)) r.0 fault r.1 h
     by_kind PlainLine e rest = let r = in_plain k l ls e in no_fault (in_lines k (l ∷ ls)) r.0 fault r.1 h
@@ -231,11 +234,11 @@ many_here l ls fault h place refuses =
       on = with_end sp gap refl (all_pass is_space_unit sp (spaces_pass l.units)) (all_pass is_blank gap (gap_passes (after_spaces l.units))) ends.0 ends.1;
     }
 
-many_reads : (s t : State) (name : NameModel) → name_next wanted.VariableName s ≡ Ok (name, t) → line_too_many s ≡ Err (DyndepShape name.spot)
-many_reads s t name h = ap (λ (r : Step NameModel). r >>= λ key. Err (DyndepShape key.0.spot)) h
+many_reads : (s t : State) (name : NameModel) → name_next wanted.VariableName s ≡ Ok (name, t) → line_too_many s ≡ Err (Placed name.spot cause.DyndepShape)
+many_reads s t name h = ap (λ (r : Step NameModel). r >>= λ key. Err (Placed key.0.spot cause.DyndepShape)) h
 
 many_fails : (s : State) (f : Fault) → name_next wanted.VariableName s ≡ Err f → line_too_many s ≡ Err f
-many_fails s f h = ap (λ (r : Step NameModel). r >>= λ key. Err (DyndepShape key.0.spot)) h
+many_fails s f h = ap (λ (r : Step NameModel). r >>= λ key. Err (Placed key.0.spot cause.DyndepShape)) h
 
 many_stuck : (l : Line) (ls : List Line) (fault : Fault) → kind_of l ≡ IndentedLine → line_too_many (at (after_spaces l.units) l ls) ≡ Err fault → LinesStuck line_too_many (l ∷ ls) fault
 many_stuck l ls fault h failed = by_name (name_seen wanted.VariableName starts us l)
@@ -247,7 +250,7 @@ many_stuck l ls fault h failed = by_name (name_seen wanted.VariableName starts u
     by_name (names.there n) =
         let a = n.again (skip us) l ls refl in
         let is = many_reads (at us l ls) a.0 n.passes.value (ap (λ (y : List TextUnit). name_next wanted.VariableName (at y l ls)) (gap_cut us) ∙ a.1) in
-        as_fault line_too_many (l ∷ ls) fault (DyndepShape n.passes.value.spot) (errs (sym is ∙ failed)) (many_here l ls (DyndepShape n.passes.value.spot) h n.spot (λ x d ms same.
+        as_fault line_too_many (l ∷ ls) fault (Placed n.passes.value.spot cause.DyndepShape) (errs (sym is ∙ failed)) (many_here l ls (Placed n.passes.value.spot cause.DyndepShape) h n.spot (λ x d ms same.
         let b = n.again x d ms same in
         (many_reads (at (gap_of us ++ x) d ms) b.0 n.passes.value b.1)))
     by_name (names.missing f of n) =
@@ -255,7 +258,7 @@ many_stuck l ls fault h failed = by_name (name_seen wanted.VariableName starts u
         as_fault line_too_many (l ∷ ls) fault f (errs (sym is ∙ failed)) (many_here l ls f h (place_of_name f n.place) (λ x d ms same. many_fails (at (gap_of us ++ x) d ms) (met_before (with_units x d) f) (n.refuses x d ms same)))
       where
         place_of_name : (f : Fault) → NamesThePlaceOf f (with_units (skip us) l) → NamesPlaceInEntry f (with_units (skip us) l)
-        place_of_name (DyndepShape spot) e = absurd e
+        place_of_name (Placed spot cause.DyndepShape) e = absurd e
         place_of_name f e = e
 
 -- ---- the line of the block

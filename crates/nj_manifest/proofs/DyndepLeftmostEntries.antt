@@ -2,12 +2,12 @@
 use Rattle.std.proofs.Common.{◌≡◌, Bool, true, false, cond, inl, inr, ◌⊎◌, Option, Some, None, Result, Ok, Err, List, [], ◌∷◌, ◌++◌, map, refl, sym, ap, subst, ◌∙◌, codes}
 use Rattle.std.specs.List.{list_all}
 use Rattle.std.proofs.lemmas.Bool.{and_parts}
-use Rattle.nj_text.specs.declared.fault.UnitFault.TheVariants as lex
 use Rattle.nj_text.specs.declared.spot.Spot.{Spot}
 use Rattle.nj_text.specs.Units.{TextUnit}
 use Rattle.nj_text.specs.Lines.{Line, line_spot, with_units, lines_after, Kind, CommentLine, TabLine, BlankLine, IndentedLine, PlainLine, kind_of}
 use Rattle.nj_text.specs.Calls.{State, Between, Inside, without_comments}
-use Rattle.nj_manifest.specs.Faults.{Fault, Bad, UnexpectedIndent}
+use Rattle.nj_manifest.specs.declared.cause.SyntaxCause.TheVariants as cause
+use Rattle.nj_manifest.specs.Faults.{Fault, Placed}
 use Rattle.nj_manifest.specs.LineSteps.{Step, ◌>>=◌, name_next, expect_sign, section_next}
 use Rattle.nj_manifest.specs.Statements.{lines_from}
 use Rattle.nj_manifest.specs.Openings.{Parse, opening_by, opening, front_of}
@@ -153,18 +153,18 @@ of_kind l ls fault offered place refuses =
       refuses = λ m ms same apart. refuses m ms same;
     }
 
-tab_leftmost : (l : Line) (ls : List Line) (tab : Spot) → kind_of l ≡ TabLine tab → EntryComesLeftmost (l ∷ ls) (Bad (lex.Tab tab))
+tab_leftmost : (l : Line) (ls : List Line) (tab : Spot) → kind_of l ≡ TabLine tab → EntryComesLeftmost (l ∷ ls) (Placed tab cause.Tab)
 tab_leftmost l ls tab k =
-    of_kind l ls (Bad (lex.Tab tab)) refl (tab_place l.units tab l.end k)
+    of_kind l ls (Placed tab cause.Tab) refl (tab_place l.units tab l.end k)
     (λ m ms same. (by_kind_entry (with_units (spaces_of l.units ++ m.units) m) ms (TabLine tab) (kind_replaced l.units m.units (element-front m.units (after_spaces l.units) same) ∙ k)))
 
 -- an indented line whose units after its spaces these are
 abbrev unexpected_at : Line → Parse (Option EntryModel)
-unexpected_at l = Err (UnexpectedIndent (record { line = (line_spot l).line; column = 1 }))
+unexpected_at l = Err (Placed (record { line = (line_spot l).line; column = 1 }) cause.UnexpectedIndent)
 
-indented_leftmost : (l : Line) (ls : List Line) → kind_of l ≡ IndentedLine → EntryComesLeftmost (l ∷ ls) (UnexpectedIndent (front_of l))
+indented_leftmost : (l : Line) (ls : List Line) → kind_of l ≡ IndentedLine → EntryComesLeftmost (l ∷ ls) (Placed (front_of l) cause.UnexpectedIndent)
 indented_leftmost l ls k =
-    of_kind l ls (UnexpectedIndent (front_of l)) refl refl
+    of_kind l ls (Placed (front_of l) cause.UnexpectedIndent) refl refl
     (λ m ms same.
     let sees = element-front m.units (after_spaces l.units) same in
     by_kind_entry (with_units (spaces_of l.units ++ m.units) m) ms IndentedLine (kind_replaced l.units m.units sees ∙ k)
@@ -201,8 +201,8 @@ leftmost (l ∷ ls) fault apart h = by_kind (kind_of l) refl (λ e. leftmost ls 
     by_kind CommentLine k rest =
         let last = not_last l.is_last (lines_after l (without_comments ls)) ls fault (sym (by_kind_entry l ls CommentLine k) ∙ h) in
         leftmost_after l ls fault (λ ms. by_kind_entry l ms CommentLine k ∙ (ap (λ (t : Bool). cond t (ended (lines_after l (without_comments ms))) (opening ms) >>= entry_from) last.0 ∙ sym (next_is ms))) (rest last.1)
-    by_kind (TabLine tab) k rest = as_fault (l ∷ ls) fault (Bad (lex.Tab tab)) (errs (sym (by_kind_entry l ls (TabLine tab) k) ∙ h)) (tab_leftmost l ls tab k)
-    by_kind IndentedLine k rest = as_fault (l ∷ ls) fault (UnexpectedIndent (front_of l)) (errs (sym (by_kind_entry l ls IndentedLine k) ∙ h)) (indented_leftmost l ls k)
+    by_kind (TabLine tab) k rest = as_fault (l ∷ ls) fault (Placed tab cause.Tab) (errs (sym (by_kind_entry l ls (TabLine tab) k) ∙ h)) (tab_leftmost l ls tab k)
+    by_kind IndentedLine k rest = as_fault (l ∷ ls) fault (Placed (front_of l) cause.UnexpectedIndent) (errs (sym (by_kind_entry l ls IndentedLine k) ∙ h)) (indented_leftmost l ls k)
     by_kind BlankLine k rest =
         let last = not_last l.is_last (lines_after l ls) ls fault (sym (by_kind_entry l ls BlankLine k) ∙ h) in
         leftmost_after l ls fault (λ ms. by_kind_entry l ms BlankLine k ∙ (ap (λ (t : Bool). cond t (ended (lines_after l ms)) (opening ms) >>= entry_from) last.0 ∙ sym (next_is ms))) (rest last.1)

@@ -3,14 +3,16 @@
 use Rattle.std.proofs.Common.{◌≡◌, ℕ, zero, suc, Bool, true, false, not, Option, Some, None, Result, Ok, Err, List, [], refl, ap, subst, ◌∙◌, sym, codes}
 use Rattle.std.specs.Str.{bytes_eq}
 use Rattle.nj_text.specs.declared.fault.UnitFault.{UnitFault}
+use Rattle.nj_text.specs.declared.fault.UnitFault.TheVariants as unit_fault
 use Rattle.nj_text.specs.declared.sign.Sign.{Sign}
 use Rattle.nj_text.specs.declared.sign.Sign.TheVariants as sign
 use Rattle.nj_text.specs.declared.spot.Spot.{Spot}
 use Rattle.nj_text.specs.Words.{WordModel}
 use Rattle.nj_text.specs.Calls.{State, Reply, skip_blanks_of, ident_of, sign_of, path_word_of, value_of, spot_of, fault_spot}
+use Rattle.nj_manifest.specs.declared.cause.SyntaxCause.TheVariants as cause
 use Rattle.nj_manifest.specs.declared.cause.Wanted.{Wanted}
 use Rattle.nj_manifest.specs.declared.cause.Wanted.TheVariants as wanted
-use Rattle.nj_manifest.specs.Faults.{Fault, Bad, Expected, UnknownKey, DyndepShape}
+use Rattle.nj_manifest.specs.Faults.{Fault, Placed, bad_unit}
 use Rattle.nj_manifest.specs.LineSteps.{Step, ◌>>=◌, called, NameModel, name_next, expect_sign, words_within, words_next, section_next}
 use Rattle.nj_manifest.specs.Statements.{equals_value}
 use Rattle.nj_manifest.specs.Dyndeps.{EntryModel, word_of_form, is_same_spot, no_path_by, no_path, no_section, output_next, added_inputs, entry_line}
@@ -22,10 +24,10 @@ use Rattle.nj_manifest.proofs.EntryBlocks.{first_output, output-steps}
 -- ---- marks
 
 abbrev pub marked : Spot → Fault
-marked spot = UnknownKey spot []
+marked spot = Placed spot (cause.UnknownKey [])
 
 abbrev pub real : Fault → Fault
-real (UnknownKey spot key) = DyndepShape spot
+real (Placed spot (cause.UnknownKey key)) = Placed spot cause.DyndepShape
 real fault = fault
 
 -- a reading, with the intended faults
@@ -50,9 +52,14 @@ kept-bind : {A B : Type 0} (r : Result A Fault) (f : A → Result B Fault) → K
 kept-bind (Ok x) f k h = h x
 kept-bind (Err e) f k h = k
 
+real_bad : (unit : UnitFault) → real (bad_unit unit) ≡ bad_unit unit
+real_bad (unit_fault.BadByte spot) = refl
+real_bad (unit_fault.Tab spot) = refl
+real_bad (unit_fault.BadEscape spot) = refl
+
 pub kept-called : {A : Type 0} (r : Reply A) → Kept (called r)
 kept-called (Ok x) = tt
-kept-called (Err f) = refl
+kept-called (Err f) = real_bad f
 
 kept-named : (want : Wanted) (spot : Spot) (name : Option (List ℕ)) (s : State) → Kept (named want spot name s)
 kept-named want spot (Some name) s = tt
@@ -113,11 +120,11 @@ pub word-reported : {B : Type 0} (word : List ℕ) (want : Wanted) (s : State) (
 unfolding word_of_form
 word-reported {B = B} word want s f g h = by_name (name_next want s) (kept-name want s)
   where
-    by_test : (t : Bool) (n : NameModel × State) → reported (unless_missing t (marked n.0.spot) (f n.1)) ≡ (unless_missing t (DyndepShape n.0.spot) (Ok n.1) >>= g)
+    by_test : (t : Bool) (n : NameModel × State) → reported (unless_missing t (marked n.0.spot) (f n.1)) ≡ (unless_missing t (Placed n.0.spot cause.DyndepShape) (Ok n.1) >>= g)
     by_test true n = h n.1
     by_test false n = refl
 
-    by_name : (r : Step NameModel) → Kept r → reported (r >>= this_word word f) ≡ ((r >>= λ name. unless_missing (bytes_eq name.0.name word) (DyndepShape name.0.spot) (Ok name.1)) >>= g)
+    by_name : (r : Step NameModel) → Kept r → reported (r >>= this_word word f) ≡ ((r >>= λ name. unless_missing (bytes_eq name.0.name word) (Placed name.0.spot cause.DyndepShape) (Ok name.1)) >>= g)
     by_name (Ok n) k = by_test (bytes_eq n.0.name word) n
     by_name (Err e) k = ap Err k
 
@@ -125,7 +132,7 @@ word-reported {B = B} word want s f g h = by_name (name_next want s) (kept-name 
 abbrev pub path_by : Spot → Reply (Option WordModel) → Step Bool
 path_by spot (Ok (None, after)) = Ok (true, after)
 path_by spot (Ok (Some word, after)) = Err (marked spot)
-path_by spot (Err unit) = unless_missing (is_same_spot (fault_spot unit) spot) (marked spot) (Err (Bad unit))
+path_by spot (Err unit) = unless_missing (is_same_spot (fault_spot unit) spot) (marked spot) (Err (bad_unit unit))
 
 abbrev pub path_step : State → Step Bool
 path_step s = let here = skip_blanks_of s in path_by (spot_of here) (path_word_of here)
@@ -134,8 +141,8 @@ path-reported : {B : Type 0} (s : State) (f g : State → Result B Fault) → ((
 unfolding no_path
 path-reported {B = B} s f g h = let here = skip_blanks_of s in by_reply (spot_of here) (path_word_of here)
   where
-    by_test : (t : Bool) (spot : Spot) (unit : UnitFault) → reported (◌>>=◌ {A = Bool × State} (unless_missing t (marked spot) (Err (Bad unit))) (λ c. f c.1)) ≡ (◌>>=◌ {A = State} (unless_missing t (DyndepShape spot) (Err (Bad unit))) g)
-    by_test true spot unit = refl
+    by_test : (t : Bool) (spot : Spot) (unit : UnitFault) → reported (◌>>=◌ {A = Bool × State} (unless_missing t (marked spot) (Err (bad_unit unit))) (λ c. f c.1)) ≡ (◌>>=◌ {A = State} (unless_missing t (Placed spot cause.DyndepShape) (Err (bad_unit unit))) g)
+    by_test true spot unit = ap Err (real_bad unit)
     by_test false spot unit = refl
 
     by_reply : (spot : Spot) (r : Reply (Option WordModel)) → reported (path_by spot r >>= λ c. f c.1) ≡ (no_path_by spot r >>= g)
@@ -148,7 +155,7 @@ abbrev pub unbarred : Spot → Bool × State → Step Bool
 unbarred spot there = unless_missing (not there.0) (marked spot) (Ok (true, there.1))
 
 abbrev no_bar : Spot → Bool × State → Result State Fault
-no_bar spot there = unless_missing (not there.0) (DyndepShape spot) (Ok there.1)
+no_bar spot there = unless_missing (not there.0) (Placed spot cause.DyndepShape) (Ok there.1)
 
 abbrev pub bar_step : Sign → State → Step Bool
 bar_step want s = called (sign_of want (skip_blanks_of s)) >>= unbarred (spot_of (skip_blanks_of s))
@@ -157,7 +164,7 @@ bar-reported : {B : Type 0} (want : Sign) (s : State) (f g : State → Result B 
 unfolding no_section
 bar-reported {B = B} want s f g h = by_sign (called (sign_of want (skip_blanks_of s))) (kept-called (sign_of want (skip_blanks_of s))) (spot_of (skip_blanks_of s))
   where
-    by_test : (t : Bool) (after : State) (spot : Spot) → reported (◌>>=◌ {A = Bool × State} (unless_missing t (marked spot) (Ok (true, after))) (λ c. f c.1)) ≡ (◌>>=◌ {A = State} (unless_missing t (DyndepShape spot) (Ok after)) g)
+    by_test : (t : Bool) (after : State) (spot : Spot) → reported (◌>>=◌ {A = Bool × State} (unless_missing t (marked spot) (Ok (true, after))) (λ c. f c.1)) ≡ (◌>>=◌ {A = State} (unless_missing t (Placed spot cause.DyndepShape) (Ok after)) g)
     by_test true after spot = h after
     by_test false after spot = refl
 
@@ -169,7 +176,7 @@ bar-reported {B = B} want s f g h = by_sign (called (sign_of want (skip_blanks_o
 -- the first output
 abbrev pub output_there : Option WordModel → State → Step WordModel
 output_there (Some word) after = Ok (word, after)
-output_there None after = called (sign_of sign.Pipe after) >>= λ pipe. unless_missing (not pipe.0) (marked (spot_of after)) (Err (Expected (spot_of after) wanted.Path))
+output_there None after = called (sign_of sign.Pipe after) >>= λ pipe. unless_missing (not pipe.0) (marked (spot_of after)) (Err (Placed (spot_of after) (cause.Expected wanted.Path)))
 
 abbrev pub output_word : State → Step WordModel
 output_word s = called (path_word_of s) >>= λ found. output_there found.0 found.1
@@ -187,8 +194,8 @@ output-reported {B = B} s f g h = by_word (called (path_word_of s)) (kept-called
     after_word w a = path-reported a (f w) (g w) (h w) ∙ sym (bind-bind (no_path a) (read w) (λ out. g out.0 out.1))
 
     by_pipe : (r : Step Bool) → Kept r → (spot : Spot)
-        → reported (◌>>=◌ {A = WordModel × State} (r >>= λ pipe. unless_missing (not pipe.0) (marked spot) (Err (Expected spot wanted.Path))) then)
-        ≡ (◌>>=◌ {A = WordModel × State} (◌>>=◌ {A = WordModel × State} (r >>= λ pipe. unless_missing (not pipe.0) (DyndepShape spot) (Err (Expected spot wanted.Path))) (λ out. no_path out.1 >>= read out.0)) (λ out. g out.0 out.1))
+        → reported (◌>>=◌ {A = WordModel × State} (r >>= λ pipe. unless_missing (not pipe.0) (marked spot) (Err (Placed spot (cause.Expected wanted.Path)))) then)
+        ≡ (◌>>=◌ {A = WordModel × State} (◌>>=◌ {A = WordModel × State} (r >>= λ pipe. unless_missing (not pipe.0) (Placed spot cause.DyndepShape) (Err (Placed spot (cause.Expected wanted.Path)))) (λ out. no_path out.1 >>= read out.0)) (λ out. g out.0 out.1))
     by_pipe (Ok (true, after)) k spot = refl
     by_pipe (Ok (false, after)) k spot = refl
     by_pipe (Err e) k spot = ap Err k

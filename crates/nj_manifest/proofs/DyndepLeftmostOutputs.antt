@@ -11,14 +11,15 @@ use Rattle.nj_text.specs.Words.{is_blank, opens_word, in_word, next_fault, WordM
 use Rattle.nj_text.specs.Calls.{State, unless_fault, is_empty, is_sign, state_after_sign}
 use Rattle.nj_text.specs.Inside.States.{reply}
 use Rattle.nj_text.proofs.Lists.{AllIn, AllIn-take_while, take_while-cons_yes}
+use Rattle.nj_manifest.specs.declared.cause.SyntaxCause.TheVariants as cause
 use Rattle.nj_manifest.specs.declared.cause.Wanted.TheVariants as wanted
-use Rattle.nj_manifest.specs.Faults.{Fault, Bad, Expected}
+use Rattle.nj_manifest.specs.Faults.{Fault, Placed, bad_unit}
 use Rattle.nj_manifest.specs.LineSteps.{Step, ◌>>=◌, called}
 use Rattle.nj_manifest.specs.Leftmost.{are_plain, offers}
 use Rattle.nj_manifest.proofs.Choices.{unless_missing}
 use Rattle.nj_manifest.proofs.LeftmostRuns.{both_parts, after_stops, none_passed, skip, skip_stops, gap_of, gap_passes, gap_cut}
 use Rattle.nj_manifest.proofs.LeftmostFronts.{front, same-head, fault-same, sign-same, element-front}
-use Rattle.nj_manifest.proofs.LeftmostSteps.{at, text, after_name, after_words, Fits, fits-gap, Passes, FailsAt, fault-place}
+use Rattle.nj_manifest.proofs.LeftmostSteps.{at, text, after_name, after_words, Fits, fits-gap, Passes, FailsAt, bad-place, bad-kept, bad-offers}
 use Rattle.nj_manifest.proofs.LeftmostNames.{no_blank_there}
 use Rattle.nj_manifest.proofs.LeftmostWords.{settled, settled_so, settled_blank, settled_fault, settled_same, settled_ends, ends_word, ends_same, so_not, both_so, is-sound, opening_in, word_of, word_x, word_reads, word_fails, no_word_reads, bad_word_reads, one_more_reads, fits-word}
 use Rattle.nj_manifest.proofs.LeftmostSections.{colon_settled}
@@ -59,13 +60,13 @@ spot-same x y d e h n = by_units x y (same-head x y h) n
 
 -- by the fault there, and whether `|` is there
 abbrev missing_by : Option UnitFault → Bool → (there other : State) → Spot → Step WordModel
-missing_by f t there other spot = called (unless_fault f (cond t (reply true there) (reply false other))) >>= λ pipe. unless_missing (not pipe.0) (marked spot) (Err (Expected spot wanted.Path))
+missing_by f t there other spot = called (unless_fault f (cond t (reply true there) (reply false other))) >>= λ pipe. unless_missing (not pipe.0) (marked spot) (Err (Placed spot (cause.Expected wanted.Path)))
 
-missing_is : (f : Option UnitFault) (t u : Bool) (there other : State) (spot : Spot) → f ≡ None → t ≡ u → missing_by f t there other spot ≡ Err (cond u (marked spot) (Expected spot wanted.Path))
+missing_is : (f : Option UnitFault) (t u : Bool) (there other : State) (spot : Spot) → f ≡ None → t ≡ u → missing_by f t there other spot ≡ Err (cond u (marked spot) (Placed spot (cause.Expected wanted.Path)))
 missing_is f t true there other spot h g = rw (h, g) refl
 missing_is f t false there other spot h g = rw (h, g) refl
 
-output_missing : (x : List TextUnit) (d : Line) (ms : List Line) (u : Bool) → settled x ≡ true → is_sign sign.Pipe x ≡ u → output_there None (at x d ms) ≡ Err (cond u (marked (spot_of_first x d.end)) (Expected (spot_of_first x d.end) wanted.Path))
+output_missing : (x : List TextUnit) (d : Line) (ms : List Line) (u : Bool) → settled x ≡ true → is_sign sign.Pipe x ≡ u → output_there None (at x d ms) ≡ Err (cond u (marked (spot_of_first x d.end)) (Placed (spot_of_first x d.end) (cause.Expected wanted.Path)))
 output_missing x d ms u h g =
     ap (λ (y : List TextUnit). missing_by (next_fault y) (is_sign sign.Pipe y) (state_after_sign sign.Pipe (with_units y d) ms) (at y d ms) (spot_of_first x d.end)) (none_passed is_blank x (settled_blank x h))
     ∙ missing_is _ _ u _ _ _ (settled_fault x h) g
@@ -93,19 +94,19 @@ first_stuck us e fault o n = record {
   reads = λ d ms. found_some _ word_x (at (text after_output) d ms) (one_more_reads (gap_of us) (text after_output) d ms (gap_passes us) refl);
 }
 
-bad_first : (us : List TextUnit) (e : Line) (bad : UnitFault) → next_fault (skip us) ≡ Some bad → FailsAt output_word us e (Bad bad) (gap_of us) (skip us)
+bad_first : (us : List TextUnit) (e : Line) (bad : UnitFault) → next_fault (skip us) ≡ Some bad → FailsAt output_word us e (bad_unit bad) (gap_of us) (skip us)
 bad_first us e bad f = record {
   cut = gap_cut us;
-  place = fault-place (skip us) e.end bad f;
-  fails = λ ms. ap (λ (y : List TextUnit). output_word (at y e ms)) (gap_cut us) ∙ found_bad _ (Bad bad) (bad_word_reads (gap_of us) (skip us) e ms bad (gap_passes us) (skip_stops us) f);
+  place = bad-place (skip us) e bad f;
+  fails = λ ms. ap (λ (y : List TextUnit). output_word (at y e ms)) (gap_cut us) ∙ found_bad _ (bad_unit bad) (bad_word_reads (gap_of us) (skip us) e ms bad (gap_passes us) (skip_stops us) f);
   refuses = λ x d ms same.
-      found_bad _ (Bad bad) (bad_word_reads (gap_of us) x d ms bad (gap_passes us) (no_blank_there us x same) (fault-same x (skip us) (element-front x (skip us) same) ∙ f));
+      found_bad _ (bad_unit bad) (bad_word_reads (gap_of us) x d ms bad (gap_passes us) (no_blank_there us x same) (fault-same x (skip us) (element-front x (skip us) same) ∙ f)) ∙ bad-kept (with_units x d) bad;
 }
 
-none_read : (gap x : List TextUnit) (d : Line) (ms : List Line) (u : Bool) → AllIn is_blank gap → settled x ≡ true → is_sign sign.Pipe x ≡ u → output_word (at (gap ++ x) d ms) ≡ Err (cond u (marked (spot_of_first x d.end)) (Expected (spot_of_first x d.end) wanted.Path))
+none_read : (gap x : List TextUnit) (d : Line) (ms : List Line) (u : Bool) → AllIn is_blank gap → settled x ≡ true → is_sign sign.Pipe x ≡ u → output_word (at (gap ++ x) d ms) ≡ Err (cond u (marked (spot_of_first x d.end)) (Placed (spot_of_first x d.end) (cause.Expected wanted.Path)))
 none_read gap x d ms u a h g = found_none _ (at x d ms) (no_word_reads gap x d ms a h) ∙ output_missing x d ms u h g
 
-none_first : (us : List TextUnit) (e : Line) → settled (skip us) ≡ true → is_sign sign.Pipe (skip us) ≡ false → FailsAt output_word us e (Expected (spot_of_first (skip us) e.end) wanted.Path) (gap_of us) (skip us)
+none_first : (us : List TextUnit) (e : Line) → settled (skip us) ≡ true → is_sign sign.Pipe (skip us) ≡ false → FailsAt output_word us e (Placed (spot_of_first (skip us) e.end) (cause.Expected wanted.Path)) (gap_of us) (skip us)
 none_first us e h g = record {
   cut = gap_cut us;
   place = refl;
@@ -131,19 +132,19 @@ pipe_first us e h g = record {
 }
 
 module _ (us : List TextUnit) (u : TextUnit) (run rest : List TextUnit) (e : Line) (o : opens_word u ≡ true) (a : AllIn in_word (u ∷ run)) (c : us ≡ (gap_of us ++ u ∷ run) ++ rest) where
-  bad_after : (bad : UnitFault) → next_fault rest ≡ Some bad → OutputStuck us e (Bad bad)
+  bad_after : (bad : UnitFault) → next_fault rest ≡ Some bad → OutputStuck us e (bad_unit bad)
   bad_after bad f = record {
     used = gap_of us ++ u ∷ run;
     left = rest;
     here = record {
       cut = c;
-      place = fault-place rest e.end bad f;
-      fails = λ ms. ap (λ (y : List TextUnit). output_word (at y e ms)) c ∙ found_bad _ (Bad bad) (word_fails (gap_of us) u run rest e ms bad (gap_passes us) o a f);
-      refuses = λ x d ms same. found_bad _ (Bad bad) (word_fails (gap_of us) u run x d ms bad (gap_passes us) o a (fault-same x rest (element-front x rest same) ∙ f));
+      place = bad-place rest e bad f;
+      fails = λ ms. ap (λ (y : List TextUnit). output_word (at y e ms)) c ∙ found_bad _ (bad_unit bad) (word_fails (gap_of us) u run rest e ms bad (gap_passes us) o a f);
+      refuses = λ x d ms same. found_bad _ (bad_unit bad) (word_fails (gap_of us) u run x d ms bad (gap_passes us) o a (fault-same x rest (element-front x rest same) ∙ f)) ∙ bad-kept (with_units x d) bad;
     };
     bytes = after_output;
     plain = refl;
-    offered = refl;
+    offered = bad-offers bad after_output;
     word = word_of u run;
     fits = fits-word after_name us (gap_of us) u run rest (text after_output) (gap_passes us) o c;
     reads = λ d ms. found_some _ (word_of u run) (at (text after_output) d ms) (word_reads (gap_of us) u run (text after_output) d ms (gap_passes us) o a refl);
@@ -167,7 +168,7 @@ pub output_seen : (us : List TextUnit) (e : Line) → OutputSeen us e
 output_seen us e = by_fault (next_fault (skip us)) refl
   where
     by_end : (u : TextUnit) (run rest : List TextUnit) → opens_word u ≡ true → AllIn in_word (u ∷ run) → begins_with in_word rest ≡ false → us ≡ (gap_of us ++ u ∷ run) ++ rest → (f : Option UnitFault) → next_fault rest ≡ f → OutputSeen us e
-    by_end u run rest o a n c (Some bad) f = ends_here (Bad bad) (bad_after us u run rest e o a c bad f)
+    by_end u run rest o a n c (Some bad) f = ends_here (bad_unit bad) (bad_after us u run rest e o a c bad f)
     by_end u run rest o a n c None f = reads_on (output_passes us u run rest e o a c (both_so _ _ (so_not _ n) (is-sound _ f)))
 
     by_run : (run : List TextUnit) → AllIn in_word run → (r : List TextUnit) → skip us ≡ r → begins_with opens_word r ≡ true → take_while in_word r ≡ run → OutputSeen us e
@@ -196,5 +197,5 @@ output_seen us e = by_fault (next_fault (skip us)) refl
     by_word true w f = by_run (take_while in_word (skip us)) (AllIn-take_while in_word (skip us)) (skip us) refl w refl
 
     by_fault : (f : Option UnitFault) → next_fault (skip us) ≡ f → OutputSeen us e
-    by_fault (Some bad) f = ends_here (Bad bad) (first_stuck us e (Bad bad) refl (bad_first us e bad f))
+    by_fault (Some bad) f = ends_here (bad_unit bad) (first_stuck us e (bad_unit bad) (bad-offers bad _) (bad_first us e bad f))
     by_fault None f = by_word (begins_with opens_word (skip us)) refl f

@@ -14,7 +14,7 @@ use Rattle.nj_text.specs.Calls.{State, Between, Inside, Failed, Reply, unless_fa
 use Rattle.nj_text.specs.Inside.States.{reply}
 use Rattle.nj_text.proofs.Lists.{AllIn}
 use Rattle.nj_manifest.specs.declared.cause.Wanted.{Wanted}
-use Rattle.nj_manifest.specs.Faults.{Fault, Bad}
+use Rattle.nj_manifest.specs.Faults.{Fault, bad_unit}
 use Rattle.nj_manifest.specs.LineSteps.{Step, ◌>>=◌, called, name_next}
 use Rattle.nj_manifest.specs.Leftmost.{written, are_plain, offers_next, offers}
 use Rattle.nj_manifest.specs.Dyndeps.{is_same_spot}
@@ -22,7 +22,7 @@ use Rattle.nj_manifest.specs.DyndepLeftmost.{are_apart}
 use Rattle.nj_manifest.proofs.Choices.{unless_missing}
 use Rattle.nj_manifest.proofs.LeftmostRuns.{none_passed, skip, skip_again, skip_stops, skip_gap, gap_of, gap_passes, gap_cut}
 use Rattle.nj_manifest.proofs.LeftmostFronts.{front, begins-same, fault-same, sign-same, front-append, element-front}
-use Rattle.nj_manifest.proofs.LeftmostSteps.{at, text, after_name, after_words, Fits, fits-gap, Passes, FailsAt, fault-place, Claim, Along, Outcome, stuck, stick, pass}
+use Rattle.nj_manifest.proofs.LeftmostSteps.{at, text, after_name, after_words, Fits, fits-gap, Passes, FailsAt, fault-place, bad-place, bad-kept, bad-offers, Claim, Along, Outcome, stuck, stick, pass}
 use Rattle.nj_manifest.proofs.LeftmostNames.{NamePasses, name_skips, no_blank_there}
 use Rattle.nj_manifest.proofs.LeftmostWords.{not_so, settled, settled_so, settled_blank, settled_fault, settled_same, opening_in}
 use Rattle.nj_manifest.proofs.LeftmostSections.{IsMark, fits_settled}
@@ -64,7 +64,7 @@ elsewhere p spot end (u ∷ us) h n = by_test (p u) n (elsewhere p spot end us (
 
 -- by the fault there, and whether a word opens there
 abbrev clear_by : Option UnitFault → Bool → Spot → State → Step Bool
-clear_by (Some bad) opens spot s = Err (Bad bad)
+clear_by (Some bad) opens spot s = Err (bad_unit bad)
 clear_by None true spot s = Err (marked spot)
 clear_by None false spot s = Ok (true, s)
 
@@ -96,8 +96,8 @@ module _ (us : List TextUnit) (e : Line) (ms : List Line) where
       let r = word_by f t g (reply (Some (record { spot = spot_of_first us e.end; parts = parts_of (take_while in_word us) })) (at (drop_while in_word us) e ms)) (reply None (at us e ms)) in
       path_by (spot_of_first us e.end) r
 
-  same_spot : (bad : UnitFault) (t : Bool) → is_same_spot (fault_spot bad) (spot_of_first us e.end) ≡ t → path_by (spot_of_first us e.end) (Err bad) ≡ unless_missing t (marked (spot_of_first us e.end)) (Err (Bad bad))
-  same_spot bad t h = ap (λ (t : Bool). unless_missing t (marked (spot_of_first us e.end)) (Err (Bad bad))) h
+  same_spot : (bad : UnitFault) (t : Bool) → is_same_spot (fault_spot bad) (spot_of_first us e.end) ≡ t → path_by (spot_of_first us e.end) (Err bad) ≡ unless_missing t (marked (spot_of_first us e.end)) (Err (bad_unit bad))
+  same_spot bad t h = ap (λ (t : Bool). unless_missing t (marked (spot_of_first us e.end)) (Err (bad_unit bad))) h
 
 word_after : (us : List TextUnit) (e : Line) (bad : UnitFault) → are_apart us ≡ true → begins_with opens_word us ≡ true → next_fault (drop_while in_word us) ≡ Some bad → is_same_spot (fault_spot bad) (spot_of_first us e.end) ≡ false
 word_after [] e bad a o h = absurd cc
@@ -159,7 +159,7 @@ clear_ok f t spot s h g = rw (h, g) refl
 clear_word : (f : Option UnitFault) (t : Bool) (spot : Spot) (s : State) → f ≡ None → t ≡ true → clear_by f t spot s ≡ Err (marked spot)
 clear_word f t spot s h g = rw (h, g) refl
 
-clear_bad : (f : Option UnitFault) (t : Bool) (spot : Spot) (s : State) (bad : UnitFault) → f ≡ Some bad → clear_by f t spot s ≡ Err (Bad bad)
+clear_bad : (f : Option UnitFault) (t : Bool) (spot : Spot) (s : State) (bad : UnitFault) → f ≡ Some bad → clear_by f t spot s ≡ Err (bad_unit bad)
 clear_bad f t spot s bad h = rw h refl
 
 clear_after : (gap x : List TextUnit) (d : Line) (ms : List Line) → AllIn is_blank gap → begins_with is_blank x ≡ false → clear_step (at (gap ++ x) d ms) ≡ clear_at x d ms
@@ -184,12 +184,12 @@ clear_passes t us more h = record {
     by_fit x (inl f) = fits-gap t us x (more x f)
     by_fit x (inr f) = inr (front-append (gap_of us) x (skip us) f ∙ ap front (sym (gap_cut us)))
 
-bad_there : (us : List TextUnit) (e : Line) (bad : UnitFault) → next_fault (skip us) ≡ Some bad → FailsAt clear_step us e (Bad bad) (gap_of us) (skip us)
+bad_there : (us : List TextUnit) (e : Line) (bad : UnitFault) → next_fault (skip us) ≡ Some bad → FailsAt clear_step us e (bad_unit bad) (gap_of us) (skip us)
 bad_there us e bad f = record {
   cut = gap_cut us;
-  place = fault-place (skip us) e.end bad f;
+  place = bad-place (skip us) e bad f;
   fails = λ ms. clear_bad _ _ _ _ bad f;
-  refuses = λ x d ms same. clear_after (gap_of us) x d ms (gap_passes us) (no_blank_there us x same) ∙ clear_bad _ _ _ _ bad (fault-same x (skip us) (element-front x (skip us) same) ∙ f);
+  refuses = λ x d ms same. clear_after (gap_of us) x d ms (gap_passes us) (no_blank_there us x same) ∙ clear_bad _ _ _ _ bad (fault-same x (skip us) (element-front x (skip us) same) ∙ f) ∙ bad-kept (with_units x d) bad;
 }
 
 opening_there : (us : List TextUnit) → begins_with opens_word us ≡ true → is_empty us ≡ false
@@ -288,7 +288,7 @@ module _ {B : Type 0} {P : Claim B} {whole : List TextUnit} (e : Line) where
           next h (pass k clear_step g so a (clear_passes t us more h))
 
       by_fault : (f : Option UnitFault) → next_fault (skip us) ≡ f → Outcome P whole e
-      by_fault (Some bad) f = stuck_at (Bad bad) (λ bytes. refl) (bad_there us e bad f)
+      by_fault (Some bad) f = stuck_at (bad_unit bad) (bad-offers bad) (bad_there us e bad f)
       by_fault None f = by_word (begins_with opens_word (skip us)) refl f
 
   -- No section begins_with here with this sign.

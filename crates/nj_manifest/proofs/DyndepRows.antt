@@ -1,12 +1,12 @@
 -- Worked rows of dyndep files, computed on the definitions.
 use Rattle.std.proofs.Common.{◌≡◌, ℕ, Option, Some, None, Result, Ok, Err, List, [], ◌∷◌, refl}
 use Rattle.std.specs.Prelude.{⊤, codes}
-use Rattle.nj_text.specs.declared.fault.UnitFault.TheVariants as unit_fault
 use Rattle.nj_text.specs.Units.{cut}
 use Rattle.nj_text.specs.Lines.{text_lines}
 use Rattle.nj_text.specs.Words.{WordModel, Text, Name}
+use Rattle.nj_manifest.specs.declared.cause.SyntaxCause.TheVariants as cause
 use Rattle.nj_manifest.specs.declared.cause.Wanted.TheVariants as wanted
-use Rattle.nj_manifest.specs.Faults.{Fault, Bad, Expected, UnexpectedIndent, DyndepVersion, DyndepShape}
+use Rattle.nj_manifest.specs.Faults.{Fault, Placed}
 use Rattle.nj_manifest.specs.LineSteps.{name_next, expect_sign, words_within, words_next, section_next}
 use Rattle.nj_manifest.specs.Statements.{equals_value}
 use Rattle.nj_manifest.specs.Openings.{Parse, opening}
@@ -78,15 +78,15 @@ patch_is_ignored : first_of (codes "\n# c\nninja_dyndep_version = 1.0.7-x") ≡ 
 unfolding on_dyndeps
 patch_is_ignored = refl
 
-empty_file : first_of [] ≡ Err (DyndepVersion (at 1 1))
+empty_file : first_of [] ≡ Err (Placed (at 1 1) cause.DyndepVersion)
 unfolding on_dyndeps
 empty_file = refl
 
-comments_alone : first_of (codes "# c\n\n  ") ≡ Err (DyndepVersion (at 3 3))
+comments_alone : first_of (codes "# c\n\n  ") ≡ Err (Placed (at 3 3) cause.DyndepVersion)
 unfolding on_dyndeps
 comments_alone = refl
 
-newer_version : first_of (codes "ninja_dyndep_version = 1.1\nbuild o p") ≡ Err (DyndepVersion (at 1 1))
+newer_version : first_of (codes "ninja_dyndep_version = 1.1\nbuild o p") ≡ Err (Placed (at 1 1) cause.DyndepVersion)
 unfolding on_dyndeps
 newer_version = refl
 
@@ -94,122 +94,122 @@ version_with_a_suffix : first_of (codes "ninja_dyndep_version = 1.0-x") ≡ Ok N
 unfolding on_dyndeps
 version_with_a_suffix = refl
 
-second_major_version : first_of (codes "ninja_dyndep_version = 2") ≡ Err (DyndepVersion (at 1 1))
+second_major_version : first_of (codes "ninja_dyndep_version = 2") ≡ Err (Placed (at 1 1) cause.DyndepVersion)
 unfolding on_dyndeps
 second_major_version = refl
 
-version_of_a_reference : first_of (codes "ninja_dyndep_version = ${one}") ≡ Err (DyndepVersion (at 1 1))
+version_of_a_reference : first_of (codes "ninja_dyndep_version = ${one}") ≡ Err (Placed (at 1 1) cause.DyndepVersion)
 unfolding on_dyndeps
 version_of_a_reference = refl
 
-other_statement_first : first_of (codes "build o$!: dyndep") ≡ Err (DyndepVersion (at 1 1))
+other_statement_first : first_of (codes "build o$!: dyndep") ≡ Err (Placed (at 1 1) cause.DyndepVersion)
 unfolding on_dyndeps
 other_statement_first = refl
 
-version_without_sign : first_of (codes "ninja_dyndep_version 1") ≡ Err (Expected (at 1 22) wanted.Equals)
+version_without_sign : first_of (codes "ninja_dyndep_version 1") ≡ Err (Placed (at 1 22) (cause.Expected wanted.Equals))
 unfolding on_dyndeps
 version_without_sign = refl
 
-bad_version : first_of (codes "ninja_dyndep_version = $!") ≡ Err (Bad (unit_fault.BadEscape (at 1 24)))
+bad_version : first_of (codes "ninja_dyndep_version = $!") ≡ Err (Placed (at 1 24) cause.BadEscape)
 unfolding on_dyndeps
 bad_version = refl
 
-no_identifier : first_of (codes "= 1") ≡ Err (Expected (at 1 1) wanted.Statement)
+no_identifier : first_of (codes "= 1") ≡ Err (Placed (at 1 1) (cause.Expected wanted.Statement))
 unfolding on_dyndeps
 no_identifier = refl
 
-indented_version : first_of (codes "  ninja_dyndep_version = 1") ≡ Err (UnexpectedIndent (at 1 1))
+indented_version : first_of (codes "  ninja_dyndep_version = 1") ≡ Err (Placed (at 1 1) cause.UnexpectedIndent)
 unfolding on_dyndeps
 indented_version = refl
 
-tab_first : first_of (codes "\tx") ≡ Err (Bad (unit_fault.Tab (at 1 1)))
+tab_first : first_of (codes "\tx") ≡ Err (Placed (at 1 1) cause.Tab)
 unfolding on_dyndeps
 tab_first = refl
 
 -- ---- texts that depart from the form
 
-other_kind : entry_in (codes "rule $!") ≡ Err (DyndepShape (at 1 1))
+other_kind : entry_in (codes "rule $!") ≡ Err (Placed (at 1 1) cause.DyndepShape)
 unfolding on_dyndeps
 other_kind = refl
 
-second_output : entry_in (codes "build o p") ≡ Err (DyndepShape (at 1 9))
+second_output : entry_in (codes "build o p") ≡ Err (Placed (at 1 9) cause.DyndepShape)
 unfolding on_dyndeps
 second_output = refl
 
-broken_second_output : entry_in (codes "build o p$!: dyndep") ≡ Err (DyndepShape (at 1 9))
+broken_second_output : entry_in (codes "build o p$!: dyndep") ≡ Err (Placed (at 1 9) cause.DyndepShape)
 unfolding on_dyndeps
 broken_second_output = refl
 
-bad_unit_after_output : entry_in (codes "build o $!: dyndep") ≡ Err (Bad (unit_fault.BadEscape (at 1 9)))
+bad_unit_after_output : entry_in (codes "build o $!: dyndep") ≡ Err (Placed (at 1 9) cause.BadEscape)
 unfolding on_dyndeps
 bad_unit_after_output = refl
 
-no_explicit_output : entry_in (codes "build | x: dyndep") ≡ Err (DyndepShape (at 1 7))
+no_explicit_output : entry_in (codes "build | x: dyndep") ≡ Err (Placed (at 1 7) cause.DyndepShape)
 unfolding on_dyndeps
 no_explicit_output = refl
 
-no_output : entry_in (codes "build : dyndep") ≡ Err (Expected (at 1 7) wanted.Path)
+no_output : entry_in (codes "build : dyndep") ≡ Err (Placed (at 1 7) (cause.Expected wanted.Path))
 unfolding on_dyndeps
 no_output = refl
 
-order_only_outputs : entry_in (codes "build o || p: dyndep") ≡ Err (Expected (at 1 9) wanted.Colon)
+order_only_outputs : entry_in (codes "build o || p: dyndep") ≡ Err (Placed (at 1 9) (cause.Expected wanted.Colon))
 unfolding on_dyndeps
 order_only_outputs = refl
 
-no_colon : entry_in (codes "build o") ≡ Err (Expected (at 1 8) wanted.Colon)
+no_colon : entry_in (codes "build o") ≡ Err (Placed (at 1 8) (cause.Expected wanted.Colon))
 unfolding on_dyndeps
 no_colon = refl
 
-other_rule : entry_in (codes "build o: cc") ≡ Err (DyndepShape (at 1 10))
+other_rule : entry_in (codes "build o: cc") ≡ Err (Placed (at 1 10) cause.DyndepShape)
 unfolding on_dyndeps
 other_rule = refl
 
-no_rule : entry_in (codes "build o: ") ≡ Err (Expected (at 1 10) wanted.CommandName)
+no_rule : entry_in (codes "build o: ") ≡ Err (Placed (at 1 10) (cause.Expected wanted.CommandName))
 unfolding on_dyndeps
 no_rule = refl
 
-explicit_input : entry_in (codes "build o: dyndep i") ≡ Err (DyndepShape (at 1 17))
+explicit_input : entry_in (codes "build o: dyndep i") ≡ Err (Placed (at 1 17) cause.DyndepShape)
 unfolding on_dyndeps
 explicit_input = refl
 
-order_only : entry_in (codes "build o: dyndep | i || j") ≡ Err (DyndepShape (at 1 21))
+order_only : entry_in (codes "build o: dyndep | i || j") ≡ Err (Placed (at 1 21) cause.DyndepShape)
 unfolding on_dyndeps
 order_only = refl
 
-validation : entry_in (codes "build o: dyndep |@ v") ≡ Err (DyndepShape (at 1 17))
+validation : entry_in (codes "build o: dyndep |@ v") ≡ Err (Placed (at 1 17) cause.DyndepShape)
 unfolding on_dyndeps
 validation = refl
 
-second_colon : entry_in (codes "build o: dyndep :") ≡ Err (Expected (at 1 17) wanted.Newline)
+second_colon : entry_in (codes "build o: dyndep :") ≡ Err (Placed (at 1 17) (cause.Expected wanted.Newline))
 unfolding on_dyndeps
 second_colon = refl
 
-second_pipe : entry_in (codes "build o: dyndep | i | j") ≡ Err (Expected (at 1 21) wanted.Newline)
+second_pipe : entry_in (codes "build o: dyndep | i | j") ≡ Err (Placed (at 1 21) (cause.Expected wanted.Newline))
 unfolding on_dyndeps
 second_pipe = refl
 
 -- ---- blocks
 
-other_key : entry_in (codes "build o: dyndep\n  foo") ≡ Err (DyndepShape (at 2 3))
+other_key : entry_in (codes "build o: dyndep\n  foo") ≡ Err (Placed (at 2 3) cause.DyndepShape)
 unfolding on_dyndeps
 other_key = refl
 
-second_line : entry_in (codes "build o: dyndep\n  restat = 1\n  restat = 1") ≡ Err (DyndepShape (at 3 3))
+second_line : entry_in (codes "build o: dyndep\n  restat = 1\n  restat = 1") ≡ Err (Placed (at 3 3) cause.DyndepShape)
 unfolding on_dyndeps
 second_line = refl
 
-second_line_without_key : entry_in (codes "build o: dyndep\n  restat = 1\n  = 1") ≡ Err (Expected (at 3 3) wanted.VariableName)
+second_line_without_key : entry_in (codes "build o: dyndep\n  restat = 1\n  = 1") ≡ Err (Placed (at 3 3) (cause.Expected wanted.VariableName))
 unfolding on_dyndeps
 second_line_without_key = refl
 
-second_line_after_a_join : entry_in (codes "build o: dyndep\n  restat = 1\n  $\n  restat = 1") ≡ Err (DyndepShape (at 4 3))
+second_line_after_a_join : entry_in (codes "build o: dyndep\n  restat = 1\n  $\n  restat = 1") ≡ Err (Placed (at 4 3) cause.DyndepShape)
 unfolding on_dyndeps
 second_line_after_a_join = refl
 
-tab_in_block : entry_in (codes "build o: dyndep\n\trestat = 1") ≡ Err (Bad (unit_fault.Tab (at 2 1)))
+tab_in_block : entry_in (codes "build o: dyndep\n\trestat = 1") ≡ Err (Placed (at 2 1) cause.Tab)
 unfolding on_dyndeps
 tab_in_block = refl
 
-indent_after_blank : second_of (codes "ninja_dyndep_version = 1\nbuild o: dyndep\n\n  restat = 1") ≡ Err (UnexpectedIndent (at 4 1))
+indent_after_blank : second_of (codes "ninja_dyndep_version = 1\nbuild o: dyndep\n\n  restat = 1") ≡ Err (Placed (at 4 1) cause.UnexpectedIndent)
 unfolding on_dyndeps
 indent_after_blank = refl

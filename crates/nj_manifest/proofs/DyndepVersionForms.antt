@@ -4,8 +4,9 @@ use Rattle.std.proofs.lemmas.Bool.{and_parts, eqb-true}
 use Rattle.nj_text.specs.Numbers.{version_pair_of}
 use Rattle.nj_text.specs.Lines.{Line, lines_after, Kind, CommentLine, TabLine, BlankLine, IndentedLine, PlainLine, kind_of}
 use Rattle.nj_text.specs.Calls.{State, Between, Inside, without_comments}
+use Rattle.nj_manifest.specs.declared.cause.SyntaxCause.TheVariants as cause
 use Rattle.nj_manifest.specs.declared.cause.Wanted.TheVariants as wanted
-use Rattle.nj_manifest.specs.Faults.{Fault, DyndepVersion}
+use Rattle.nj_manifest.specs.Faults.{Fault, Placed}
 use Rattle.nj_manifest.specs.LineSteps.{◌>>=◌, name_next}
 use Rattle.nj_manifest.specs.Statements.{equals_value, lines_from}
 use Rattle.nj_manifest.specs.Openings.{opening_by, opening}
@@ -52,7 +53,7 @@ line-read l ls f =
     rw (
       name-read wanted.Statement l ls l.units f.binding.after_name _ f.binding.of_name,
       equals_value-read l ls f.binding.after_name f.binding.after_sign f.value f.binding.equals f.binding.of_value,
-    ) (ap (λ (v : ℕ × ℕ). unless_missing (is_first_version v) (DyndepVersion f.spot) (Ok (Between (lines_after l ls)))) f.version)
+    ) (ap (λ (v : ℕ × ℕ). unless_missing (is_first_version v) (Placed f.spot cause.DyndepVersion) (Ok (Between (lines_after l ls)))) f.version)
 
 -- ---- the lines
 

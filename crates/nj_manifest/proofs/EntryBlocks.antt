@@ -6,8 +6,9 @@ use Rattle.nj_text.specs.declared.line_start.LineStart.{LineStart}
 use Rattle.nj_text.specs.declared.line_start.LineStart.TheVariants as start
 use Rattle.nj_text.specs.Words.{WordModel}
 use Rattle.nj_text.specs.Calls.{State, start_line_of, sign_of, path_word_of, spot_of}
+use Rattle.nj_manifest.specs.declared.cause.SyntaxCause.TheVariants as cause
 use Rattle.nj_manifest.specs.declared.cause.Wanted.TheVariants as wanted
-use Rattle.nj_manifest.specs.Faults.{Fault, Expected, DyndepShape}
+use Rattle.nj_manifest.specs.Faults.{Fault, Placed}
 use Rattle.nj_manifest.specs.LineSteps.{Step, ◌>>=◌, called, name_next}
 use Rattle.nj_manifest.specs.Statements.{equals_value}
 use Rattle.nj_manifest.specs.Dyndeps.{word_of_form, no_path, output_next, if_indented, in_block, restat_block}
@@ -17,18 +18,18 @@ use Rattle.nj_manifest.proofs.Choices.{unless_missing}
 
 abbrev pub first_output : Option WordModel → State → Step WordModel
 first_output (Some word) after = Ok (word, after)
-first_output None after = called (sign_of sign.Pipe after) >>= λ pipe. unless_missing (not pipe.0) (DyndepShape (spot_of after)) (Err (Expected (spot_of after) wanted.Path))
+first_output None after = called (sign_of sign.Pipe after) >>= λ pipe. unless_missing (not pipe.0) (Placed (spot_of after) cause.DyndepShape) (Err (Placed (spot_of after) (cause.Expected wanted.Path)))
 
 pub output-steps : (s : State) → output_next s ≡ (called (path_word_of s) >>= λ found. first_output found.0 found.1 >>= λ out. no_path out.1 >>= λ end. Ok (out.0, end))
 unfolding output_next
 output-steps s = by_found (called (path_word_of s))
   where
     none : State → Step Bool → Result WordModel Fault
-    none after r = r >>= λ pipe. Err (cond pipe.0 (DyndepShape (spot_of after)) (Expected (spot_of after) wanted.Path))
+    none after r = r >>= λ pipe. Err (cond pipe.0 (Placed (spot_of after) cause.DyndepShape) (Placed (spot_of after) (cause.Expected wanted.Path)))
 
     by_pipe : (after : State) (r : Step Bool)
         → ◌≡◌ {A = Step WordModel} (none after r >>= λ out. no_path after >>= λ end. Ok (out, end))
-        (◌>>=◌ {A = WordModel × State} (r >>= λ pipe. unless_missing (not pipe.0) (DyndepShape (spot_of after)) (Err (Expected (spot_of after) wanted.Path))) (λ out. no_path out.1 >>= λ end. Ok (out.0, end)))
+        (◌>>=◌ {A = WordModel × State} (r >>= λ pipe. unless_missing (not pipe.0) (Placed (spot_of after) cause.DyndepShape) (Err (Placed (spot_of after) (cause.Expected wanted.Path)))) (λ out. no_path out.1 >>= λ end. Ok (out.0, end)))
     by_pipe after (Ok (true, there)) = refl
     by_pipe after (Ok (false, there)) = refl
     by_pipe after (Err f) = refl
@@ -55,7 +56,7 @@ restat_line s = do
 
 -- a second line of the block, which departs from the form at its key
 abbrev pub line_too_many : State → Result State Fault
-line_too_many s = name_next wanted.VariableName s >>= λ name. Err (DyndepShape name.0.spot)
+line_too_many s = name_next wanted.VariableName s >>= λ name. Err (Placed name.0.spot cause.DyndepShape)
 
 -- after a line of the block
 abbrev pub first_line : State → Result State Fault

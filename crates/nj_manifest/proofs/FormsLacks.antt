@@ -4,13 +4,13 @@ use mathlib.Core.Bool.{beq}
 use Rattle.std.specs.Prelude.{◌↔◌}
 use Rattle.std.specs.List.{list_any}
 use Rattle.std.specs.Str.{bytes_eq}
-use Rattle.nj_text.specs.declared.fault.UnitFault.TheVariants as lex
 use Rattle.nj_text.specs.declared.spot.Spot.{Spot}
 use Rattle.nj_text.specs.Lines.{Line, line_spot, lines_after, Kind, CommentLine, TabLine, BlankLine, IndentedLine, PlainLine, kind_of}
 use Rattle.nj_text.specs.Calls.{Between, without_comments}
+use Rattle.nj_manifest.specs.declared.cause.SyntaxCause.TheVariants as cause
 use Rattle.nj_manifest.specs.declared.block_lines.Keys.{Keys}
 use Rattle.nj_manifest.specs.declared.block_lines.Keys.TheVariants as keys
-use Rattle.nj_manifest.specs.Faults.{Fault, Bad, Expected, UnexpectedIndent, MissingCommand, RspPair, UnknownKey, MissingDepth, DyndepVersion, DyndepShape, OutOfMemory, is_syntax}
+use Rattle.nj_manifest.specs.Faults.{Fault, Placed, OutOfMemory, is_syntax}
 use Rattle.nj_manifest.specs.LineSteps.{◌>>=◌, NameModel}
 use Rattle.nj_manifest.specs.Statements.{LineModel, StatementModel, RuleModel, PoolModel, BuildModel, gives, block, next_statement}
 use Rattle.nj_manifest.specs.Grammar.{BlockForm, Gives, LackForm, NextLacks, HeadModel, Alone, RuleHead, PoolHead, BuildHead}
@@ -36,15 +36,17 @@ no_syntax f h n = absurd (apart (sym h ∙ n))
     apart e = absurd cc
 
 names_syntax : (f : Fault) (l : Line) → NamesThePlaceOf f l → is_syntax f ≡ true
-names_syntax (Bad unit) l h = refl
-names_syntax (Expected spot wanted) l h = refl
-names_syntax (UnexpectedIndent spot) l h = refl
-names_syntax (MissingCommand spot) l h = absurd h
-names_syntax (RspPair spot) l h = absurd h
-names_syntax (UnknownKey spot key) l h = refl
-names_syntax (MissingDepth spot) l h = absurd h
-names_syntax (DyndepVersion spot) l h = absurd h
-names_syntax (DyndepShape spot) l h = absurd h
+names_syntax (Placed spot cause.BadByte) l h = refl
+names_syntax (Placed spot cause.Tab) l h = refl
+names_syntax (Placed spot cause.BadEscape) l h = refl
+names_syntax (Placed spot (cause.Expected wanted)) l h = refl
+names_syntax (Placed spot cause.UnexpectedIndent) l h = refl
+names_syntax (Placed spot cause.MissingCommand) l h = absurd h
+names_syntax (Placed spot cause.RspPair) l h = absurd h
+names_syntax (Placed spot (cause.UnknownKey key)) l h = refl
+names_syntax (Placed spot cause.MissingDepth) l h = absurd h
+names_syntax (Placed spot cause.DyndepVersion) l h = absurd h
+names_syntax (Placed spot cause.DyndepShape) l h = absurd h
 names_syntax OutOfMemory l h = absurd h
 
 block_syntax : {P : Type 0} (allowed : Keys) (ls : List Line) (f : Fault) → block allowed ls ≡ Err f → is_syntax f ≡ false → P
@@ -90,11 +92,11 @@ rule-lacks spot name ls rest lines f b h = by_pair (rsp_agree lines) refl h
     then : Result (List LineModel) Fault → Parse StatementModel
     then r = r >>= λ whole. Ok (RuleModel name whole, rest)
 
-    by_command : (t : Bool) → gives (codes "command") lines ≡ t → rsp_agree lines ≡ true → then (unless_missing t (MissingCommand spot) (Ok lines)) ≡ Err f → LackForm spot (RuleHead name) ls f
+    by_command : (t : Bool) → gives (codes "command") lines ≡ t → rsp_agree lines ≡ true → then (unless_missing t (Placed spot cause.MissingCommand) (Ok lines)) ≡ Err f → LackForm spot (RuleHead name) ls f
     by_command true c p g = no_err g
     by_command false c p g = subst (λ (x : Fault). LackForm spot (RuleHead name) ls x) (errs g) (LackForm.command b (agrees_pair lines p) (λ given. false_is_true _ c (gives-read (codes "command") lines given)))
 
-    by_pair : (t : Bool) → rsp_agree lines ≡ t → then (unless_missing t (RspPair spot) (unless_missing (gives (codes "command") lines) (MissingCommand spot) (Ok lines))) ≡ Err f → LackForm spot (RuleHead name) ls f
+    by_pair : (t : Bool) → rsp_agree lines ≡ t → then (unless_missing t (Placed spot cause.RspPair) (unless_missing (gives (codes "command") lines) (Placed spot cause.MissingCommand) (Ok lines))) ≡ Err f → LackForm spot (RuleHead name) ls f
     by_pair true p g = by_command (gives (codes "command") lines) refl p g
     by_pair false p g = subst (λ (x : Fault). LackForm spot (RuleHead name) ls x) (errs g) (LackForm.pair b (λ both. false_is_true _ p (pair_agrees lines both)))
 
@@ -103,7 +105,7 @@ pool-lacks : (spot : Spot) (name : NameModel) (ls rest : List Line) (lines : Lis
 unfolding whole_pool
 pool-lacks spot name ls rest lines f b h = by_depth (names (codes "depth") lines) refl h
   where
-    by_depth : (t : Bool) → names (codes "depth") lines ≡ t → ◌≡◌ {A = Parse StatementModel} (unless_missing t (MissingDepth spot) (Ok lines) >>= λ whole. Ok (PoolModel name whole, rest)) (Err f) → LackForm spot (PoolHead name) ls f
+    by_depth : (t : Bool) → names (codes "depth") lines ≡ t → ◌≡◌ {A = Parse StatementModel} (unless_missing t (Placed spot cause.MissingDepth) (Ok lines) >>= λ whole. Ok (PoolModel name whole, rest)) (Err f) → LackForm spot (PoolHead name) ls f
     by_depth true d g = no_err g
     by_depth false d g = subst (λ (x : Fault). LackForm spot (PoolHead name) ls x) (errs g) (LackForm.depth b d)
 
@@ -125,15 +127,15 @@ not_so : (t : Bool) → (t ≡ true → ⊥) → t ≡ false
 not_so true h = absurd (h refl)
 not_so false h = refl
 
-pair-refuses : (spot : Spot) (lines : List LineModel) → (Pair lines → ⊥) → whole_rule spot lines ≡ Err (RspPair spot)
+pair-refuses : (spot : Spot) (lines : List LineModel) → (Pair lines → ⊥) → whole_rule spot lines ≡ Err (Placed spot cause.RspPair)
 unfolding whole_rule
 pair-refuses spot lines n = rw (not_so (rsp_agree lines) (λ h. n (agrees_pair lines h))) refl
 
-command-refuses : (spot : Spot) (lines : List LineModel) → Pair lines → (Gives (codes "command") lines → ⊥) → whole_rule spot lines ≡ Err (MissingCommand spot)
+command-refuses : (spot : Spot) (lines : List LineModel) → Pair lines → (Gives (codes "command") lines → ⊥) → whole_rule spot lines ≡ Err (Placed spot cause.MissingCommand)
 unfolding whole_rule
 command-refuses spot lines p n = rw (pair_agrees lines p, not_so (gives (codes "command") lines) (λ h. n (gives-form (codes "command") lines h))) refl
 
-depth-refuses : (spot : Spot) (lines : List LineModel) → list_any (λ (l : LineModel). bytes_eq l.name (codes "depth")) lines ≡ false → whole_pool spot lines ≡ Err (MissingDepth spot)
+depth-refuses : (spot : Spot) (lines : List LineModel) → list_any (λ (l : LineModel). bytes_eq l.name (codes "depth")) lines ≡ false → whole_pool spot lines ≡ Err (Placed spot cause.MissingDepth)
 unfolding whole_pool
 depth-refuses spot lines h = rw h refl
 
@@ -164,8 +166,8 @@ next-lacks (l ∷ ls) f n h = by_kind (kind_of l) refl (next-lacks ls f n)
     by_kind CommentLine k rest =
         let last = not_last l.is_last (lines_after l (without_comments ls)) (next_statement ls) f (sym (next-kind l ls CommentLine k) ∙ h) in
         NextLacks.comment k last.0 (rest last.1)
-    by_kind (TabLine tab) k rest = no_syntax f (ap is_syntax (sym (same_fault (next_statement (l ∷ ls)) f (Bad (lex.Tab tab)) h (next-kind l ls (TabLine tab) k)))) n
-    by_kind IndentedLine k rest = no_syntax f (ap is_syntax (sym (same_fault (next_statement (l ∷ ls)) f (UnexpectedIndent (front_of l)) h (next-kind l ls IndentedLine k)))) n
+    by_kind (TabLine tab) k rest = no_syntax f (ap is_syntax (sym (same_fault (next_statement (l ∷ ls)) f (Placed tab cause.Tab) h (next-kind l ls (TabLine tab) k)))) n
+    by_kind IndentedLine k rest = no_syntax f (ap is_syntax (sym (same_fault (next_statement (l ∷ ls)) f (Placed (front_of l) cause.UnexpectedIndent) h (next-kind l ls IndentedLine k)))) n
     by_kind BlankLine k rest =
         let last = not_last l.is_last (lines_after l ls) (next_statement ls) f (sym (next-kind l ls BlankLine k) ∙ h) in
         NextLacks.blank k last.0 (rest last.1)

@@ -12,9 +12,10 @@ use Rattle.nj_text.specs.Units.{TextUnit}
 use Rattle.nj_text.specs.Lines.{Line, lines_after}
 use Rattle.nj_text.specs.Words.{WordModel, next_fault, opens_word}
 use Rattle.nj_text.specs.Calls.{State, Between, Inside, is_empty, is_sign, path_word_of, spot_of}
+use Rattle.nj_manifest.specs.declared.cause.SyntaxCause.TheVariants as cause
 use Rattle.nj_manifest.specs.declared.cause.Wanted.{Wanted}
 use Rattle.nj_manifest.specs.declared.cause.Wanted.TheVariants as wanted
-use Rattle.nj_manifest.specs.Faults.{Fault, Expected}
+use Rattle.nj_manifest.specs.Faults.{Fault, Placed}
 use Rattle.nj_manifest.specs.LineSteps.{Step, ◌>>=◌, called, NameModel, name_next, expect_sign, words_next, section_next}
 use Rattle.nj_manifest.specs.Statements.{OutputsModel, InputsModel, BindingModel, DefaultModel, IncludeModel, SubninjaModel, equals_value, outputs_next, inputs_next, targets_next, file_next}
 use Rattle.nj_manifest.specs.Grammar.{AreBlanks, IdentifierForm, KeywordForm, keywords, WordForm, WordsForm, SignForm, SectionForm, left_out, there, BuildForm, NamedForm, FileForm, HeadForm, HeadModel, Alone, RuleHead, PoolHead, BuildHead}
@@ -92,7 +93,7 @@ file-form l ls us word s h =
     by_found found.0.0 found.0.1 found.1 found.2
   where
     by_found : (found : Option WordModel) (after : State) → called (path_word_of (within l ls us)) ≡ Ok (found, after)
-        → (ok_or found (Expected (spot_of after) wanted.Path) >>= λ w. file_end (w, after)) ≡ Ok (word, s)
+        → (ok_or found (Placed (spot_of after) (cause.Expected wanted.Path)) >>= λ w. file_end (w, after)) ≡ Ok (word, s)
         → (rest : List TextUnit) × WordForm us word rest × AreBlanks rest × (s ≡ Between (lines_after l ls))
     by_found None after e g = absurd cc
     by_found (Some w) after e g =

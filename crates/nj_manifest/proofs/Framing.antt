@@ -14,10 +14,11 @@ use Rattle.nj_text.specs.Words.{WordModel, in_identifier, is_blank, after_openin
 use Rattle.nj_text.specs.Calls as calls
 use Rattle.nj_text.specs.Inside.States.{reply}
 use Rattle.nj_text.specs.Calls.{State, Between, Inside, Failed, Reply, skip_blanks_of, ident_of, sign_of, path_word_of, value_of, spot_of, after_blanks, state_after_sign, is_sign, is_empty, word_here, some_bytes, bytes_of}
+use Rattle.nj_manifest.specs.declared.cause.SyntaxCause.TheVariants as cause
 use Rattle.nj_manifest.specs.declared.cause.Wanted.{Wanted}
 use Rattle.nj_manifest.specs.declared.cause.Wanted.TheVariants as wanted
 use Rattle.nj_manifest.specs.declared.block_lines.Keys.{Keys}
-use Rattle.nj_manifest.specs.Faults.{Fault, Expected}
+use Rattle.nj_manifest.specs.Faults.{Fault, Placed}
 use Rattle.nj_manifest.specs.LineSteps.{Step, ◌>>=◌, called, NameModel, name_next, expect_sign, words_within, words_next, section_next}
 use Rattle.nj_manifest.specs.Statements.{LineModel, allows, equals_value, line_next, OutputsModel, InputsModel, BindingModel, DefaultModel, IncludeModel, SubninjaModel, outputs_next, inputs_next, targets_next, file_next}
 use Rattle.nj_manifest.specs.Grammar.{HeadModel, Alone, RuleHead, PoolHead, BuildHead}
@@ -245,7 +246,7 @@ file-inside : (l : Line) (ls : List Line) (s : State) (y : WordModel × State) �
 unfolding file_next
 file-inside l ls s y o h =
     let found = bind-ok (called (path_word_of s)) _ y h in
-    let word = bind-ok (ok_or found.0.0 (Expected (spot_of found.0.1) wanted.Path)) _ y found.2 in
+    let word = bind-ok (ok_or found.0.0 (Placed (spot_of found.0.1) (cause.Expected wanted.Path))) _ y found.2 in
     ends-line l ls word.0 found.0.1 y (word-inside l ls s found.0 o found.1) word.2
 
 as_head-inside : {A : Type 0} (l : Line) (ls : List Line) (head : A → HeadModel) (step : Step A) (y : HeadModel × State) → ((x : A × State) → step ≡ Ok x → Ended l ls x.1) → as_head head step ≡ Ok y → Ended l ls y.1

@@ -1,6 +1,5 @@
 -- The first fault of a block.
 use Rattle.std.proofs.Common.{◌≡◌, ℕ, Bool, true, false, cond, inl, inr, Result, Ok, Err, List, [], ◌∷◌, ◌++◌, refl, sym, ap, subst, ◌∙◌, append_assoc}
-use Rattle.nj_text.specs.declared.fault.UnitFault.TheVariants as lex
 use Rattle.nj_text.specs.declared.spot.Spot.{Spot}
 use Rattle.nj_text.specs.Bytes.{begins_with}
 use Rattle.nj_text.specs.Units.{TextUnit}
@@ -8,8 +7,9 @@ use Rattle.nj_text.specs.Lines.{Line, with_units, lines_after, Kind, CommentLine
 use Rattle.nj_text.specs.Inside.Meanings.{text_kind}
 use Rattle.nj_text.specs.Calls.{State, Between, without_comments}
 use Rattle.nj_text.proofs.Lists.{AllIn}
+use Rattle.nj_manifest.specs.declared.cause.SyntaxCause.TheVariants as cause
 use Rattle.nj_manifest.specs.declared.block_lines.Keys.{Keys}
-use Rattle.nj_manifest.specs.Faults.{Fault, Bad}
+use Rattle.nj_manifest.specs.Faults.{Fault, Placed}
 use Rattle.nj_manifest.specs.LineSteps.{Step, ◌>>=◌}
 use Rattle.nj_manifest.specs.Statements.{LineModel, line_next, block_by, block}
 use Rattle.nj_manifest.specs.Leftmost.{continues, element, written_unit, written, are_plain, NamesThePlaceOf, met_before, offers}
@@ -119,7 +119,7 @@ stuck_here allowed l ls fault h s =
           ∙ one_in_front s.value (Between ms) (block allowed ms));
     }
 
-tab_block : (allowed : Keys) (l : Line) (ms : List Line) (tab : Spot) → kind_of l ≡ TabLine tab → block allowed (l ∷ ms) ≡ Err (Bad (lex.Tab tab))
+tab_block : (allowed : Keys) (l : Line) (ms : List Line) (tab : Spot) → kind_of l ≡ TabLine tab → block allowed (l ∷ ms) ≡ Err (Placed tab cause.Tab)
 unfolding block
 tab_block allowed l ms tab h = ap (λ (k : Kind). block_by allowed k l ms (block allowed ms)) h
 
@@ -140,7 +140,7 @@ spaced_key allowed sp a =
     ap kind_units (sym (append_assoc sp (written_unit 32 ∷ []) (text (key_bytes allowed))))
     ∙ (identifier_spaced (sp ++ written_unit 32 ∷ []) (text (key_bytes allowed)) (one_space sp a) (key_starts allowed) ∙ ap text_kind (one_space_begins sp a))
 
-tab_here : (allowed : Keys) (l : Line) (ls : List Line) (tab : Spot) → kind_of l ≡ TabLine tab → BlockStuck allowed (l ∷ ls) (Bad (lex.Tab tab))
+tab_here : (allowed : Keys) (l : Line) (ls : List Line) (tab : Spot) → kind_of l ≡ TabLine tab → BlockStuck allowed (l ∷ ls) (Placed tab cause.Tab)
 tab_here allowed l ls tab h =
     let sp = spaces_of l.units in
     let d = key_line allowed in
@@ -255,7 +255,7 @@ block_stuck allowed (l ∷ ls) fault h = by_kind (kind_of l) refl (block_stuck a
     by_kind CommentLine k rest =
         let last = not_last l.is_last ([], lines_after l (without_comments ls)) (block allowed ls) fault (sym (comment_block allowed l ls k) ∙ h) in
         stuck_after_comment allowed l ls fault (λ ms. comment_not_last allowed l ms k last.0) (rest last.1)
-    by_kind (TabLine tab) k rest = as_fault allowed (l ∷ ls) fault (Bad (lex.Tab tab)) (same_fault (block allowed (l ∷ ls)) fault (Bad (lex.Tab tab)) h (tab_block allowed l ls tab k)) (tab_here allowed l ls tab k)
+    by_kind (TabLine tab) k rest = as_fault allowed (l ∷ ls) fault (Placed tab cause.Tab) (same_fault (block allowed (l ∷ ls)) fault (Placed tab cause.Tab) h (tab_block allowed l ls tab k)) (tab_here allowed l ls tab k)
     by_kind IndentedLine k rest = by_line k (line_outcome allowed l k) rest
     by_kind BlankLine k rest = absurd (no_fault (block allowed (l ∷ ls)) ([], lines_after l ls) fault (blank_block allowed l ls k) h)
     by_kind PlainLine k rest = absurd (no_fault (block allowed (l ∷ ls)) ([], l ∷ ls) fault (plain_block allowed l ls k) h)

@@ -5,8 +5,9 @@ use Rattle.nj_text.specs.Units.{TextUnit, first_spot}
 use Rattle.nj_text.specs.Lines.{Line, spot_of_first}
 use Rattle.nj_text.specs.Words.{WordModel}
 use Rattle.nj_text.specs.Calls.{State, is_empty, is_sign}
+use Rattle.nj_manifest.specs.declared.cause.SyntaxCause.TheVariants as cause
 use Rattle.nj_manifest.specs.declared.cause.Wanted.TheVariants as wanted
-use Rattle.nj_manifest.specs.Faults.{Fault, Expected}
+use Rattle.nj_manifest.specs.Faults.{Fault, Placed}
 use Rattle.nj_manifest.specs.LineSteps.{Step, ◌>>=◌, NameModel, name_next, expect_sign, words_within, words_next, section_next}
 use Rattle.nj_manifest.specs.Statements.{OutputsModel, InputsModel, outputs_next, inputs_next}
 use Rattle.nj_manifest.specs.Leftmost.{written}
@@ -153,7 +154,7 @@ there_is : (ex im : List WordModel) → (is_empty ex && is_empty im) ≡ false �
 there_is ex im h s = ap (λ (t : Bool). unless_none t wanted.Path s (Ok (outputs_of ex im, s)) >>= with_outputs) h
 
 -- no output after `build`
-no_explicit : (e : Line) (us : List TextUnit) (n : WordsPass us) → is_empty n.value ≡ true → is_sign sign.Pipe n.run.left ≡ false → FailsAt build_head us e (Expected (spot_of_first n.run.left e.end) wanted.Path) n.run.used n.run.left
+no_explicit : (e : Line) (us : List TextUnit) (n : WordsPass us) → is_empty n.value ≡ true → is_sign sign.Pipe n.run.left ≡ false → FailsAt build_head us e (Placed (spot_of_first n.run.left e.end) (cause.Expected wanted.Path)) n.run.used n.run.left
 no_explicit e us n empty none = record {
   cut = n.run.cut;
   place = refl;
@@ -163,17 +164,17 @@ no_explicit e us n empty none = record {
       (nothing_read x d ms (settled_same x n.run.left seen ∙ n.stops) (sign-same sign.Pipe x n.run.left seen ∙ none));
 }
   where
-    missing : (t : Bool) (ws : List WordModel) (x : List TextUnit) (d : Line) (ms : List Line) → is_empty ws ≡ t → t ≡ true → with_implicit_outputs ws ([], at x d ms) ≡ Err (Expected (spot_of_first x d.end) wanted.Path)
+    missing : (t : Bool) (ws : List WordModel) (x : List TextUnit) (d : Line) (ms : List Line) → is_empty ws ≡ t → t ≡ true → with_implicit_outputs ws ([], at x d ms) ≡ Err (Placed (spot_of_first x d.end) (cause.Expected wanted.Path))
     missing t [] x d ms h g = refl
     missing t (w ∷ ws) x d ms h g = absurd cc
 
-    nothing_read : (x : List TextUnit) (d : Line) (ms : List Line) → settled x ≡ true → is_sign sign.Pipe x ≡ false → build_head (at (n.run.used ++ x) d ms) ≡ Err (Expected (spot_of_first x d.end) wanted.Path)
+    nothing_read : (x : List TextUnit) (d : Line) (ms : List Line) → settled x ≡ true → is_sign sign.Pipe x ≡ false → build_head (at (n.run.used ++ x) d ms) ≡ Err (Placed (spot_of_first x d.end) (cause.Expected wanted.Path))
     nothing_read x d ms h g =
         build_is (at (n.run.used ++ x) d ms) ∙ (ap (λ r. r >>= with_explicit_outputs) (n.goes x d ms h) ∙ (ap (λ r. r >>= with_implicit_outputs n.value) (section_none sign.Pipe x d ms h g) ∙ missing true n.value x d ms empty refl))
 
 -- `|` with no words after it, and none before
 no_implicit : (e : Line) (ex : List WordModel) (left : List TextUnit) (run : SectionRun sign.Pipe left) (m : SectionPass sign.Pipe left run) → (is_empty ex && is_empty m.value) ≡ true
-    → FailsAt (λ s. with_explicit_outputs (ex, s)) left e (Expected (spot_of_first run.left e.end) wanted.Path) run.used run.left
+    → FailsAt (λ s. with_explicit_outputs (ex, s)) left e (Placed (spot_of_first run.left e.end) (cause.Expected wanted.Path)) run.used run.left
 no_implicit e ex left run m empty = record {
   cut = run.cut;
   place = refl;
@@ -181,7 +182,7 @@ no_implicit e ex left run m empty = record {
   refuses = λ x d ms same. nothing_read x d ms (inr (element-front x run.left same));
 }
   where
-    nothing_read : (x : List TextUnit) (d : Line) (ms : List Line) → Fits after_words run.left x → with_explicit_outputs (ex, at (run.used ++ x) d ms) ≡ Err (Expected (spot_of_first x d.end) wanted.Path)
+    nothing_read : (x : List TextUnit) (d : Line) (ms : List Line) → Fits after_words run.left x → with_explicit_outputs (ex, at (run.used ++ x) d ms) ≡ Err (Placed (spot_of_first x d.end) (cause.Expected wanted.Path))
     nothing_read x d ms fit =
         ap (λ r. r >>= with_implicit_outputs ex) (m.goes x d ms fit)
         ∙ ap (λ (t : Bool). unless_none t wanted.Path (at x d ms) (Ok (outputs_of ex m.value, at x d ms)) >>= with_outputs) empty

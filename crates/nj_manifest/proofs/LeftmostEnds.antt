@@ -8,9 +8,10 @@ use Rattle.nj_text.specs.Units.{first_spot}
 use Rattle.nj_text.specs.Lines.{Line}
 use Rattle.nj_text.specs.Words.{Text}
 use Rattle.nj_text.specs.Calls.{is_empty}
+use Rattle.nj_manifest.specs.declared.cause.SyntaxCause.TheVariants as cause
 use Rattle.nj_manifest.specs.declared.block_lines.Keys.{Keys}
 use Rattle.nj_manifest.specs.declared.block_lines.Keys.TheVariants as keys
-use Rattle.nj_manifest.specs.Faults.{Fault, MissingCommand, RspPair, MissingDepth, is_syntax}
+use Rattle.nj_manifest.specs.Faults.{Fault, Placed, is_syntax}
 use Rattle.nj_manifest.specs.LineSteps.{◌>>=◌, NameModel, name_next, expect_sign}
 use Rattle.nj_manifest.specs.Openings.{Parse}
 use Rattle.nj_manifest.specs.Statements.{LineModel, equals_value, line_next, block, OutputsModel, InputsModel, StatementModel, RuleModel, PoolModel, BuildModel, gives}
@@ -142,12 +143,12 @@ build_then outputs rule inputs lines = Ok (BuildModel outputs rule inputs lines.
 rule_fault : (spot : Spot) (name : NameModel) (lines : List LineModel × List Line) (f : Fault) → is_syntax f ≡ true → rule_then spot name lines ≡ Err f → ⊥
 unfolding whole_rule
 rule_fault spot name lines f s h =
-    no_err (fault_of_missing (gives (codes "command") lines.0) (MissingCommand spot) f _ (λ whole. Ok (RuleModel name whole, lines.1)) refl s
-    (fault_of_missing (beq (gives (codes "rspfile") lines.0) (gives (codes "rspfile_content") lines.0)) (RspPair spot) f _ (λ whole. Ok (RuleModel name whole, lines.1)) refl s h))
+    no_err (fault_of_missing (gives (codes "command") lines.0) (Placed spot cause.MissingCommand) f _ (λ whole. Ok (RuleModel name whole, lines.1)) refl s
+    (fault_of_missing (beq (gives (codes "rspfile") lines.0) (gives (codes "rspfile_content") lines.0)) (Placed spot cause.RspPair) f _ (λ whole. Ok (RuleModel name whole, lines.1)) refl s h))
 
 pool_fault : (spot : Spot) (name : NameModel) (lines : List LineModel × List Line) (f : Fault) → is_syntax f ≡ true → pool_then spot name lines ≡ Err f → ⊥
 unfolding whole_pool
-pool_fault spot name lines f s h = no_err (fault_of_missing (names (codes "depth") lines.0) (MissingDepth spot) f _ (λ whole. Ok (PoolModel name whole, lines.1)) refl s h)
+pool_fault spot name lines f s h = no_err (fault_of_missing (names (codes "depth") lines.0) (Placed spot cause.MissingDepth) f _ (λ whole. Ok (PoolModel name whole, lines.1)) refl s h)
 
 by_block : {A : Type 0} (r : Parse (List LineModel)) (k : List LineModel × List Line → Result A Fault) (f : Fault) → ((lines : List LineModel × List Line) → k lines ≡ Err f → ⊥) → (r >>= k) ≡ Err f → r ≡ Err f
 by_block (Ok lines) k f n h = absurd (n lines h)

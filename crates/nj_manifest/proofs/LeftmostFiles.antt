@@ -4,18 +4,19 @@ use Rattle.std.specs.List.{take_while}
 use Rattle.nj_text.specs.declared.fault.UnitFault.{UnitFault}
 use Rattle.nj_text.specs.Bytes.{drop_while, begins_with}
 use Rattle.nj_text.specs.Units.{TextUnit}
-use Rattle.nj_text.specs.Lines.{Line, spot_of_first}
+use Rattle.nj_text.specs.Lines.{Line, with_units, spot_of_first}
 use Rattle.nj_text.specs.Words.{opens_word, in_word, next_fault, WordModel}
 use Rattle.nj_text.specs.Calls.{State}
 use Rattle.nj_text.proofs.Lists.{AllIn, AllIn-take_while, take_while-cons_yes}
+use Rattle.nj_manifest.specs.declared.cause.SyntaxCause.TheVariants as cause
 use Rattle.nj_manifest.specs.declared.cause.Wanted.TheVariants as wanted
-use Rattle.nj_manifest.specs.Faults.{Fault, Bad, Expected}
+use Rattle.nj_manifest.specs.Faults.{Fault, Placed, bad_unit}
 use Rattle.nj_manifest.specs.LineSteps.{Step, ◌>>=◌}
 use Rattle.nj_manifest.specs.Leftmost.{are_plain, offers}
 use Rattle.nj_manifest.proofs.Choices.{path_there}
 use Rattle.nj_manifest.proofs.LeftmostRuns.{both_parts, after_stops, skip, skip_stops, gap_of, gap_passes, gap_cut}
 use Rattle.nj_manifest.proofs.LeftmostFronts.{fault-same, element-front}
-use Rattle.nj_manifest.proofs.LeftmostSteps.{at, text, after_name, after_words, Fits, fits-gap, Passes, FailsAt, fault-place}
+use Rattle.nj_manifest.proofs.LeftmostSteps.{at, text, after_name, after_words, Fits, fits-gap, Passes, FailsAt, bad-place, bad-kept, bad-offers}
 use Rattle.nj_manifest.proofs.LeftmostNames.{no_blank_there}
 use Rattle.nj_manifest.proofs.LeftmostWords.{settled, settled_so, settled_same, settled_ends, ends_word, ends_same, so_not, both_so, is-sound, opening_in, word_call, word_of, word_x, word_reads, word_fails, no_word_reads, bad_word_reads, one_more_reads, fits-word}
 use Rattle.nj_manifest.proofs.LeftmostSections.{colon_settled}
@@ -43,7 +44,7 @@ pub data FileSeen (us : List TextUnit) (e : Line) : Type 0 where
 found_some : (r : Step (Option WordModel)) (w : WordModel) (s : State) → r ≡ Ok (Some w, s) → (r >>= λ found. path_there found.0 found.1) ≡ Ok (w, s)
 found_some r w s h = rw h refl
 
-found_none : (r : Step (Option WordModel)) (us : List TextUnit) (e : Line) (ms : List Line) → r ≡ Ok (None, at us e ms) → (r >>= λ found. path_there found.0 found.1) ≡ Err (Expected (spot_of_first us e.end) wanted.Path)
+found_none : (r : Step (Option WordModel)) (us : List TextUnit) (e : Line) (ms : List Line) → r ≡ Ok (None, at us e ms) → (r >>= λ found. path_there found.0 found.1) ≡ Err (Placed (spot_of_first us e.end) (cause.Expected wanted.Path))
 found_none r us e ms h = rw h refl
 
 found_bad : (r : Step (Option WordModel)) (f : Fault) → r ≡ Err f → (r >>= λ found. path_there found.0 found.1) ≡ Err f
@@ -63,16 +64,16 @@ first_stuck us e fault o n = record {
   reads = λ d ms. found_some _ word_x (at [] d ms) (one_more_reads (gap_of us) [] d ms (gap_passes us) refl);
 }
 
-bad_first : (us : List TextUnit) (e : Line) (bad : UnitFault) → next_fault (skip us) ≡ Some bad → FailsAt file_word us e (Bad bad) (gap_of us) (skip us)
+bad_first : (us : List TextUnit) (e : Line) (bad : UnitFault) → next_fault (skip us) ≡ Some bad → FailsAt file_word us e (bad_unit bad) (gap_of us) (skip us)
 bad_first us e bad f = record {
   cut = gap_cut us;
-  place = fault-place (skip us) e.end bad f;
-  fails = λ ms. ap (λ (y : List TextUnit). file_word (at y e ms)) (gap_cut us) ∙ found_bad _ (Bad bad) (bad_word_reads (gap_of us) (skip us) e ms bad (gap_passes us) (skip_stops us) f);
+  place = bad-place (skip us) e bad f;
+  fails = λ ms. ap (λ (y : List TextUnit). file_word (at y e ms)) (gap_cut us) ∙ found_bad _ (bad_unit bad) (bad_word_reads (gap_of us) (skip us) e ms bad (gap_passes us) (skip_stops us) f);
   refuses = λ x d ms same.
-      found_bad _ (Bad bad) (bad_word_reads (gap_of us) x d ms bad (gap_passes us) (no_blank_there us x same) (fault-same x (skip us) (element-front x (skip us) same) ∙ f));
+      found_bad _ (bad_unit bad) (bad_word_reads (gap_of us) x d ms bad (gap_passes us) (no_blank_there us x same) (fault-same x (skip us) (element-front x (skip us) same) ∙ f)) ∙ bad-kept (with_units x d) bad;
 }
 
-none_first : (us : List TextUnit) (e : Line) → settled (skip us) ≡ true → FailsAt file_word us e (Expected (spot_of_first (skip us) e.end) wanted.Path) (gap_of us) (skip us)
+none_first : (us : List TextUnit) (e : Line) → settled (skip us) ≡ true → FailsAt file_word us e (Placed (spot_of_first (skip us) e.end) (cause.Expected wanted.Path)) (gap_of us) (skip us)
 none_first us e h = record {
   cut = gap_cut us;
   place = refl;
@@ -82,19 +83,19 @@ none_first us e h = record {
 }
 
 module _ (us : List TextUnit) (u : TextUnit) (run rest : List TextUnit) (e : Line) (o : opens_word u ≡ true) (a : AllIn in_word (u ∷ run)) (c : us ≡ (gap_of us ++ u ∷ run) ++ rest) where
-  bad_after : (bad : UnitFault) → next_fault rest ≡ Some bad → FileStuck us e (Bad bad)
+  bad_after : (bad : UnitFault) → next_fault rest ≡ Some bad → FileStuck us e (bad_unit bad)
   bad_after bad f = record {
     used = gap_of us ++ u ∷ run;
     left = rest;
     here = record {
       cut = c;
-      place = fault-place rest e.end bad f;
-      fails = λ ms. ap (λ (y : List TextUnit). file_word (at y e ms)) c ∙ found_bad _ (Bad bad) (word_fails (gap_of us) u run rest e ms bad (gap_passes us) o a f);
-      refuses = λ x d ms same. found_bad _ (Bad bad) (word_fails (gap_of us) u run x d ms bad (gap_passes us) o a (fault-same x rest (element-front x rest same) ∙ f));
+      place = bad-place rest e bad f;
+      fails = λ ms. ap (λ (y : List TextUnit). file_word (at y e ms)) c ∙ found_bad _ (bad_unit bad) (word_fails (gap_of us) u run rest e ms bad (gap_passes us) o a f);
+      refuses = λ x d ms same. found_bad _ (bad_unit bad) (word_fails (gap_of us) u run x d ms bad (gap_passes us) o a (fault-same x rest (element-front x rest same) ∙ f)) ∙ bad-kept (with_units x d) bad;
     };
     bytes = [];
     plain = refl;
-    offered = refl;
+    offered = bad-offers bad [];
     word = word_of u run;
     fits = fits-word after_name us (gap_of us) u run rest [] (gap_passes us) o c;
     reads = λ d ms. found_some _ (word_of u run) (at [] d ms) (word_reads (gap_of us) u run [] d ms (gap_passes us) o a refl);
@@ -118,7 +119,7 @@ pub file_seen : (us : List TextUnit) (e : Line) → FileSeen us e
 file_seen us e = by_fault (next_fault (skip us)) refl
   where
     by_end : (u : TextUnit) (run rest : List TextUnit) → opens_word u ≡ true → AllIn in_word (u ∷ run) → begins_with in_word rest ≡ false → us ≡ (gap_of us ++ u ∷ run) ++ rest → (f : Option UnitFault) → next_fault rest ≡ f → FileSeen us e
-    by_end u run rest o a n c (Some bad) f = ends_here (Bad bad) (bad_after us u run rest e o a c bad f)
+    by_end u run rest o a n c (Some bad) f = ends_here (bad_unit bad) (bad_after us u run rest e o a c bad f)
     by_end u run rest o a n c None f = reads_on (file_passes us u run rest e o a c (both_so _ _ (so_not _ n) (is-sound _ f)))
 
     by_run : (run : List TextUnit) → AllIn in_word run → (r : List TextUnit) → skip us ≡ r → begins_with opens_word r ≡ true → take_while in_word r ≡ run → FileSeen us e
@@ -143,5 +144,5 @@ file_seen us e = by_fault (next_fault (skip us)) refl
     by_word true w f = by_run (take_while in_word (skip us)) (AllIn-take_while in_word (skip us)) (skip us) refl w refl
 
     by_fault : (f : Option UnitFault) → next_fault (skip us) ≡ f → FileSeen us e
-    by_fault (Some bad) f = ends_here (Bad bad) (first_stuck us e (Bad bad) refl (bad_first us e bad f))
+    by_fault (Some bad) f = ends_here (bad_unit bad) (first_stuck us e (bad_unit bad) (bad-offers bad _) (bad_first us e bad f))
     by_fault None f = by_word (begins_with opens_word (skip us)) refl f

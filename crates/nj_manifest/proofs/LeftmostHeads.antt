@@ -8,9 +8,10 @@ use Rattle.nj_text.specs.Units.{TextUnit, first_spot}
 use Rattle.nj_text.specs.Lines.{Line, spot_of_first}
 use Rattle.nj_text.specs.Words.{in_identifier, WordModel}
 use Rattle.nj_text.specs.Calls.{State, is_empty, spot_of}
+use Rattle.nj_manifest.specs.declared.cause.SyntaxCause.TheVariants as cause
 use Rattle.nj_manifest.specs.declared.cause.Wanted.{Wanted}
 use Rattle.nj_manifest.specs.declared.cause.Wanted.TheVariants as wanted
-use Rattle.nj_manifest.specs.Faults.{Fault, Expected}
+use Rattle.nj_manifest.specs.Faults.{Fault, Placed}
 use Rattle.nj_manifest.specs.LineSteps.{Step, ◌>>=◌, NameModel, name_next, expect_sign, words_next}
 use Rattle.nj_manifest.specs.Statements.{BindingModel, DefaultModel, IncludeModel, SubninjaModel, equals_value, targets_next, file_next}
 use Rattle.nj_manifest.specs.Leftmost.{written, offers_next}
@@ -68,11 +69,11 @@ file_led : (s : State) → ◌≡◌ {A = Step WordModel} (file_next s) (file_wo
 unfolding file_next
 file_led s = by_found (word_call s)
   where
-    by_word : (found : Option WordModel) (after : State) → ◌≡◌ {A = Step WordModel} (ok_or found (Expected (spot_of after) wanted.Path) >>= λ w. ending w (line_end after)) (path_there found after >>= λ w. ending w.0 (line_end w.1))
+    by_word : (found : Option WordModel) (after : State) → ◌≡◌ {A = Step WordModel} (ok_or found (Placed (spot_of after) (cause.Expected wanted.Path)) >>= λ w. ending w (line_end after)) (path_there found after >>= λ w. ending w.0 (line_end w.1))
     by_word None after = refl
     by_word (Some w) after = refl
 
-    by_found : (r : Step (Option WordModel)) → ◌≡◌ {A = Step WordModel} (r >>= λ found. ok_or found.0 (Expected (spot_of found.1) wanted.Path) >>= λ w. ending w (line_end found.1)) ((r >>= λ found. path_there found.0 found.1) >>= λ w. ending w.0 (line_end w.1))
+    by_found : (r : Step (Option WordModel)) → ◌≡◌ {A = Step WordModel} (r >>= λ found. ok_or found.0 (Placed (spot_of found.1) (cause.Expected wanted.Path)) >>= λ w. ending w (line_end found.1)) ((r >>= λ found. path_there found.0 found.1) >>= λ w. ending w.0 (line_end w.1))
     by_found (Ok x) = by_word x.0 x.1
     by_found (Err f) = refl
 
@@ -102,7 +103,7 @@ ends_binding = (_, λ ms. refl)
 
 -- no word after `default`
 no_target : (head : List WordModel → HeadModel) (e : Line) (us : List TextUnit) (n : WordsPass us) → is_empty n.value ≡ true
-    → FailsAt (λ s. words_next s >>= targets_end head) us e (Expected (spot_of_first n.run.left e.end) wanted.TargetName) n.run.used n.run.left
+    → FailsAt (λ s. words_next s >>= targets_end head) us e (Placed (spot_of_first n.run.left e.end) (cause.Expected wanted.TargetName)) n.run.used n.run.left
 no_target head e us n empty = record {
   cut = n.run.cut;
   place = refl;
@@ -110,7 +111,7 @@ no_target head e us n empty = record {
   refuses = λ x d ms same. nothing_read x d ms (settled_same x n.run.left (element-front x n.run.left same) ∙ n.stops);
 }
   where
-    nothing_read : (x : List TextUnit) (d : Line) (ms : List Line) → settled x ≡ true → (words_next (at (n.run.used ++ x) d ms) >>= targets_end head) ≡ Err (Expected (spot_of_first x d.end) wanted.TargetName)
+    nothing_read : (x : List TextUnit) (d : Line) (ms : List Line) → settled x ≡ true → (words_next (at (n.run.used ++ x) d ms) >>= targets_end head) ≡ Err (Placed (spot_of_first x d.end) (cause.Expected wanted.TargetName))
     nothing_read x d ms h =
         ap (λ r. r >>= targets_end head) (n.goes x d ms h) ∙ ap (λ (t : Bool). ending (head n.value) (unless_none t wanted.TargetName (at x d ms) (line_end (at x d ms)))) empty
 

@@ -4,10 +4,11 @@ use Rattle.nj_text.specs.Units.{TextUnit}
 use Rattle.nj_text.specs.Lines.{Line}
 use Rattle.nj_text.specs.Words.{WordModel}
 use Rattle.nj_text.specs.Calls.{State}
+use Rattle.nj_manifest.specs.declared.cause.SyntaxCause.TheVariants as cause
 use Rattle.nj_manifest.specs.declared.cause.Wanted.TheVariants as wanted
 use Rattle.nj_manifest.specs.declared.block_lines.Keys.{Keys}
 use Rattle.nj_manifest.specs.declared.block_lines.Keys.TheVariants as keys
-use Rattle.nj_manifest.specs.Faults.{UnknownKey}
+use Rattle.nj_manifest.specs.Faults.{Placed}
 use Rattle.nj_manifest.specs.LineSteps.{Step, ◌>>=◌, NameModel, name_next, expect_sign}
 use Rattle.nj_manifest.specs.Statements.{LineModel, allows, equals_value, line_next}
 use Rattle.nj_manifest.specs.Leftmost.{written, are_plain, offers_next}
@@ -65,12 +66,12 @@ key_starts keys.OfPool = refl
 key_starts keys.All = refl
 
 module _ (allowed : Keys) (us : List TextUnit) (e : Line) (n : NamePasses wanted.VariableName starts us e) where
-  unknown_reads : (x : List TextUnit) (d : Line) (ms : List Line) → allows allowed n.passes.value.name ≡ false → (s : State) → name_next wanted.VariableName (at x d ms) ≡ Ok (n.passes.value, s) → line_next allowed (at x d ms) ≡ Err (UnknownKey n.passes.value.spot n.passes.value.name)
+  unknown_reads : (x : List TextUnit) (d : Line) (ms : List Line) → allows allowed n.passes.value.name ≡ false → (s : State) → name_next wanted.VariableName (at x d ms) ≡ Ok (n.passes.value, s) → line_next allowed (at x d ms) ≡ Err (Placed n.passes.value.spot (cause.UnknownKey n.passes.value.name))
   unknown_reads x d ms h s r =
       line_is allowed (at x d ms) ∙ (ap (λ y. y >>= keyed allowed) r ∙ ap (λ (t : Bool). if_allowed t n.passes.value (equals_value s) >>= valued n.passes.value) h)
 
   -- a key that the block has not
-  unknown_key : allows allowed n.passes.value.name ≡ false → FailsAt (line_next allowed) us e (UnknownKey n.passes.value.spot n.passes.value.name) (gap_of us) (skip us)
+  unknown_key : allows allowed n.passes.value.name ≡ false → FailsAt (line_next allowed) us e (Placed n.passes.value.spot (cause.UnknownKey n.passes.value.name)) (gap_of us) (skip us)
   unknown_key h = record {
     cut = gap_cut us;
     place = n.spot;

@@ -5,20 +5,21 @@ use Rattle.nj_text.specs.declared.fault.UnitFault.{UnitFault}
 use Rattle.nj_text.specs.declared.spot.Spot.{Spot}
 use Rattle.nj_text.specs.Bytes.{drop_while, is_identifier_byte, begins_with}
 use Rattle.nj_text.specs.Units.{TextUnit, is_ordinary_in}
-use Rattle.nj_text.specs.Lines.{Line, spot_of_first}
+use Rattle.nj_text.specs.Lines.{Line, with_units, spot_of_first}
 use Rattle.nj_text.specs.Words.{is_blank, in_identifier, fault_of, next_fault}
 use Rattle.nj_text.specs.Inside.Meanings.{is_blank_meaning}
 use Rattle.nj_text.specs.Calls.{State, unless_fault, bytes_of, some_bytes}
 use Rattle.nj_text.specs.Inside.States.{reply}
 use Rattle.nj_text.proofs.Lists.{AllIn, AllIn-take_while, take_while-cons_yes, take_while-cons_no}
+use Rattle.nj_manifest.specs.declared.cause.SyntaxCause.TheVariants as cause
 use Rattle.nj_manifest.specs.declared.cause.Wanted.{Wanted}
-use Rattle.nj_manifest.specs.Faults.{Fault, Bad, Expected}
+use Rattle.nj_manifest.specs.Faults.{Fault, Placed, bad_unit}
 use Rattle.nj_manifest.specs.LineSteps.{Step, ◌>>=◌, called, NameModel, name_next}
 use Rattle.nj_manifest.specs.Leftmost.{element}
 use Rattle.nj_manifest.proofs.Choices.{named}
 use Rattle.nj_manifest.proofs.LeftmostRuns.{both_parts, after_stops, none_passed, none_taken, run_passed, run_taken, skip, skip_again, skip_stops, skip_gap, gap_of, gap_passes, gap_cut, no_other, not_byte}
 use Rattle.nj_manifest.proofs.LeftmostFronts.{identifier_no_pipe, begins-same, fault-same, element-front, element-identifier}
-use Rattle.nj_manifest.proofs.LeftmostSteps.{at, blank_no_pipe, Fits, by_fits, fits-alone, Passes, FailsAt, fault-place, opens-none, after_name, is_separator, separator_is, ordinary_no_fault, OfWanted}
+use Rattle.nj_manifest.proofs.LeftmostSteps.{at, blank_no_pipe, Fits, by_fits, fits-alone, Passes, FailsAt, bad-place, bad-kept, bad-offers, opens-none, after_name, is_separator, separator_is, ordinary_no_fault, OfWanted}
 
 pub identifier_no_blank : (u : TextUnit) → in_identifier u ≡ true → is_blank u ≡ false
 identifier_no_blank u h = no_other is_identifier_byte is_blank_meaning (not_byte is_identifier_byte 32 refl) u.means h
@@ -50,10 +51,10 @@ name_skips want gap x e ms h = name_is_here want (gap ++ x) e ms ∙ (ap (λ (y 
 named_ok : (want : Wanted) (f : Option UnitFault) (run run' : List TextUnit) (spot spot' : Spot) (s s' : State) (b : ℕ) (bs : List ℕ) → f ≡ None → run ≡ run' → spot ≡ spot' → s ≡ s' → bytes_of run' ≡ b ∷ bs → named_by want f run spot s ≡ Ok (record { spot = spot'; name = b ∷ bs }, s')
 named_ok want f run run' spot spot' s s' b bs e r p h g = rw (e, r, p, h, g) refl
 
-named_bad : (want : Wanted) (f : Option UnitFault) (bad : UnitFault) (run : List TextUnit) (spot : Spot) (s : State) → f ≡ Some bad → named_by want f run spot s ≡ Err (Bad bad)
+named_bad : (want : Wanted) (f : Option UnitFault) (bad : UnitFault) (run : List TextUnit) (spot : Spot) (s : State) → f ≡ Some bad → named_by want f run spot s ≡ Err (bad_unit bad)
 named_bad want f bad run spot s e = rw e refl
 
-named_none : (want : Wanted) (f : Option UnitFault) (run : List TextUnit) (spot : Spot) (s : State) → f ≡ None → bytes_of run ≡ [] → named_by want f run spot s ≡ Err (Expected spot want)
+named_none : (want : Wanted) (f : Option UnitFault) (run : List TextUnit) (spot : Spot) (s : State) → f ≡ None → bytes_of run ≡ [] → named_by want f run spot s ≡ Err (Placed spot (cause.Expected want))
 named_none want f run spot s e g = rw (e, g) refl
 
 -- the name that a run of units makes
@@ -143,7 +144,7 @@ name_seen want t us e = by_fault (next_fault (skip us)) refl
     by_run : (run : List TextUnit) → take_while in_identifier (skip us) ≡ run → next_fault (skip us) ≡ None → AllIn in_identifier run → (bs : List ℕ) → bytes_of run ≡ bs → NameSeen want t us e
     by_run [] r f i (b ∷ bs) h = absurd cc
     by_run (u ∷ run) r f i (b ∷ bs) h = there (passes_name want t us e run u b bs r i h)
-    by_run run r f i [] h = missing (Expected (spot_of_first (skip us) e.end) want) (λ bytes h. h) (record {
+    by_run run r f i [] h = missing (Placed (spot_of_first (skip us) e.end) (cause.Expected want)) (λ bytes h. h) (record {
       cut = gap_cut us;
       place = refl;
       fails = λ ms. name_is_here want us e ms ∙ named_none want (next_fault (skip us)) (take_while in_identifier (skip us)) (spot_of_first (skip us) e.end) (at (drop_while in_identifier (skip us)) e ms) f (ap bytes_of r ∙ h);
@@ -155,12 +156,12 @@ name_seen want t us e = by_fault (next_fault (skip us)) refl
 
     by_fault : (f : Option UnitFault) → next_fault (skip us) ≡ f → NameSeen want t us e
     by_fault None f = by_run (take_while in_identifier (skip us)) refl f (AllIn-take_while in_identifier (skip us)) (bytes_of (take_while in_identifier (skip us))) refl
-    by_fault (Some bad) f = missing (Bad bad) (λ bytes h. refl) (record {
+    by_fault (Some bad) f = missing (bad_unit bad) (λ bytes h. bad-offers bad bytes) (record {
       cut = gap_cut us;
-      place = fault-place (skip us) e.end bad f;
+      place = bad-place (skip us) e bad f;
       fails = λ ms. name_is_here want us e ms ∙ named_bad want (next_fault (skip us)) bad (take_while in_identifier (skip us)) (spot_of_first (skip us) e.end) (at (drop_while in_identifier (skip us)) e ms) f;
       refuses = λ x d ms same.
           let sees = fault-same x (skip us) (element-front x (skip us) same) in
           (name_after want (gap_of us) x d ms (gap_passes us) (no_blank_there us x same)
-          ∙ named_bad want (next_fault x) bad (take_while in_identifier x) (spot_of_first x d.end) (at (drop_while in_identifier x) d ms) (sees ∙ f));
+          ∙ named_bad want (next_fault x) bad (take_while in_identifier x) (spot_of_first x d.end) (at (drop_while in_identifier x) d ms) (sees ∙ f)) ∙ bad-kept (with_units x d) bad;
     })

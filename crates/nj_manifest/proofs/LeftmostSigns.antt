@@ -10,15 +10,16 @@ use Rattle.nj_text.specs.Words.{is_blank, begins_with_byte, next_fault}
 use Rattle.nj_text.specs.Calls.{State, Between, unless_fault, is_empty, is_sign, state_after_sign}
 use Rattle.nj_text.specs.Inside.States.{reply}
 use Rattle.nj_text.proofs.Lists.{AllIn}
+use Rattle.nj_manifest.specs.declared.cause.SyntaxCause.TheVariants as cause
 use Rattle.nj_manifest.specs.declared.cause.Wanted.{Wanted}
 use Rattle.nj_manifest.specs.declared.cause.Wanted.TheVariants as wanted
-use Rattle.nj_manifest.specs.Faults.{Fault, Bad, Expected}
+use Rattle.nj_manifest.specs.Faults.{Fault, Placed, bad_unit}
 use Rattle.nj_manifest.specs.LineSteps.{Step, ◌>>=◌, called, expect_sign}
 use Rattle.nj_manifest.specs.Leftmost.{element, written, offers}
 use Rattle.nj_manifest.proofs.Choices.{if_there}
 use Rattle.nj_manifest.proofs.LeftmostRuns.{none_passed, skip, skip_stops, skip_gap, gap_of, gap_passes, gap_cut, no_other, not_byte}
 use Rattle.nj_manifest.proofs.LeftmostFronts.{fault-same, sign-same, element-front}
-use Rattle.nj_manifest.proofs.LeftmostSteps.{at, blank_no_pipe, Fits, fits-alone, fits-gap, Passes, FailsAt, fault-place, ordinary_no_fault, Claim, Along, Outcome, stuck, stick, arrive, OfWanted}
+use Rattle.nj_manifest.proofs.LeftmostSteps.{at, blank_no_pipe, Fits, fits-alone, fits-gap, Passes, FailsAt, bad-place, bad-kept, bad-offers, ordinary_no_fault, Claim, Along, Outcome, stuck, stick, arrive, OfWanted}
 use Rattle.nj_manifest.proofs.LeftmostNames.{no_blank_there}
 
 -- a sign as a step, which gives nothing
@@ -53,10 +54,10 @@ sign_skips want miss gap x e ms h = after_is_here want miss (gap ++ x) e ms ∙ 
 sign_ok : (miss : Wanted) (f : Option UnitFault) (t : Bool) (there there' other : State) → f ≡ None → t ≡ true → there ≡ there' → sign_by miss f t there other ≡ Ok there'
 sign_ok miss f t there there' other e g h = rw (e, g, h) refl
 
-sign_bad : (miss : Wanted) (f : Option UnitFault) (bad : UnitFault) (t : Bool) (there other : State) → f ≡ Some bad → sign_by miss f t there other ≡ Err (Bad bad)
+sign_bad : (miss : Wanted) (f : Option UnitFault) (bad : UnitFault) (t : Bool) (there other : State) → f ≡ Some bad → sign_by miss f t there other ≡ Err (bad_unit bad)
 sign_bad miss f bad t there other e = rw e refl
 
-sign_none : (miss : Wanted) (f : Option UnitFault) (t : Bool) (there : State) (us : List TextUnit) (e : Line) (ms : List Line) → f ≡ None → t ≡ false → sign_by miss f t there (at us e ms) ≡ Err (Expected (spot_of_first us e.end) miss)
+sign_none : (miss : Wanted) (f : Option UnitFault) (t : Bool) (there : State) (us : List TextUnit) (e : Line) (ms : List Line) → f ≡ None → t ≡ false → sign_by miss f t there (at us e ms) ≡ Err (Placed (spot_of_first us e.end) (cause.Expected miss))
 sign_none miss f t there us e ms h g = rw (h, g) refl
 
 step_ok : (r : Result State Fault) (s : State) → r ≡ Ok s → led_on r ≡ Ok (true, s)
@@ -70,16 +71,16 @@ step_bad r f h = rw h refl
 there_too : (us x : List TextUnit) → element x ≡ element (skip us) → skip x ≡ x
 there_too us x h = none_passed is_blank x (no_blank_there us x h)
 
-pub bad_before_sign : (want : Sign) (miss : Wanted) (us : List TextUnit) (e : Line) (bad : UnitFault) → next_fault (skip us) ≡ Some bad → FailsAt (sign_step want miss) us e (Bad bad) (gap_of us) (skip us)
+pub bad_before_sign : (want : Sign) (miss : Wanted) (us : List TextUnit) (e : Line) (bad : UnitFault) → next_fault (skip us) ≡ Some bad → FailsAt (sign_step want miss) us e (bad_unit bad) (gap_of us) (skip us)
 bad_before_sign want miss us e bad f = record {
   cut = gap_cut us;
-  place = fault-place (skip us) e.end bad f;
+  place = bad-place (skip us) e bad f;
   fails = λ ms. step_bad _ _ (after_is_here want miss us e ms ∙ sign_bad miss _ bad _ _ _ f);
   refuses = λ x d ms same.
-      step_bad _ _ (sign_after want miss (gap_of us) x d ms (gap_passes us) (there_too us x same) ∙ sign_bad miss _ bad _ _ _ (fault-same x (skip us) (element-front x (skip us) same) ∙ f));
+      step_bad _ _ (sign_after want miss (gap_of us) x d ms (gap_passes us) (there_too us x same) ∙ sign_bad miss _ bad _ _ _ (fault-same x (skip us) (element-front x (skip us) same) ∙ f)) ∙ bad-kept (with_units x d) bad;
 }
 
-pub no_sign_there : (want : Sign) (miss : Wanted) (us : List TextUnit) (e : Line) → next_fault (skip us) ≡ None → is_sign want (skip us) ≡ false → FailsAt (sign_step want miss) us e (Expected (spot_of_first (skip us) e.end) miss) (gap_of us) (skip us)
+pub no_sign_there : (want : Sign) (miss : Wanted) (us : List TextUnit) (e : Line) → next_fault (skip us) ≡ None → is_sign want (skip us) ≡ false → FailsAt (sign_step want miss) us e (Placed (spot_of_first (skip us) e.end) (cause.Expected miss)) (gap_of us) (skip us)
 no_sign_there want miss us e f g = record {
   cut = gap_cut us;
   place = refl;
@@ -147,11 +148,11 @@ sign_seen want miss t t' us e s = by_fault (next_fault (skip us)) refl
 
     by_sign : (b : Bool) → is_sign want (skip us) ≡ b → next_fault (skip us) ≡ None → SignSeen want miss t t' us e
     by_sign true h f = by_units (skip us) refl h
-    by_sign false h f = missing (Expected (spot_of_first (skip us) e.end) miss) (λ bytes h. h) (no_sign_there want miss us e f h)
+    by_sign false h f = missing (Placed (spot_of_first (skip us) e.end) (cause.Expected miss)) (λ bytes h. h) (no_sign_there want miss us e f h)
 
     by_fault : (f : Option UnitFault) → next_fault (skip us) ≡ f → SignSeen want miss t t' us e
     by_fault None f = by_sign (is_sign want (skip us)) refl f
-    by_fault (Some bad) f = missing (Bad bad) (λ bytes h. refl) (bad_before_sign want miss us e bad f)
+    by_fault (Some bad) f = missing (bad_unit bad) (λ bytes h. bad-offers bad bytes) (bad_before_sign want miss us e bad f)
 
 -- ---- the end of the line
 
@@ -181,8 +182,8 @@ finish {B = B} {P = P} {whole = whole} {t = t} {us = us} k value e so a empty = 
 
     by_units : (r : List TextUnit) → skip us ≡ r → next_fault (skip us) ≡ None → Outcome P whole e
     by_units [] r f = arrive e k value a (λ ms. so (at us e ms) ∙ ended _ _ value (end_here wanted.Newline us e ms r))
-    by_units (u ∷ left) r f = stick_here (Expected (spot_of_first (skip us) e.end) wanted.Newline) refl (no_sign_there sign.LineEnd wanted.Newline us e f (ap is_empty r))
+    by_units (u ∷ left) r f = stick_here (Placed (spot_of_first (skip us) e.end) (cause.Expected wanted.Newline)) refl (no_sign_there sign.LineEnd wanted.Newline us e f (ap is_empty r))
 
     by_fault : (f : Option UnitFault) → next_fault (skip us) ≡ f → Outcome P whole e
     by_fault None f = by_units (skip us) refl f
-    by_fault (Some bad) f = stick_here (Bad bad) refl (bad_before_sign sign.LineEnd wanted.Newline us e bad f)
+    by_fault (Some bad) f = stick_here (bad_unit bad) (bad-offers bad []) (bad_before_sign sign.LineEnd wanted.Newline us e bad f)

@@ -1,13 +1,13 @@
 -- The first fault of the next statement of some lines.
 use Rattle.std.proofs.Common.{◌≡◌, Bool, true, false, cond, inl, inr, Option, Some, Result, Ok, Err, List, [], ◌∷◌, ◌++◌, map, refl, sym, ap, subst, ◌∙◌, codes}
-use Rattle.nj_text.specs.declared.fault.UnitFault.TheVariants as lex
 use Rattle.nj_text.specs.declared.spot.Spot.{Spot}
 use Rattle.nj_text.specs.Units.{TextUnit}
 use Rattle.nj_text.specs.Lines.{Line, line_spot, with_units, lines_after, Kind, CommentLine, TabLine, BlankLine, IndentedLine, PlainLine, kind_of, is_space_unit}
 use Rattle.nj_text.specs.Calls.{State, Between, Inside, without_comments}
 use Rattle.nj_text.proofs.Lists.{AllIn}
+use Rattle.nj_manifest.specs.declared.cause.SyntaxCause.TheVariants as cause
 use Rattle.nj_manifest.specs.declared.block_lines.Keys.{Keys}
-use Rattle.nj_manifest.specs.Faults.{Fault, Bad, UnexpectedIndent, is_syntax}
+use Rattle.nj_manifest.specs.Faults.{Fault, Placed, is_syntax}
 use Rattle.nj_manifest.specs.LineSteps.{Step, ◌>>=◌, name_next, expect_sign}
 use Rattle.nj_manifest.specs.Statements.{LineModel, PlacedModel, StatementModel, lines_from, equals_value, block, statement_after, next_statement}
 use Rattle.nj_manifest.specs.Leftmost.{continues, element, written, NamesThePlaceOf, met_before, offers, ComesLeftmost}
@@ -173,18 +173,18 @@ of_kind l ls fault offered place refuses =
       refuses = refuses;
     }
 
-tab_leftmost : (l : Line) (ls : List Line) (tab : Spot) → kind_of l ≡ TabLine tab → ComesLeftmost (l ∷ ls) (Bad (lex.Tab tab))
+tab_leftmost : (l : Line) (ls : List Line) (tab : Spot) → kind_of l ≡ TabLine tab → ComesLeftmost (l ∷ ls) (Placed tab cause.Tab)
 tab_leftmost l ls tab k =
-    of_kind l ls (Bad (lex.Tab tab)) refl (tab_place l.units tab l.end k)
+    of_kind l ls (Placed tab cause.Tab) refl (tab_place l.units tab l.end k)
     (λ m ms same. (next-kind (with_units (spaces_of l.units ++ m.units) m) ms (TabLine tab) (kind_replaced l.units m.units (element-front m.units (after_spaces l.units) same) ∙ k)))
 
 -- an indented line whose units after its spaces these are
 abbrev unexpected_at : Line → Parse (Option PlacedModel)
-unexpected_at l = Err (UnexpectedIndent (record { line = (line_spot l).line; column = 1 }))
+unexpected_at l = Err (Placed (record { line = (line_spot l).line; column = 1 }) cause.UnexpectedIndent)
 
-indented_leftmost : (l : Line) (ls : List Line) → kind_of l ≡ IndentedLine → ComesLeftmost (l ∷ ls) (UnexpectedIndent (front_of l))
+indented_leftmost : (l : Line) (ls : List Line) → kind_of l ≡ IndentedLine → ComesLeftmost (l ∷ ls) (Placed (front_of l) cause.UnexpectedIndent)
 indented_leftmost l ls k =
-    of_kind l ls (UnexpectedIndent (front_of l)) refl refl
+    of_kind l ls (Placed (front_of l) cause.UnexpectedIndent) refl refl
     (λ m ms same.
     let sees = element-front m.units (after_spaces l.units) same in
     next-kind (with_units (spaces_of l.units ++ m.units) m) ms IndentedLine (kind_replaced l.units m.units sees ∙ k)
@@ -218,8 +218,8 @@ leftmost (l ∷ ls) fault h syntax = by_kind (kind_of l) refl (λ e. leftmost ls
     by_kind CommentLine k rest =
         let last = not_last l.is_last (lines_after l (without_comments ls)) (next_statement ls) fault (sym (next-kind l ls CommentLine k) ∙ h) in
         leftmost_after l ls fault (λ ms. next-kind l ms CommentLine k ∙ ap (λ (t : Bool). cond t (nothing_more (lines_after l (without_comments ms))) (next_statement ms)) last.0) (rest last.1)
-    by_kind (TabLine tab) k rest = as_fault (l ∷ ls) fault (Bad (lex.Tab tab)) (same_fault (next_statement (l ∷ ls)) fault (Bad (lex.Tab tab)) h (next-kind l ls (TabLine tab) k)) (tab_leftmost l ls tab k)
-    by_kind IndentedLine k rest = as_fault (l ∷ ls) fault (UnexpectedIndent (front_of l)) (same_fault (next_statement (l ∷ ls)) fault (UnexpectedIndent (front_of l)) h (next-kind l ls IndentedLine k)) (indented_leftmost l ls k)
+    by_kind (TabLine tab) k rest = as_fault (l ∷ ls) fault (Placed tab cause.Tab) (same_fault (next_statement (l ∷ ls)) fault (Placed tab cause.Tab) h (next-kind l ls (TabLine tab) k)) (tab_leftmost l ls tab k)
+    by_kind IndentedLine k rest = as_fault (l ∷ ls) fault (Placed (front_of l) cause.UnexpectedIndent) (same_fault (next_statement (l ∷ ls)) fault (Placed (front_of l) cause.UnexpectedIndent) h (next-kind l ls IndentedLine k)) (indented_leftmost l ls k)
     by_kind BlankLine k rest =
         let last = not_last l.is_last (lines_after l ls) (next_statement ls) fault (sym (next-kind l ls BlankLine k) ∙ h) in
         leftmost_after l ls fault (λ ms. next-kind l ms BlankLine k ∙ ap (λ (t : Bool). cond t (nothing_more (lines_after l ms)) (next_statement ms)) last.0) (rest last.1)

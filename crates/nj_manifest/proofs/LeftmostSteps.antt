@@ -13,7 +13,7 @@ use Rattle.nj_text.specs.Inside.Meanings.{is_blank_meaning}
 use Rattle.nj_text.specs.Calls.{State, Between, Inside, fault_spot}
 use Rattle.nj_text.proofs.Lists.{AllIn}
 use Rattle.nj_manifest.specs.declared.cause.Wanted.{Wanted}
-use Rattle.nj_manifest.specs.Faults.{Fault}
+use Rattle.nj_manifest.specs.Faults.{Fault, bad_unit}
 use Rattle.nj_manifest.specs.LineSteps.{Step, ◌>>=◌}
 use Rattle.nj_manifest.specs.Leftmost.{element, written_unit, written, are_plain, NamesThePlaceOf, met_before, offers_next, offers}
 use Rattle.nj_manifest.proofs.LeftmostRuns.{no_other, not_byte, gap_of, skip, gap_passes, gap_cut}
@@ -150,6 +150,24 @@ fault-place (u ∷ us) end f h = by_meaning u.means h
     by_meaning BadEscape h = ap fault_spot (sym (same (lex.BadEscape u.spot) h))
     by_meaning LeadingTab h = ap fault_spot (sym (same (lex.Tab u.spot) h))
     by_meaning m h = absurd cc
+
+-- a bad unit names the place of the first of the units
+pub bad-place : (us : List TextUnit) (e : Line) (bad : UnitFault) → next_fault us ≡ Some bad → NamesThePlaceOf (bad_unit bad) (with_units us e)
+bad-place us e (lex.BadByte spot) h = fault-place us e.end (lex.BadByte spot) h
+bad-place us e (lex.Tab spot) h = fault-place us e.end (lex.Tab spot) h
+bad-place us e (lex.BadEscape spot) h = fault-place us e.end (lex.BadEscape spot) h
+
+-- it keeps its place
+pub bad-kept : {A : Type 0} (l : Line) (bad : UnitFault) → ◌≡◌ {A = Result A Fault} (Err (bad_unit bad)) (Err (met_before l (bad_unit bad)))
+bad-kept l (lex.BadByte spot) = refl
+bad-kept l (lex.Tab spot) = refl
+bad-kept l (lex.BadEscape spot) = refl
+
+-- it names no element as expected
+pub bad-offers : (bad : UnitFault) (bytes : List ℕ) → offers (bad_unit bad) bytes ≡ true
+bad-offers (lex.BadByte spot) bytes = refl
+bad-offers (lex.Tab spot) bytes = refl
+bad-offers (lex.BadEscape spot) bytes = refl
 
 -- A text that begins with this wanted element begins with one that the fault expects.
 abbrev pub OfWanted : Wanted → Fault → Type 0

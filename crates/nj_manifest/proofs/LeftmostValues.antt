@@ -5,19 +5,19 @@ use Rattle.nj_text.specs.declared.fault.UnitFault.{UnitFault}
 use Rattle.nj_text.specs.declared.sign.Sign.TheVariants as sign
 use Rattle.nj_text.specs.declared.spot.Spot.{Spot}
 use Rattle.nj_text.specs.Units.{Meaning, Ordinary, Join, OpeningJoin, TextUnit}
-use Rattle.nj_text.specs.Lines.{Line, lines_after, spot_of_first}
+use Rattle.nj_text.specs.Lines.{Line, with_units, lines_after, spot_of_first}
 use Rattle.nj_text.specs.Words.{is_blank, after_opening, fault_of, next_fault, first_fault, parts_of, WordModel}
 use Rattle.nj_text.specs.Inside.Meanings.{is_blank_meaning, opens_line_meaning}
 use Rattle.nj_text.specs.Calls.{State, Between, unless_fault, value_of}
 use Rattle.nj_text.specs.Inside.States.{reply}
 use Rattle.nj_manifest.specs.declared.cause.Wanted.TheVariants as wanted
-use Rattle.nj_manifest.specs.Faults.{Fault, Bad}
+use Rattle.nj_manifest.specs.Faults.{Fault, bad_unit}
 use Rattle.nj_manifest.specs.LineSteps.{Step, ◌>>=◌, called, expect_sign}
 use Rattle.nj_manifest.specs.Statements.{equals_value}
 use Rattle.nj_manifest.specs.Leftmost.{written}
 use Rattle.nj_manifest.proofs.LeftmostRuns.{skip}
 use Rattle.nj_manifest.proofs.LeftmostFronts.{fault-same, element-front}
-use Rattle.nj_manifest.proofs.LeftmostSteps.{at, text, anything, after_name, FailsAt, fault-place, Claim, Along, Outcome, stuck, stick, arrive}
+use Rattle.nj_manifest.proofs.LeftmostSteps.{at, text, anything, after_name, FailsAt, bad-place, bad-kept, bad-offers, Claim, Along, Outcome, stuck, stick, arrive}
 use Rattle.nj_manifest.proofs.LeftmostSigns.{sign_step, led_on, ending, equals_single}
 use Rattle.nj_manifest.proofs.LeftmostTurns.{ReadTo, sign_turn}
 
@@ -96,7 +96,7 @@ value_model us e = record { spot = spot_of_first (value_units us) e.end; parts =
 value_by : (f : Option UnitFault) (w : WordModel) (s : State) → f ≡ None → called (unless_fault f (reply w s)) ≡ Ok (w, s)
 value_by f w s h = rw h refl
 
-value_bad_by : (f : Option UnitFault) (w : WordModel) (s : State) (bad : UnitFault) → f ≡ Some bad → called (unless_fault f (reply w s)) ≡ Err (Bad bad)
+value_bad_by : (f : Option UnitFault) (w : WordModel) (s : State) (bad : UnitFault) → f ≡ Some bad → called (unless_fault f (reply w s)) ≡ Err (bad_unit bad)
 value_bad_by f w s bad h = rw h refl
 
 first_of_value : (us : List TextUnit) → first_fault (value_units us) ≡ first_fault us
@@ -105,16 +105,16 @@ first_of_value us = first_after_blanks (after_opening us) ∙ first_after_openin
 value_ok : (us : List TextUnit) (e : Line) (ms : List Line) → first_fault us ≡ None → value_call (at us e ms) ≡ Ok (value_model us e, at [] e ms)
 value_ok us e ms h = value_by _ (value_model us e) (at [] e ms) (first_of_value us ∙ h)
 
-value_bad : (us : List TextUnit) (e : Line) (ms : List Line) (bad : UnitFault) → first_fault us ≡ Some bad → value_call (at us e ms) ≡ Err (Bad bad)
+value_bad : (us : List TextUnit) (e : Line) (ms : List Line) (bad : UnitFault) → first_fault us ≡ Some bad → value_call (at us e ms) ≡ Err (bad_unit bad)
 value_bad us e ms bad h = value_bad_by _ (value_model us e) (at [] e ms) bad (first_of_value us ∙ h)
 
-bad_value : (us : List TextUnit) (e : Line) (bad : UnitFault) → (s : Sound us bad) → FailsAt value_call us e (Bad bad) s.used s.left
+bad_value : (us : List TextUnit) (e : Line) (bad : UnitFault) → (s : Sound us bad) → FailsAt value_call us e (bad_unit bad) s.used s.left
 bad_value us e bad s = record {
   cut = s.cut;
-  place = fault-place s.left e.end bad s.next;
+  place = bad-place s.left e bad s.next;
   fails = λ ms. value_bad us e ms bad (ap first_fault s.cut ∙ (first_after_sound s.used s.left s.sound ∙ first_is_next s.left bad s.next));
   refuses = λ x d ms same.
-      value_bad (s.used ++ x) d ms bad (first_after_sound s.used x s.sound ∙ first_is_next x bad (fault-same x s.left (element-front x s.left same) ∙ s.next));
+      value_bad (s.used ++ x) d ms bad (first_after_sound s.used x s.sound ∙ first_is_next x bad (fault-same x s.left (element-front x s.left same) ∙ s.next)) ∙ bad-kept (with_units x d) bad;
 }
 
 -- the value, and then the end of the line
@@ -163,5 +163,5 @@ value_turn {B = B} {P = P} {whole = whole} e view k so a =
         by_fault (Some bad) h =
             let s = before_bad left bad h in
             let sound = first_after_sound s.used [] s.sound in
-            stuck (Bad bad) (stick (λ s. value_call s >>= valued view) value_call (valued view) (λ s. refl) b (bad_value left e bad s) [] refl refl (view (value_model (s.used ++ []) (written []))) (inl refl)
+            stuck (bad_unit bad) (stick (λ s. value_call s >>= valued view) value_call (valued view) (λ s. refl) b (bad_value left e bad s) [] refl (bad-offers bad []) (view (value_model (s.used ++ []) (written []))) (inl refl)
             (λ ms. value_ended view (s.used ++ []) (written []) ms sound))

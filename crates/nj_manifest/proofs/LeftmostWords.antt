@@ -6,20 +6,20 @@ use Rattle.nj_text.specs.declared.fault.UnitFault.{UnitFault}
 use Rattle.nj_text.specs.declared.spot.Spot.{Spot}
 use Rattle.nj_text.specs.Bytes.{drop_while, is_word_byte, begins_with}
 use Rattle.nj_text.specs.Units.{Meaning, Ordinary, Escape, Reference, Join, LeadingTab, BadByte, BadEscape, TextUnit, is_ordinary_in}
-use Rattle.nj_text.specs.Lines.{Line, spot_of_first}
+use Rattle.nj_text.specs.Lines.{Line, with_units, spot_of_first}
 use Rattle.nj_text.specs.Words.{is_blank, opens_word, in_word, fault_of, next_fault, parts_of, WordModel}
 use Rattle.nj_text.specs.Inside.Meanings.{is_blank_meaning, opens_word_meaning, in_word_meaning}
 use Rattle.nj_text.specs.Calls.{State, unless_fault, path_word_of}
 use Rattle.nj_text.specs.Inside.States.{reply}
 use Rattle.nj_text.proofs.Lists.{AllIn, AllIn-take_while, take_while-cons_yes}
-use Rattle.nj_manifest.specs.Faults.{Fault, Bad}
+use Rattle.nj_manifest.specs.Faults.{Fault, bad_unit}
 use Rattle.nj_manifest.specs.LineSteps.{Step, called, words_next}
 use Rattle.nj_manifest.specs.Leftmost.{written_unit, offers}
 use Rattle.nj_manifest.proofs.Choices.{words_from}
 use Rattle.nj_manifest.proofs.WordLimits.{words_next-fails, words_next-ends, words_next-more}
 use Rattle.nj_manifest.proofs.LeftmostRuns.{both_parts, after_stops, none_passed, run_passed, run_taken, skip, skip_stops, skip_gap, gap_of, gap_passes, gap_cut, not_byte}
 use Rattle.nj_manifest.proofs.LeftmostFronts.{front, begins-same, fault-same, front-append, element-front}
-use Rattle.nj_manifest.proofs.LeftmostSteps.{at, blank_no_pipe, Fits, fits-alone, fits-gap, FailsAt, fault-place}
+use Rattle.nj_manifest.proofs.LeftmostSteps.{at, blank_no_pipe, Fits, fits-alone, fits-gap, FailsAt, bad-place, bad-kept, bad-offers}
 use Rattle.nj_manifest.proofs.LeftmostNames.{no_blank_there}
 
 -- ---- tests on the units that follow
@@ -145,10 +145,10 @@ word_ok f t g w w' there there' other h i j k l = rw (h, i, j, k, l) refl
 word_none : (f : Option UnitFault) (t : Bool) (g : Option UnitFault) (w : WordModel) (there other : State) → f ≡ None → t ≡ false → word_by f t g w there other ≡ Ok (None, other)
 word_none f t g w there other h i = rw (h, i) refl
 
-word_bad : (f : Option UnitFault) (t : Bool) (g : Option UnitFault) (w : WordModel) (there other : State) (bad : UnitFault) → f ≡ Some bad → word_by f t g w there other ≡ Err (Bad bad)
+word_bad : (f : Option UnitFault) (t : Bool) (g : Option UnitFault) (w : WordModel) (there other : State) (bad : UnitFault) → f ≡ Some bad → word_by f t g w there other ≡ Err (bad_unit bad)
 word_bad f t g w there other bad h = rw h refl
 
-word_bad_after : (f : Option UnitFault) (t : Bool) (g : Option UnitFault) (w : WordModel) (there other : State) (bad : UnitFault) → f ≡ None → t ≡ true → g ≡ Some bad → word_by f t g w there other ≡ Err (Bad bad)
+word_bad_after : (f : Option UnitFault) (t : Bool) (g : Option UnitFault) (w : WordModel) (there other : State) (bad : UnitFault) → f ≡ None → t ≡ true → g ≡ Some bad → word_by f t g w there other ≡ Err (bad_unit bad)
 word_bad_after f t g w there other bad h i j = rw (h, i, j) refl
 
 run_reads : (u : TextUnit) (run x : List TextUnit) (e : Line) (ms : List Line) → opens_word u ≡ true → AllIn in_word (u ∷ run) → ends_word x ≡ true → word_here ((u ∷ run) ++ x) e ms ≡ Ok (Some (word_of u run), at x e ms)
@@ -157,7 +157,7 @@ run_reads u run x e ms o a h =
     let taken : take_while in_word ((u ∷ run) ++ x) ≡ u ∷ run = run_taken in_word (u ∷ run) x a (ends_in x h) in
     word_ok _ _ _ _ (word_of u run) _ (at x e ms) _ (opening_no_fault u.means u.spot o) o (ap next_fault rest ∙ ends_fault x h) (ap (λ (y : List TextUnit). record { spot = u.spot; parts = parts_of y }) taken) (ap (λ (y : List TextUnit). at y e ms) rest)
 
-run_fails : (u : TextUnit) (run x : List TextUnit) (e : Line) (ms : List Line) (bad : UnitFault) → opens_word u ≡ true → AllIn in_word (u ∷ run) → next_fault x ≡ Some bad → word_here ((u ∷ run) ++ x) e ms ≡ Err (Bad bad)
+run_fails : (u : TextUnit) (run x : List TextUnit) (e : Line) (ms : List Line) (bad : UnitFault) → opens_word u ≡ true → AllIn in_word (u ∷ run) → next_fault x ≡ Some bad → word_here ((u ∷ run) ++ x) e ms ≡ Err (bad_unit bad)
 run_fails u run x e ms bad o a h =
     let rest : drop_while in_word ((u ∷ run) ++ x) ≡ x = run_passed in_word (u ∷ run) x a (bad_ends x bad h) in
     word_bad_after _ _ _ _ _ _ bad (opening_no_fault u.means u.spot o) o (ap next_fault rest ∙ h)
@@ -165,7 +165,7 @@ run_fails u run x e ms bad o a h =
 none_reads : (x : List TextUnit) (e : Line) (ms : List Line) → settled x ≡ true → word_here x e ms ≡ Ok (None, at x e ms)
 none_reads x e ms h = word_none _ _ _ _ _ _ (settled_fault x h) (settled_word x h)
 
-bad_reads : (x : List TextUnit) (e : Line) (ms : List Line) (bad : UnitFault) → next_fault x ≡ Some bad → word_here x e ms ≡ Err (Bad bad)
+bad_reads : (x : List TextUnit) (e : Line) (ms : List Line) (bad : UnitFault) → next_fault x ≡ Some bad → word_here x e ms ≡ Err (bad_unit bad)
 bad_reads x e ms bad h = word_bad _ _ _ _ _ _ bad h
 
 -- a unit of a word is not a blank
@@ -182,7 +182,7 @@ word_reads gap u run x e ms g o a h =
     ∙ run_reads u run x e ms o a h)
 
 pub word_fails : (gap : List TextUnit) (u : TextUnit) (run x : List TextUnit) (e : Line) (ms : List Line) (bad : UnitFault) → AllIn is_blank gap → opens_word u ≡ true → AllIn in_word (u ∷ run) → next_fault x ≡ Some bad
-    → word_call (at ((gap ++ u ∷ run) ++ x) e ms) ≡ Err (Bad bad)
+    → word_call (at ((gap ++ u ∷ run) ++ x) e ms) ≡ Err (bad_unit bad)
 word_fails gap u run x e ms bad g o a h =
     ap (λ (y : List TextUnit). word_call (at y e ms)) (append_assoc gap (u ∷ run) x)
     ∙ (word_at_units (gap ++ ((u ∷ run) ++ x)) ((u ∷ run) ++ x) e ms (skip_gap gap ((u ∷ run) ++ x) g ∙ none_passed is_blank ((u ∷ run) ++ x) (word_no_blank u.means o))
@@ -191,7 +191,7 @@ word_fails gap u run x e ms bad g o a h =
 pub no_word_reads : (gap x : List TextUnit) (e : Line) (ms : List Line) → AllIn is_blank gap → settled x ≡ true → word_call (at (gap ++ x) e ms) ≡ Ok (None, at x e ms)
 no_word_reads gap x e ms g h = word_at_units (gap ++ x) x e ms (skip_gap gap x g ∙ none_passed is_blank x (settled_blank x h)) ∙ none_reads x e ms h
 
-pub bad_word_reads : (gap x : List TextUnit) (e : Line) (ms : List Line) (bad : UnitFault) → AllIn is_blank gap → begins_with is_blank x ≡ false → next_fault x ≡ Some bad → word_call (at (gap ++ x) e ms) ≡ Err (Bad bad)
+pub bad_word_reads : (gap x : List TextUnit) (e : Line) (ms : List Line) (bad : UnitFault) → AllIn is_blank gap → begins_with is_blank x ≡ false → next_fault x ≡ Some bad → word_call (at (gap ++ x) e ms) ≡ Err (bad_unit bad)
 bad_word_reads gap x e ms bad g n h = word_at_units (gap ++ x) x e ms (skip_gap gap x g ∙ none_passed is_blank x n) ∙ bad_reads x e ms bad h
 
 -- ` x`, written after blanks
@@ -245,12 +245,12 @@ gap_run us = record {
 -- a fault before the next word
 bad_first : (us : List TextUnit) (e : Line) (bad : UnitFault) → next_fault (skip us) ≡ Some bad → WordsSeen us e
 unfolding gap_run
-bad_first us e bad f = broken (Bad bad) (λ bytes. refl) (gap_run us) (record {
+bad_first us e bad f = broken (bad_unit bad) (bad-offers bad) (gap_run us) (record {
   cut = gap_cut us;
-  place = fault-place (skip us) e.end bad f;
-  fails = λ ms. words_next-fails (at us e ms) (Bad bad) (word_is_here us e ms ∙ bad_reads (skip us) e ms bad f);
+  place = bad-place (skip us) e bad f;
+  fails = λ ms. words_next-fails (at us e ms) (bad_unit bad) (word_is_here us e ms ∙ bad_reads (skip us) e ms bad f);
   refuses = λ x d ms same.
-      words_next-fails (at (gap_of us ++ x) d ms) (Bad bad) (bad_word_reads (gap_of us) x d ms bad (gap_passes us) (no_blank_there us x same) (fault-same x (skip us) (element-front x (skip us) same) ∙ f));
+      words_next-fails (at (gap_of us ++ x) d ms) (bad_unit bad) (bad_word_reads (gap_of us) x d ms bad (gap_passes us) (no_blank_there us x same) (fault-same x (skip us) (element-front x (skip us) same) ∙ f)) ∙ bad-kept (with_units x d) bad;
 })
 
 no_first : (us : List TextUnit) (e : Line) → settled (skip us) ≡ true → WordsSeen us e
@@ -284,7 +284,7 @@ module _ (us gap : List TextUnit) (u : TextUnit) (run rest : List TextUnit) (e :
 
   -- a fault right after the word
   broken_after : (bad : UnitFault) → next_fault rest ≡ Some bad → WordsSeen us e
-  broken_after bad f = broken (Bad bad) (λ bytes. refl) (record {
+  broken_after bad f = broken (bad_unit bad) (bad-offers bad) (record {
     used = gap ++ u ∷ run;
     left = rest;
     cut = c;
@@ -294,9 +294,9 @@ module _ (us gap : List TextUnit) (u : TextUnit) (run rest : List TextUnit) (e :
     more = λ z d ms h. word_before (one_more z) d ms refl ∙ from_more (word_of u run) (at (one_more z) d ms) _ (word_x ∷ []) (at z d ms) (one_more_words [] z d ms tt h);
   }) (record {
     cut = c;
-    place = fault-place rest e.end bad f;
-    fails = λ ms. words_next-fails (at us e ms) (Bad bad) (ap (λ (y : List TextUnit). word_call (at y e ms)) c ∙ word_fails gap u run rest e ms bad g o a f);
-    refuses = λ x d ms same. words_next-fails (at ((gap ++ u ∷ run) ++ x) d ms) (Bad bad) (word_fails gap u run x d ms bad g o a (fault-same x rest (element-front x rest same) ∙ f));
+    place = bad-place rest e bad f;
+    fails = λ ms. words_next-fails (at us e ms) (bad_unit bad) (ap (λ (y : List TextUnit). word_call (at y e ms)) c ∙ word_fails gap u run rest e ms bad g o a f);
+    refuses = λ x d ms same. words_next-fails (at ((gap ++ u ∷ run) ++ x) d ms) (bad_unit bad) (word_fails gap u run x d ms bad g o a (fault-same x rest (element-front x rest same) ∙ f)) ∙ bad-kept (with_units x d) bad;
   })
 
   -- the units that end the word end it with other units after them too

@@ -2,14 +2,14 @@
 use Rattle.std.proofs.Common.{◌≡◌, ℕ, Bool, true, false, cond, Option, Some, None, Result, Ok, Err, List, [], ◌∷◌, refl, ap, ◌∙◌, codes}
 use mathlib.Core.Bool.{beq}
 use Rattle.std.specs.Str.{bytes_eq}
-use Rattle.nj_text.specs.declared.fault.UnitFault.TheVariants as lex
 use Rattle.nj_text.specs.declared.sign.Sign.TheVariants as sign
 use Rattle.nj_text.specs.declared.spot.Spot.{Spot}
 use Rattle.nj_text.specs.Lines.{Line, line_spot, lines_after, Kind, CommentLine, TabLine, BlankLine, IndentedLine, PlainLine, kind_of}
 use Rattle.nj_text.specs.Calls.{State, Inside, without_comments}
+use Rattle.nj_manifest.specs.declared.cause.SyntaxCause.TheVariants as cause
 use Rattle.nj_manifest.specs.declared.cause.Wanted.TheVariants as wanted
 use Rattle.nj_manifest.specs.declared.block_lines.Keys.TheVariants as keys
-use Rattle.nj_manifest.specs.Faults.{Fault, Bad, UnexpectedIndent, MissingCommand, RspPair, MissingDepth}
+use Rattle.nj_manifest.specs.Faults.{Fault, Placed}
 use Rattle.nj_manifest.specs.LineSteps.{Step, ◌>>=◌, NameModel, name_next, expect_sign, whole_line}
 use Rattle.nj_manifest.specs.Openings.{Parse, or_last, front_of, opening_by, opening}
 use Rattle.nj_manifest.specs.Statements.{LineModel, lines_from, block, OutputsModel, InputsModel, StatementModel, RuleModel, PoolModel, BuildModel, BindingModel, DefaultModel, IncludeModel, SubninjaModel, PlacedModel, equals_value, outputs_next, inputs_next}
@@ -34,15 +34,15 @@ unfolding rule_next whole_rule name_alone
 rule-steps spot s = in_two (name_alone wanted.RuleName s) (λ n. Ok (RuleHead n.0, n.1)) (with_lines spot) _ (λ name. in_block name.0 (block keys.OfRule (lines_from name.1)))
   where
     by_tests : (name : NameModel) (lines : List LineModel × List Line) (both command : Bool)
-        → ◌≡◌ {A = Parse StatementModel} (cond both (cond command (Ok (RuleModel name lines.0, lines.1)) (Err (MissingCommand spot))) (Err (RspPair spot)))
-        (◌>>=◌ {A = List LineModel} (cond both (cond command (Ok lines.0) (Err (MissingCommand spot))) (Err (RspPair spot))) (λ whole. Ok (RuleModel name whole, lines.1)))
+        → ◌≡◌ {A = Parse StatementModel} (cond both (cond command (Ok (RuleModel name lines.0, lines.1)) (Err (Placed spot cause.MissingCommand))) (Err (Placed spot cause.RspPair)))
+        (◌>>=◌ {A = List LineModel} (cond both (cond command (Ok lines.0) (Err (Placed spot cause.MissingCommand))) (Err (Placed spot cause.RspPair))) (λ whole. Ok (RuleModel name whole, lines.1)))
     by_tests name lines true true = refl
     by_tests name lines true false = refl
     by_tests name lines false command = refl
 
     in_block : (name : NameModel) (r : Parse (List LineModel))
         → ◌≡◌ {A = Parse StatementModel}
-        (r >>= λ lines. cond (beq (gives (codes "rspfile") lines.0) (gives (codes "rspfile_content") lines.0)) (cond (gives (codes "command") lines.0) (Ok (RuleModel name lines.0, lines.1)) (Err (MissingCommand spot))) (Err (RspPair spot)))
+        (r >>= λ lines. cond (beq (gives (codes "rspfile") lines.0) (gives (codes "rspfile_content") lines.0)) (cond (gives (codes "command") lines.0) (Ok (RuleModel name lines.0, lines.1)) (Err (Placed spot cause.MissingCommand))) (Err (Placed spot cause.RspPair)))
         (r >>= λ lines. (whole_rule spot lines.0 >>= λ whole. Ok (RuleModel name whole, lines.1)))
     in_block name (Ok lines) = by_tests name lines (beq (gives (codes "rspfile") lines.0) (gives (codes "rspfile_content") lines.0)) (gives (codes "command") lines.0)
     in_block name (Err f) = refl
@@ -52,12 +52,12 @@ unfolding pool_next whole_pool name_alone
 pool-steps spot s = in_two (name_alone wanted.PoolName s) (λ n. Ok (PoolHead n.0, n.1)) (with_lines spot) _ (λ name. in_block name.0 (block keys.OfPool (lines_from name.1)))
   where
     by_test : (name : NameModel) (lines : List LineModel × List Line) (depth : Bool)
-        → ◌≡◌ {A = Parse StatementModel} (cond depth (Ok (PoolModel name lines.0, lines.1)) (Err (MissingDepth spot))) (◌>>=◌ {A = List LineModel} (cond depth (Ok lines.0) (Err (MissingDepth spot))) (λ whole. Ok (PoolModel name whole, lines.1)))
+        → ◌≡◌ {A = Parse StatementModel} (cond depth (Ok (PoolModel name lines.0, lines.1)) (Err (Placed spot cause.MissingDepth))) (◌>>=◌ {A = List LineModel} (cond depth (Ok lines.0) (Err (Placed spot cause.MissingDepth))) (λ whole. Ok (PoolModel name whole, lines.1)))
     by_test name lines true = refl
     by_test name lines false = refl
 
     in_block : (name : NameModel) (r : Parse (List LineModel))
-        → ◌≡◌ {A = Parse StatementModel} (r >>= λ lines. cond (names (codes "depth") lines.0) (Ok (PoolModel name lines.0, lines.1)) (Err (MissingDepth spot))) (r >>= λ lines. (whole_pool spot lines.0 >>= λ whole. Ok (PoolModel name whole, lines.1)))
+        → ◌≡◌ {A = Parse StatementModel} (r >>= λ lines. cond (names (codes "depth") lines.0) (Ok (PoolModel name lines.0, lines.1)) (Err (Placed spot cause.MissingDepth))) (r >>= λ lines. (whole_pool spot lines.0 >>= λ whole. Ok (PoolModel name whole, lines.1)))
     in_block name (Ok lines) = by_test name lines (names (codes "depth") lines.0)
     in_block name (Err f) = refl
 
@@ -126,8 +126,8 @@ nothing_more rest = Ok (None, rest)
 -- the next statement at a line of this kind, given the next one after it
 abbrev pub next_by : Kind → Line → List Line → Parse (Option PlacedModel) → Parse (Option PlacedModel)
 next_by CommentLine l ls others = or_last l (nothing_more (lines_after l (without_comments ls))) others
-next_by (TabLine tab) l ls others = Err (Bad (lex.Tab tab))
-next_by IndentedLine l ls others = Err (UnexpectedIndent (front_of l))
+next_by (TabLine tab) l ls others = Err (Placed tab cause.Tab)
+next_by IndentedLine l ls others = Err (Placed (front_of l) cause.UnexpectedIndent)
 next_by BlankLine l ls others = or_last l (nothing_more (lines_after l ls)) others
 next_by PlainLine l ls others = statement_here l ls
 

@@ -11,8 +11,9 @@ use Rattle.nj_text.specs.Units.{TextUnit}
 use Rattle.nj_text.specs.Lines.{Line, with_units, lines_after, Kind, CommentLine, TabLine, BlankLine, IndentedLine, PlainLine, kind_of}
 use Rattle.nj_text.specs.Inside.States.{reply}
 use Rattle.nj_text.specs.Calls.{State, Reply, Between, Inside, Failed, Answers, start_line_of, begun, begun_by, is_comment, is_empty, without_comments, spot_of}
+use Rattle.nj_manifest.specs.declared.cause.SyntaxCause.TheVariants as cause
 use Rattle.nj_manifest.specs.declared.parse_fault.ParseFault.TheVariants as fault
-use Rattle.nj_manifest.specs.Faults.{Bad, UnexpectedIndent}
+use Rattle.nj_manifest.specs.Faults.{Placed, bad_unit}
 use Rattle.nj_manifest.specs.Parsers.{Fails}
 use Rattle.nj_manifest.specs.Statements.{lines_from}
 use Rattle.nj_manifest.specs.Openings.{Parse, opening_by, opening, or_last}
@@ -33,10 +34,10 @@ BeginsHere next s = (l : Line) × (ls : List Line) × (s ≡ Inside l ls) × (ki
 abbrev pub Begins : Next → Reply LineStart → Type 0
 Begins next (Ok (start.End, s)) = (next ≡ ended (lines_from s)) × (ls : List Line) × (s ≡ Between ls)
 Begins next (Ok (start.Blank, s)) = (ls : List Line) × (s ≡ Between ls) × (next ≡ opening ls)
-Begins next (Ok (start.Indented, s)) = next ≡ Err (UnexpectedIndent (front_at (spot_of s)))
+Begins next (Ok (start.Indented, s)) = next ≡ Err (Placed (front_at (spot_of s)) cause.UnexpectedIndent)
 Begins next (Ok (start.Plain, s)) = BeginsHere next s
 Begins next (Ok (start.Middle, s)) = BeginsHere next s
-Begins next (Err f) = next ≡ Err (Bad f)
+Begins next (Err f) = next ≡ Err (bad_unit f)
 
 -- a last line without units is blank, and nothing comes after it
 next-empty : (l : Line) (ls : List Line) → l.is_last ≡ true → opening (with_units [] l ∷ ls) ≡ ended (with_units [] l ∷ ls)

@@ -5,7 +5,8 @@ use Rattle.nj_text.specs.declared.spot.Spot.{Spot}
 use Rattle.nj_text.specs.Units.{cut}
 use Rattle.nj_text.specs.Lines.{Line, text_lines}
 use Rattle.nj_text.specs.Words.{WordModel, Text, Name}
-use Rattle.nj_manifest.specs.Faults.{Fault, UnexpectedIndent}
+use Rattle.nj_manifest.specs.declared.cause.SyntaxCause.TheVariants as cause
+use Rattle.nj_manifest.specs.Faults.{Fault, Placed}
 use Rattle.nj_manifest.specs.LineSteps.{NameModel, name_next, expect_sign, words_within, words_next, section_next}
 use Rattle.nj_manifest.specs.Openings.{Parse, opening}
 use Rattle.nj_manifest.specs.Statements.{LineModel, OutputsModel, InputsModel, PlacedModel, StatementModel, BindingModel, RuleModel, PoolModel, BuildModel, DefaultModel, IncludeModel, SubninjaModel, equals_value, line_next, outputs_next, inputs_next, build_next, rule_next, pool_next, targets_next, file_next, statement_after, block, next_statement}
@@ -147,7 +148,7 @@ to_the_end = refl
 
 -- a blank line ends a block
 after_block : outcomes 2 (text_lines (codes "build a: r\n  x = 1\n\n  y = 2\n")) ≡
-    placed 1 1 (BuildModel (to (word 1 7 (codes "a") ∷ [])) (name_at 1 10 (codes "r")) (from []) (line_at 2 3 (codes "x") (word 2 7 (codes "1")) ∷ [])) ∷ Err (UnexpectedIndent (at 4 1)) ∷ []
+    placed 1 1 (BuildModel (to (word 1 7 (codes "a") ∷ [])) (name_at 1 10 (codes "r")) (from []) (line_at 2 3 (codes "x") (word 2 7 (codes "1")) ∷ [])) ∷ Err (Placed (at 4 1) cause.UnexpectedIndent) ∷ []
 unfolding on_strings
 after_block = refl
 

@@ -4,7 +4,8 @@ use Rattle.std.specs.Prelude.{◌≡◌, ℕ, Bool, true, ◌&&◌, not, Option,
 use Rattle.std.specs.List.{list_all}
 use Rattle.nj_text.specs.Units.{TextUnit}
 use Rattle.nj_text.specs.Lines.{Line, text_lines, line_spot, is_space_unit}
-use Rattle.nj_manifest.specs.Faults.{Fault, DyndepShape}
+use Rattle.nj_manifest.specs.declared.cause.SyntaxCause.TheVariants as cause
+use Rattle.nj_manifest.specs.Faults.{Fault, Placed}
 use Rattle.nj_manifest.specs.Grammar.{AreBlanks}
 use Rattle.nj_manifest.specs.Leftmost.{continues, element, written, are_plain, NamesThePlaceOf, met_before, offers}
 use Rattle.nj_manifest.specs.Dyndeps.{EntryModel, is_same_spot, version_next, next_entry}
@@ -19,7 +20,7 @@ AreApart ls = list_all (λ l. are_apart l.units) ls ≡ true
 
 -- the place that a fault of an entry names, where it comes before this rest of a line
 abbrev pub NamesPlaceInEntry : Fault → Line → Type 0
-NamesPlaceInEntry (DyndepShape spot) l = spot ≡ line_spot l
+NamesPlaceInEntry (Placed spot cause.DyndepShape) l = spot ≡ line_spot l
 NamesPlaceInEntry fault l = NamesThePlaceOf fault l
 
 -- From this front an entry continues: in the same line with these bytes, which begin with an element that the fault

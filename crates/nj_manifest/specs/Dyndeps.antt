@@ -12,9 +12,10 @@ use Rattle.nj_text.specs.Lines.{Line}
 use Rattle.nj_text.specs.Words.{WordModel}
 use Rattle.nj_text.specs.Calls.{State, Reply, Inside, start_line_of, skip_blanks_of, sign_of, path_word_of, spot_of}
 use Rattle.nj_text.specs.Calls.{fault_spot, first_line_spot}
+use Rattle.nj_manifest.specs.declared.cause.SyntaxCause.TheVariants as cause
 use Rattle.nj_manifest.specs.declared.cause.Wanted.{Wanted}
 use Rattle.nj_manifest.specs.declared.cause.Wanted.TheVariants as wanted
-use Rattle.nj_manifest.specs.Faults.{Fault, Bad, Expected, DyndepVersion, DyndepShape}
+use Rattle.nj_manifest.specs.Faults.{Fault, Placed, bad_unit}
 use Rattle.nj_manifest.specs.LineSteps.{Step, ◌>>=◌, called, name_next, expect_sign, whole_line, section_next}
 use Rattle.nj_manifest.specs.Expansion.{expanded, no_values}
 use Rattle.nj_manifest.specs.Statements.{lines_from, equals_value}
@@ -30,12 +31,12 @@ is_first_version version = version.0 == 1 && version.1 == 0
 unfoldable pub version_line : State → Result State Fault
 version_line s = do
   name ← name_next wanted.Statement s
-  value ← if bytes_eq name.0.name (codes "ninja_dyndep_version") then equals_value name.1 else Err (DyndepVersion name.0.spot)
-  if is_first_version (version_pair_of (expanded no_values value.0.parts)) then Ok value.1 else Err (DyndepVersion name.0.spot)
+  value ← if bytes_eq name.0.name (codes "ninja_dyndep_version") then equals_value name.1 else Err (Placed name.0.spot cause.DyndepVersion)
+  if is_first_version (version_pair_of (expanded no_values value.0.parts)) then Ok value.1 else Err (Placed name.0.spot cause.DyndepVersion)
 
 abbrev pub version_from : Option Line × List Line → Result (List Line) Fault
 version_from (Some l, ls) = version_line (Inside l ls) >>= λ end. Ok (lines_from end)
-version_from (None, ls) = Err (DyndepVersion (first_line_spot ls))
+version_from (None, ls) = Err (Placed (first_line_spot ls) cause.DyndepVersion)
 
 -- the lines after the version, with which a dyndep file begins
 unfoldable pub version_next : List Line → Result (List Line) Fault
@@ -53,15 +54,15 @@ pub record EntryModel : Type 0 where
 unfoldable pub word_of_form : (word : List ℕ) → Wanted → State → Result State Fault
 word_of_form word wanted s = do
   name ← name_next wanted s
-  if bytes_eq name.0.name word then Ok name.1 else Err (DyndepShape name.0.spot)
+  if bytes_eq name.0.name word then Ok name.1 else Err (Placed name.0.spot cause.DyndepShape)
 
 abbrev pub is_same_spot : Spot → Spot → Bool
 is_same_spot a b = a.line == b.line && a.column == b.column
 
 abbrev pub no_path_by : Spot → Reply (Option WordModel) → Result State Fault
 no_path_by spot (Ok (None, after)) = Ok after
-no_path_by spot (Ok (Some word, after)) = Err (DyndepShape spot)
-no_path_by spot (Err unit) = if is_same_spot (fault_spot unit) spot then Err (Bad unit) else Err (DyndepShape spot)
+no_path_by spot (Ok (Some word, after)) = Err (Placed spot cause.DyndepShape)
+no_path_by spot (Err unit) = if is_same_spot (fault_spot unit) spot then Err (bad_unit unit) else Err (Placed spot cause.DyndepShape)
 
 -- There is no path here. One that is here departs from the form at its first unit, whether or not a bad unit breaks it later.
 unfoldable pub no_path : State → Result State Fault
@@ -71,14 +72,14 @@ no_path s = let here = skip_blanks_of s in no_path_by (spot_of here) (path_word_
 unfoldable pub no_section : Sign → State → Result State Fault
 no_section want s = do
   there ← called (sign_of want (skip_blanks_of s))
-  if not there.0 then Ok there.1 else Err (DyndepShape (spot_of (skip_blanks_of s)))
+  if not there.0 then Ok there.1 else Err (Placed (spot_of (skip_blanks_of s)) cause.DyndepShape)
 
 -- After `build`: the one explicit output. Where there is none, implicit outputs depart from the form at their `|`.
 unfoldable pub output_next : State → Step WordModel
 output_next s = do
   found ← called (path_word_of s)
   out ← option_map_or Ok found.0 (called (sign_of sign.Pipe found.1) >>= λ pipe.
-      Err (if pipe.0 then DyndepShape (spot_of found.1) else Expected (spot_of found.1) wanted.Path))
+      Err (if pipe.0 then Placed (spot_of found.1) cause.DyndepShape else Placed (spot_of found.1) (cause.Expected wanted.Path)))
   end ← no_path found.1
   Ok (out, end)
 
@@ -115,7 +116,7 @@ unfoldable pub restat_block : State → Result State Fault
 restat_block s = in_block s (λ line. do
   key ← word_of_form (codes "restat") wanted.VariableName line
   value ← equals_value key
-  in_block value.1 (λ extra. name_next wanted.VariableName extra >>= λ name. Err (DyndepShape name.0.spot)))
+  in_block value.1 (λ extra. name_next wanted.VariableName extra >>= λ name. Err (Placed name.0.spot cause.DyndepShape)))
 
 abbrev pub entry_from : Option Line × List Line → Parse (Option EntryModel)
 entry_from (Some l, ls) = do

@@ -6,7 +6,6 @@ use Rattle.nj_text.specs.declared.fault.UnitFault.{UnitFault}
 use Rattle.nj_text.specs.declared.fault.UnitFault.TheVariants as unit_fault
 use Rattle.nj_text.specs.declared.fault.LexFault.TheVariants as lex
 use Rattle.nj_text.specs.declared.spot.Spot.{Spot}
-use Rattle.nj_text.specs.Calls.{fault_spot}
 use Rattle.nj_text.specs.Faults.{placed_text, out_of_memory_text}
 use Rattle.nj_manifest.specs.declared.cause.SyntaxCause.{SyntaxCause}
 use Rattle.nj_manifest.specs.declared.cause.SyntaxCause.TheVariants as cause
@@ -15,44 +14,39 @@ use Rattle.nj_manifest.specs.declared.cause.Wanted.TheVariants as wanted
 use Rattle.nj_manifest.specs.declared.parse_fault.ParseFault.{ParseFault}
 use Rattle.nj_manifest.specs.declared.parse_fault.ParseFault.TheVariants as fault
 
--- a fault with its place and names
+-- a fault: its place and its cause; or out of memory, which is the program's own and has no place
 pub data Fault : Type 0 where
-  -- a bad unit
-  Bad : (unit : UnitFault) → Fault
-  -- something else is where this is wanted
-  Expected : (spot : Spot) (wanted : Wanted) → Fault
-  -- an indented line outside of blocks
-  UnexpectedIndent : (spot : Spot) → Fault
-  MissingCommand : (spot : Spot) → Fault
-  RspPair : (spot : Spot) → Fault
-  UnknownKey : (spot : Spot) (key : List ℕ) → Fault
-  MissingDepth : (spot : Spot) → Fault
-  -- of dyndep files alone
-  DyndepVersion : (spot : Spot) → Fault
-  DyndepShape : (spot : Spot) → Fault
-  -- not of a text: the program's own
+  Placed : (spot : Spot) (cause : SyntaxCause (List ℕ)) → Fault
   OutOfMemory : Fault
 
+-- the fault of a bad unit
+abbrev pub bad_unit : UnitFault → Fault
+bad_unit (unit_fault.BadByte spot) = Placed spot cause.BadByte
+bad_unit (unit_fault.Tab spot) = Placed spot cause.Tab
+bad_unit (unit_fault.BadEscape spot) = Placed spot cause.BadEscape
+
 abbrev pub fault_text : ParseFault → Fault
-fault_text (fault.Lex (lex.BadByte spot)) = Bad (unit_fault.BadByte spot)
-fault_text (fault.Lex (lex.Tab spot)) = Bad (unit_fault.Tab spot)
-fault_text (fault.Lex (lex.BadEscape spot)) = Bad (unit_fault.BadEscape spot)
+fault_text (fault.Lex (lex.BadByte spot)) = Placed spot cause.BadByte
+fault_text (fault.Lex (lex.Tab spot)) = Placed spot cause.Tab
+fault_text (fault.Lex (lex.BadEscape spot)) = Placed spot cause.BadEscape
 fault_text (fault.Lex lex.OutOfMemory) = OutOfMemory
-fault_text (fault.Expected spot wanted) = Expected spot wanted
-fault_text (fault.UnexpectedIndent spot) = UnexpectedIndent spot
-fault_text (fault.MissingCommand spot) = MissingCommand spot
-fault_text (fault.RspPair spot) = RspPair spot
-fault_text (fault.UnknownKey spot key) = UnknownKey spot key.now
-fault_text (fault.MissingDepth spot) = MissingDepth spot
-fault_text (fault.DyndepVersion spot) = DyndepVersion spot
-fault_text (fault.DyndepShape spot) = DyndepShape spot
+fault_text (fault.Expected spot wanted) = Placed spot (cause.Expected wanted)
+fault_text (fault.UnexpectedIndent spot) = Placed spot cause.UnexpectedIndent
+fault_text (fault.MissingCommand spot) = Placed spot cause.MissingCommand
+fault_text (fault.RspPair spot) = Placed spot cause.RspPair
+fault_text (fault.UnknownKey spot key) = Placed spot (cause.UnknownKey key.now)
+fault_text (fault.MissingDepth spot) = Placed spot cause.MissingDepth
+fault_text (fault.DyndepVersion spot) = Placed spot cause.DyndepVersion
+fault_text (fault.DyndepShape spot) = Placed spot cause.DyndepShape
 
 -- A fault of the syntax of statements; the others are of a whole block that lacks a line, or of dyndep files.
 abbrev pub is_syntax : Fault → Bool
-is_syntax (Bad unit) = true
-is_syntax (Expected spot wanted) = true
-is_syntax (UnexpectedIndent spot) = true
-is_syntax (UnknownKey spot key) = true
+is_syntax (Placed spot cause.BadByte) = true
+is_syntax (Placed spot cause.Tab) = true
+is_syntax (Placed spot cause.BadEscape) = true
+is_syntax (Placed spot (cause.Expected wanted)) = true
+is_syntax (Placed spot cause.UnexpectedIndent) = true
+is_syntax (Placed spot (cause.UnknownKey key)) = true
 is_syntax fault = false
 
 -- the text for the wanted element
@@ -70,35 +64,15 @@ wanted_text wanted.Newline = codes "newline"
 
 -- ---- the place and the text of a fault
 
--- out of memory has no place
 abbrev pub place_of : Fault → Option Spot
-place_of (Bad unit) = Some (fault_spot unit)
-place_of (Expected spot wanted) = Some spot
-place_of (UnexpectedIndent spot) = Some spot
-place_of (MissingCommand spot) = Some spot
-place_of (RspPair spot) = Some spot
-place_of (UnknownKey spot key) = Some spot
-place_of (MissingDepth spot) = Some spot
-place_of (DyndepVersion spot) = Some spot
-place_of (DyndepShape spot) = Some spot
+place_of (Placed spot cause) = Some spot
 place_of OutOfMemory = None
 
--- the cause of the fault
 abbrev pub syntax_cause : Fault → Option (SyntaxCause (List ℕ))
-syntax_cause (Bad (unit_fault.BadByte spot)) = Some cause.BadByte
-syntax_cause (Bad (unit_fault.Tab spot)) = Some cause.Tab
-syntax_cause (Bad (unit_fault.BadEscape spot)) = Some cause.BadEscape
-syntax_cause (Expected spot wanted) = Some (cause.Expected wanted)
-syntax_cause (UnexpectedIndent spot) = Some cause.UnexpectedIndent
-syntax_cause (MissingCommand spot) = Some cause.MissingCommand
-syntax_cause (RspPair spot) = Some cause.RspPair
-syntax_cause (UnknownKey spot key) = Some (cause.UnknownKey key)
-syntax_cause (MissingDepth spot) = Some cause.MissingDepth
-syntax_cause (DyndepVersion spot) = Some cause.DyndepVersion
-syntax_cause (DyndepShape spot) = Some cause.DyndepShape
+syntax_cause (Placed spot cause) = Some cause
 syntax_cause OutOfMemory = None
 
--- its text, with the name as `shown` has it
+-- the text of a cause, with the name as `shown` has it
 abbrev pub syntax_text : {N : Type 0} → (shown : N → List ℕ) → SyntaxCause N → List ℕ
 syntax_text shown cause.BadByte = codes "unexpected byte"
 syntax_text shown cause.Tab = codes "tabs are not allowed, use spaces"

@@ -12,9 +12,10 @@ use Rattle.nj_text.specs.Lines.{Line, line_spot, lines_after, spot_of_first, Com
 use Rattle.nj_text.specs.Words.{WordModel, is_blank, opens_line, in_identifier, opens_word, in_word, first_fault, parts_of}
 use Rattle.nj_text.specs.Words.{begins_with_byte}
 use Rattle.nj_text.specs.Calls.{bytes_of, is_empty, without_comments}
+use Rattle.nj_manifest.specs.declared.cause.SyntaxCause.TheVariants as cause
 use Rattle.nj_manifest.specs.declared.block_lines.Keys.{Keys}
 use Rattle.nj_manifest.specs.declared.block_lines.Keys.TheVariants as keys
-use Rattle.nj_manifest.specs.Faults.{Fault, MissingCommand, RspPair, MissingDepth}
+use Rattle.nj_manifest.specs.Faults.{Fault, Placed}
 use Rattle.nj_manifest.specs.LineSteps.{NameModel}
 use Rattle.nj_manifest.specs.Statements.{LineModel, allows, OutputsModel, InputsModel, StatementModel, BindingModel, RuleModel}
 use Rattle.nj_manifest.specs.Statements.{PoolModel, BuildModel, DefaultModel, IncludeModel, SubninjaModel, PlacedModel}
@@ -245,12 +246,12 @@ pub data StatementForm : HeadModel → List Line → StatementModel → (rest : 
 pub data LackForm (spot : Spot) : HeadModel → List Line → Fault → Type 0 where
   -- only one of the two keys of a response file
   pair : {name : NameModel} {ls rest : List Line} {lines : List LineModel} → BlockForm keys.OfRule ls lines rest
-      → ((Gives (codes "rspfile") lines ↔ Gives (codes "rspfile_content") lines) → ⊥) → LackForm spot (RuleHead name) ls (RspPair spot)
+      → ((Gives (codes "rspfile") lines ↔ Gives (codes "rspfile_content") lines) → ⊥) → LackForm spot (RuleHead name) ls (Placed spot cause.RspPair)
   command : {name : NameModel} {ls rest : List Line} {lines : List LineModel} → BlockForm keys.OfRule ls lines rest
       → (Gives (codes "rspfile") lines ↔ Gives (codes "rspfile_content") lines) → (Gives (codes "command") lines → ⊥)
-      → LackForm spot (RuleHead name) ls (MissingCommand spot)
+      → LackForm spot (RuleHead name) ls (Placed spot cause.MissingCommand)
   depth : {name : NameModel} {ls rest : List Line} {lines : List LineModel} → BlockForm keys.OfPool ls lines rest
-      → list_any (λ l. bytes_eq l.name (codes "depth")) lines ≡ false → LackForm spot (PoolHead name) ls (MissingDepth spot)
+      → list_any (λ l. bytes_eq l.name (codes "depth")) lines ≡ false → LackForm spot (PoolHead name) ls (Placed spot cause.MissingDepth)
 
 -- The next statement of some lines, and the lines after it; or none. Comments and blank lines are skipped.
 pub data NextForm : List Line → Option PlacedModel → (rest : List Line) → Type 0 where

@@ -7,10 +7,11 @@ use Rattle.nj_text.specs.Bytes.{is_space, is_identifier_byte, is_ordinary_byte, 
 use Rattle.nj_text.specs.Units.{Ordinary, TextUnit, first_spot}
 use Rattle.nj_text.specs.Lines.{Line, line_spot, with_units}
 use Rattle.nj_text.specs.Words.{in_identifier}
-use Rattle.nj_text.specs.Calls.{is_empty, is_sign, fault_spot}
+use Rattle.nj_text.specs.Calls.{is_empty, is_sign}
+use Rattle.nj_manifest.specs.declared.cause.SyntaxCause.TheVariants as cause
 use Rattle.nj_manifest.specs.declared.cause.Wanted.{Wanted}
 use Rattle.nj_manifest.specs.declared.cause.Wanted.TheVariants as wanted
-use Rattle.nj_manifest.specs.Faults.{Fault, Bad, Expected, UnexpectedIndent, UnknownKey, is_syntax}
+use Rattle.nj_manifest.specs.Faults.{Fault, Placed, is_syntax}
 use Rattle.nj_manifest.specs.Statements.{PlacedModel, next_statement}
 
 -- whole lines, the first units of one more, and from there on the rest of that line and the others
@@ -45,16 +46,19 @@ are_plain bytes = list_all is_ordinary_byte bytes
 
 -- the place that a fault names, where it comes before this rest of a line
 abbrev pub NamesThePlaceOf : Fault → Line → Type 0
-NamesThePlaceOf (Bad unit) l = fault_spot unit ≡ line_spot l
-NamesThePlaceOf (Expected spot wanted) l = spot ≡ line_spot l
-NamesThePlaceOf (UnexpectedIndent spot) l = spot ≡ record { line = (line_spot l).line; column = 1 }
-NamesThePlaceOf (UnknownKey spot key) l = spot ≡ line_spot l
+NamesThePlaceOf (Placed spot cause.BadByte) l = spot ≡ line_spot l
+NamesThePlaceOf (Placed spot cause.Tab) l = spot ≡ line_spot l
+NamesThePlaceOf (Placed spot cause.BadEscape) l = spot ≡ line_spot l
+NamesThePlaceOf (Placed spot (cause.Expected wanted)) l = spot ≡ line_spot l
+NamesThePlaceOf (Placed spot cause.UnexpectedIndent) l = spot ≡ record { line = (line_spot l).line; column = 1 }
+NamesThePlaceOf (Placed spot (cause.UnknownKey key)) l = spot ≡ line_spot l
 NamesThePlaceOf fault l = ⊥
 
 -- The same fault, met before this rest of a line. A bad unit and a key are in the element, and so keep their places.
 abbrev pub met_before : Line → Fault → Fault
-met_before l (Expected spot wanted) = Expected (line_spot l) wanted
-met_before l (UnexpectedIndent spot) = UnexpectedIndent (record { line = (line_spot l).line; column = 1 })
+met_before l (Placed spot (cause.Expected wanted)) = Placed (line_spot l) (cause.Expected wanted)
+met_before l (Placed spot cause.UnexpectedIndent) =
+    Placed (record { line = (line_spot l).line; column = 1 }) cause.UnexpectedIndent
 met_before l fault = fault
 
 -- whether these bytes, which follow spaces, begin with an element that is wanted
@@ -72,7 +76,7 @@ offers_next wanted.Newline bytes = is_empty bytes
 
 -- whether the bytes begin with an element that the fault names as expected
 abbrev pub offers : Fault → List ℕ → Bool
-offers (Expected spot wanted) bytes = offers_next wanted (drop_while is_space bytes)
+offers (Placed spot (cause.Expected wanted)) bytes = offers_next wanted (drop_while is_space bytes)
 offers fault bytes = true
 
 -- From this front a statement continues: in the same line with these bytes, which begin with an element that the fault

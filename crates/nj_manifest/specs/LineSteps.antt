@@ -7,9 +7,10 @@ use Rattle.nj_text.specs.declared.sign.Sign.TheVariants as sign
 use Rattle.nj_text.specs.declared.spot.Spot.{Spot}
 use Rattle.nj_text.specs.Words.{WordModel}
 use Rattle.nj_text.specs.Calls.{State, Inside, Reply, skip_blanks_of, ident_of, sign_of, path_word_of, spot_of}
+use Rattle.nj_manifest.specs.declared.cause.SyntaxCause.TheVariants as cause
 use Rattle.nj_manifest.specs.declared.cause.Wanted.{Wanted}
 use Rattle.nj_manifest.specs.declared.cause.Wanted.TheVariants as wanted
-use Rattle.nj_manifest.specs.Faults.{Fault, Bad, Expected}
+use Rattle.nj_manifest.specs.Faults.{Fault, Placed, bad_unit}
 
 -- the value read, and the lexer after it; or the fault at which no statement continues
 abbrev pub Step : Type 0 → Type 0
@@ -22,7 +23,7 @@ abbrev pub ◌>>=◌ : {A B E : Type 0} → Result A E → (A → Result B E) �
 
 -- a call of the lexer
 abbrev pub called : {A : Type 0} → Reply A → Step A
-called r = result_map_both (λ x. x) (λ f. Bad f) r
+called r = result_map_both (λ x. x) bad_unit r
 
 -- a name and the place of its first byte
 pub record NameModel : Type 0 where
@@ -33,14 +34,14 @@ pub record NameModel : Type 0 where
 unfoldable pub name_next : Wanted → State → Step NameModel
 name_next wanted s = do
   found ← called (ident_of (skip_blanks_of s))
-  name ← ok_or found.0 (Expected (spot_of (skip_blanks_of s)) wanted)
+  name ← ok_or found.0 (Placed (spot_of (skip_blanks_of s)) (cause.Expected wanted))
   Ok (record { spot = spot_of (skip_blanks_of s); name = name }, found.1)
 
 -- the lexer after a sign that has to be there
 unfoldable pub expect_sign : Sign → Wanted → State → Result State Fault
 expect_sign want wanted s = do
   there ← called (sign_of want s)
-  if there.0 then Ok there.1 else Err (Expected (spot_of there.1) wanted)
+  if there.0 then Ok there.1 else Err (Placed (spot_of there.1) (cause.Expected wanted))
 
 -- the value of a step, which has to end its line
 abbrev pub whole_line : {A : Type 0} → Step A → Step A

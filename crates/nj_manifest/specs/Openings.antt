@@ -1,12 +1,12 @@
 -- Where the next statement of some lines begins.
 use Rattle.std.specs.Prelude.{if◌then◌else◌, Option, Some, None, Result, Ok, Err, List, [], ◌∷◌}
-use Rattle.nj_text.specs.declared.fault.UnitFault.TheVariants as unit_fault
 use Rattle.nj_text.specs.declared.spot.Spot.{Spot}
 use Rattle.nj_text.specs.Bytes.{drop_while}
 use Rattle.nj_text.specs.Lines.{Line, line_spot, with_units, lines_after, Kind, CommentLine, TabLine, BlankLine, IndentedLine, PlainLine}
 use Rattle.nj_text.specs.Lines.{kind_of, is_space_unit}
 use Rattle.nj_text.specs.Calls.{without_comments}
-use Rattle.nj_manifest.specs.Faults.{Fault, Bad, UnexpectedIndent}
+use Rattle.nj_manifest.specs.declared.cause.SyntaxCause.TheVariants as cause
+use Rattle.nj_manifest.specs.Faults.{Fault, Placed}
 
 -- the value read from lines, and the lines after it
 abbrev pub Parse : Type 0 → Type 0
@@ -25,8 +25,8 @@ front_of l = record { line = (line_spot (without_spaces l)).line; column = 1 }
 
 abbrev pub opening_by : Kind → Line → List Line → Parse (Option Line) → Parse (Option Line)
 opening_by CommentLine l ls others = or_last l (Ok (None, lines_after l (without_comments ls))) others
-opening_by (TabLine tab) l ls others = Err (Bad (unit_fault.Tab tab))
-opening_by IndentedLine l ls others = Err (UnexpectedIndent (front_of l))
+opening_by (TabLine tab) l ls others = Err (Placed tab cause.Tab)
+opening_by IndentedLine l ls others = Err (Placed (front_of l) cause.UnexpectedIndent)
 opening_by BlankLine l ls others = or_last l (Ok (None, lines_after l ls)) others
 opening_by PlainLine l ls others = Ok (Some l, ls)
 

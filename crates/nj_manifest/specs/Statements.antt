@@ -3,17 +3,17 @@ use Rattle.std.specs.Prelude.{ℕ, Bool, true, false, ◌&&◌, not, if◌then�
 use mathlib.Core.Bool.{beq}
 use Rattle.std.specs.List.{list_any}
 use Rattle.std.specs.Str.{bytes_eq}
-use Rattle.nj_text.specs.declared.fault.UnitFault.TheVariants as lex
 use Rattle.nj_text.specs.declared.sign.Sign.TheVariants as sign
 use Rattle.nj_text.specs.declared.spot.Spot.{Spot}
 use Rattle.nj_text.specs.Lines.{Line, line_spot, lines_after, Kind, CommentLine, TabLine, BlankLine, IndentedLine}
 use Rattle.nj_text.specs.Lines.{PlainLine, kind_of}
 use Rattle.nj_text.specs.Words.{WordModel}
 use Rattle.nj_text.specs.Calls.{State, Between, Inside, Failed, is_empty, path_word_of, value_of, spot_of, without_comments}
+use Rattle.nj_manifest.specs.declared.cause.SyntaxCause.TheVariants as cause
 use Rattle.nj_manifest.specs.declared.cause.Wanted.TheVariants as wanted
 use Rattle.nj_manifest.specs.declared.block_lines.Keys.{Keys}
 use Rattle.nj_manifest.specs.declared.block_lines.Keys.TheVariants as keys
-use Rattle.nj_manifest.specs.Faults.{Fault, Bad, Expected, MissingCommand, RspPair, UnknownKey, MissingDepth}
+use Rattle.nj_manifest.specs.Faults.{Fault, Placed}
 use Rattle.nj_manifest.specs.Openings.{Parse, or_last, without_spaces, opening}
 use Rattle.nj_manifest.specs.LineSteps.{Step, ◌>>=◌, called, NameModel, name_next, expect_sign, whole_line, words_next, section_next}
 
@@ -46,7 +46,7 @@ equals_value s = do
 unfoldable pub line_next : Keys → State → Step LineModel
 line_next allowed s = do
   key ← name_next wanted.VariableName s
-  value ← if allows allowed key.0.name then equals_value key.1 else Err (UnknownKey key.0.spot key.0.name)
+  value ← if allows allowed key.0.name then equals_value key.1 else Err (Placed key.0.spot (cause.UnknownKey key.0.name))
   Ok (record { spot = key.0.spot; name = key.0.name; value = value.0 }, value.1)
 
 -- the lines before which a lexer is
@@ -57,7 +57,7 @@ lines_from (Failed f) = []
 
 abbrev pub block_by : Keys → Kind → Line → List Line → Parse (List LineModel) → Parse (List LineModel)
 block_by allowed CommentLine l ls others = or_last l (Ok ([], lines_after l (without_comments ls))) others
-block_by allowed (TabLine tab) l ls others = Err (Bad (lex.Tab tab))
+block_by allowed (TabLine tab) l ls others = Err (Placed tab cause.Tab)
 block_by allowed IndentedLine l ls others = do
   line ← line_next allowed (Inside (without_spaces l) ls)
   more ← or_last l (Ok ([], lines_after l ls)) others
@@ -103,7 +103,7 @@ outputs_next s = do
   explicit ← words_next s
   implicit ← section_next sign.Pipe explicit.1
   if is_empty explicit.0 && is_empty implicit.0
-      then Err (Expected (spot_of implicit.1) wanted.Path)
+      then Err (Placed (spot_of implicit.1) (cause.Expected wanted.Path))
       else Ok (record { explicit = explicit.0; implicit = implicit.0 }, implicit.1)
 
 -- `INPUTS | IMPLICIT || ORDER-ONLY |@ VALIDATIONS`
@@ -119,14 +119,14 @@ inputs_next s = do
 unfoldable pub targets_next : State → Step (List WordModel)
 targets_next s = do
   words ← words_next s
-  end ← if is_empty words.0 then Err (Expected (spot_of words.1) wanted.TargetName) else expect_sign sign.LineEnd wanted.Newline words.1
+  end ← if is_empty words.0 then Err (Placed (spot_of words.1) (cause.Expected wanted.TargetName)) else expect_sign sign.LineEnd wanted.Newline words.1
   Ok (words.0, end)
 
 -- after `include` or `subninja`: the file
 unfoldable pub file_next : State → Step WordModel
 file_next s = do
   found ← called (path_word_of s)
-  word ← ok_or found.0 (Expected (spot_of found.1) wanted.Path)
+  word ← ok_or found.0 (Placed (spot_of found.1) (cause.Expected wanted.Path))
   whole_line (Ok (word, found.1))
 
 -- ---- lines that a block needs
@@ -147,15 +147,15 @@ rule_next spot s = do
   name ← whole_line (name_next wanted.RuleName s)
   lines ← block keys.OfRule (lines_from name.1)
   if beq (gives (codes "rspfile") lines.0) (gives (codes "rspfile_content") lines.0)
-      then (if gives (codes "command") lines.0 then Ok (RuleModel name.0 lines.0, lines.1) else Err (MissingCommand spot))
-      else Err (RspPair spot)
+      then (if gives (codes "command") lines.0 then Ok (RuleModel name.0 lines.0, lines.1) else Err (Placed spot cause.MissingCommand))
+      else Err (Placed spot cause.RspPair)
 
 -- `pool NAME`, and its block: a pool needs its depth
 unfoldable pub pool_next : Spot → State → Parse StatementModel
 pool_next spot s = do
   name ← whole_line (name_next wanted.PoolName s)
   lines ← block keys.OfPool (lines_from name.1)
-  if list_any (λ l. bytes_eq l.name (codes "depth")) lines.0 then Ok (PoolModel name.0 lines.0, lines.1) else Err (MissingDepth spot)
+  if list_any (λ l. bytes_eq l.name (codes "depth")) lines.0 then Ok (PoolModel name.0 lines.0, lines.1) else Err (Placed spot cause.MissingDepth)
 
 -- `build OUTPUTS : RULE INPUTS`, and its block
 unfoldable pub build_next : State → Parse StatementModel

@@ -7,9 +7,10 @@ use Rattle.nj_text.specs.declared.sign.Sign.TheVariants as sign
 use Rattle.nj_text.specs.declared.spot.Spot.{Spot}
 use Rattle.nj_text.specs.Lines.{Line, line_spot}
 use Rattle.nj_text.specs.Calls.{State, Inside}
+use Rattle.nj_manifest.specs.declared.cause.SyntaxCause.TheVariants as cause
 use Rattle.nj_manifest.specs.declared.cause.Wanted.TheVariants as wanted
 use Rattle.nj_manifest.specs.declared.block_lines.Keys.TheVariants as keys
-use Rattle.nj_manifest.specs.Faults.{Fault, MissingCommand, RspPair, MissingDepth}
+use Rattle.nj_manifest.specs.Faults.{Fault, Placed}
 use Rattle.nj_manifest.specs.LineSteps.{Step, ◌>>=◌, NameModel, name_next, expect_sign, whole_line}
 use Rattle.nj_manifest.specs.Openings.{Parse}
 use Rattle.nj_manifest.specs.Statements.{LineModel, equals_value, lines_from, block, StatementModel, BindingModel, RuleModel, PoolModel, BuildModel, DefaultModel, IncludeModel, SubninjaModel}
@@ -58,8 +59,8 @@ head_next s = do
 unfoldable pub whole_rule : Spot → List LineModel → Result (List LineModel) Fault
 whole_rule spot lines =
     if beq (gives (codes "rspfile") lines) (gives (codes "rspfile_content") lines)
-    then (if gives (codes "command") lines then Ok lines else Err (MissingCommand spot))
-    else Err (RspPair spot)
+    then (if gives (codes "command") lines then Ok lines else Err (Placed spot cause.MissingCommand))
+    else Err (Placed spot cause.RspPair)
 
 -- whether a line has this key
 abbrev pub names : (key : List ℕ) → List LineModel → Bool
@@ -67,7 +68,7 @@ names key ls = list_any (λ l. bytes_eq l.name key) ls
 
 -- a pool needs its depth
 unfoldable pub whole_pool : Spot → List LineModel → Result (List LineModel) Fault
-whole_pool spot lines = if names (codes "depth") lines then Ok lines else Err (MissingDepth spot)
+whole_pool spot lines = if names (codes "depth") lines then Ok lines else Err (Placed spot cause.MissingDepth)
 
 -- a statement with its block
 abbrev pub with_block : Spot → HeadModel → List Line → Parse StatementModel

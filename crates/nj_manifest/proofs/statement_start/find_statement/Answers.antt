@@ -1,7 +1,8 @@
 use Rattle.std.proofs.Common.{sym, ap, subst, ◌∙◌, Err}
 use Rattle.nj_text.specs.declared.line_start.LineStart.TheVariants as start
+use Rattle.nj_manifest.specs.declared.cause.SyntaxCause.TheVariants as cause
 use Rattle.nj_manifest.specs.declared.parse_fault.ParseFault.TheVariants as fault
-use Rattle.nj_manifest.specs.Faults.{UnexpectedIndent}
+use Rattle.nj_manifest.specs.Faults.{Placed}
 use Rattle.nj_manifest.specs.Parsers.{Fails}
 use Rattle.nj_manifest.proofs.Handed.{handed}
 use Rattle.nj_manifest.proofs.Starts.{front_at, begins-badly, begins-as, blank-falls-as, found-end, found-line}
@@ -29,7 +30,7 @@ lines-preserved c =
 pub returns-in-Indented : goal.returns-in-Indented
 returns-in-Indented c =
     let b = begins-as c.lines.lexer c.start_line.new.self c.in_ok-start_line.field-0 start.Indented c.in-Indented.is c.lines.invariant.0 c.in_ok-start_line.ensures in
-    sym c.lines.invariant.1 ∙ b ∙ ap (λ s. Err (UnexpectedIndent s)) (sym (c.line_front.ensures ∙ ap front_at c.spot.ensures))
+    sym c.lines.invariant.1 ∙ b ∙ ap (λ s. Err (Placed s cause.UnexpectedIndent)) (sym (c.line_front.ensures ∙ ap front_at c.spot.ensures))
 
 pub returns-in-Plain : goal.returns-in-Plain
 returns-in-Plain c =

@@ -3,6 +3,7 @@ use Rattle.std.proofs.lemmas.List.{map-append}
 use Rattle.std.specs.Option.{option_map}
 use Rattle.nj_text.specs.Words.{word_model, plain_model}
 use Rattle.nj_text.specs.Calls.{path_word_of}
+use Rattle.nj_manifest.specs.Faults.{bad_unit}
 use Rattle.nj_manifest.specs.LineSteps.{words_next, called}
 use Rattle.nj_manifest.proofs.WordLimits.{words-turn, words-end, words-fail, units_left-word}
 use Rattle.nj_manifest.proofs.CallsTaken.{gave, made-there, fails-by, handed-on}
@@ -52,5 +53,5 @@ pub returns-in_err-word-in-Unknown : goal.returns-in_err-word-in-Unknown
 returns-in_err-word-in-Unknown c =
     let fault = c.in_err-word-in-Unknown.field-0.0 in
     let fails = fails-by fault c.plain_word.new.self c.path_word.new.self (path_word_of c.plain_word.new.self) (words_next c.args.lexer.now) c.in_err-word-in-Unknown.ensures
-    (λ unit failed. words-fail (words_next c.args.lexer.now) (map word_model c.words.words.items) c.words.lexer (Rattle.nj_manifest.specs.Faults.Bad unit) c.words.invariant (made-there path_word_of c.words.lexer c.plain_word.new.self _ c.in-Unknown.ensures failed)) in
+    (λ unit failed. words-fail (words_next c.args.lexer.now) (map word_model c.words.words.items) c.words.lexer (bad_unit unit) c.words.invariant (made-there path_word_of c.words.lexer c.plain_word.new.self _ c.in-Unknown.ensures failed)) in
     handed-on (λ words. map word_model words.items) fault c.from_residual-in_err-word-in-Unknown.result c.path_word.new.self (words_next c.args.lexer.now) c.from_residual-in_err-word-in-Unknown.ensures fails
