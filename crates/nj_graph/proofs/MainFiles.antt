@@ -2,13 +2,14 @@
 use Rattle.std.proofs.Common.{◌≡◌, ℕ, true, false, ◌||◌, cond, inl, inr, is_some, Option, Some, None, Result, Ok, Err, List, [], ◌∷◌, ◌++◌, length, refl, sym, ap, subst, ◌∙◌, arith, append-nil, true≢false}
 use Rattle.nj_graph.proofs.FirstTimes.{loads}
 use Rattle.nj_graph.specs.Inside.PathsReached.{with_new, come_to, reached_by, reached_of}
-use Rattle.std.specs.Prelude.{◌⊎◌}
+use Rattle.std.specs.Prelude.{◌⊎◌, IfOk}
 use Rattle.std.specs.List.{AllByRecursion}
 use Rattle.std.proofs.lemmas.List.{length-map}
 use Rattle.std.proofs.lemmas.Slice.Eq.{bytes_eq-Decides}
 use Rattle.nj_scope.specs.Readings.{Reading, EachPathOnce, reading_of, is_read, IsPrefix, paths_of}
 use Rattle.nj_scope.specs.Declarations.{DeclaredBy}
-use Rattle.nj_scope.specs.Scopes.{outermost}
+use Rattle.nj_scope.specs.Scopes.{outermost, parent_at}
+use Rattle.nj_scope.specs.ReadingList.{ReadStatement}
 use Rattle.nj_scope.specs.Sources.{SourceState}
 use Rattle.nj_faults.specs.declared.fault.GraphFault.{GraphFault}
 use Rattle.nj_graph.specs.declared.reader.Reader.{Reader}
@@ -16,15 +17,15 @@ use Rattle.nj_faults.specs.declared.fault.Cause.TheVariants.{Missing}
 use Rattle.nj_faults.specs.Faults.{no_memory}
 use Rattle.nj_faults.specs.Limits.{most_within}
 use Rattle.nj_graph.specs.Reading.{Refused, Lacking, ReadingModel, opened_in, text_read, outcome_read, main_site, main_place, main_read}
-use Rattle.nj_graph.specs.Inside.ReaderContracts.{IsNew, Has, ReadsAll, ReadsText, ReadsOrStops, StopsAt}
+use Rattle.nj_graph.specs.Inside.ReaderContracts.{IsNew, Has, ReadsAll, ReadsText, ReadsOrStops, StopsAt, FinishesReading}
 use Rattle.nj_cycles.specs.Cycles.{IsAcyclic}
 use Rattle.nj_edges.specs.Needs.{makers_of_inputs}
 use Rattle.nj_statements.specs.EdgeList.{edges_read, paths_of_edges}
 use Rattle.nj_statements.specs.Answers.{HasEdges}
-use Rattle.nj_statements.specs.Built.{BuiltModel, IsBuiltOf, ComesTo, detail_of}
+use Rattle.nj_statements.specs.Built.{BuiltModel, ComesTo, detail_of}
 use Rattle.nj_graph.specs.Origins.{main_of}
 use Rattle.nj_graph.specs.Graph.{IsOpenScope, HasRule, IsGraphOf}
-use Rattle.nj_graph.specs.Inside.GraphHeld.{IsKnown}
+use Rattle.nj_graph.specs.Inside.GraphHeld.{HasMainRules, IsKnown, IsGraph}
 use Rattle.nj_graph.specs.Laws.{Faultless}
 use Rattle.nj_graph.proofs.OriginLemmas.{origins-of_main, main-named}
 use Rattle.nj_graph.proofs.EdgeRules.{edges-have, edges-open, known-details}
@@ -148,6 +149,39 @@ reads-memory main before after old held fault r none = record {
 
 -- ---- all was read
 
+module _ (main : List ℕ) (held : Reader) (entries : List ReadStatement) (has : Has main held entries) (faultless : Faultless entries) where
+  -- each edge has a rule, since no statement has a fault
+  has-rules : AllByRecursion (HasRule held.declarations.rules) (edges_read entries)
+  has-rules = subst (λ rules. AllByRecursion (HasRule rules) (edges_read entries)) (sym has.declares.rules) (edges-have entries faultless)
+
+  module _ (built : BuiltModel) (comes : ComesTo entries (Ok built)) where
+    -- the graph has the declarations and the edges
+    pub graph-of : IsGraphOf (record { declarations = held.declarations; built = built; origins = held.origins }) entries
+    graph-of = record {
+      declares = has.declares;
+      scopes = has.scopes;
+      built = comes.0;
+      rules = has-rules;
+      acyclic = subst (λ es. IsAcyclic (makers_of_inputs es) (length es)) (sym comes.0.paths) (subst (λ n. IsAcyclic (makers_of_inputs (paths_of_edges (edges_read entries))) n) (sym (length-map (edges_read entries) (λ e. e.paths))) comes.1);
+      origins = origins-of_main held.origins main entries has.origins;
+    }
+
+    -- the main file is the main file of the run
+    pub main-is : main_of held.origins ≡ main
+    main-is = ap main_of has.origins ∙ main-named main entries
+
+    -- and the facts about its fields
+    pub graph-held : (numbers : List ℕ) → parent_at held.declarations.scopes 0 ≡ None → HasMainRules held.declarations.rules numbers → IsGraph held.declarations built numbers
+    graph-held numbers outer listed = record {
+      listed = listed;
+      outermost = outer;
+      count = ap length comes.0.details ∙ length-map (edges_read entries) detail_of ∙ sym (ap length comes.0.paths ∙ length-map (edges_read entries) (λ e. e.paths));
+      known = subst (AllByRecursion (IsKnown held.declarations)) (sym comes.0.details) (known-details held.declarations (edges_read entries) (edges-open held.declarations.scopes entries has.scopes) has-rules);
+    }
+
+    pub loaded-held : EachPathOnce held.files × ((read : List ReadStatement) × IsGraphOf (record { declarations = held.declarations; built = built; origins = held.origins }) read)
+    loaded-held = (has.once, (entries, graph-of))
+
 module _ (main : List ℕ) (before after : SourceState) (old held : Reader) (r : ReadsText main before after old held (main_reading main)) where
   is-whole : IsWhole before after r.files (reached_of main) r.entries
   is-whole = record {
@@ -156,51 +190,25 @@ module _ (main : List ℕ) (before after : SourceState) (old held : Reader) (r :
     failures = r.reads.failures;
   }
 
-  -- each edge has a rule, since no statement has a fault
-  has-rules : AllByRecursion (HasRule held.declarations.rules) (edges_read r.entries)
-  has-rules = subst (λ rules. AllByRecursion (HasRule rules) (edges_read r.entries)) (sym r.has.declares.rules) (edges-have r.entries (subst (λ (x : ReadingModel). Faultless x.entries) is-whole.read (read_is_faultless r.files main)))
+  pub was-faultless : Faultless r.entries
+  was-faultless = subst (λ (x : ReadingModel). Faultless x.entries) is-whole.read (read_is_faultless r.files main)
 
-  -- its scope and its rule are there
-  pub details-known : (built : BuiltModel) → IsBuiltOf built r.entries → AllByRecursion (IsKnown held.declarations) built.details
-  details-known built is =
-      subst (AllByRecursion (IsKnown held.declarations)) (sym is.details) (known-details held.declarations (edges_read r.entries) (edges-open held.declarations.scopes r.entries r.has.scopes) has-rules)
-
-  pub details-count : (built : BuiltModel) → IsBuiltOf built r.entries → length built.details ≡ length built.graph.edges
-  details-count built is =
-      ap length is.details ∙ length-map (edges_read r.entries) detail_of ∙ sym (ap length is.paths ∙ length-map (edges_read r.entries) (λ e. e.paths))
-
-  -- and the graph has the declarations and the edges
-  pub is-loaded : (loaded : LoadedModel) (built : BuiltModel) → old.files ≡ [] → loaded.files ≡ held.files → loaded.graph ≡ record { declarations = held.declarations; built = built; origins = held.origins }
-      → ComesTo r.entries (Ok built) → Loads main before after (Ok loaded)
-  is-loaded loaded built none same_files same_graph comes = loads main before after (Ok loaded) (
+  -- the files and the graph are loaded; or the edges could not be finished
+  pub finished-loads : (result : Result LoadedModel GraphFault) → old.files ≡ [] → FinishesReading main held r.entries result → Loads main before after result
+  finished-loads (Ok loaded) none f = loads main before after (Ok loaded) (
     r.files,
     subst (λ fs. IsRead before after fs r.files) none r.reads.reads,
-    record {
-      files_are = same_files ∙ r.reads.held_is;
-      entries = r.entries;
-      whole = is-whole;
-      graph_is = subst (λ g. IsGraphOf g r.entries) (sym same_graph) (record {
-        declares = r.has.declares;
-        scopes = r.has.scopes;
-        built = comes.0;
-        rules = has-rules;
-        acyclic = subst (λ es. IsAcyclic (makers_of_inputs es) (length es)) (sym comes.0.paths) (subst (λ n. IsAcyclic (makers_of_inputs (paths_of_edges (edges_read r.entries))) n) (sym (length-map (edges_read r.entries) (λ e. e.paths))) comes.1);
-        origins = origins-of_main held.origins main r.entries r.has.origins;
-      });
-    },
+    record { files_are = f.0 ∙ r.reads.held_is; entries = r.entries; whole = is-whole; graph_is = f.1 },
   )
-
-  -- the main file is the main file of the run
-  pub main-is : main_of held.origins ≡ main
-  main-is = ap main_of r.has.origins ∙ main-named main r.entries
-
-  -- and the edges could not be finished
-  pub built-fault : (fault : GraphFault) → old.files ≡ [] → ComesTo r.entries (Err fault) → Loads main before after (Err fault)
-  built-fault fault none (inl lacks) =
+  finished-loads (Err fault) none (inl lacks) =
       let s = subst (λ fs. StopsAt main before after fs (main_reading main) fault) none (reads-memory main before after old held fault r lacks) in
       loads main before after (Err fault) (s.files, s.reads, inl s.stops)
-  built-fault fault none (inr cycle) = loads main before after (Err fault) (
+  finished-loads (Err fault) none (inr cycle) = loads main before after (Err fault) (
     r.files,
     subst (λ fs. IsRead before after fs r.files) none r.reads.reads,
     inr (record { entries = r.entries; whole = is-whole; cycle = cycle }),
   )
+
+pub finished-main : (main : List ℕ) (held : Reader) (entries : List ReadStatement) (result : Result LoadedModel GraphFault) → FinishesReading main held entries result → IfOk result (λ loaded. main_of loaded.graph.origins ≡ main)
+finished-main main held entries (Ok loaded) f = f.2
+finished-main main held entries (Err fault) f = tt

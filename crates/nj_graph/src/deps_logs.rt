@@ -44,19 +44,9 @@ impl Graph {
         ensures files { IfOk result (λ graph. IsPrefix (files_of self) (files_of graph)) }
     {
         let numbers = self.logged_numbers(alloc, log)?;
-        let Graph {
-            declarations,
-            built,
-            origins,
-            main_rules,
-        } = self;
+        let Graph { built, declared } = self;
         let built = join_built(alloc, built, log, &numbers)?;
-        Ok(Graph {
-            declarations,
-            built,
-            origins,
-            main_rules,
-        })
+        Ok(Graph { built, declared })
     }
 
     // For each edge, the number under which the log has its first output.

@@ -44,19 +44,9 @@ pub fn join_dyndeps<S: FileSource>(
     if !graph.built.has_pending() {
         return Ok(Loaded { files, graph });
     }
-    let Graph {
-        declarations,
-        built,
-        origins,
-        main_rules,
-    } = graph;
+    let Graph { built, declared } = graph;
     let built = join_built(alloc, source, &mut files, built)?;
-    let graph = Graph {
-        declarations,
-        built,
-        origins,
-        main_rules,
-    };
+    let graph = Graph { built, declared };
     Ok(Loaded { files, graph })
 }
 

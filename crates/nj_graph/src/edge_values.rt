@@ -42,7 +42,7 @@ impl Graph {
             blocks: self.built.blocks(),
             edge: edge.0,
             rule: self.rule(edge),
-            declarations: &self.declarations,
+            declarations: &self.declared.declarations,
             scope: self.built.scope(edge),
         };
         late.append_late_text(out, name)
@@ -54,7 +54,7 @@ impl Graph {
         ensures { slice_get self.now.declarations.rules
             (detail_at self.now.built.details edge.0).rule ≡ Some result.now }
     {
-        &self.declarations.rules()[self.built.rule(edge).0]
+        &self.declared.declarations.rules()[self.built.rule(edge).0]
     }
 
     /// The command of an edge, as it is passed to a shell. The command of a phony edge is its

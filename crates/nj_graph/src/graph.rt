@@ -1,10 +1,8 @@
 //! The graph of a run.
 
-ghost use Rattle.std.specs.Prelude.{◌≡◌, ◌<◌, None, length, option_copied, option_and_then, slice_get, IfOk};
-ghost use Rattle.nj_scope.specs.Scopes.{parent_at};
+ghost use Rattle.std.specs.Prelude.{◌≡◌, ◌<◌, length, option_copied, option_and_then, slice_get, IfOk};
 ghost use Rattle.nj_graph.specs.Graph.{main_rules, main_rule_at, rule_name, description, has_description, description_text, NamesRise, ListsMainRules};
-ghost use Rattle.std.specs.List.{AllByRecursion};
-ghost use Rattle.nj_graph.specs.Inside.GraphHeld.{HasMainRules, IsKnown};
+ghost use Rattle.nj_graph.specs.Inside.GraphHeld.{HasMainRules};
 
 use crate::origins::Origins;
 use nj_scope::{Declarations, LateValue, MAIN_SCOPE, Rule};
@@ -16,8 +14,15 @@ use std::marker::Model;
 /// its edges and its defaults.
 #[derive(Drop)]
 pub struct Graph {
-    pub(crate) declarations: Declarations,
     pub(crate) built: Built,
+    pub(crate) declared: Declared,
+}
+
+/// All of a graph beside its edges and defaults: one value, so that a function whose edges change
+/// owns no more than that at each of its ends.
+#[derive(Drop)]
+pub(crate) struct Declared {
+    pub(crate) declarations: Declarations,
     pub(crate) origins: Origins,
     // The numbers of the rules that are listed.
     pub(crate) main_rules: Vec<usize>,
@@ -30,45 +35,21 @@ impl Model for Graph {
     ghost Value = { GraphModel };
 
     ghost view = { λ g. record {
-      declarations = g.declarations;
+      declarations = g.declared.declarations;
       built = g.built;
-      origins = g.origins;
+      origins = g.declared.origins;
     } };
 
-    ghost invariant = { λ g. IsGraph g.declarations g.built g.main_rules.items };
+    ghost invariant = { λ g.
+        IsGraph g.declared.declarations g.built g.declared.main_rules.items };
 }
 
 impl Graph {
-    /// The graph of the declarations of a run's files, and of its edges.
-    pub(crate) fn new(
-        alloc: Global,
-        declarations: Declarations,
-        built: Built,
-        origins: Origins,
-    ) -> Result<Graph, AllocError>
-        requires outermost { parent_at declarations.scopes 0 ≡ None }
-        requires count { length built.details ≡ length built.graph.edges }
-        requires known { AllByRecursion (IsKnown declarations) built.details }
-        ensures { IfOk result (λ g. g ≡ record {
-          declarations = declarations;
-          built = built;
-          origins = origins;
-        }) }
-    {
-        let main_rules = rules_of_main(alloc, declarations.rules())?;
-        Ok(Graph {
-            declarations,
-            built,
-            origins,
-            main_rules,
-        })
-    }
-
     /// How many rules are listed: the rules of the main file's scope, `phony` among them.
     pub fn main_rule_count(&self) -> usize
         ensures { result ≡ length (main_rules self.now) }
     {
-        self.main_rules.len()
+        self.declared.main_rules.len()
     }
 
     /// The name of the rule at this index. The rules are in byte order of their names.
@@ -76,7 +57,10 @@ impl Graph {
         requires { index < length (main_rules self.now) }
         ensures { result.now ≡ (main_rule_at self.now index).name }
     {
-        rule_name(self.declarations.rules(), self.main_rules[index])
+        rule_name(
+            self.declared.declarations.rules(),
+            self.declared.main_rules[index],
+        )
     }
 
     /// Whether the rule at this index has a `description` line.
@@ -106,12 +90,15 @@ impl Graph {
         requires { index < length (main_rules self.now) }
         ensures { option_copied result ≡ description (main_rule_at self.now index) }
     {
-        description_of(self.declarations.rules(), self.main_rules[index])
+        description_of(
+            self.declared.declarations.rules(),
+            self.declared.main_rules[index],
+        )
     }
 }
 
 // The numbers of the rules of the main file's scope, by name.
-fn rules_of_main(alloc: Global, rules: &[Rule]) -> Result<Vec<usize>, AllocError>
+pub(crate) fn rules_of_main(alloc: Global, rules: &[Rule]) -> Result<Vec<usize>, AllocError>
     ensures { IfOk result (λ numbers. HasMainRules rules.now numbers.items) }
 {
     let mut numbers = Vec::new(alloc);

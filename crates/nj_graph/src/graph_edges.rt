@@ -40,7 +40,7 @@ impl Graph {
         ensures stated { (entries : List ReadStatement) → IsGraphOf self.now entries
             → result.now ≡ rule_name_at entries edge.0 }
     {
-        rule_name(self.declarations.rules(), self.built.rule(edge).0)
+        rule_name(self.declared.declarations.rules(), self.built.rule(edge).0)
     }
 
     /// The place of the build statement of an edge: its file, by the name under which it was

@@ -1,10 +1,14 @@
 //! Loads the files of a run.
 
-ghost use Rattle.std.specs.Prelude.{◌≡◌, IfOk};
+ghost use Rattle.std.specs.Prelude.{◌≡◌, ℕ, None, List, IfOk};
+ghost use Rattle.nj_scope.specs.Scopes.{parent_at};
+ghost use Rattle.nj_scope.specs.ReadingList.{ReadStatement};
+ghost use Rattle.nj_graph.specs.Laws.{Faultless};
 ghost use Rattle.nj_graph.specs.Loads.{Loads};
 ghost use Rattle.nj_graph.specs.Origins.{main_of};
+ghost use Rattle.nj_graph.specs.Inside.ReaderContracts.{Has, FinishesReading};
 
-use crate::graph::Graph;
+use crate::graph::{Declared, Graph, rules_of_main};
 use crate::reader::Reader;
 use nj_faults::GraphFault;
 use nj_scope::{FileSource, FileTable};
@@ -73,10 +77,32 @@ pub fn load<S: FileSource>(alloc: Global, source: &mut S, main: &str) -> Result<
 {
     let mut reader = Reader::new(alloc, source.hash_keys(), main)?;
     reader.read_main(alloc, source, main)?;
-    let built = reader.building.finish(alloc)?;
-    let graph = Graph::new(alloc, reader.declarations, built, reader.origins)?;
-    Ok(Loaded {
-        files: reader.files,
-        graph,
-    })
+    reader.finish(alloc)
+}
+
+impl Reader {
+    // The files that were read, and the graph of their statements.
+    fn finish(self, alloc: Global) -> Result<Loaded, GraphFault>
+        requires outermost { parent_at self.declarations.scopes 0 ≡ None }
+        requires read { (main : List ℕ) × (entries : List ReadStatement)
+            × Has main self entries × Faultless entries }
+        ensures { (main : List ℕ) (entries : List ReadStatement)
+            → Has main self entries → Faultless entries → FinishesReading main self entries result }
+    {
+        let main_rules = rules_of_main(alloc, self.declarations.rules())?;
+        let Reader {
+            declarations,
+            building,
+            files,
+            origins,
+        } = self;
+        let declared = Declared {
+            declarations,
+            origins,
+            main_rules,
+        };
+        let built = building.finish(alloc)?;
+        let graph = Graph { built, declared };
+        Ok(Loaded { files, graph })
+    }
 }

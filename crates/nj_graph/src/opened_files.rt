@@ -16,7 +16,7 @@ impl Graph {
         ensures stated { (entries : List ReadStatement) → IsGraphOf self.now entries
             → result ≡ files_opened entries }
     {
-        self.origins.opening_count()
+        self.declared.origins.opening_count()
     }
 
     /// The file that was opened at this index, in reading order; the main file is the first one.
@@ -27,6 +27,6 @@ impl Graph {
             → option_map opening_model result
             ≡ slice_get (openings_read (main_of self.now.origins) entries) index }
     {
-        self.origins.opening(index)
+        self.declared.origins.opening(index)
     }
 }

@@ -16,7 +16,7 @@ impl Graph {
         ensures stated { (entries : List ReadStatement) → IsGraphOf self.now entries
             → result ≡ length (pools entries) }
     {
-        self.declarations.pool_count()
+        self.declared.declarations.pool_count()
     }
 
     /// The name of the pool at this index, in the order in which they were declared; `None` past
@@ -26,7 +26,7 @@ impl Graph {
         ensures stated { (entries : List ReadStatement) → IsGraphOf self.now entries
             → option_copied result ≡ slice_get (pools entries) index }
     {
-        self.declarations.pool_name(index)
+        self.declared.declarations.pool_name(index)
     }
 
     /// The place of the `pool` statement that declares the pool at this index, as for `pool_name`:
@@ -39,7 +39,7 @@ impl Graph {
             → option_map place_text result
             ≡ option_map (λ p. p.place) (slice_get (pool_details entries) index) }
     {
-        self.origins.pool_place(index)
+        self.declared.origins.pool_place(index)
     }
 
     /// The depth of the pool at this index, as for `pool_name`: how many commands of its edges may
@@ -51,6 +51,6 @@ impl Graph {
         ensures stated { (entries : List ReadStatement) → IsGraphOf self.now entries
             → result ≡ option_map (λ p. p.depth) (slice_get (pool_details entries) index) }
     {
-        self.origins.pool_depth(index)
+        self.declared.origins.pool_depth(index)
     }
 }

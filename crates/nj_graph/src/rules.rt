@@ -21,7 +21,7 @@ impl Graph {
         ensures stated { (entries : List ReadStatement) → IsGraphOf self.now entries
             → result.now ≡ rules_read entries }
     {
-        self.declarations.rules()
+        self.declared.declarations.rules()
     }
 
     /// The place of the `rule` statement that declares the rule of this number, as in `rules`: its
@@ -32,7 +32,7 @@ impl Graph {
         ensures stated { (entries : List ReadStatement) → IsGraphOf self.now entries
             → option_map place_text result ≡ rule_place_at (rule_places entries) rule.0 }
     {
-        self.origins.rule_place(rule)
+        self.declared.origins.rule_place(rule)
     }
 
     /// The number of the rule of an edge, by which it is found in `rules`: of the rule that was in

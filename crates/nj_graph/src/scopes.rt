@@ -20,7 +20,7 @@ impl Graph {
         ensures stated { (entries : List ReadStatement) → IsGraphOf self.now entries
             → result ≡ scopes_opened entries }
     {
-        self.declarations.scope_count()
+        self.declared.declarations.scope_count()
     }
 
     /// The number of the scope of an edge's build statement.
@@ -49,6 +49,6 @@ impl Graph {
             → IsScope (parent_at self.now.declarations.scopes) scope.0 (scope.0 ∷ around)
             → option_copied result ≡ value_if_bound entries (scope.0 ∷ around) name.now }
     {
-        self.declarations.value_if_bound(scope, name)
+        self.declared.declarations.value_if_bound(scope, name)
     }
 }

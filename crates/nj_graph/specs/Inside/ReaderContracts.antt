@@ -31,8 +31,10 @@ use Rattle.nj_graph.specs.declared.reader.Opened.{Opened}
 use Rattle.nj_faults.specs.Faults.{IsFault, fault_in, no_memory}
 use Rattle.nj_statements.specs.Answers.{HasEdges}
 pub use Rattle.nj_statements.specs.Answers.{Checks}
-use Rattle.nj_graph.specs.Graph.{IsOpenScope}
-use Rattle.nj_graph.specs.Origins.{origins_read}
+use Rattle.nj_statements.specs.Built.{ComesTo}
+use Rattle.nj_graph.specs.Graph.{IsOpenScope, IsGraphOf}
+use Rattle.nj_graph.specs.Loads.{LoadedModel}
+use Rattle.nj_graph.specs.Origins.{origins_read, main_of}
 use Rattle.nj_graph.specs.Reading.{Site, opened_site, own_fault, Whole, ReadingModel, Opens, opened_in, statement_read}
 use Rattle.nj_graph.specs.Reading.{text_read}
 use Rattle.nj_graph.specs.Runs.{IsRead, Stops}
@@ -223,6 +225,14 @@ abbrev pub ReadsOrStops : (main : List ℕ) → (before after : SourceState) →
     → Result (Unit {0}) GraphFault → Type 0
 ReadsOrStops main before after old held reading (Ok done) = ReadsText main before after old held reading
 ReadsOrStops main before after old held reading (Err fault) = StopsAt main before after old.files reading fault
+
+-- ---- after all reading
+
+-- The files that were read, and the graph of the statements; or no memory, or a cycle among their edges.
+abbrev pub FinishesReading : (main : List ℕ) → Reader → List ReadStatement → Result LoadedModel GraphFault → Type 0
+FinishesReading main held entries (Ok loaded) =
+    (loaded.files ≡ held.files) × IsGraphOf loaded.graph entries × (main_of loaded.graph.origins ≡ main)
+FinishesReading main held entries (Err fault) = ComesTo entries (Err fault)
 
 -- ---- the next statement
 

@@ -15,7 +15,7 @@ pub returns-clause-appended : goal.returns-clause-appended
 returns-clause-appended c = λ entries is.
     let g : GraphModel = c.args.self.now in
     let n = c.args.edge.0 in
-    let inside : c.self.inside.declarations ≡ g.declarations = ap (λ (x : GraphModel). x.declarations) c.self.view_is in
+    let inside : c.self.inside.declared.declarations ≡ g.declarations = ap (λ (x : GraphModel). x.declarations) c.self.view_is in
     let built : c.self.inside.built ≡ g.built = ap (λ (x : GraphModel). x.built) c.self.view_is in
     let rule = c.rule.result.now in
     let e = edge g entries is n c.requires in

@@ -5,8 +5,8 @@ use Rattle.nj_graph.proofs.graph.Graph.main_rule.Goals as goal
 
 pub returns : goal.returns
 returns c =
-    let rules = c.self.inside.declarations.rules in
-    let numbers = c.self.inside.main_rules.items in
+    let rules = c.self.inside.declared.declarations.rules in
+    let numbers = c.self.inside.declared.main_rules.items in
     let within = subst (λ g. c.args.index < length (main_rules g)) (sym c.self.view_is) c.requires in
     rw (← c.self.view_is)
     (c.rule_name.ensures ∙ ap (λ rs. rule_name rs c.index.result.now) c.rules.ensures ∙ ap (rule_name rules) c.index.ensures

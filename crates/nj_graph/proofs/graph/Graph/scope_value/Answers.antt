@@ -9,14 +9,14 @@ use Rattle.nj_graph.proofs.graph.Graph.scope_value.Goals as goal
 
 pub returns-clause-main : goal.returns-clause-main
 returns-clause-main c = λ entries is same.
-    let inside : c.self.inside.declarations ≡ c.args.self.now.declarations = ap (λ (x : GraphModel). x.declarations) c.self.view_is in
+    let inside : c.self.inside.declared.declarations ≡ c.args.self.now.declarations = ap (λ (x : GraphModel). x.declarations) c.self.view_is in
     subst (λ n. option_copied c.value_if_bound.result ≡ value_if_bound entries (n ∷ []) c.args.name.now) same
     (c.value_if_bound.ensures entries [] (subst (λ (d : DeclarationsModel). DeclaredBy d entries) (sym inside) is.declares)
-    (subst (λ n. IsScope (parent_at c.self.inside.declarations.scopes) n (n ∷ [])) (sym same) (outermost c.self.invariant.outermost)))
+    (subst (λ n. IsScope (parent_at c.self.inside.declared.declarations.scopes) n (n ∷ [])) (sym same) (outermost c.self.invariant.outermost)))
 
 pub returns-clause-stated : goal.returns-clause-stated
 returns-clause-stated c = λ entries e is has same.
-    let inside : c.self.inside.declarations ≡ c.args.self.now.declarations = ap (λ (x : GraphModel). x.declarations) c.self.view_is in
+    let inside : c.self.inside.declared.declarations ≡ c.args.self.now.declarations = ap (λ (x : GraphModel). x.declarations) c.self.view_is in
     let there : IsOpenScope c.args.self.now.declarations.scopes e.scope e.around =
     subst (λ x. IsOpenScope c.args.self.now.declarations.scopes x.scope x.around) has.2 (known-at (λ x. IsOpenScope c.args.self.now.declarations.scopes x.scope x.around) entries has.0 e has.1 is.scopes) in
     subst (λ n. option_copied c.value_if_bound.result ≡ value_if_bound entries (n ∷ e.around) c.args.name.now) (sym same)
@@ -26,6 +26,6 @@ returns-clause-stated c = λ entries e is has same.
 
 pub returns-clause-within : goal.returns-clause-within
 returns-clause-within c = λ entries around is scope.
-    let inside : c.self.inside.declarations ≡ c.args.self.now.declarations = ap (λ (x : GraphModel). x.declarations) c.self.view_is in
+    let inside : c.self.inside.declared.declarations ≡ c.args.self.now.declarations = ap (λ (x : GraphModel). x.declarations) c.self.view_is in
     c.value_if_bound.ensures entries around (subst (λ (d : DeclarationsModel). DeclaredBy d entries) (sym inside) is.declares)
     (subst (λ (d : DeclarationsModel). IsScope (parent_at d.scopes) c.args.scope.0 (c.args.scope.0 ∷ around)) (sym inside) scope)
