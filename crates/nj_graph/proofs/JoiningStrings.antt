@@ -16,10 +16,10 @@ use Rattle.nj_faults.specs.declared.fault.GraphFault.{GraphFault}
 use Rattle.nj_faults.specs.Faults.{IsFault, fault_in, no_memory}
 use Rattle.nj_statements.specs.Joining.{entry_fault, with_entry}
 use Rattle.nj_statements.specs.JoiningHeld.{JoiningModel, HasJoined}
-use Rattle.nj_graph.specs.Parsed.{Parsed, none_parsed, and_parsed, parsed_in}
+use Rattle.nj_graph.specs.Parsed.{Parsed, parsed_in}
 use Rattle.nj_graph.specs.Reading.{Refused}
 use Rattle.nj_graph.specs.Joining.{after_version, entries_of, entries_joined, text_joined}
-use Rattle.nj_graph.proofs.ParsedLemmas.{parsed-step, parsed-end, parsed-fault}
+use Rattle.nj_graph.proofs.ParsedLemmas.{none_parsed, and_parsed, parsed-step, parsed-end, parsed-fault}
 use Rattle.nj_graph.specs.Inside.JoiningContracts.{TextJoined, TextRefused, NextEntryOf, NextEntryIs}
 
 bind-ok : {A B : Type 0} (r : Result A Fault) (k : A → Result B Fault) (y : B) → (r >>= k) ≡ Ok y → (x : A) × (r ≡ Ok x) × (k x ≡ Ok y)

@@ -1,5 +1,5 @@
 -- The items of a text, one after the other.
-use Rattle.std.proofs.Common.{◌≡◌, ℕ, zero, suc, ◌<◌, Option, Some, None, Result, Ok, Err, List, length, refl, sym, ap, subst, arith}
+use Rattle.std.proofs.Common.{◌≡◌, ℕ, zero, suc, ◌<◌, Option, Some, None, Result, Ok, Err, List, [], ◌∷◌, length, refl, sym, ap, subst, arith}
 use Rattle.nj_text.specs.Lines.{Line, text_lines}
 use Rattle.nj_manifest.specs.Faults.{Fault}
 use Rattle.nj_manifest.specs.Dyndeps.{next_entry}
@@ -10,7 +10,13 @@ use Rattle.nj_manifest.proofs.Consumed.{statement_takes, text_has_bytes}
 use Rattle.nj_manifest.proofs.DyndepMeasures.{entry-takes, version-takes}
 use Rattle.nj_graph.specs.Joining.{after_version, entries_of}
 use Rattle.nj_graph.specs.Laws.{FindsInTurn, at_end, at_fault, an_item, StatementsAreFoundInTurn, EntriesAreFoundInTurn}
-use Rattle.nj_graph.specs.Parsed.{none_parsed, and_parsed, parsed_in, parsed_by}
+use Rattle.nj_graph.specs.Parsed.{Parsed, parsed_in, parsed_by}
+
+abbrev pub none_parsed : {A : Type 0} → Option Fault → Parsed A
+none_parsed fault = record { items = []; fault = fault }
+
+abbrev pub and_parsed : {A : Type 0} → A → Parsed A → Parsed A
+and_parsed item others = record { items = item ∷ others.items; fault = others.fault }
 
 module _ {A : Type 0} (next : List Line → Parse (Option A)) where
   -- An item is the first of those that are parsed; after it there are fewer lines.

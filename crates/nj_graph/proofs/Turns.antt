@@ -16,14 +16,14 @@ use Rattle.nj_scope.specs.Sources.{SourceState, Rises}
 use Rattle.nj_faults.specs.declared.fault.GraphFault.{GraphFault}
 use Rattle.nj_graph.specs.declared.reader.Reader.{Reader}
 use Rattle.nj_faults.specs.Faults.{fault_in, no_memory}
-use Rattle.nj_graph.specs.Parsed.{Parsed, parsed_in, and_parsed}
+use Rattle.nj_graph.specs.Parsed.{Parsed, parsed_in}
 use Rattle.nj_graph.specs.Reading as reading
 use Rattle.nj_graph.specs.Reading.{Site, entry_at, End, Whole, Lacking, ReadingModel, continued, and_then, opened_in, statement_read, statements_read, text_read}
 use Rattle.nj_graph.specs.Runs.{IsRead, IsEnd, ReachedModel, Stops}
 use Rattle.nj_graph.specs.Inside.ReaderContracts.{Has, ReadsAll, ReadsOne, StopsAt, OpensNamed, ReadsText, ReadsOrStops, NextOf, NextIs}
 use Rattle.nj_graph.proofs.Comes.{and_then-comes, statements-come}
 use Rattle.nj_graph.proofs.Tables.{extends-trans, read-extends, reads-then, reads-all-then}
-use Rattle.nj_graph.proofs.ParsedLemmas.{parsed-step, parsed-end, parsed-fault}
+use Rattle.nj_graph.proofs.ParsedLemmas.{and_parsed, parsed-step, parsed-end, parsed-fault}
 use Rattle.nj_graph.proofs.Naming.{syntax-names}
 
 -- ---- one reading after the other

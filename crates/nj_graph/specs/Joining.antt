@@ -14,7 +14,7 @@ use Rattle.nj_faults.specs.declared.fault.Cause.TheVariants.{PathNotText}
 use Rattle.nj_faults.specs.Faults.{fault_in}
 use Rattle.nj_statements.specs.EdgeList.{Pending, edges_read, pending_read}
 use Rattle.nj_statements.specs.Joining.{entry_fault, with_entry, lacking_fault, dyndep_files}
-use Rattle.nj_graph.specs.Parsed.{Parsed, none_parsed, parsed_in}
+use Rattle.nj_graph.specs.Parsed.{Parsed, parsed_in}
 use Rattle.nj_graph.specs.Reading.{End, Whole, ReadingModel, and_then, end_by, stopped, outcome_read, with_all_new}
 use Rattle.nj_graph.specs.Runs.{ReachedModel}
 use Rattle.nj_graph.specs.Loads.{LoadedModel, LoadsAfter}
@@ -23,7 +23,7 @@ use Rattle.nj_graph.specs.Loads.{LoadedModel, LoadsAfter}
 
 abbrev pub after_version : (most : ℕ) → Result (List Line) Fault → Parsed EntryModel
 after_version most (Ok lines) = parsed_in next_entry most lines
-after_version most (Err fault) = none_parsed (Some fault)
+after_version most (Err fault) = record { items = []; fault = Some fault }
 
 -- First the version. An entry has a byte at least.
 unfoldable pub entries_of : (text : List ℕ) → Parsed EntryModel

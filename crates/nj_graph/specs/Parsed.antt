@@ -10,20 +10,14 @@ pub record Parsed (A : Type 0) : Type 0 where
   pub items : List A
   pub fault : Option Fault
 
-abbrev pub none_parsed : {A : Type 0} → Option Fault → Parsed A
-none_parsed fault = record { items = []; fault = fault }
-
-abbrev pub and_parsed : {A : Type 0} → A → Parsed A → Parsed A
-and_parsed item others = record { items = item ∷ others.items; fault = others.fault }
-
 abbrev pub parsed_by : {A : Type 0} → Parse (Option A) → (List Line → Parsed A) → Parsed A
-parsed_by (Ok (Some item, rest)) others = and_parsed item (others rest)
-parsed_by (Ok (None, rest)) others = none_parsed None
-parsed_by (Err fault) others = none_parsed (Some fault)
+parsed_by (Ok (Some item, rest)) others = record { items = item ∷ (others rest).items; fault = (others rest).fault }
+parsed_by (Ok (None, rest)) others = record { items = []; fault = None }
+parsed_by (Err fault) others = record { items = []; fault = Some fault }
 
 -- the items of the lines, where there are fewer of them than this number
 unfoldable pub parsed_in : {A : Type 0} → (next : List Line → Parse (Option A)) → (most : ℕ) → List Line → Parsed A
-parsed_in next zero lines = none_parsed None
+parsed_in next zero lines = record { items = []; fault = None }
 parsed_in next (suc most) lines = parsed_by (next lines) (parsed_in next most)
 
 -- A statement has a byte at least.
