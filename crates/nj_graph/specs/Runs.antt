@@ -26,14 +26,12 @@ IsEnd before after (Lacking path place) fault =
 
 -- the path at which the reading ends was not read
 abbrev pub IsLacking : End → List Reading → Type 0
-IsLacking Whole files = ⊤
-IsLacking (Refused fault) files = ⊤
 IsLacking (Lacking path place) files = is_read files path ≡ false
+IsLacking end files = ⊤
 
 abbrev pub paths_with : End → List Reading → List (List ℕ)
-paths_with Whole files = paths_of files
-paths_with (Refused fault) files = paths_of files
 paths_with (Lacking path place) files = paths_of files ++ path ∷ []
+paths_with end files = paths_of files
 
 -- The reading by some files: the statements, and how it ends; and the paths that it reaches, the one at its end among them.
 pub record ReachedModel : Type 0 where
