@@ -13,9 +13,9 @@ use Rattle.nj_faults.specs.declared.fault.GraphFault.{GraphFault}
 use Rattle.nj_graph.specs.Graph.{GraphModel}
 use Rattle.nj_statements.specs.EdgeList.{AssignedModel}
 use Rattle.nj_faults.specs.Limits.{most_within}
-use Rattle.nj_graph.specs.Reading.{End, Whole, Refused, Lacking, ReadingModel, Opens, and_then, item_read, main_place, main_read, main_site, opened_in, opened_site, outcome_read, place_at, text_read}
+use Rattle.nj_graph.specs.Reading.{End, Whole, Refused, Lacking, ReadingModel, Opens, and_then, item_read, main_place, main_read, main_site, opened_in, opened_site, outcome_read, paths_come_to, place_at, text_read}
 use Rattle.nj_graph.specs.Runs.{ReachedModel, IsEnd, IsLacking}
-use Rattle.nj_graph.specs.Loads.{LoadedModel, LoadedOr, Loads, main_reached, reached_from}
+use Rattle.nj_graph.specs.Loads.{LoadedModel, LoadedOr, Loads, main_reached}
 use Rattle.nj_graph.proofs.ReadingRows.{on_files}
 use Rattle.nj_c.specs.declared.session_state.Kept.{Kept}
 use Rattle.nj_c.specs.declared.status.Status.TheVariants.{Done, Fault, Wanted, OutOfMemory}
@@ -131,6 +131,9 @@ no-more files = refl
 
 reads-whole : (files : List Reading) → reading_of files m ≡ Some (given m) → reading_of files a ≡ Some (given a) → main_read files m ≡ whole
 reads-whole files first second = by-other files first ∙ ap (by_other files) second ∙ no-more files
+
+abbrev reached_from : (main : List ℕ) → ReadingModel → ReachedModel
+reached_from main r = record { read = r; paths = paths_come_to main r }
 
 come-to : (reached_from m whole).paths ≡ m ∷ a ∷ []
 unfolding on_files

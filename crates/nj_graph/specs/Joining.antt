@@ -81,13 +81,11 @@ all_joined files stated = files_joined files stated (dyndep_files (pending_read 
 
 -- ---- the results of joining
 
--- the statements and paths that joining reads and reaches after these paths
-abbrev pub reached_after : (before : List (List ℕ)) → ReachedModel → ReachedModel
-reached_after before joined = record { read = joined.read; paths = with_all_new before joined.paths }
-
 -- the reading of dyndep files after the old files
 abbrev pub joined_after : (old : List Reading) → (stated : List ReadStatement) → (files : List Reading) → ReachedModel
-joined_after old stated files = reached_after (paths_of old) (all_joined files stated)
+joined_after old stated files =
+    let joined = all_joined files stated in
+    record { read = joined.read; paths = with_all_new (paths_of old) joined.paths }
 
 -- Dyndep files are joined to the statements of a run that has read the old files; files that were read before are not
 -- read again.

@@ -7,7 +7,7 @@ use Rattle.nj_faults.specs.declared.fault.GraphFault.{GraphFault}
 use Rattle.nj_statements.specs.EdgeList.{edges_read}
 use Rattle.nj_statements.specs.Built.{IsCycleFault}
 use Rattle.nj_graph.specs.Graph.{GraphModel, IsGraphOf}
-use Rattle.nj_graph.specs.Reading.{Whole, ReadingModel, main_read, paths_come_to}
+use Rattle.nj_graph.specs.Reading.{Whole, main_read, paths_come_to}
 use Rattle.nj_graph.specs.Runs.{IsRead, ReachedModel, Stops}
 
 -- the files that were read, each path once, and their graph
@@ -57,13 +57,9 @@ abbrev pub LoadsAfter : (old : List Reading) → (before after : SourceState) �
 LoadsAfter old before after reading result =
     (files : List Reading) × IsRead before after old files × LoadedOr before after files reading result
 
--- a reading that begins with this main file
-abbrev pub reached_from : (main : List ℕ) → ReadingModel → ReachedModel
-reached_from main r = record { read = r; paths = paths_come_to main r }
-
 -- the reading of the main file, and of all that it includes
 abbrev pub main_reached : (main : List ℕ) → (files : List Reading) → ReachedModel
-main_reached main files = reached_from main (main_read files main)
+main_reached main files = let r = main_read files main in record { read = r; paths = paths_come_to main r }
 
 abbrev pub Loads : (main : List ℕ) → (before after : SourceState) → Result LoadedModel GraphFault → Type 0
 Loads main before after result = LoadsAfter [] before after (main_reached main) result
