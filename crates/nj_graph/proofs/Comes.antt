@@ -15,7 +15,8 @@ use Rattle.nj_faults.specs.declared.fault.GraphFault.{GraphFault}
 use Rattle.nj_faults.specs.Faults.{fault_in}
 use Rattle.nj_graph.specs.Parsed.{parsed}
 use Rattle.nj_faults.specs.Limits.{most_within, most_opened}
-use Rattle.nj_graph.specs.Reading.{Site, entry_at, own_fault, End, Whole, Refused, Lacking, ReadingModel, continued, and_then, Opens, item_read, statement_read, end_by, statements_read, text_read, found_read, outcome_read, if_capacity, opened_in, main_site, main_read, path_at_end}
+use Rattle.nj_graph.specs.Reading.{Site, entry_at, own_fault, End, Whole, Refused, Lacking, ReadingModel, continued, and_then, Opens, item_read, statement_read, end_by, statements_read, text_read, outcome_read, opened_in, main_site, main_read, path_at_end}
+use Rattle.nj_graph.specs.Inside.Outcomes.{found_read, if_capacity}
 
 -- ---- paths before others
 

@@ -15,7 +15,8 @@ use Rattle.nj_statements.specs.EdgeList.{EdgeModel, Pending, edges_read, pending
 use Rattle.nj_statements.specs.Joining.{discover, discovered_by, entry_fault, with_entry, no_statement, lacking_fault, dyndep_files}
 use Rattle.nj_statements.proofs.DiscoverLemmas.{with_entry-by}
 use Rattle.nj_statements.proofs.DiscoverEdges.{pending-discover, pending-within}
-use Rattle.nj_graph.specs.Reading.{End, Whole, Refused, Lacking, ReadingModel, end_by, stopped, found_read, outcome_read}
+use Rattle.nj_graph.specs.Reading.{End, Whole, Refused, Lacking, ReadingModel, end_by, stopped, outcome_read}
+use Rattle.nj_graph.specs.Inside.Outcomes.{found_read}
 use Rattle.nj_graph.specs.Runs.{ReachedModel}
 use Rattle.nj_graph.specs.Joining.{entries_joined, text_joined, statement_place, file_joined, continued, files_joined, all_joined, JoinedStaysJoined}
 

@@ -10,7 +10,8 @@ use Rattle.nj_faults.specs.declared.fault.Place.{Place}
 use Rattle.nj_faults.specs.declared.fault.GraphFault.{GraphFault}
 use Rattle.nj_graph.specs.Parsed.{parsed}
 use Rattle.nj_faults.specs.Limits.{most_within, most_opened}
-use Rattle.nj_graph.specs.Reading.{Site, entry_at, own_fault, End, Whole, Refused, Lacking, ReadingModel, and_then, Opens, item_read, statement_read, statements_read, text_read, found_read, outcome_read, if_capacity, opened_in, main_site, main_read}
+use Rattle.nj_graph.specs.Reading.{Site, entry_at, own_fault, End, Whole, Refused, Lacking, ReadingModel, and_then, Opens, item_read, statement_read, statements_read, text_read, outcome_read, opened_in, main_site, main_read}
+use Rattle.nj_graph.specs.Inside.Outcomes.{found_read, if_capacity}
 use Rattle.nj_graph.specs.Runs.{IsLacking}
 use Rattle.nj_graph.specs.Laws.{OthersAreNotRead}
 use Rattle.nj_graph.proofs.Tables.{reading-kept}

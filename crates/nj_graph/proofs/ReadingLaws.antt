@@ -17,7 +17,8 @@ use Rattle.nj_faults.specs.declared.fault.Cause.TheVariants.{DuplicateRule}
 use Rattle.nj_faults.specs.Faults.{fault_at}
 use Rattle.nj_graph.specs.Parsed.{parsed}
 use Rattle.nj_faults.specs.Limits.{most_within, most_opened}
-use Rattle.nj_graph.specs.Reading.{Site, entry_at, item_fault, own_fault, End, Whole, Refused, Lacking, ReadingModel, continued, and_then, Opens, item_read, statement_read, statements_read, text_read, found_read, outcome_read, if_capacity, opened_in, main_site, main_read}
+use Rattle.nj_graph.specs.Reading.{Site, entry_at, item_fault, own_fault, End, Whole, Refused, Lacking, ReadingModel, continued, and_then, Opens, item_read, statement_read, statements_read, text_read, outcome_read, opened_in, main_site, main_read}
+use Rattle.nj_graph.specs.Inside.Outcomes.{found_read, if_capacity}
 use Rattle.nj_graph.specs.Laws.{Faultless, ReadIsFaultless, OpenFilesAreBounded, OpeningsAreBounded, MainRulesRise}
 use Rattle.nj_graph.proofs.NameLemmas.{names_rise-read}
 

@@ -3,6 +3,7 @@ pub mod GraphHeld
 pub mod JoiningContracts
 pub mod LogSteps
 pub mod OriginsHeld
+pub mod Outcomes
 pub mod PathsReached
 pub mod ReaderContracts
 pub mod UndeclaredFound

@@ -1,5 +1,5 @@
 -- The reading of a run's files: all statements in reading order, up to the first fault.
-use Rattle.std.specs.Prelude.{ℕ, zero, suc, Bool, true, false, not, ◌&&◌, nat_lt, Option, Some, None, option_map, List, []}
+use Rattle.std.specs.Prelude.{ℕ, zero, suc, false, not, ◌&&◌, nat_lt, if◌then◌else◌, Option, Some, None, option_map, List, []}
 use Rattle.std.specs.Bool.{then_some}
 use Rattle.std.specs.Option.{option_or, option_map_or}
 use Rattle.std.specs.Prelude.{◌∷◌, ◌++◌, find, filter, codes, bytes_eq}
@@ -157,27 +157,20 @@ text_read opens site text before = statements_read opens site (parsed text).item
 abbrev pub stopped : List ReadStatement → Place → Cause → ReadingModel
 stopped before place cause = record { entries = before; end = Refused (record { place = Some place; cause = cause }) }
 
--- by the reading of a path that the statement at this place names
-abbrev pub found_read : (path : List ℕ) → Place → (before : List ReadStatement) → (List ℕ → ReadingModel) → Option (List ℕ) → ReadingModel
-found_read path place before reads text = option_map_or reads text (stopped before place (Missing path))
-
--- by the result of the table for that path
+-- by the result of the table for a path that the statement at this place names
 abbrev pub outcome_read : (path : List ℕ) → Place → (before : List ReadStatement) → (List ℕ → ReadingModel)
     → Option table.Reading → ReadingModel
-outcome_read path place before reads found =
-    option_map_or (λ r. found_read path place before reads r.bytes) found (record { entries = before; end = Lacking path place })
-
-abbrev pub if_capacity : Bool → (within : Opens) → (files : List table.Reading) → Site → Place → ReadStatement
-    → (before : List ReadStatement) → ReadingModel
-if_capacity false within files site place e before = stopped before place TooManyOpenings
-if_capacity true within files site place e before =
-    outcome_read site.file place before (λ text. text_read within site text (e ∷ before)) (reading_of files site.file)
+outcome_read path place before reads None = record { entries = before; end = Lacking path place }
+outcome_read path place before reads (Some r) = option_map_or reads r.bytes (stopped before place (Missing path))
 
 -- the reading of a file by these files, where `left` more may be open
 unfoldable pub opened_in : (files : List table.Reading) → (left : ℕ) → Opens
 opened_in files zero site place e before = stopped before place TooDeep
 opened_in files (suc left) site place e before =
-    if_capacity (nat_lt (files_opened before) most_opened) (opened_in files left) files site place e before
+    if nat_lt (files_opened before) most_opened
+    then outcome_read site.file place before (λ text. text_read (opened_in files left) site text (e ∷ before))
+        (reading_of files site.file)
+    else stopped before place TooManyOpenings
 
 -- ---- a run
 
