@@ -23,7 +23,8 @@ use Rattle.nj_graph.specs.declared.reader.OpenFile.{OpenFile}
 use Rattle.nj_faults.specs.declared.fault.Place.{Place}
 use Rattle.nj_faults.specs.declared.fault.Cause.{Cause}
 use Rattle.nj_faults.specs.Faults.{IsFault, fault_at, fault_in, no_memory}
-use Rattle.nj_graph.specs.Reading.{Site, entry_at, expanded_in, place_at, path_fault, depth_fault, item_fault, own_fault, Whole, Refused, ReadingModel, Opens, item_read, statement_read, opened_in, text_read, path_at_fault}
+use Rattle.nj_graph.specs.Reading.{Site, entry_at, expanded_in, place_at, path_fault, depth_fault, item_fault, own_fault, Whole, Refused, ReadingModel, Opens, item_read, statement_read, opened_in, text_read}
+use Rattle.nj_graph.specs.Inside.Outcomes.{path_at_fault}
 use Rattle.nj_graph.specs.Inside.ReaderContracts.{site_scope}
 use Rattle.nj_edges.specs.Edges.{EdgePaths}
 use Rattle.nj_faults.specs.declared.fault.Cause.TheVariants.{RuleVariableCycle}

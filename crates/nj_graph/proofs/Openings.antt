@@ -15,8 +15,8 @@ use Rattle.nj_faults.specs.declared.fault.Cause.{Cause}
 use Rattle.nj_faults.specs.declared.fault.Cause.TheVariants.{Missing, TooDeep, TooManyOpenings}
 use Rattle.nj_faults.specs.Faults.{no_memory}
 use Rattle.nj_faults.specs.Limits.{most_opened}
-use Rattle.nj_graph.specs.Reading.{Site, Lacking, stopped, text_read, outcome_read, opened_in, path_at_fault}
-use Rattle.nj_graph.specs.Inside.Outcomes.{if_capacity}
+use Rattle.nj_graph.specs.Reading.{Site, Lacking, stopped, text_read, outcome_read, opened_in}
+use Rattle.nj_graph.specs.Inside.Outcomes.{if_capacity, path_at_fault}
 use Rattle.nj_graph.specs.Inside.ReaderContracts.{StopsAt, ReturnsText, OpensText, OpensPath}
 use Rattle.nj_graph.specs.Runs.{IsRead}
 use Rattle.nj_graph.proofs.Found.{FindsText, FindsNone, CannotTell, HasNoMemory, found-text, unfound}

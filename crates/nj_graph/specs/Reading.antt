@@ -169,7 +169,7 @@ opened_in files zero site place e before = stopped before place TooDeep
 opened_in files (suc left) site place e before =
     if nat_lt (files_opened before) most_opened
     then outcome_read site.file place before (λ text. text_read (opened_in files left) site text (e ∷ before))
-        (reading_of files site.file)
+    (reading_of files site.file)
     else stopped before place TooManyOpenings
 
 -- ---- a run
@@ -192,14 +192,10 @@ main_read files main =
 abbrev pub with_all_new : (before paths : List (List ℕ)) → List (List ℕ)
 with_all_new before paths = before ++ filter (λ path. not (is_among before path)) (each_once bytes_eq paths)
 
--- a path at which a reading ends
-abbrev pub path_at_fault : Cause → List (List ℕ)
-path_at_fault (Missing path) = path ∷ []
-path_at_fault cause = []
-
+-- the path at which a reading ends: of a file that is missing, or that the table does not have
 abbrev pub path_at_end : End → List (List ℕ)
 path_at_end Whole = []
-path_at_end (Refused fault) = path_at_fault fault.cause
+path_at_end (Refused fault) = elim fault.cause [ Missing path ↦ path ∷ [] | other ↦ [] ]
 path_at_end (Lacking path place) = path ∷ []
 
 -- All paths that the reading reaches, each at its first occurrence: the main file, those that the statements name, and the one
