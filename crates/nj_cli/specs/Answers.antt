@@ -93,8 +93,7 @@ PageEnds entries validations take start targets (faulty text) =
 
 -- JSON cannot contain a string of an edge: the fault is at its build statement
 abbrev pub text_fault : Option EdgeModel → GraphFault
-text_fault (Some e) = fault_at e.file e.spot TextNotUtf8
-text_fault None = unplaced TextNotUtf8
+text_fault edge = option_map_or (λ e. fault_at e.file e.spot TextNotUtf8) edge (unplaced TextNotUtf8)
 
 -- how a run ends for targets; `compdb` ends at the first edge that JSON cannot contain, and the others finish
 abbrev pub EndsFor : List ReadStatement → ActionModel → (targets : List (List ℕ)) → Ending → Type 0

@@ -2,14 +2,14 @@
 use Rattle.std.proofs.Common.{◌≡◌, ℕ, ◌+◌, Option, Some, None, List, [], ◌∷◌, ◌++◌, get_or, take, refl, ap, ◌∙◌}
 use Rattle.std.specs.Prelude.{slice_get}
 use Rattle.std.proofs.lemmas.Option.{get_or_from_slice_get}
-use Rattle.nj_needs.specs.Order.{unfolded_row}
-use Rattle.nj_needs.specs.Marks.{inputs_of, edge_at, done}
+use Rattle.nj_needs.specs.Order.{made_by, unfolded_row}
+use Rattle.nj_needs.specs.Marks.{edge_at, done}
 use Rattle.nj_needs.specs.Inside.Paths.{IsLinked, done_at, places}
 use Rattle.nj_needs.specs.declared.frame.Frame.{Frame}
 
 module _ (makers : ℕ → List (Option ℕ)) (count : ℕ) where
-  inputs-at : (row : List (Option ℕ)) (f : Frame) → slice_get row f.at ≡ Some (Some f.edge) → inputs_of makers (get_or row f.at None) ≡ makers f.edge
-  inputs-at row f at = ap (inputs_of makers) (get_or_from_slice_get row f.at (Some f.edge) None at)
+  inputs-at : (row : List (Option ℕ)) (f : Frame) → slice_get row f.at ≡ Some (Some f.edge) → made_by makers (get_or row f.at None) ≡ makers f.edge
+  inputs-at row f at = ap (made_by makers) (get_or_from_slice_get row f.at (Some f.edge) None at)
 
   -- the edges done at the address of an edge are those done once it is closed
   pub done-places : (row : List (Option ℕ)) (path : List Frame) (f : Frame) → IsLinked makers row (path ++ f ∷ [])

@@ -5,7 +5,8 @@ use Rattle.nj_cycles.specs.Cycles.{IsAcyclic, Needs}
 use Rattle.nj_names.specs.declared.files.FileNo.{FileNo}
 use Rattle.nj_edges.specs.EdgeGraphs.{EdgeGraph}
 use Rattle.nj_needs.specs.Graphs.{row_of, makers_of, count_of}
-use Rattle.nj_needs.specs.Marks.{inputs_of, edge_at}
+use Rattle.nj_needs.specs.Order.{made_by}
+use Rattle.nj_needs.specs.Marks.{edge_at}
 use Rattle.nj_needs.specs.Needs.{AreWithin}
 use Rattle.nj_needs.specs.Walks.{IsFirstPlaceOf}
 use Rattle.nj_needs.proofs.Members.{Among, Contains-from_Among}
@@ -17,7 +18,7 @@ Among-at (x ∷ row) zero e is = inl is
 Among-at (x ∷ row) (suc p) e is = inr (Among-at row p e is)
 
 module _ (makers : ℕ → List (Option ℕ)) (count : ℕ) (within : (e f : ℕ) → Needs makers e f → f < count) where
-  inputs-within : (o : Option ℕ) → AreWithin (inputs_of makers o) count
+  inputs-within : (o : Option ℕ) → AreWithin (made_by makers o) count
   inputs-within None e c = absurd (omega (arith, c.1))
   inputs-within (Some m) e c = within m e c
 
@@ -25,7 +26,7 @@ module _ (makers : ℕ → List (Option ℕ)) (count : ℕ) (within : (e f : ℕ
   edge_at-below row inside [] e is = absurd cc
   edge_at-below row inside (p ∷ []) e is = inside e (Contains-from_Among row e (Among-at row p e is))
   edge_at-below row inside (p ∷ q ∷ mark) e is =
-      edge_at-below (inputs_of makers (slice_index_or row p None)) (inputs-within (slice_index_or row p None)) (q ∷ mark) e is
+      edge_at-below (made_by makers (slice_index_or row p None)) (inputs-within (slice_index_or row p None)) (q ∷ mark) e is
 
 -- the edge of a first place
 pub first-below : (g : EdgeGraph) (targets : List FileNo) (mark : List ℕ) (e : ℕ) → IsAcyclic (makers_of g) (count_of g) → AreWithin (row_of g targets) (count_of g)

@@ -8,7 +8,7 @@ use Rattle.std.proofs.lemmas.Option.{same_Some}
 use Rattle.std.proofs.lemmas.List.Concat.{flat_map-append}
 use Rattle.nj_cycles.specs.Cycles.{IsRank}
 use Rattle.nj_needs.specs.Order.{made_by, unfolded, unfolded_row}
-use Rattle.nj_needs.specs.Marks.{inputs_of, is_valid, edge_at, done}
+use Rattle.nj_needs.specs.Marks.{is_valid, edge_at, done}
 use Rattle.nj_needs.specs.Laws.{FirstPlacesAreOne}
 use Rattle.nj_needs.proofs.Members.{In, In-head, In-tail, Among, Among-get, Contains-from_Among}
 use Rattle.nj_needs.proofs.Unfolding.{within, unfolded-row}
@@ -40,11 +40,11 @@ module _ (makers : ℕ → List (Option ℕ)) where
   -- an address that leads to an edge is valid
   pub valid-from_edge : (row : List (Option ℕ)) (mark : List ℕ) (e : ℕ) → edge_at makers row mark ≡ Some e → is_valid makers row mark ≡ true
   valid-from_edge row [] e h = refl
-  valid-from_edge row (p ∷ []) e h = ap (λ (o : Option ℕ). is_some o && is_valid makers (inputs_of makers o) []) h
+  valid-from_edge row (p ∷ []) e h = ap (λ (o : Option ℕ). is_some o && is_valid makers (made_by makers o) []) h
   valid-from_edge row (p ∷ q ∷ mark) e h = by_maker (get_or row p None) h (λ m k. valid-from_edge (makers m) (q ∷ mark) e k)
     where
-      by_maker : (o : Option ℕ) → edge_at makers (inputs_of makers o) (q ∷ mark) ≡ Some e → ((m : ℕ) → edge_at makers (makers m) (q ∷ mark) ≡ Some e → is_valid makers (makers m) (q ∷ mark) ≡ true)
-          → (is_some o && is_valid makers (inputs_of makers o) (q ∷ mark)) ≡ true
+      by_maker : (o : Option ℕ) → edge_at makers (made_by makers o) (q ∷ mark) ≡ Some e → ((m : ℕ) → edge_at makers (makers m) (q ∷ mark) ≡ Some e → is_valid makers (makers m) (q ∷ mark) ≡ true)
+          → (is_some o && is_valid makers (made_by makers o) (q ∷ mark)) ≡ true
       by_maker None k later = absurd (nowhere (q ∷ mark) e k)
       by_maker (Some m) k later = later m k
 
@@ -91,7 +91,7 @@ module _ (makers : ℕ → List (Option ℕ)) (count : ℕ) (rank : ℕ → ℕ)
       let bound = size-row (makers s.0) (q + 1) in
       let front = unfolded_row makers count (take p row) in
       let is : length (done makers count row (p ∷ q ∷ mark)) ≡ length front + length (done makers count (makers s.0) (q ∷ mark)) =
-      length-append front (done makers count (inputs_of makers (get_or row p None)) (q ∷ mark)) ∙ ap (λ (r : List (Option ℕ)). length front + length (done makers count r (q ∷ mark))) (inputs-some makers row p s.0 s.1) in
+      length-append front (done makers count (made_by makers (get_or row p None)) (q ∷ mark)) ∙ ap (λ (r : List (Option ℕ)). length front + length (done makers count r (q ∷ mark))) (inputs-some makers row p s.0 s.1) in
       (omega (arith, is, deep.0), omega (arith, is, deep.1, bound, own, next))
 
   -- addresses at which as much is done begin with the same number
@@ -117,7 +117,7 @@ module _ (makers : ℕ → List (Option ℕ)) (count : ℕ) (rank : ℕ → ℕ)
       let bound = size-row (makers s.0) (r + 1) in
       let front = unfolded_row makers count (take p row) in
       let is : length (done makers count row (p ∷ r ∷ x)) ≡ length front + length (done makers count (makers s.0) (r ∷ x)) =
-      length-append front (done makers count (inputs_of makers (get_or row p None)) (r ∷ x)) ∙ ap (λ (k : List (Option ℕ)). length front + length (done makers count k (r ∷ x))) (inputs-some makers row p s.0 s.1) in
+      length-append front (done makers count (made_by makers (get_or row p None)) (r ∷ x)) ∙ ap (λ (k : List (Option ℕ)). length front + length (done makers count k (r ∷ x))) (inputs-some makers row p s.0 s.1) in
       omega (arith, is, deep.1, bound, own, next)
 
   same-rest : (row : List (Option ℕ)) → ((m : ℕ) → Among row m → m < count) → (p : ℕ) (x y : List ℕ) → is_valid makers row (p ∷ x) ≡ true → is_valid makers row (p ∷ y) ≡ true
@@ -132,9 +132,9 @@ module _ (makers : ℕ → List (Option ℕ)) (count : ℕ) (rank : ℕ → ℕ)
       let vy' : is_valid makers (makers s.0) (t ∷ y) ≡ true = subst (λ m. is_valid makers (makers m) (t ∷ y) ≡ true) (sym one) u.2 in
       let front = unfolded_row makers count (take p row) in
       let left : length (done makers count row (p ∷ r ∷ x)) ≡ length front + length (done makers count (makers s.0) (r ∷ x)) =
-      length-append front (done makers count (inputs_of makers (get_or row p None)) (r ∷ x)) ∙ ap (λ (k : List (Option ℕ)). length front + length (done makers count k (r ∷ x))) (inputs-some makers row p s.0 s.1) in
+      length-append front (done makers count (made_by makers (get_or row p None)) (r ∷ x)) ∙ ap (λ (k : List (Option ℕ)). length front + length (done makers count k (r ∷ x))) (inputs-some makers row p s.0 s.1) in
       let right : length (done makers count row (p ∷ t ∷ y)) ≡ length front + length (done makers count (makers s.0) (t ∷ y)) =
-      length-append front (done makers count (inputs_of makers (get_or row p None)) (t ∷ y)) ∙ ap (λ (k : List (Option ℕ)). length front + length (done makers count k (t ∷ y))) (inputs-some makers row p s.0 s.1) in
+      length-append front (done makers count (made_by makers (get_or row p None)) (t ∷ y)) ∙ ap (λ (k : List (Option ℕ)). length front + length (done makers count k (t ∷ y))) (inputs-some makers row p s.0 s.1) in
       let deep : length (done makers count (makers s.0) (r ∷ x)) ≡ length (done makers count (makers s.0) (t ∷ y)) = omega (arith, left, right, len) in
       let inner = within makers count rank ranked s.0 in
       let number : r ≡ t = same-number (makers s.0) inner r t x y s.2 vy' deep in

@@ -6,8 +6,8 @@ use Rattle.std.proofs.lemmas.Bool.{cases_lt}
 use Rattle.std.proofs.lemmas.List.{get_or_past, drop_more, append-nil, length-append, same_from_push}
 use Rattle.std.proofs.lemmas.Option.{slice_get-get_or, get_or_from_slice_get}
 use Rattle.nj_cycles.specs.Cycles.{IsRank}
-use Rattle.nj_needs.specs.Order.{unfolded, unfolded_row}
-use Rattle.nj_needs.specs.Marks.{inputs_of, is_valid, done}
+use Rattle.nj_needs.specs.Order.{made_by, unfolded, unfolded_row}
+use Rattle.nj_needs.specs.Marks.{is_valid, done}
 use Rattle.nj_needs.specs.Inside.Paths.{top_row, IsLinked, done_at, places}
 use Rattle.nj_needs.specs.Inside.Heading.{IsAhead, IsHeading}
 use Rattle.nj_needs.specs.Inside.Standing.{top_of, turns_left_of, HasLooked, HasClosed, HasEnded, TurnIs}
@@ -26,8 +26,8 @@ past-end (x ∷ row) zero h = absurd cc
 past-end (x ∷ row) (suc p) h = omega (arith, past-end row p h)
 
 module _ (makers : ℕ → List (Option ℕ)) where
-  pub inputs-some : (row : List (Option ℕ)) (p m : ℕ) → slice_get row p ≡ Some (Some m) → inputs_of makers (get_or row p None) ≡ makers m
-  inputs-some row p m at = ap (inputs_of makers) (get_or_from_slice_get row p (Some m) None at)
+  pub inputs-some : (row : List (Option ℕ)) (p m : ℕ) → slice_get row p ≡ Some (Some m) → made_by makers (get_or row p None) ≡ makers m
+  inputs-some row p m at = ap (made_by makers) (get_or_from_slice_get row p (Some m) None at)
 
   -- the first step of a valid mark leads to an edge, from which the others continue
   pub valid-step : (row : List (Option ℕ)) (p : ℕ) (mark : List ℕ) → is_valid makers row (p ∷ mark) ≡ true
@@ -40,7 +40,7 @@ module _ (makers : ℕ → List (Option ℕ)) where
         | inr past ↦ let none = get_or_past row p None past in absurd cc
       ]
 
-      by_maker : (o : Option ℕ) → get_or row p None ≡ o → (is_some o && is_valid makers (inputs_of makers o) mark) ≡ true
+      by_maker : (o : Option ℕ) → get_or row p None ≡ o → (is_some o && is_valid makers (made_by makers o) mark) ≡ true
           → (m : ℕ) × (slice_get row p ≡ Some (Some m)) × (is_valid makers (makers m) mark ≡ true)
       by_maker None is k = absurd cc
       by_maker (Some m) is k = (m, found m is, k)
@@ -69,7 +69,7 @@ module _ (makers : ℕ → List (Option ℕ)) (count : ℕ) (rank : ℕ → ℕ)
   done-within row inside (p ∷ q ∷ mark) h x i =
       let s = valid-step makers row p (q ∷ mark) h in
       let a = Among-get row p s.0 s.1 in
-      elim (In-append_cases (unfolded_row makers count (take p row)) (done makers count (inputs_of makers (get_or row p None)) (q ∷ mark)) x i) [
+      elim (In-append_cases (unfolded_row makers count (take p row)) (done makers count (made_by makers (get_or row p None)) (q ∷ mark)) x i) [
         | inl before ↦ row-front p row x before
         | inr after ↦
             let deep : In (unfolded_row makers count (makers s.0)) x =
@@ -124,15 +124,15 @@ module _ (makers : ℕ → List (Option ℕ)) (row : List (Option ℕ)) (numbers
 
   pub valid-none : slice_get row p ≡ None → is_valid makers row (drop i numbers) ≡ false
   valid-none none =
-      ap (is_valid makers row) next-number ∙ ap (λ (o : Option ℕ). is_some o && is_valid makers (inputs_of makers o) (drop (i + 1) numbers)) (get_or_past row p None (past-end row p none))
+      ap (is_valid makers row) next-number ∙ ap (λ (o : Option ℕ). is_some o && is_valid makers (made_by makers o) (drop (i + 1) numbers)) (get_or_past row p None (past-end row p none))
 
   pub valid-source : slice_get row p ≡ Some None → is_valid makers row (drop i numbers) ≡ false
   valid-source source =
-      ap (is_valid makers row) next-number ∙ ap (λ (o : Option ℕ). is_some o && is_valid makers (inputs_of makers o) (drop (i + 1) numbers)) (get_or_from_slice_get row p None None source)
+      ap (is_valid makers row) next-number ∙ ap (λ (o : Option ℕ). is_some o && is_valid makers (made_by makers o) (drop (i + 1) numbers)) (get_or_from_slice_get row p None None source)
 
   pub valid-maker : (m : ℕ) → slice_get row p ≡ Some (Some m) → is_valid makers row (drop i numbers) ≡ is_valid makers (makers m) (drop (i + 1) numbers)
   valid-maker m at =
-      ap (is_valid makers row) next-number ∙ ap (λ (o : Option ℕ). is_some o && is_valid makers (inputs_of makers o) (drop (i + 1) numbers)) (get_or_from_slice_get row p (Some m) None at)
+      ap (is_valid makers row) next-number ∙ ap (λ (o : Option ℕ). is_some o && is_valid makers (made_by makers o) (drop (i + 1) numbers)) (get_or_from_slice_get row p (Some m) None at)
 
 -- ---- heading for a place
 

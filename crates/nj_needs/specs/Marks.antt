@@ -3,30 +3,25 @@
 use Rattle.std.specs.Prelude.{◌≡◌, ℕ, ◌+◌, Bool, true, false, ◌&&◌, not, Option, Some, None, is_some, List, [], ◌∷◌, ◌++◌, take, nat_eq}
 use Rattle.std.specs.Prelude.{filter, slice_index_or}
 use Rattle.std.specs.List.{list_any}
-use Rattle.nj_needs.specs.Order.{unfolded_row, needed_commands}
-
--- the inputs of the edge that makes a file
-abbrev pub inputs_of : (makers : ℕ → List (Option ℕ)) → Option ℕ → List (Option ℕ)
-inputs_of makers None = []
-inputs_of makers (Some e) = makers e
+use Rattle.nj_needs.specs.Order.{made_by, unfolded_row, needed_commands}
 
 -- each step leads to an edge
 abbrev pub is_valid : (makers : ℕ → List (Option ℕ)) → (row : List (Option ℕ)) → (mark : List ℕ) → Bool
 is_valid makers row [] = true
-is_valid makers row (p ∷ mark) = is_some (slice_index_or row p None) && is_valid makers (inputs_of makers (slice_index_or row p None)) mark
+is_valid makers row (p ∷ mark) = is_some (slice_index_or row p None) && is_valid makers (made_by makers (slice_index_or row p None)) mark
 
 -- the edge that an address leads to
 abbrev pub edge_at : (makers : ℕ → List (Option ℕ)) → (row : List (Option ℕ)) → (mark : List ℕ) → Option ℕ
 edge_at makers row [] = None
 edge_at makers row (p ∷ []) = slice_index_or row p None
-edge_at makers row (p ∷ q ∷ mark) = edge_at makers (inputs_of makers (slice_index_or row p None)) (q ∷ mark)
+edge_at makers row (p ∷ q ∷ mark) = edge_at makers (made_by makers (slice_index_or row p None)) (q ∷ mark)
 
 -- the unfolded order up to and including the place that an address leads to
 abbrev pub done : (makers : ℕ → List (Option ℕ)) → (count : ℕ) → (row : List (Option ℕ)) → (mark : List ℕ) → List ℕ
 done makers count row [] = []
 done makers count row (p ∷ []) = unfolded_row makers count (take (p + 1) row)
 done makers count row (p ∷ q ∷ mark) =
-    unfolded_row makers count (take p row) ++ done makers count (inputs_of makers (slice_index_or row p None)) (q ∷ mark)
+    unfolded_row makers count (take p row) ++ done makers count (made_by makers (slice_index_or row p None)) (q ∷ mark)
 
 -- the edges that are not in `seen`
 abbrev pub without : (seen es : List ℕ) → List ℕ

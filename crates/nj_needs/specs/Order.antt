@@ -3,10 +3,10 @@ use Rattle.std.specs.Prelude.{ℕ, zero, suc, Bool, not, Option, Some, None, Lis
 use Rattle.std.specs.List.{flat_map}
 use Rattle.nj_edges.specs.Repeats.{each_once}
 
--- the edges of an input's maker: none for a source
-abbrev pub made_by : (ℕ → List ℕ) → Option ℕ → List ℕ
-made_by edges None = []
-made_by edges (Some e) = edges e
+-- the list that belongs to the maker of an input: none for a source
+abbrev pub made_by : {A : Type 0} → (of_edge : ℕ → List A) → (maker : Option ℕ) → List A
+made_by of_edge None = []
+made_by of_edge (Some e) = of_edge e
 
 -- edge e after all that it needs, with repeats: the same of each of its makers in turn, and then e.
 -- Along needs a rank falls, so a fuel of the rank or more is enough.

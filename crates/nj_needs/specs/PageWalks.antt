@@ -1,5 +1,6 @@
 -- A page of a walk: at most so many of the edges that are left to it, and the mark after them.
 use Rattle.std.specs.Prelude.{◌≡◌, ◌≢◌, ℕ, Option, Some, None, List, [], ◌∷◌, ◌++◌, take, drop}
+use Rattle.std.specs.Option.{option_map_or}
 use Rattle.nj_needs.specs.Graphs.{row_of, makers_of, count_of}
 use Rattle.nj_needs.specs.MarkTexts.{ReadsBack}
 use Rattle.nj_needs.specs.Pages.{IsMarkAfter}
@@ -7,12 +8,10 @@ use Rattle.nj_needs.specs.Walks.{WalkState}
 
 -- of the edges that are left, those that are written, and those that are left after that, where at most `limit` edges are taken
 abbrev pub written : (limit : Option ℕ) → (left : List ℕ) → List ℕ
-written None left = left
-written (Some limit) left = take limit left
+written limit left = option_map_or (λ most. take most left) limit left
 
 abbrev pub left_after : (limit : Option ℕ) → (left : List ℕ) → List ℕ
-left_after None left = []
-left_after (Some limit) left = drop limit left
+left_after limit left = option_map_or (λ most. drop most left) limit []
 
 -- the mark after these edges of a walk
 abbrev pub IsMarkOf : WalkState → (edges : List ℕ) → (mark : List ℕ) → Type 0

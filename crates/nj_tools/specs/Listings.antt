@@ -2,7 +2,8 @@
 use Rattle.std.specs.Prelude.{◌≡◌, ◌↔◌, ℕ, zero, suc, ◌+◌, ◌==◌, true, false, not, if◌then◌else◌, Option, Some, None, is_none}
 use Rattle.std.specs.Prelude.{List, [], ◌∷◌, ◌++◌}
 use Rattle.std.specs.Prelude.{map, filter, flat_map, length, bytes_eq, codes}
-use Rattle.std.specs.List.{Contains, IsDistinct}
+use Rattle.std.specs.Option.{option_map_or}
+use Rattle.std.specs.List.{Contains, IsDistinct, repeat}
 use Rattle.std.specs.List.Sorted.{IsStrictlySortedBy}
 use Rattle.std.specs.Cmp.Lexicographic.{slice_cmp}
 use Rattle.std.specs.Ordering.{nat_cmp}
@@ -11,7 +12,7 @@ use Rattle.nj_text.specs.Quotes.{quoted}
 use Rattle.nj_edges.specs.Edges.{EdgePaths, edge_at, inputs_of, outputs_of, maker_of, roots_of}
 use Rattle.nj_edges.specs.Needs.{makers_of_inputs}
 use Rattle.nj_needs.specs.Graphs.{row_of_paths, is_phony_in}
-use Rattle.nj_needs.specs.Order.{needed_commands}
+use Rattle.nj_needs.specs.Order.{made_by, needed_commands}
 use Rattle.nj_statements.specs.EdgeList.{edges_read, paths_of_edges}
 pub use Rattle.nj_edges.specs.Repeats.{each_once}
 use Rattle.nj_graph.specs.Graph.{sorted_by, is_before, rule_name_of, rule_name_at}
@@ -81,18 +82,15 @@ outputs_text entries = flat_map (λ e. flat_map (λ path. made_line path (rule_n
 
 -- a file by the edge that makes it: `PATH: RULE`, or `PATH` for a source
 unfoldable pub file_line : List ReadStatement → (maker : Option ℕ) → (path : List ℕ) → List ℕ
-file_line entries (Some edge) path = made_line path (rule_name_at entries edge)
-file_line entries None path = line path
+file_line entries maker path = option_map_or (λ edge. made_line path (rule_name_at entries edge)) maker (line path)
 
 -- the inputs of a file's maker
 abbrev pub inputs_of_maker : List EdgePaths → (maker : Option ℕ) → List (List ℕ)
-inputs_of_maker edges (Some edge) = inputs_of (edge_at edges edge)
-inputs_of_maker edges None = []
+inputs_of_maker edges maker = made_by (λ edge. inputs_of (edge_at edges edge)) maker
 
 -- two spaces for each level above
 abbrev pub indent : (depth : ℕ) → List ℕ
-indent zero = []
-indent (suc depth) = codes "  " ++ indent depth
+indent depth = repeat depth (codes "  ")
 
 -- A file at a depth, then the inputs of its maker, one level deeper, and so on, for this many levels.
 unfoldable pub tree_text : List ReadStatement → (levels depth : ℕ) → (path : List ℕ) → List ℕ
