@@ -1,8 +1,7 @@
 -- Why files do not make a graph, or why a request about their graph has no answer: the place and the cause of a fault.
 use Rattle.std.specs.Prelude.{◌≡◌, ◌⊎◌, ℕ, Option, Some, None, List}
-use Rattle.std.specs.Option.{option_map_or}
 use Rattle.nj_text.specs.declared.spot.Spot.{Spot}
-use Rattle.nj_manifest.specs.Faults.{Fault, place_of, syntax_cause}
+use Rattle.nj_manifest.specs.Faults.{Fault, Placed, OutOfMemory}
 use Rattle.nj_faults.specs.declared.fault.GraphFault.{GraphFault}
 use Rattle.nj_faults.specs.declared.fault.Cause.{Cause}
 use Rattle.nj_faults.specs.declared.fault.Cause.TheVariants as cause
@@ -24,13 +23,7 @@ IsFault expected fault = (fault ≡ no_memory) ⊎ (expected ≡ Some fault)
 
 -- ---- the faults of a text
 
-abbrev pub cause_of : Fault → Cause
-cause_of fault = option_map_or cause.Syntax (syntax_cause fault) cause.OutOfMemory
-
-abbrev pub fault_by : (file : List ℕ) → Option Spot → Cause → GraphFault
-fault_by file (Some spot) cause = fault_at file spot cause
-fault_by file None cause = unplaced cause
-
 -- the fault that the parser reports of its text
 abbrev pub fault_in : (file : List ℕ) → Fault → GraphFault
-fault_in file fault = fault_by file (place_of fault) (cause_of fault)
+fault_in file (Placed spot what) = fault_at file spot (cause.Syntax what)
+fault_in file OutOfMemory = no_memory

@@ -5,7 +5,7 @@ ghost use Rattle.std.specs.Cmp.{partial_equiv_from_equiv};
 ghost use Rattle.std.specs.Cmp.Lexicographic.{nat_list_eq_equiv, pointwise};
 ghost use Rattle.nj_manifest.specs.Faults.{named_by};
 ghost use Rattle.nj_manifest.specs.Faults as parsed;
-ghost use Rattle.nj_faults.specs.Faults.{IsFault, cause_of, fault_at, fault_in, no_memory, unplaced};
+ghost use Rattle.nj_faults.specs.Faults.{IsFault, fault_at, fault_in, no_memory, unplaced};
 
 use nj_manifest::{ParseFault, Spot, SyntaxCause};
 use std::alloc::{AllocError, AllocFailed, Global};
@@ -178,18 +178,6 @@ pub enum Cause {
     OutOfMemory,
 }
 
-impl Cause {
-    // The cause of a fault of the parser.
-    fn of_text(alloc: Global, fault: ParseFault<'_>) -> Result<Cause, AllocError>
-        ensures { IfOk result (λ cause. cause ≡ cause_of (parsed.fault_text fault.entry)) }
-    {
-        match fault.cause() {
-            Some(cause) => Ok(Cause::Syntax(owned(alloc, cause)?)),
-            None => Ok(Cause::OutOfMemory),
-        }
-    }
-}
-
 // The cause, with a copy of its name.
 fn owned(alloc: Global, cause: SyntaxCause<&[u8]>) -> Result<SyntaxCause<Name>, AllocError>
     ensures { IfOk result (λ made. made ≡ named_by (λ key. key.now) cause.entry) }
@@ -214,18 +202,16 @@ impl GraphFault {
     ) -> Result<GraphFault, AllocError>
         ensures { IfOk result (λ f. f ≡ fault_in file.now (parsed.fault_text fault.entry)) }
     {
-        let cause = Cause::of_text(alloc, fault)?;
-        match fault.spot() {
-            Some(spot) => {
-                let file = file.as_bytes();
-                let place = PlaceRef { file, spot }.to_place(alloc)?;
-                Ok(GraphFault {
-                    place: Some(place),
-                    cause,
-                })
-            }
-            None => Ok(GraphFault::unplaced(cause)),
-        }
+        let (Some(spot), Some(cause)) = (fault.spot(), fault.cause()) else {
+            return Ok(GraphFault::out_of_memory());
+        };
+        let cause = owned(alloc, cause)?;
+        let file = file.as_bytes();
+        let place = PlaceRef { file, spot }.to_place(alloc)?;
+        Ok(GraphFault {
+            place: Some(place),
+            cause: Cause::Syntax(cause),
+        })
     }
 
     /// A fault of this cause without a location.
