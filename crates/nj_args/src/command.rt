@@ -1,33 +1,74 @@
 //! The command line as `clap` knows it.
 
-ghost use Rattle.std.specs.Prelude.{◌≡◌, false, IfOk, Some, codes};
-ghost use Rattle.clap.specs.Words.{app_of, rule_of};
+ghost use Rattle.std.specs.Prelude.{◌≡◌, false, IfOk, Some, codes, fold, map};
+ghost use Rattle.clap.specs.Words.{app_of, rule_of, with_rule};
 ghost use Rattle.nj_args.specs.CommandLine.{command, nothing_yet, flag};
-ghost use Rattle.nj_args.specs.Inside.Held.{with_letter, with_name, all_words};
+ghost use Rattle.nj_args.specs.Inside.Held.{option_at, option_in, with_letter, with_name, all_words};
 
 use clap::{Arg, ArgAction, Command};
 use std::alloc::{AllocError, Global};
+
+// How an option is written: `-L` or `--NAME`, before a value or alone.
+#[derive(Clone, Copy)]
+enum Form {
+    Short(char),
+    Long(&'static str),
+    ShortFlag(char),
+    LongFlag(&'static str),
+}
+
+// The options in their order, each with the text under which it is kept.
+const OPTIONS: [(&str, Form); 14] = [
+    ("-t", Form::Short('t')),
+    ("-f", Form::Short('f')),
+    ("--take", Form::Long("take")),
+    ("--resume", Form::Long("resume")),
+    ("-s", Form::ShortFlag('s')),
+    ("--stdin", Form::LongFlag("stdin")),
+    ("-d", Form::ShortFlag('d')),
+    ("-x", Form::ShortFlag('x')),
+    ("--directory", Form::Long("directory")),
+    ("--dyndep", Form::LongFlag("dyndep")),
+    ("--validations", Form::LongFlag("validations")),
+    ("--dependency-order", Form::LongFlag("dependency-order")),
+    ("--no-shell-escape", Form::LongFlag("no-shell-escape")),
+    ("--print0", Form::LongFlag("print0")),
+];
 
 /// The command: its options, flags and arguments.
 pub fn command<'a>(alloc: Global) -> Result<Command<'a>, AllocError>
     ensures { IfOk result (λ made. app_of made ≡ command) }
 {
-    nothing_yet(alloc)
-        .arg(short_option(alloc, "-t", 't'))?
-        .arg(short_option(alloc, "-f", 'f'))?
-        .arg(long_option(alloc, "--take", "take"))?
-        .arg(long_option(alloc, "--resume", "resume"))?
-        .arg(short_flag(alloc, "-s", 's'))?
-        .arg(long_flag(alloc, "--stdin", "stdin"))?
-        .arg(short_flag(alloc, "-d", 'd'))?
-        .arg(short_flag(alloc, "-x", 'x'))?
-        .arg(long_option(alloc, "--directory", "directory"))?
-        .arg(long_flag(alloc, "--dyndep", "dyndep"))?
-        .arg(long_flag(alloc, "--validations", "validations"))?
-        .arg(long_flag(alloc, "--dependency-order", "dependency-order"))?
-        .arg(long_flag(alloc, "--no-shell-escape", "no-shell-escape"))?
-        .arg(long_flag(alloc, "--print0", "print0"))?
-        .arg(all_words(alloc))
+    with_options(alloc, nothing_yet(alloc), &OPTIONS)?.arg(all_words(alloc))
+}
+
+// Adds these options to a command.
+fn with_options<'a>(
+    alloc: Global,
+    command: Command<'a>,
+    options: &[(&'a str, Form)],
+) -> Result<Command<'a>, AllocError>
+    ensures { IfOk result (λ made. app_of made ≡ fold with_rule (app_of command.entry)
+        (map option_at options.now)) }
+{
+    let mut made = command;
+    'options: for option in options {
+        made = made.arg(option_in(alloc, option.0, option.1))?;
+    }
+    Ok(made)
+}
+
+// An option in this form, kept under this text.
+fn option_in<'a>(alloc: Global, text: &'a str, form: Form) -> Arg<'a>
+    ensures rule { rule_of result ≡ option_in text.entry.now form }
+    ensures local { result.global ≡ false }
+{
+    match form {
+        Form::Short(letter) => short_option(alloc, text, letter),
+        Form::Long(name) => long_option(alloc, text, name),
+        Form::ShortFlag(letter) => short_flag(alloc, text, letter),
+        Form::LongFlag(name) => long_flag(alloc, text, name),
+    }
 }
 
 // The command without options and arguments. It knows neither help nor a version.

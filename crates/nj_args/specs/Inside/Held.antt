@@ -12,7 +12,7 @@ use Rattle.clap.specs.declared.error.kind.ErrorKind.{ErrorKind}
 use Rattle.clap.specs.declared.error.kind.ErrorKind.TheVariants as kind
 use Rattle.nj_text.specs.Calls.{is_empty}
 use Rattle.nj_manifest.specs.LineSteps.{◌>>=◌}
-use Rattle.nj_args.specs.CommandLine.{command}
+use Rattle.nj_args.specs.CommandLine.{command, flag}
 use Rattle.nj_args.specs.FaultLines.{option_text}
 use Rattle.nj_args.specs.Fields.{given_rows, is_on, words_in}
 use Rattle.nj_args.specs.Numbers.{given_depth}
@@ -21,6 +21,8 @@ use Rattle.nj_requests.specs.declared.view.TargetsView.{TargetsView}
 use Rattle.nj_requests.specs.declared.view.TargetsView.TheVariants.{Depth}
 use Rattle.nj_args.specs.Requests.{request_in, style_of, view_of}
 use Rattle.nj_args.specs.Tools.{all_options, is_foreign, options_of}
+use Rattle.nj_args.specs.declared.command.Form.{Form}
+use Rattle.nj_args.specs.declared.command.Form.TheVariants.{Short, Long, ShortFlag, LongFlag}
 use Rattle.nj_args.specs.declared.usage_fault.ToolOption.{ToolOption}
 use Rattle.nj_args.specs.declared.tools.Tool.{Tool}
 use Rattle.nj_args.specs.declared.usage_fault.UsageFault.{UsageFault}
@@ -39,6 +41,16 @@ with_letter text letter = record (new_rule text) { short = Some letter }
 
 abbrev pub with_name : (text name : List ℕ) → Rule
 with_name text name = record (new_rule text) { long = Some name }
+
+-- an option in this form, and one of a table
+abbrev pub option_in : (text : List ℕ) → Form → Rule
+option_in text (Short letter) = with_letter text letter
+option_in text (Long name) = with_name text name.now
+option_in text (ShortFlag letter) = flag (with_letter text letter)
+option_in text (LongFlag name) = flag (with_name text name.now)
+
+abbrev pub option_at : Bor (List ℕ) × Form → Rule
+option_at option = option_in option.0.now option.1
 
 -- the arguments that are not options
 abbrev pub all_words : Rule
