@@ -1,6 +1,6 @@
 //! A run of the program.
 
-ghost use Rattle.std.specs.Prelude.{map, string_bytes};
+ghost use Rattle.std.specs.Prelude.{◌≡◌, map, string_bytes};
 ghost use Rattle.nj_requests.specs.Actions.{request_model};
 ghost use Rattle.nj_cli.specs.Inside.RunSteps.{ReadsGraph};
 ghost use Rattle.nj_cli.specs.Runs.{RunsAs, RunsWords, RunsAsAndKeeps, RunsAndKeeps, around};
@@ -35,7 +35,7 @@ pub fn run_words<S: FileSource, O: Sink, E: Sink>(
         (around (S.state source.old) (O.state out.old) (E.state err.old))
         (around (S.state source.new) (O.state out.new) (E.state err.new)) result }
 {
-    run_words_and_keep(alloc, source, words, out, err).status
+    status_of(run_words_and_keep(alloc, source, words, out, err))
 }
 
 /// The same as [`run_words`], but it also returns the loaded files: where the run was answered, the
@@ -75,7 +75,14 @@ pub fn run_tool<S: FileSource, O: Sink, E: Sink>(
         (around (S.state source.old) (O.state out.old) (E.state err.old))
         (around (S.state source.new) (O.state out.new) (E.state err.new)) result }
 {
-    run_tool_and_keep(alloc, source, request, out, err).status
+    status_of(run_tool_and_keep(alloc, source, request, out, err))
+}
+
+// The status alone. The files and the graph are freed here, which no other function has to prove.
+fn status_of(ended: Ended) -> Status
+    ensures { result ≡ ended.status }
+{
+    ended.status
 }
 
 // The same as `run_tool`, but it also returns the loaded files and graph.
