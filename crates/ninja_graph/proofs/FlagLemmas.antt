@@ -2,10 +2,12 @@
 use Rattle.std.proofs.Common.{◌≡◌, ◌≢◌, ◌<◌, ℕ, ◌==◌, ◌||◌, ◌&&◌, ◌⊎◌, inl, inr, Bool, true, false, cond, Option, Some, None, option_map, List, [], ◌∷◌, ◌++◌, map, length, get_or, set, refl, sym, ap, ◌∙◌, arith, eq-eqb}
 use Rattle.std.specs.Prelude.{Contains, find}
 use Rattle.std.specs.List.{filter, list_any}
+use Rattle.std.proofs.lemmas.Bool.{eqb-true}
 use Rattle.std.proofs.lemmas.Bool.Decides.{eqb_tells}
 use Rattle.std.proofs.lemmas.Grind.{common_steps}
 use Rattle.std.proofs.lemmas.List.{length-set}
 use Rattle.std.proofs.lemmas.List.Folds.{list_any-append, list_any-from_Any}
+use Rattle.std.proofs.lemmas.Map.Views.{Contains-from_any}
 use Rattle.ninja_graph.specs.Manifest.{is_one_of}
 use Rattle.ninja_graph.specs.Inside.Flags.{AreFlags}
 
@@ -68,6 +70,11 @@ among-filter p (m ∷ ms) n = by (p m) refl (eqb_tells n m) (among-filter p ms n
         rest ∙ ap (λ b. is_one_of ms n && b) none ∙ and-none (is_one_of ms n) ∙ sym (ap (λ b. (n == m || is_one_of ms n) && b) none ∙ and-none (n == m || is_one_of ms n))
     by false fails (inr other) rest = rest ∙ sym (ap (λ b. (b || is_one_of ms n) && p n) other.0)
 
--- of numbers that are there
-pub filter-there : (p : ℕ → Bool) (numbers : List ℕ) (n : ℕ) → Contains numbers n → is_one_of (filter p numbers) n ≡ p n
-filter-there p numbers n has = among-filter p numbers n ∙ ap (λ b. b && p n) (is-there numbers n has)
+-- a number that is one of them is there
+pub one-there : (numbers : List ℕ) (n : ℕ) → is_one_of numbers n ≡ true → Contains numbers n
+one-there numbers n is = Contains-from_any eqb-true n numbers is
+
+-- a number that is there and passes a test is among those that pass it
+pub passes-there : (p : ℕ → Bool) (numbers : List ℕ) (n : ℕ) → Contains numbers n → p n ≡ true → Contains (filter p numbers) n
+passes-there p numbers n has passes =
+    one-there (filter p numbers) n (among-filter p numbers n ∙ ap (λ b. b && p n) (is-there numbers n has) ∙ passes)

@@ -1,20 +1,24 @@
 -- From which files the manifest is made.
-use Rattle.std.proofs.Common.{◌≡◌, ◌<◌, ℕ, ◌==◌, ◌||◌, inl, inr, Bool, true, false, List, [], ◌∷◌, map, length, refl, sym, ap, ◌∙◌, true≢false, arith}
+use Rattle.std.proofs.Common.{◌≡◌, ◌<◌, ℕ, ◌||◌, ◌⊎◌, inl, inr, Bool, true, false, List, [], ◌∷◌, ◌++◌, map, length, refl, sym, ap, ◌∙◌, arith}
 use Rattle.std.specs.Prelude.{◌↔◌, Contains, slice_index_or}
-use Rattle.std.specs.List.{Any, filter, list_any}
+use Rattle.std.specs.List.{filter, flat_map, list_any}
 use Rattle.std.proofs.lemmas.Bool.{both_ways, cases_lt}
 use Rattle.std.proofs.lemmas.List.{get_or-map, get_or_past, length-map}
-use Rattle.std.proofs.lemmas.List.Folds.{Any-from_list_any, list_any-append, list_any-from_Any}
+use Rattle.std.proofs.lemmas.List.Elements.{All-contains, Contains-append_cases, Contains-append_left, Contains-append_right, filter_passes}
+use Rattle.std.proofs.lemmas.List.Folds.{Any-from_list_any, list_any-from_Any}
 use Rattle.nj_graph.specs.ReadingList.{ReadStatement}
-use Rattle.nj_graph.specs.Changes.{IsAffected, has_input_of}
+use Rattle.nj_graph.specs.Changes.{has_input_of, IsAffected, IsOrNeeds}
 use Rattle.nj_graph.specs.Changes.IsAffected.{by_file, by_edge}
-use Rattle.nj_graph.specs.Edges.{EdgePaths, edge_at, inputs_of, is_among}
+use Rattle.nj_graph.specs.Distances.{IsNeeded}
+use Rattle.nj_graph.specs.Edges.{EdgePaths, edge_at, inputs_of, is_among, users_of}
 use Rattle.nj_graph.specs.Graph.{GraphModel, edges_of, files_of}
 use Rattle.ninja_graph.specs.declared.manifest.Manifest.{Manifest}
-use Rattle.ninja_graph.specs.Manifest.{has_generator, is_one_of, makers_of_opened, makes_manifest, opened_files, path_of, IsMadeFrom}
+use Rattle.ninja_graph.specs.Manifest.{is_one_of, makes_manifest, opened_files, path_of, IsMadeFrom}
 use Rattle.ninja_graph.specs.Manifest.IsMadeFrom.{by_itself, by_maker}
+use Rattle.ninja_graph.specs.Inside.Flags.{AreFeeds, AreFlags}
 use Rattle.ninja_graph.specs.Inside.Reached.{CanTell, IsReached}
-use Rattle.ninja_graph.proofs.FlagLemmas.{filter-there}
+use Rattle.ninja_graph.proofs.FlagLemmas.{is-there, one-there, passes-there}
+use Rattle.ninja_graph.proofs.NeedLemmas.{any-needed, input-user, needed-any, needs-affected, user-input}
 
 -- ---- affected edges
 
@@ -43,22 +47,43 @@ input-below edges files e is = elim (cases_lt e (length edges)) [
   | inr past ↦ absurd (both_ways (has_input_of files (edge_at edges e)) (ap (has_input_of files) (get_or_past edges e no-edge past) ∙ has-none files) is)
 ]
 
--- an affected edge is there
-pub affected-below : (edges : List EdgePaths) (files : List (List ℕ)) (e : ℕ) → IsAffected edges files e → e < length edges
-affected-below edges files _ (by_file {e = e} input) = input-below edges files e input
-affected-below edges files _ (by_edge {e = e} {f = f} takes affected) = input-below edges _ e takes
-
 contains-mapped : {X : Type 0} (f : ℕ → X) (ns : List ℕ) (n : ℕ) → Contains ns n → Contains (map f ns) (f n)
 contains-mapped f ns n has =
     let count = length-map ns f in
     let below = has.1 in
     (has.0, omega (arith, below, count), get_or-map f ns has.0 n (f n) has.1 ∙ ap f has.2)
 
+-- ---- the edges that feed the manifest
+
+-- the edges that makers are or need, as flags
+pub feeds-flags : (edges : List EdgePaths) (makers needed : List ℕ) (flags : List Bool)
+    → ((e : ℕ) → Contains needed e ↔ IsNeeded edges (flat_map (λ e. inputs_of (edge_at edges e)) makers) e)
+    → AreFlags (length edges) (needed ++ makers) flags → AreFeeds edges makers flags
+feeds-flags edges makers needed flags found held e below = (ahead, back)
+  where
+    by : Contains needed e ⊎ Contains makers e → (maker : ℕ) × Contains makers maker × IsOrNeeds edges maker e
+    by (inl has) = needed-any edges makers e ((found e).0 has)
+    by (inr has) = (e, has, inl refl)
+
+    among : Contains makers e ⊎ IsNeeded edges (flat_map (λ e. inputs_of (edge_at edges e)) makers) e → Contains (needed ++ makers) e
+    among (inl has) = Contains-append_right needed makers e has
+    among (inr is) = Contains-append_left needed makers e ((found e).1 is)
+
+    ahead : slice_index_or flags e false ≡ true → (maker : ℕ) × Contains makers maker × IsOrNeeds edges maker e
+    ahead is = by (Contains-append_cases needed makers e (one-there (needed ++ makers) e (sym (held.are e below) ∙ is)))
+
+    back : (maker : ℕ) × Contains makers maker × IsOrNeeds edges maker e → slice_index_or flags e false ≡ true
+    back any = held.are e below ∙ is-there (needed ++ makers) e (among (any-needed edges makers e any))
+
 -- ---- one changed file
 
 module _ (g : GraphModel) (entries : List ReadStatement) (m : Manifest) where
   abbrev flag : ℕ → Bool
-  flag edge = slice_index_or m.makers.items edge false
+  flag edge = slice_index_or m.feeds.items edge false
+
+  -- some edge that makes the manifest is this edge or needs it
+  abbrev FeedsIt : ℕ → Type 0
+  FeedsIt edge = (maker : ℕ) × (makes_manifest g entries maker ≡ true) × IsOrNeeds (edges_of g) maker edge
 
   -- the record of the edges that all changed files affect tells it of each of them
   pub can-tell : (edges changed : List ℕ) → IsReached g entries edges m
@@ -66,47 +91,45 @@ module _ (g : GraphModel) (entries : List ReadStatement) (m : Manifest) where
       → (file : ℕ) → file < length (files_of g) → Contains changed file → CanTell g entries file m
   can-tell edges changed r affected file below has = record {
     opened = r.opened.are file below;
-    makers = made;
-    reached = λ e alone makes.
-        let there = among e alone in
-        r.reached ∙ list_any-from_Any flag edges (there.0, e, there.1, there.2, made e alone ∙ makes);
+    feeds = λ e input.
+        let feeds = r.feeds e (input-below (edges_of g) (path_of g file ∷ []) e input) in
+        (λ is. makes e (feeds.0 is), λ it. feeds.1 (among e input it));
   }
     where
-      among : (e : ℕ) → IsAffected (edges_of g) (path_of g file ∷ []) e → Contains edges e
-      among e alone = (affected e).1 (affects-more (edges_of g) (path_of g file) (map (path_of g) changed) (contains-mapped (path_of g) changed file has) e alone)
+      makers : List ℕ
+      makers = filter (makes_manifest g entries) edges
 
-      made : (e : ℕ) → IsAffected (edges_of g) (path_of g file ∷ []) e → flag e ≡ makes_manifest g entries e
-      made e alone =
-          r.makers.are e (affected-below (edges_of g) (path_of g file ∷ []) e alone)
-          ∙ list_any-append (λ other. e == other) (makers_of_opened g) (filter (has_generator entries) edges)
-          ∙ ap (λ b. is_one_of (makers_of_opened g) e || b) (filter-there (has_generator entries) edges e (among e alone))
+      makes : (e : ℕ) → (maker : ℕ) × Contains makers maker × IsOrNeeds (edges_of g) maker e → FeedsIt e
+      makes e (maker, there, needs) =
+          (maker, All-contains (λ n. makes_manifest g entries n ≡ true) makers maker (filter_passes (makes_manifest g entries) edges) there, needs)
+
+      among : (e : ℕ) → has_input_of (path_of g file ∷ []) (edge_at (edges_of g) e) ≡ true → FeedsIt e
+          → (maker : ℕ) × Contains makers maker × IsOrNeeds (edges_of g) maker e
+      among e input (maker, makes, needs) =
+          let alone = needs-affected (edges_of g) (path_of g file ∷ []) maker e needs input in
+          let all = affects-more (edges_of g) (path_of g file) (map (path_of g) changed) (contains-mapped (path_of g) changed file has) maker alone in
+          (maker, passes-there (makes_manifest g entries) edges maker ((affected maker).1 all) makes, needs)
 
   module _ (file : ℕ) (tells : CanTell g entries file m) where
-    pub tells-opened : slice_index_or m.opened.items file false ≡ true → (true ≡ true) ↔ IsMadeFrom g entries file
-    tells-opened is = (λ _. by_itself (sym tells.opened ∙ is), λ _. refl)
+    abbrev users : List ℕ
+    users = users_of (edges_of g) (path_of g file)
 
-    unopened : slice_index_or m.opened.items file false ≡ false → is_one_of (opened_files g) file ≡ true → ⊥
-    unopened not is = both_ways (is_one_of (opened_files g) file) (sym tells.opened ∙ not) is
+    fed : list_any flag users ≡ true → IsMadeFrom g entries file
+    fed is =
+        let any = Any-from_list_any flag users is in
+        let input = user-input (edges_of g) (path_of g file) any.1 (any.0, any.2, any.3) in
+        let it = (tells.feeds any.1 input).0 any.4 in
+        by_maker it.1 it.2 input
 
-    pub tells-unreached : slice_index_or m.opened.items file false ≡ false → m.is_reached ≡ false → (false ≡ true) ↔ IsMadeFrom g entries file
-    tells-unreached not none = (λ same. absurd (true≢false (sym same)), back)
+    pub tells-opened : (b : Bool) → b ≡ slice_index_or m.opened.items file false → b ≡ true → (b ≡ true) ↔ IsMadeFrom g entries file
+    tells-opened b is holds = (λ _. by_itself (sym tells.opened ∙ sym is ∙ holds), λ _. holds)
+
+    pub tells-unopened : slice_index_or m.opened.items file false ≡ false → (b : Bool) → b ≡ list_any flag users → (b ≡ true) ↔ IsMadeFrom g entries file
+    tells-unopened not b is = (λ holds. fed (sym is ∙ holds), back)
       where
-        back : IsMadeFrom g entries file → false ≡ true
-        back (by_itself is) = absurd (unopened not is)
-        back (by_maker {edge = e} alone makes) = absurd (both_ways m.is_reached none (tells.reached e alone makes))
-
-    pub tells-edges : slice_index_or m.opened.items file false ≡ false → (edges : List ℕ)
-        → ((edge : ℕ) → Contains edges edge ↔ IsAffected (edges_of g) (path_of g file ∷ []) edge)
-        → (b : Bool) → b ≡ list_any flag edges → (b ≡ true) ↔ IsMadeFrom g entries file
-    tells-edges not edges affected b is = (λ holds. ahead (Any-from_list_any flag edges (sym is ∙ holds)), back)
-      where
-        ahead : Any (λ e. flag e ≡ true) edges → IsMadeFrom g entries file
-        ahead any =
-            let alone = (affected any.1).0 (any.0, any.2, any.3) in
-            by_maker alone (sym (tells.makers any.1 alone) ∙ any.4)
-
         back : IsMadeFrom g entries file → b ≡ true
-        back (by_itself itself) = absurd (unopened not itself)
-        back (by_maker {edge = e} alone makes) =
-            let there = (affected e).1 alone in
-            is ∙ list_any-from_Any flag edges (there.0, e, there.1, there.2, tells.makers e alone ∙ makes)
+        back (by_itself itself) = absurd (both_ways (is_one_of (opened_files g) file) (sym tells.opened ∙ not) itself)
+        back (by_maker {maker = maker} {edge = e} makes needs input) =
+            let has = input-user (edges_of g) (path_of g file) e input in
+            let it = (tells.feeds e input).1 (maker, makes, needs) in
+            is ∙ list_any-from_Any flag users (has.0, e, has.1, has.2, it)

@@ -53,7 +53,7 @@ module _ (g : GraphModel) (entries : List ReadStatement) (folder : Option (List 
     file = file;
     named = named;
     unopened = false_from_ne_true (is_one_of (opened_files g) file) (λ holds. not (by_itself holds));
-    unmade = λ edge affected. false_from_ne_true (makes_manifest g entries edge) (λ holds. not (by_maker affected holds));
+    unmade = λ maker edge needs input. false_from_ne_true (makes_manifest g entries maker) (λ holds. not (by_maker holds needs input));
   }
 
   -- where a list has one more path, each of its paths is that one or was there before

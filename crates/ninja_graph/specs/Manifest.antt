@@ -2,8 +2,8 @@
 use Rattle.std.specs.Prelude.{◌≡◌, ℕ, ◌==◌, Bool, true, ◌||◌, not, unwrap_or, List, [], ◌∷◌, codes, length, slice_get}
 use Rattle.std.specs.List.{filter_map, list_any}
 use Rattle.nj_graph.specs.ReadingList.{ReadStatement}
-use Rattle.nj_graph.specs.Changes.{IsAffected}
-use Rattle.nj_graph.specs.Edges.{maker_of}
+use Rattle.nj_graph.specs.Changes.{has_input_of, IsOrNeeds}
+use Rattle.nj_graph.specs.Edges.{edge_at, maker_of}
 use Rattle.nj_graph.specs.Graph.{GraphModel, edges_of, files_of, late_text_of}
 use Rattle.ninja_graph.specs.Affected.{number_at}
 
@@ -32,8 +32,9 @@ has_generator entries edge = not (length (late_text_of entries edge (codes "gene
 abbrev pub makes_manifest : GraphModel → List ReadStatement → (edge : ℕ) → Bool
 makes_manifest g entries edge = is_one_of (makers_of_opened g) edge || has_generator entries edge
 
--- The manifest is made from a file: it was opened, or it affects an edge that makes the manifest.
+-- The manifest is made from a file: it was opened, or an edge that makes the manifest is, or needs through
+-- any chain of inputs, an edge that has the file as an input.
 pub data IsMadeFrom (g : GraphModel) (entries : List ReadStatement) (file : ℕ) : Type 0 where
   by_itself : is_one_of (opened_files g) file ≡ true → IsMadeFrom g entries file
-  by_maker : {edge : ℕ} → IsAffected (edges_of g) (path_of g file ∷ []) edge → makes_manifest g entries edge ≡ true
-      → IsMadeFrom g entries file
+  by_maker : {maker edge : ℕ} → makes_manifest g entries maker ≡ true → IsOrNeeds (edges_of g) maker edge
+      → has_input_of (path_of g file ∷ []) (edge_at (edges_of g) edge) ≡ true → IsMadeFrom g entries file

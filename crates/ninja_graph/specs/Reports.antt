@@ -1,8 +1,9 @@
 -- Reports about a change of files.
-use Rattle.std.specs.Prelude.{◌≡◌, ◌≢◌, ℕ, false, Option, Some, None, List, [], ◌∷◌, ◌++◌, codes, map, Contains, Result, Ok, Err}
+use Rattle.std.specs.Prelude.{◌≡◌, ◌≢◌, ℕ, true, false, Option, Some, None, List, [], ◌∷◌, ◌++◌, codes, map, Contains, Result, Ok, Err}
 use Rattle.std.specs.List.{filter_map}
 use Rattle.nj_graph.specs.ReadingList.{ReadStatement}
-use Rattle.nj_graph.specs.Changes.{IsAffected}
+use Rattle.nj_graph.specs.Changes.{has_input_of, IsOrNeeds}
+use Rattle.nj_graph.specs.Edges.{edge_at}
 use Rattle.nj_graph.specs.Graph.{GraphModel, edges_of, files_of}
 use Rattle.nj_tools.specs.Sinks.{SinkState, Takes, FailsWithin}
 use Rattle.nj_tools.specs.declared.error.Error.{Error}
@@ -61,12 +62,13 @@ pub data Reports (IsIt : (outputs warnings : List ℕ) → Type 0) (out new_out 
 
 -- ---- laws
 
--- A changed path names a file that was not opened and affects no edge that makes the manifest.
+-- A changed path names a file that was not opened and that no edge which makes the manifest needs.
 pub record KeepsManifest (g : GraphModel) (entries : List ReadStatement) (folder : Option (List ℕ)) (path : List ℕ) : Type 0 where
   pub file : ℕ
   pub named : changed_file (files_of g) folder path ≡ Some file
   pub unopened : is_one_of (opened_files g) file ≡ false
-  pub unmade : (edge : ℕ) → IsAffected (edges_of g) (path_of g file ∷ []) edge → makes_manifest g entries edge ≡ false
+  pub unmade : (maker edge : ℕ) → IsOrNeeds (edges_of g) maker edge
+      → has_input_of (path_of g file ∷ []) (edge_at (edges_of g) edge) ≡ true → makes_manifest g entries maker ≡ false
 
 -- No changed path changes the manifest, each names a file, and standard output took exactly the requested ones of the affected
 -- outputs.

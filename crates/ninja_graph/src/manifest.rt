@@ -1,14 +1,14 @@
 //! From which changed files the manifest itself is made.
 
 ghost use Rattle.std.specs.Prelude.{◌≡◌, ◌↔◌, ◌<◌, List, All, IfOk, IfSome, false, length, map, true, option_map, option_and_then, slice_get, slice_index_or};
-ghost use Rattle.std.specs.List.{filter_map, list_any};
+ghost use Rattle.std.specs.List.{filter, filter_map, flat_map, list_any};
 ghost use Rattle.nj_graph.specs.ReadingList.{ReadStatement};
-ghost use Rattle.nj_graph.specs.Edges.{maker_of};
+ghost use Rattle.nj_graph.specs.Edges.{edge_at, inputs_of, maker_of};
 ghost use Rattle.nj_graph.specs.Files.{path_at};
 ghost use Rattle.nj_graph.specs.Graph.{edges_of, files_of, IsGraphOf};
 ghost use Rattle.ninja_graph.specs.Affected.{number_at};
-ghost use Rattle.ninja_graph.specs.Manifest.{has_generator, opened_files, IsMadeFrom};
-ghost use Rattle.ninja_graph.specs.Inside.Flags.{AreFlags, FlagsGenerators};
+ghost use Rattle.ninja_graph.specs.Manifest.{has_generator, makers_of_opened, makes_manifest, opened_files, IsMadeFrom};
+ghost use Rattle.ninja_graph.specs.Inside.Flags.{AreFeeds, AreFlags};
 
 use crate::changes::find_file;
 use nj_graph::{EdgeNo, FileNo, Graph};
@@ -19,11 +19,8 @@ use std::alloc::{AllocError, Global};
 pub struct Manifest {
     /// Of each file whether it was opened.
     pub opened: Vec<bool>,
-    /// Of each edge whether it makes a file that was opened, or is an affected one with a
-    /// `generator`.
-    pub makers: Vec<bool>,
-    /// Whether one of the affected edges makes the manifest.
-    pub is_reached: bool,
+    /// Of each edge whether an affected edge that makes the manifest is it or needs it.
+    pub feeds: Vec<bool>,
 }
 
 impl Manifest {
@@ -38,38 +35,21 @@ impl Manifest {
         let files = opened_files(alloc, graph)?;
         let opened = file_flags(alloc, graph.file_count(), &files)?;
         let flags = maker_flags(alloc, graph, &files)?;
-        let makers = with_generators(alloc, graph, edges, flags)?;
-        let is_reached = has_flag(&makers, edges);
-        Ok(Manifest {
-            opened,
-            makers,
-            is_reached,
-        })
+        let makers = makers_among(alloc, graph, &flags, edges)?;
+        let feeds = feeding_edges(alloc, graph, &makers)?;
+        Ok(Manifest { opened, feeds })
     }
 
-    /// Whether the manifest is made from a changed file. Most changes affect no edge that makes
-    /// the manifest, which is known once for all of them; only where one is affected is each file
-    /// looked at alone.
-    pub fn is_made_from(
-        &self,
-        alloc: Global,
-        graph: &Graph,
-        file: FileNo,
-    ) -> Result<bool, AllocError>
+    /// Whether the manifest is made from a changed file: whether it was opened, or is an input of
+    /// an edge that feeds the manifest.
+    pub fn is_made_from(&self, graph: &Graph, file: FileNo) -> bool
         requires file { file.0 < length (files_of graph.now) }
         requires tells { (entries : List ReadStatement) → IsGraphOf graph.now entries
             → CanTell graph.now entries file.0 self.now }
         ensures { (entries : List ReadStatement) → IsGraphOf graph.now entries
-            → IfOk result (λ is. (is ≡ true) ↔ IsMadeFrom graph.now entries file.0) }
+            → (result ≡ true) ↔ IsMadeFrom graph.now entries file.0 }
     {
-        if is_set(&self.opened, file.0) {
-            return Ok(true);
-        }
-        if !self.is_reached {
-            return Ok(false);
-        }
-        let edges = graph.affected_by(alloc, &[file])?;
-        Ok(has_flag(&self.makers, &edges))
+        is_set(&self.opened, file.0) || has_flag(&self.feeds, graph.users(file))
     }
 }
 
@@ -135,25 +115,48 @@ fn maker_flags(alloc: Global, graph: &Graph, files: &[FileNo]) -> Result<Vec<boo
     Ok(flags)
 }
 
-/// Sets the flags of those of these edges that have a `generator`.
-fn with_generators(
+/// Those of these edges that make the manifest, where the flags tell which edges make a file that
+/// was opened.
+fn makers_among(
     alloc: Global,
     graph: &Graph,
+    flags: &[bool],
     edges: &[EdgeNo],
-    mut flags: Vec<bool>,
-) -> Result<Vec<bool>, AllocError>
+) -> Result<Vec<EdgeNo>, AllocError>
     requires edges { All (λ edge. edge.0 < length (edges_of graph.now)) edges.now }
-    requires flags { length flags.items ≡ length (edges_of graph.now) }
-    ensures { (entries : List ReadStatement) → IsGraphOf graph.now entries
-        → IfOk result (λ new. FlagsGenerators graph.now entries
-        (map (λ edge. edge.0) edges.now) flags.items new.items) }
+    requires flags { AreFlags (length (edges_of graph.now)) (makers_of_opened graph.now) flags.now }
+    ensures makers { (entries : List ReadStatement) → IsGraphOf graph.now entries
+        → IfOk result (λ makers. map (λ edge. edge.0) makers.items
+        ≡ filter (makes_manifest graph.now entries) (map (λ edge. edge.0) edges.now)) }
+    ensures known { IfOk result (λ makers.
+        All (λ edge. edge.0 < length (edges_of graph.now)) makers.items) }
 {
+    let mut makers = Vec::new(alloc);
     'edges: for edge in edges {
-        if has_generator(alloc, graph, *edge)? {
-            flags[edge.0] = true;
+        if makes_manifest(alloc, graph, flags, *edge)? {
+            makers.push(*edge)?;
         }
     }
-    Ok(flags)
+    Ok(makers)
+}
+
+/// Whether an edge makes the manifest, where the flags tell which edges make a file that was
+/// opened.
+fn makes_manifest(
+    alloc: Global,
+    graph: &Graph,
+    flags: &[bool],
+    edge: EdgeNo,
+) -> Result<bool, AllocError>
+    requires edge { edge.0 < length (edges_of graph.now) }
+    requires flags { AreFlags (length (edges_of graph.now)) (makers_of_opened graph.now) flags.now }
+    ensures { (entries : List ReadStatement) → IsGraphOf graph.now entries
+        → IfOk result (λ makes. makes ≡ makes_manifest graph.now entries edge.0) }
+{
+    if is_set(flags, edge.0) {
+        return Ok(true);
+    }
+    has_generator(alloc, graph, edge)
 }
 
 /// Whether the `generator` of an edge is not empty.
@@ -164,6 +167,46 @@ fn has_generator(alloc: Global, graph: &Graph, edge: EdgeNo) -> Result<bool, All
 {
     let generator = graph.variable(alloc, edge, b"generator")?;
     Ok(!generator.is_empty())
+}
+
+/// Of each edge whether one of these makers is it or needs it, through any chain of inputs.
+fn feeding_edges(alloc: Global, graph: &Graph, makers: &[EdgeNo]) -> Result<Vec<bool>, AllocError>
+    requires { All (λ edge. edge.0 < length (edges_of graph.now)) makers.now }
+    ensures { IfOk result (λ flags.
+        AreFeeds (edges_of graph.now) (map (λ edge. edge.0) makers.now) flags.items) }
+{
+    let inputs = inputs_of_all(alloc, graph, makers)?;
+    let mut edges = graph.needed_by(alloc, &inputs)?;
+    edges.extend_from_slice(makers)?;
+    edge_flags(alloc, graph.edge_count(), &edges)
+}
+
+/// The inputs of all these edges.
+fn inputs_of_all(alloc: Global, graph: &Graph, edges: &[EdgeNo]) -> Result<Vec<FileNo>, AllocError>
+    requires { All (λ edge. edge.0 < length (edges_of graph.now)) edges.now }
+    ensures paths { IfOk result (λ files. map (path_at (files_of graph.now)) files.items
+        ≡ flat_map (λ edge. inputs_of (edge_at (edges_of graph.now) edge.0)) edges.now) }
+    ensures known { IfOk result (λ files.
+        All (λ file. file.0 < length (files_of graph.now)) files.items) }
+{
+    let mut files = Vec::new(alloc);
+    'edges: for edge in edges {
+        files.extend_from_slice(graph.inputs(*edge))?;
+    }
+    Ok(files)
+}
+
+/// Of each of `count` edges whether it is among these.
+fn edge_flags(alloc: Global, count: usize, edges: &[EdgeNo]) -> Result<Vec<bool>, AllocError>
+    requires { All (λ edge. edge.0 < count) edges.now }
+    ensures { IfOk result (λ flags.
+        AreFlags count (map (λ edge. edge.0) edges.now) flags.items) }
+{
+    let mut flags = vec![in alloc; false; count]?;
+    'edges: for edge in edges {
+        flags[edge.0] = true;
+    }
+    Ok(flags)
 }
 
 /// Whether one of these edges has a flag.

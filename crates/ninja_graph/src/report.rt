@@ -165,7 +165,7 @@ fn push_warning(
     let Some(file) = find_file(alloc, graph, source_dir, path)? else {
         return push_line(warnings, path);
     };
-    if manifest.is_made_from(alloc, graph, file)? {
+    if manifest.is_made_from(graph, file) {
         return push_made_from(warnings, path);
     }
     Ok(())
@@ -182,7 +182,7 @@ fn push_made_from(lines: &mut Vec<u8>, path: &[u8]) -> Result<(), AllocError>
 }
 
 /// Where a change is reported with status 0, each changed path names a file that was not opened and
-/// affects no edge that makes the manifest, and the outputs that were written are all that it
+/// that no edge which makes the manifest needs, and the outputs that were written are all that it
 /// affects; some paths have one text of warnings only.
 pub fn report_law()
     ensures complete { DoneMissesNothing }

@@ -1,17 +1,17 @@
 -- Numbers as flags.
-use Rattle.std.specs.Prelude.{◌≡◌, ℕ, ◌<◌, Bool, false, List, ◌++◌, length, slice_index_or}
-use Rattle.std.specs.List.{filter}
-use Rattle.nj_graph.specs.ReadingList.{ReadStatement}
-use Rattle.nj_graph.specs.Graph.{GraphModel, edges_of}
-use Rattle.ninja_graph.specs.Manifest.{has_generator, is_one_of}
+use Rattle.std.specs.Prelude.{◌≡◌, ◌↔◌, ℕ, ◌<◌, Bool, true, false, List, length, slice_index_or, Contains}
+use Rattle.nj_graph.specs.Changes.{IsOrNeeds}
+use Rattle.nj_graph.specs.Edges.{EdgePaths}
+use Rattle.ninja_graph.specs.Manifest.{is_one_of}
 
 -- for each number below the count whether it is among these
 pub record AreFlags (count : ℕ) (numbers : List ℕ) (flags : List Bool) : Type 0 where
   pub count_is : length flags ≡ count
   pub are : (n : ℕ) → n < count → slice_index_or flags n false ≡ is_one_of numbers n
 
--- besides the edges that had a flag before, those of these have one that have a `generator`
-abbrev pub FlagsGenerators : GraphModel → List ReadStatement → (edges : List ℕ) → (old new : List Bool) → Type 0
-FlagsGenerators g entries edges old new =
-    (before : List ℕ) → AreFlags (length (edges_of g)) before old
-    → AreFlags (length (edges_of g)) (before ++ filter (has_generator entries) edges) new
+-- for each edge whether one of the makers is it or needs it
+abbrev pub AreFeeds : List EdgePaths → (makers : List ℕ) → (flags : List Bool) → Type 0
+AreFeeds edges makers flags =
+    (edge : ℕ) → edge < length edges
+    → (slice_index_or flags edge false ≡ true)
+    ↔ ((maker : ℕ) × Contains makers maker × IsOrNeeds edges maker edge)

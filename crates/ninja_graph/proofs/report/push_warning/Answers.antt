@@ -16,11 +16,11 @@ returns-in_default c entries graph =
     let missing = sym c.in_ok-file.ensures.file ∙ ap (option_map (λ f. f.0)) (none-is c.in_ok-file.field-0 c.in_default.not-Some) in
     on_ok_weaker c.push_line.result (λ is paths held. subst (HasWarnings c.args.graph.now entries folder (paths ++ c.args.path.now ∷ [])) (sym is) (last held (unknown missing))) c.push_line.ensures
 
-pub returns-then-branch : goal.returns-then-branch
-returns-then-branch c entries graph =
+pub returns-then-is_made_from : goal.returns-then-is_made_from
+returns-then-is_made_from c entries graph =
     let folder = option_copied c.args.source_dir in
     let named = sym c.in_ok-file.ensures.file ∙ ap (option_map (λ f. f.0)) c.in-Some.is in
-    let made = (c.in_ok-is_made_from.ensures entries graph).0 c.if-branch.true in
+    let made = (c.is_made_from.ensures entries graph).0 c.if-is_made_from.true in
     on_ok_weaker c.push_made_from.result (λ is paths held. subst (HasWarnings c.args.graph.now entries folder (paths ++ c.args.path.now ∷ [])) (sym is) (last held (made_from named made))) c.push_made_from.ensures
 
 pub returns : goal.returns
@@ -28,4 +28,4 @@ returns c entries graph paths held =
     let folder = option_copied c.args.source_dir in
     let named = sym c.in_ok-file.ensures.file ∙ ap (option_map (λ f. f.0)) c.in-Some.is in
     subst (HasWarnings c.args.graph.now entries folder (paths ++ c.args.path.now ∷ [])) (append-nil c.args.warnings.now.items)
-    (last held (nothing named (λ made. true≢false (sym ((c.in_ok-is_made_from.ensures entries graph).1 made) ∙ c.if-branch.false))))
+    (last held (nothing named (λ made. true≢false (sym ((c.is_made_from.ensures entries graph).1 made) ∙ c.if-is_made_from.false))))
