@@ -8,6 +8,7 @@ installed.
 import os
 import random
 import re
+import resource
 import subprocess
 
 from lib.checks import check, expect
@@ -18,6 +19,8 @@ from smoke.graph import DONE, FAULT, LOOK, OUTPUT_FAILED, SUBCOMMANDS
 
 PROJECT, CMAKE = EXAMPLES / "project", EXAMPLES / "cmake"
 NO_PATH = "ninja-graph: no changed path was given\n"
+# How many edges lead to the manifest.
+LINKS = 10_000
 FILES = {
     "build.ninja": b"""\
 anew =
@@ -89,6 +92,31 @@ def manifest_is_made_from(graph, folder):
         yield from expect(path, run(graph, folder, [], [path]), (DONE, lines(outputs), ""))
     wanted = DONE, lines(["part", "dd", "app", "plain"]), ""
     yield from expect("no manifest", run(graph, folder, [], OTHERS), wanted)
+
+
+def timed(graph, folder, paths):
+    """The CPU time of a run with these paths, and how it ended."""
+    before = resource.getrusage(resource.RUSAGE_CHILDREN)
+    ran = run(graph, folder, [], paths)
+    after = resource.getrusage(resource.RUSAGE_CHILDREN)
+    return after.ru_utime + after.ru_stime - before.ru_utime - before.ru_stime, ran
+
+
+@check(alone=True)
+def many_files_of_the_manifest(graph, folder):
+    """The manifest is known once for all paths: all files of a chain to it take at most four times as
+    long as one."""
+    chain = lines(f"build o{link + 1}: mk o{link} in{link}" for link in range(LINKS))
+    text = f"rule mk\n  command = mk\n{chain}build build.ninja: mk o{LINKS}\n"
+    write_files(folder, {"build.ninja": text.encode()})
+    least = []
+    for count in 1, LINKS:
+        paths = [f"in{link}" for link in range(count)]
+        runs = [timed(graph, folder, paths) for _ in range(3)]
+        yield from expect(count, runs[0][1].error, told(paths))
+        least.append(min(seconds for seconds, _ in runs))
+    if least[1] > 4 * least[0]:
+        yield f"{LINKS} paths take {least[1]:.3f} s, one takes {least[0]:.3f} s"
 
 
 @check
