@@ -253,9 +253,9 @@ int32_t nx_wanted(nx_session *session, size_t index, void *buffer, size_t size, 
 /*
  * Joins a deps log to the graph: the bytes of `.ninja_deps`, which Ninja writes to the build
  * directory. Each file that it names for the first output of an edge whose value of `deps` is not
- * empty becomes an implicit input of the edge, after those that it has, unless it is an input of it
- * already. Paths that no edge named become files, after the others. A log that is cut off counts as
- * far as it goes. Lists stay the same, and the same log again changes nothing.
+ * empty becomes an implicit input of the edge, after those that it has, unless it is an explicit or
+ * implicit input of it already. Paths that no edge named become files, after the others. A log that
+ * is cut off counts as far as it goes. Lists stay the same, and the same log again changes nothing.
  * NX_DONE; NX_BAD_LOG, which leaves the graph unchanged; NX_FAULT for a dependency cycle, which a
  * log that is older than the manifest can make; NX_OUT_OF_MEMORY. After the last two there is no
  * graph.

@@ -17,9 +17,9 @@ use std::alloc::Global;
 
 /// Joins the bytes of a deps log, as `.ninja_deps` has them, to the graph that is loaded ("Deps" in
 /// the Ninja manual): each file that it names for the first output of an edge whose value of `deps`
-/// is not empty becomes an implicit input of the edge, unless it is an input of it already. A log
-/// that is cut off counts as far as it goes. A dependency cycle is a fault; after it, and after a
-/// failed allocation, no graph is loaded.
+/// is not empty becomes an implicit input of the edge, unless it is an explicit or implicit one of
+/// it already. A log that is cut off counts as far as it goes. A dependency cycle is a fault; after
+/// it, and after a failed allocation, no graph is loaded.
 #[unsafe(no_mangle)]
 pub extern "C" fn nx_join_deps(alloc: Global, session: &mut Session, log: &[u8]) -> i32
     ensures { Changes session.old.kept session.new.kept result (λ kept after.

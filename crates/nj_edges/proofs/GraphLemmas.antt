@@ -7,14 +7,14 @@ use Rattle.std.proofs.lemmas.List.Elements.{All-from_recursion, All-weaker}
 use Rattle.std.proofs.lemmas.List.Folds.{drop_split}
 use Rattle.std.proofs.lemmas.Option.{slice_get_within, get_or_from_slice_get}
 use Rattle.std.proofs.Math.Path.{fun_ext}
-use Rattle.std.proofs.Math.Seq.{drop-length}
+use Rattle.std.proofs.Math.Seq.{drop-length, take-add}
 use Rattle.nj_cycles.specs.Cycles.{AreEdges, IsAcyclic, IsFirstOnCycle, IsLeastOnCycle, Needs, Chain}
 use Rattle.nj_cycles.specs.Cycles.Chain.{one, more}
 use Rattle.nj_names.specs.declared.files.FileNo.{FileNo}
 use Rattle.nj_edges.specs.declared.edges.EdgeRow.{EdgeRow}
 use Rattle.nj_edges.specs.declared.edges.OpenStarts.{OpenStarts}
 use Rattle.nj_edges.specs.EdgeGraphs.{EdgeGraph}
-use Rattle.nj_edges.specs.Edges.{EdgePaths, edge_at, outputs_of, first_edge, maker_of, inputs_of}
+use Rattle.nj_edges.specs.Edges.{EdgePaths, edge_at, outputs_of, first_edge, maker_of, inputs_of, counted_inputs_of}
 use Rattle.nj_edges.specs.Inside.EdgesHeld.{paths_at, within, edge_of, edges_of, table_of, has_number, AreNumbers, RowIsWithin, output_rows, makers_in_rows, EdgesAreHeld}
 use Rattle.nj_edges.specs.EdgeTables.{EdgeTable, no_files}
 use Rattle.nj_names.specs.Files.{path_at, AreFiles}
@@ -45,6 +45,12 @@ module _ (files : List (List ℕ)) (makers : List (Option ℕ)) (outputs inputs 
 pub kinds-joined : (paths : List (List ℕ)) (explicit implicit : ℕ) → explicit ≤ implicit → (take explicit paths ++ slice_range paths explicit implicit) ++ drop implicit paths ≡ paths
 kinds-joined paths explicit implicit le =
     append_assoc (take explicit paths) (slice_range paths explicit implicit) (drop implicit paths) ∙ ap (λ ps. take explicit paths ++ ps) (sym (drop_split paths explicit implicit le)) ∙ take-append-drop explicit paths
+
+-- and those that are not order-only
+pub counted-joined : (paths : List (List ℕ)) (explicit implicit : ℕ) → explicit ≤ implicit → take explicit paths ++ slice_range paths explicit implicit ≡ take implicit paths
+counted-joined paths explicit implicit le =
+    let whole : explicit + (implicit - explicit) ≡ implicit = omega arith in
+    sym (take-add explicit (implicit - explicit) paths) ∙ ap (λ n. take n paths) whole
 
 get-some : (makers : List (Option ℕ)) (file e : ℕ) → get_or makers file None ≡ Some e → file < length makers
 get-some [] file e h = absurd (true≢false (sym (ap is_some h)))
@@ -210,6 +216,14 @@ module _ (files : List (List ℕ)) (makers : List (Option ℕ)) (outputs inputs 
   inputs-at edge row h =
       files-are (within inputs row.inputs) (inputs_of (edge_at g.edges edge)) (within-numbers (length files) inputs row.inputs held.inputs_are)
       (sym (kinds-joined (paths_at files (within inputs row.inputs)) row.kinds.explicit_inputs row.kinds.implicit_inputs (row-within edge row h).kinds.explicit_inputs) ∙ ap inputs_of (edge-is edge row h))
+
+  pub counted-inputs-at : (edge : ℕ) (row : EdgeRow) → slice_get rows edge ≡ Some row → AreFiles g.files (take row.kinds.implicit_inputs (within inputs row.inputs)) (counted_inputs_of (edge_at g.edges edge))
+  counted-inputs-at edge row h =
+      files-are (take row.kinds.implicit_inputs (within inputs row.inputs)) (counted_inputs_of (edge_at g.edges edge))
+      (all-take (λ f. f.0 < length files) row.kinds.implicit_inputs (within inputs row.inputs) (within-numbers (length files) inputs row.inputs held.inputs_are))
+      (sym (take-map (path_at files) row.kinds.implicit_inputs (within inputs row.inputs))
+      ∙ sym (counted-joined (paths_at files (within inputs row.inputs)) row.kinds.explicit_inputs row.kinds.implicit_inputs (row-within edge row h).kinds.explicit_inputs)
+      ∙ ap counted_inputs_of (edge-is edge row h))
 
   pub explicit-inputs-at : (edge : ℕ) (row : EdgeRow) → slice_get rows edge ≡ Some row → AreFiles g.files (take row.kinds.explicit_inputs (within inputs row.inputs)) (edge_at g.edges edge).explicit_inputs
   explicit-inputs-at edge row h =

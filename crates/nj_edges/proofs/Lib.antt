@@ -16,6 +16,7 @@ pub mod KnownLemmas
 pub mod ListLemmas
 pub mod MakerLemmas
 pub mod MarkLemmas
+mod MoreInputRows
 pub mod NamedLemmas
 pub mod NeededLemmas
 pub mod NeedsLemmas

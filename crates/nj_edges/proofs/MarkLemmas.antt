@@ -1,4 +1,4 @@
--- Lemmas on files that are marked with the edges that have them as inputs.
+-- Lemmas on files that are marked with the edges that have them as explicit or implicit inputs.
 use Rattle.std.proofs.Common.{◌≡◌, ◌≢◌, ◌<◌, ◌≤◌, ◌+◌, ◌==◌, ◌||◌, ◌⊎◌, inl, inr, ℕ, zero, suc, Bool, true, false, cond, if◌then◌else◌, List, [], ◌∷◌, ◌++◌, map, length, slice_get, slice_index_or, set, replicate, Option, Some, None, unwrap_or, bytes_eq, refl, sym, ap, subst, ◌∙◌, true≢false, arith, append-nil, append_assoc, length-append}
 use Rattle.std.specs.List.{IsDistinct}
 use Rattle.std.proofs.Math.Bool.{or-false, or-true}
@@ -13,7 +13,7 @@ use Rattle.std.proofs.lemmas.Slice.Eq.{bytes_eq-Decides}
 use Rattle.nj_names.proofs.ListLemmas.{among-get, get-last}
 use Rattle.nj_names.specs.declared.files.FileNo.{FileNo}
 use Rattle.nj_edges.specs.EdgeGraphs.{EdgeGraph}
-use Rattle.nj_edges.specs.Edges.{edge_at, inputs_of, is_among}
+use Rattle.nj_edges.specs.Edges.{counted_inputs_of, edge_at, is_among}
 use Rattle.nj_edges.specs.Inside.EdgesHeld.{AreNumbers, has_number, is_edge, paths_at}
 use Rattle.nj_names.specs.Files.{AreFiles, path_at}
 use Rattle.nj_names.specs.NameTables.{with_name}
@@ -75,7 +75,7 @@ added-number t path n here = by (is_among (inputs_so_far t) path)
 module _ (table : JoinTable) (edge : ℕ) (old new : List (Option ℕ)) (distinct : IsDistinct bytes_eq table.files) (count : length old ≡ length table.files) (none_open : table.«open» ≡ none_added)
     (none-yet : (n e : ℕ) → edge ≤ e → is_marked old n e ≡ false) (not_joined : (e : ℕ) → edge ≤ e → is_joined table e ≡ false) (marks : MarksInputs table edge old new) where
   abbrev stated : List (List ℕ)
-  stated = inputs_of (edge_at table.stated edge)
+  stated = counted_inputs_of (edge_at table.stated edge)
 
   so-far : inputs_so_far (record { table = table; edge = edge }) ≡ stated
   so-far = ap (λ o. stated ++ o.inputs) none_open ∙ append-nil stated
@@ -158,7 +158,7 @@ module _ (t : InputTable) (marks : List (Option ℕ)) (are : AreMarked t marks) 
 
     among-more : (p : List ℕ) → is_among (inputs_so_far (record t { table = with_added_input t.table path })) p ≡ (is_among (inputs_so_far t) p || bytes_eq p path)
     among-more p =
-        ap (λ ps. is_among ps p) (sym (append_assoc (inputs_of (edge_at t.table.stated t.edge)) t.table.«open».inputs (path ∷ [])))
+        ap (λ ps. is_among ps p) (sym (append_assoc (counted_inputs_of (edge_at t.table.stated t.edge)) t.table.«open».inputs (path ∷ [])))
         ∙ list_any-append (bytes_eq p) (inputs_so_far t) (path ∷ []) ∙ ap (λ b. is_among (inputs_so_far t) p || b) (or-false (bytes_eq p path))
 
     grown : is_among t.table.files path ≡ true → with_name t.table.files path ≡ t.table.files

@@ -38,6 +38,10 @@ first_output e = slice_get (outputs_of e) 0
 abbrev pub inputs_of : EdgePaths → List (List ℕ)
 inputs_of e = e.explicit_inputs ++ e.implicit_inputs ++ e.order_only_inputs
 
+-- the explicit and the implicit inputs; a change of an order-only input alone does not build an edge again
+abbrev pub counted_inputs_of : EdgePaths → List (List ℕ)
+counted_inputs_of e = e.explicit_inputs ++ e.implicit_inputs
+
 -- the number of the first edge that passes a test
 abbrev pub first_edge : {E : Type 0} → (E → Bool) → List E → Option ℕ
 first_edge test [] = None

@@ -1,21 +1,21 @@
 -- Inputs that are added to the edges of a graph, one edge after the other.
 use Rattle.std.specs.Prelude.{ℕ, ◌+◌, not, if◌then◌else◌, List, [], ◌∷◌, ◌++◌, filter, bytes_eq}
-use Rattle.nj_edges.specs.Edges.{EdgePaths, edge_at, inputs_of, is_among}
+use Rattle.nj_edges.specs.Edges.{EdgePaths, counted_inputs_of, edge_at, is_among}
 use Rattle.nj_edges.specs.Joining.{JoinTable, with_added, with_added_input, with_joined}
 use Rattle.nj_edges.specs.Repeats.{each_once}
 
--- of these paths those that an edge does not have as inputs, without duplicates
+-- of these paths those that an edge does not have as explicit or implicit inputs, without duplicates
 abbrev pub new_inputs : EdgePaths → (paths : List (List ℕ)) → List (List ℕ)
-new_inputs e paths = filter (λ path. not (is_among (inputs_of e) path)) (each_once bytes_eq paths)
+new_inputs e paths = filter (λ path. not (is_among (counted_inputs_of e) path)) (each_once bytes_eq paths)
 
 -- The edges of a graph with the inputs that were added so far, and the number of the edge to which the next ones are added.
 pub record InputTable : Type 0 where
   pub table : JoinTable
   pub edge : ℕ
 
--- the inputs of that edge, and those that are to be added to it
+-- the explicit and the implicit inputs of that edge, and those that are to be added to it
 abbrev pub inputs_so_far : InputTable → List (List ℕ)
-inputs_so_far t = inputs_of (edge_at t.table.stated t.edge) ++ t.table.«open».inputs
+inputs_so_far t = counted_inputs_of (edge_at t.table.stated t.edge) ++ t.table.«open».inputs
 
 -- one more, unless it is there
 abbrev pub with_new_input : InputTable → (path : List ℕ) → InputTable

@@ -2,7 +2,7 @@
 
 ghost use Rattle.std.specs.Prelude.{◌≡◌, ℕ, List, ◌<◌, ◌+◌, ◌^◌, ◌||◌, ◌++◌, [], ◌∷◌, None, Some, not, false, if◌then◌else◌, option_map, is_some, length, replicate, slice_get, slice_index_or, bytes_eq, IfOk, IfSome, OnOk, OnErr};
 ghost use Rattle.std.specs.List.{AllByRecursion, IsDistinct};
-ghost use Rattle.nj_edges.specs.Edges.{edge_at, inputs_of, outputs_of, maker_of};
+ghost use Rattle.nj_edges.specs.Edges.{counted_inputs_of, edge_at, outputs_of, maker_of};
 ghost use Rattle.nj_edges.specs.Inside.EdgesHeld.{AreNumbers, IsWithin};
 ghost use Rattle.nj_names.specs.Files.{AreFiles};
 ghost use Rattle.nj_edges.specs.Graph.{FinishesAs};
@@ -11,7 +11,7 @@ ghost use Rattle.nj_edges.specs.Inside.JoiningHeld.{AddedInputsAreWithin, AddedO
 
 use crate::edges::{EdgeNo, EdgeRow, Edges, KindEnds, OpenStarts, Span};
 use crate::graph::{EdgeGraph, Finished, row_at};
-use crate::list_parts::part;
+use crate::list_parts::{first, part};
 use crate::makers::{Makers, name_for_both};
 use crate::rows::Rows;
 use nj_names::{FileNo, Files};
@@ -126,16 +126,16 @@ impl JoiningEdges {
         part(&self.outputs, row.outputs.start, row.outputs.end)
     }
 
-    /// The inputs that an edge has in the graph: the explicit, the implicit and then the order-only
-    /// ones.
-    pub(crate) fn stated_inputs(&self, edge: EdgeNo) -> &[FileNo]
+    /// The explicit and then the implicit inputs that an edge has in the graph.
+    pub(crate) fn stated_counted_inputs(&self, edge: EdgeNo) -> &[FileNo]
         requires { edge.0 < length self.now.stated }
         ensures files { AreFiles self.now.files result.now
-            (inputs_of (edge_at self.now.stated edge.0)) }
+            (counted_inputs_of (edge_at self.now.stated edge.0)) }
         ensures known { AreNumbers (length self.now.files) result.now }
     {
         let row = row_at(&self.rows, edge.0);
-        part(&self.inputs, row.inputs.start, row.inputs.end)
+        let inputs = part(&self.inputs, row.inputs.start, row.inputs.end);
+        first(inputs, row.kinds.implicit_inputs)
     }
 
     /// The number of edges.

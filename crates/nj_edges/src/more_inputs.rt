@@ -15,13 +15,14 @@ use std::alloc::{AllocError, Global};
 use std::marker::Model;
 
 /// The edges of a graph, to which inputs are added: to the first edge, and after each
-/// [`JoiningInputs::end_edge`] to the next one. An input that an edge has is not added to it.
+/// [`JoiningInputs::end_edge`] to the next one. They become implicit inputs. A file that an edge has
+/// as an explicit or implicit input is not added to it; one that is an order-only input becomes both.
 #[derive(Drop)]
 pub struct JoiningInputs {
     edges: JoiningEdges,
     // the number of the edge to which inputs are added
     edge: usize,
-    // for each file, the last edge up to that one which has it as an input
+    // for each file, the last edge up to that one which has it as an explicit or implicit input
     marks: Vec<Option<usize>>,
 }
 
@@ -60,7 +61,8 @@ impl JoiningInputs {
         self.edges.edge_count()
     }
 
-    /// Adds an input to the edge, unless the edge has it, and returns the number of its file.
+    /// Adds an implicit input to the edge, unless the edge has it as an explicit or implicit one,
+    /// and returns the number of its file.
     pub fn add_input(&mut self, path: &[u8]) -> Result<FileNo, AllocError>
         ensures added { OnOk result (self.new ≡ with_new_input self.old path.now) }
         ensures number { IfOk result (λ file.
@@ -77,7 +79,8 @@ impl JoiningInputs {
         Ok(file)
     }
 
-    /// Adds an input to the edge, unless the edge has it, by the number of its file.
+    /// Adds an implicit input to the edge, unless the edge has it as an explicit or implicit one, by
+    /// the number of its file.
     pub fn add_known_input(&mut self, file: FileNo) -> Result<(), AllocError>
         requires { file.0 < length self.old.table.files }
         ensures added { (path : List ℕ) → slice_get self.old.table.files file.0 ≡ Some path
@@ -122,13 +125,14 @@ fn no_marks(alloc: Global, count: usize) -> Result<Vec<Option<usize>>, AllocErro
     vec![in alloc; None; count]
 }
 
-// Marks the inputs that the edge of this number has in the graph, if there is one.
+// Marks the explicit and the implicit inputs that the edge of this number has in the graph, if there
+// is one.
 fn mark_inputs(marks: &mut Vec<Option<usize>>, edges: &JoiningEdges, edge: usize)
     requires { length marks.old.items ≡ length edges.now.files }
     ensures { MarksInputs edges.now edge marks.old.items marks.new.items }
 {
     if edge < edges.edge_count() {
-        mark_files(marks, edges.stated_inputs(EdgeNo(edge)), edge);
+        mark_files(marks, edges.stated_counted_inputs(EdgeNo(edge)), edge);
     }
 }
 

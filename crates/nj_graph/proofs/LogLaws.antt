@@ -1,5 +1,5 @@
 -- The same log again changes nothing.
-use Rattle.std.proofs.Common.{◌≡◌, ◌≤◌, ◌+◌, ◌||◌, ◌⊎◌, inl, inr, ℕ, zero, suc, Bool, true, false, not, cond, if◌then◌else◌, List, [], ◌∷◌, ◌++◌, length, slice_get, None, option_map, unwrap_or, bytes_eq, position, refl, sym, ap, ◌∙◌, arith, append-nil}
+use Rattle.std.proofs.Common.{◌≡◌, ◌≤◌, ◌+◌, ◌||◌, ◌⊎◌, inl, inr, ℕ, zero, suc, Bool, true, false, not, cond, if◌then◌else◌, List, [], ◌∷◌, ◌++◌, length, slice_get, None, option_map, unwrap_or, bytes_eq, position, refl, sym, ap, ◌∙◌, arith, append-nil, append_assoc}
 use Rattle.std.specs.Prelude.{codes, filter, option_and_then}
 use Rattle.std.specs.List.{AllZip}
 use Rattle.std.proofs.Math.Bool.{or-true}
@@ -11,7 +11,7 @@ use Rattle.nj_manifest.specs.Statements.{StatementModel, BindingModel, RuleModel
 use Rattle.nj_text.specs.Calls.{is_empty}
 use Rattle.nj_scope.specs.ReadingList.{ReadStatement}
 use Rattle.nj_deps.specs.Logs.{LogModel}
-use Rattle.nj_edges.specs.Edges.{EdgePaths, edge_at, first_output, inputs_of, is_among}
+use Rattle.nj_edges.specs.Edges.{EdgePaths, counted_inputs_of, edge_at, first_output, is_among}
 use Rattle.nj_edges.specs.Joining.{with_added}
 use Rattle.nj_edges.specs.MoreInputs.{new_inputs, with_inputs_added}
 use Rattle.nj_edges.specs.Repeats.{each_once}
@@ -76,29 +76,17 @@ module _ (e : EdgePaths) (paths : List (List ℕ)) where
   abbrev again : EdgePaths
   again = with_added (record { outputs = []; inputs = new_inputs e paths }) e
 
-  among-parts : (p : List ℕ) → is_among (inputs_of again) p ≡ (is_among (inputs_of e) p || is_among (new_inputs e paths) p)
-  among-parts p =
-      list_any-append (bytes_eq p) (e.explicit_inputs ++ (e.implicit_inputs ++ new_inputs e paths)) e.order_only_inputs
-      ∙ ap (λ b. b || is_among e.order_only_inputs p) (list_any-append (bytes_eq p) e.explicit_inputs (e.implicit_inputs ++ new_inputs e paths) ∙ ap (λ b. is_among e.explicit_inputs p || b) (list_any-append (bytes_eq p) e.implicit_inputs (new_inputs e paths)))
-      ∙ turned (is_among e.explicit_inputs p) (is_among e.implicit_inputs p) (is_among (new_inputs e paths) p) (is_among e.order_only_inputs p)
-      ∙ sym (ap (λ b. b || is_among (new_inputs e paths) p) (list_any-append (bytes_eq p) (e.explicit_inputs ++ e.implicit_inputs) e.order_only_inputs ∙ ap (λ b. b || is_among e.order_only_inputs p) (list_any-append (bytes_eq p) e.explicit_inputs e.implicit_inputs)))
-    where
-      turned : (a b c d : Bool) → ((a || (b || c)) || d) ≡ (((a || b) || d) || c)
-      turned true b c d = refl
-      turned false true c d = refl
-      turned false false true true = refl
-      turned false false true false = refl
-      turned false false false true = refl
-      turned false false false false = refl
+  among-parts : (p : List ℕ) → is_among (counted_inputs_of again) p ≡ (is_among (counted_inputs_of e) p || is_among (new_inputs e paths) p)
+  among-parts p = ap (λ ps. is_among ps p) (sym (append_assoc e.explicit_inputs e.implicit_inputs (new_inputs e paths))) ∙ list_any-append (bytes_eq p) (counted_inputs_of e) (new_inputs e paths)
 
   pub none-new : new_inputs again paths ≡ []
-  none-new = none-kept (λ p. not (is_among (inputs_of again) p)) (each_once bytes_eq paths) (λ p among. ap not (among-parts p ∙ by p (sym (among-once paths p) ∙ among) (is_among (inputs_of e) p) refl))
+  none-new = none-kept (λ p. not (is_among (counted_inputs_of again) p)) (each_once bytes_eq paths) (λ p among. ap not (among-parts p ∙ by p (sym (among-once paths p) ∙ among) (is_among (counted_inputs_of e) p) refl))
     where
-      by : (p : List ℕ) → is_among paths p ≡ true → (there : Bool) → is_among (inputs_of e) p ≡ there → (is_among (inputs_of e) p || is_among (new_inputs e paths) p) ≡ true
+      by : (p : List ℕ) → is_among paths p ≡ true → (there : Bool) → is_among (counted_inputs_of e) p ≡ there → (is_among (counted_inputs_of e) p || is_among (new_inputs e paths) p) ≡ true
       by p among true is = ap (λ b. b || is_among (new_inputs e paths) p) is
       by p among false is =
-          ap (λ b. is_among (inputs_of e) p || b) (among-kept (λ q. not (is_among (inputs_of e) q)) (each_once bytes_eq paths) p (ap not is) ∙ among-once paths p ∙ among)
-          ∙ or-true (is_among (inputs_of e) p)
+          ap (λ b. is_among (counted_inputs_of e) p || b) (among-kept (λ q. not (is_among (counted_inputs_of e) q)) (each_once bytes_eq paths) p (ap not is) ∙ among-once paths p ∙ among)
+          ∙ or-true (is_among (counted_inputs_of e) p)
 
 -- ---- the same log
 

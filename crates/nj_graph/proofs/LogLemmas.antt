@@ -12,7 +12,7 @@ use Rattle.nj_scope.specs.ReadingList.{ReadStatement}
 use Rattle.nj_scope.specs.Readings.{IsPrefix}
 use Rattle.nj_deps.specs.Logs.{LogModel}
 use Rattle.nj_edges.specs.EdgeGraphs.{EdgeGraph}
-use Rattle.nj_edges.specs.Edges.{EdgePaths, edge_at, inputs_of, is_among}
+use Rattle.nj_edges.specs.Edges.{EdgePaths, counted_inputs_of, edge_at, is_among}
 use Rattle.nj_edges.specs.Joining.{AddedFiles, changed_at, join_of, none_added, with_added, with_added_input}
 use Rattle.nj_edges.specs.MoreInputs.{InputTable, at_next_edge, inputs_so_far, new_inputs, with_inputs_added, with_new_input}
 use Rattle.nj_edges.specs.Repeats.{each_once}
@@ -26,7 +26,7 @@ pub clean-empty : clean_path_of [] ≡ 46 ∷ []
 unfolding clean_path_of without_leftmost_pair
 clean-empty = refl
 
--- ---- inputs that an edge doesn't have
+-- ---- paths that an edge doesn't have as explicit or implicit inputs
 
 both : (b k : Bool) → (b ≡ true → k ≡ true) → (x y : Bool) → x ≡ y → cond k (b || x) x ≡ (b || y)
 both true true so x y same = refl
@@ -55,11 +55,11 @@ among-once (p ∷ paths) path = by (bytes_eq path p) refl (among-once paths path
 
 module _ (e : EdgePaths) (before : List (List ℕ)) (path : List ℕ) where
   abbrev keeps : List ℕ → Bool
-  keeps p = not (is_among (inputs_of e) p)
+  keeps p = not (is_among (counted_inputs_of e) p)
 
   -- the inputs of an edge and those that are new, with one more path
-  pub new-more : new_inputs e (before ++ path ∷ []) ≡ (if is_among (inputs_of e ++ new_inputs e before) path then new_inputs e before else new_inputs e before ++ path ∷ [])
-  new-more = sym (ap (λ b. if b then new_inputs e before else new_inputs e before ++ path ∷ []) (list_any-append (bytes_eq path) (inputs_of e) (new_inputs e before)) ∙ by (is_among (inputs_of e) path) refl)
+  pub new-more : new_inputs e (before ++ path ∷ []) ≡ (if is_among (counted_inputs_of e ++ new_inputs e before) path then new_inputs e before else new_inputs e before ++ path ∷ [])
+  new-more = sym (ap (λ b. if b then new_inputs e before else new_inputs e before ++ path ∷ []) (list_any-append (bytes_eq path) (counted_inputs_of e) (new_inputs e before)) ∙ by (is_among (counted_inputs_of e) path) refl)
     where
       once-known-new : (known : Bool) → is_among before path ≡ known → new_inputs e (before ++ path ∷ []) ≡ (if known then new_inputs e before else new_inputs e before ++ filter keeps (path ∷ []))
       once-known-new true is = ap (filter keeps) (once-known before path is)
@@ -68,8 +68,8 @@ module _ (e : EdgePaths) (before : List (List ℕ)) (path : List ℕ) where
       last : (kept : Bool) → keeps path ≡ kept → filter keeps (path ∷ []) ≡ cond kept (path ∷ []) []
       last kept is = ap (λ b. cond b (path ∷ []) []) is
 
-      by : (there : Bool) → is_among (inputs_of e) path ≡ there
-          → (if is_among (inputs_of e) path || is_among (new_inputs e before) path then new_inputs e before else new_inputs e before ++ path ∷ []) ≡ new_inputs e (before ++ path ∷ [])
+      by : (there : Bool) → is_among (counted_inputs_of e) path ≡ there
+          → (if is_among (counted_inputs_of e) path || is_among (new_inputs e before) path then new_inputs e before else new_inputs e before ++ path ∷ []) ≡ new_inputs e (before ++ path ∷ [])
       by true is = ap (λ b. if b || is_among (new_inputs e before) path then new_inputs e before else new_inputs e before ++ path ∷ []) is ∙ sym (dropped (is_among before path) refl)
         where
           dropped : (known : Bool) → is_among before path ≡ known → new_inputs e (before ++ path ∷ []) ≡ new_inputs e before
@@ -116,8 +116,8 @@ inputs-one : (t : InputTable) (e : EdgePaths) (before : List (List ℕ)) (path :
 inputs-one t e before path is inputs =
     by (is_among (inputs_so_far t) path)
     ∙ ap (λ b. if b then t.table.«open».inputs else t.table.«open».inputs ++ path ∷ [])
-    (ap (λ (x : EdgePaths). is_among (inputs_of x ++ t.table.«open».inputs) path) is ∙ ap (λ ps. is_among (inputs_of e ++ ps) path) inputs)
-    ∙ ap (λ ps. if is_among (inputs_of e ++ new_inputs e before) path then ps else ps ++ path ∷ []) inputs
+    (ap (λ (x : EdgePaths). is_among (counted_inputs_of x ++ t.table.«open».inputs) path) is ∙ ap (λ ps. is_among (counted_inputs_of e ++ ps) path) inputs)
+    ∙ ap (λ ps. if is_among (counted_inputs_of e ++ new_inputs e before) path then ps else ps ++ path ∷ []) inputs
     ∙ sym (new-more e before path)
   where
     by : (b : Bool) → (if b then t else record t { table = with_added_input t.table path }).table.«open».inputs ≡ (if b then t.table.«open».inputs else t.table.«open».inputs ++ path ∷ [])

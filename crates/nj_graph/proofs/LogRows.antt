@@ -36,8 +36,9 @@ joined text = implicit_inputs (with_log some_log (read_of (rules ++ text) []).en
 
 -- ---- rows
 
--- after its own ones, each clean path once, without those that it has; its own output is one like others
-new_ones : joined (codes "build o: cc a | j || b\n") ≡ (codes "j" ∷ codes "h" ∷ codes "o" ∷ []) ∷ []
+-- after its own ones, each clean path once, without its explicit and implicit ones, and with its order-only ones; its own output is one
+-- like others
+new_ones : joined (codes "build o: cc a | j || b\n") ≡ (codes "j" ∷ codes "b" ∷ codes "h" ∷ codes "o" ∷ []) ∷ []
 unfolding on_logs
 new_ones = refl
 

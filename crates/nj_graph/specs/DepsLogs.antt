@@ -34,8 +34,8 @@ paths_logged log (Some o) = map (name_at log.paths) o.inputs
 abbrev pub inputs_logged : LogModel → Option ℕ → List (List ℕ)
 inputs_logged log number = map clean_path_of (paths_logged log (option_and_then (output_of log.outputs) number))
 
--- Each file that the log names for an edge with `deps` becomes an implicit input of it, unless it is an input of it
--- already.
+-- Each file that the log names for an edge with `deps` becomes an implicit input of it, unless it is an explicit or
+-- implicit one already.
 abbrev pub with_log : LogModel → List ReadStatement → List ReadStatement
 with_log log entries =
     with_inputs_named (λ edge.

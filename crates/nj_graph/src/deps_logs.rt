@@ -24,10 +24,11 @@ use std::alloc::{AllocError, Global};
 impl Graph {
     /// Joins a deps log ("Deps" in the Ninja manual): each file that it names for the first output
     /// of an edge whose value of `deps` is not empty becomes an implicit input of the edge, after
-    /// those that the edge has and in the log's order: each clean path once, unless it is an input
-    /// of the edge already. Paths that no edge named become files. An edge that waits for a dyndep
-    /// file still waits for it. The same log again changes nothing. Edges and files keep their
-    /// numbers, and new files come after them.
+    /// those that the edge has and in the log's order: each clean path once, unless it is an
+    /// explicit or implicit input of the edge already. An order-only input stays one too. Paths
+    /// that no edge named become files. An edge that waits for a dyndep file still waits for it.
+    /// The same log again changes nothing. Edges and files keep their numbers, and new files come
+    /// after them.
     ///
     /// Takes time in proportion to the graph and to the files that the log names for its edges.
     ///

@@ -2,7 +2,7 @@
 use Rattle.std.specs.Prelude.{◌≡◌, ℕ, ◌<◌, ◌≤◌, Bool, true, false, if◌then◌else◌, Option, Some, None, List, length, slice_index_or, bytes_eq}
 use Rattle.std.specs.List.{IsDistinct}
 use Rattle.nj_names.specs.declared.files.FileNo.{FileNo}
-use Rattle.nj_edges.specs.Edges.{is_among, edge_at, inputs_of}
+use Rattle.nj_edges.specs.Edges.{counted_inputs_of, edge_at, is_among}
 use Rattle.nj_edges.specs.Inside.EdgesHeld.{has_number, is_edge, AreNumbers}
 use Rattle.nj_names.specs.Files.{AreFiles, path_at}
 use Rattle.nj_edges.specs.Joining.{JoinTable, is_joined}
@@ -12,7 +12,7 @@ use Rattle.nj_edges.specs.MoreInputs.{InputTable, inputs_so_far}
 abbrev pub is_marked : (marks : List (Option ℕ)) → (file edge : ℕ) → Bool
 is_marked marks file edge = is_edge (slice_index_or marks file None) edge
 
--- Files are marked with the edges that have them as inputs. With the edge to which inputs are added those are marked which it has so far,
+-- Files are marked with the edges that have them as explicit or implicit inputs. With the edge to which inputs are added those are marked which it has so far,
 -- and none is marked with a later one. To it and to later ones nothing was added.
 pub record AreMarked (t : InputTable) (marks : List (Option ℕ)) : Type 0 where
   pub distinct : IsDistinct bytes_eq t.table.files
@@ -28,9 +28,9 @@ MarksFiles files edge old new =
     (length new ≡ length old)
     × ((n : ℕ) → slice_index_or new n None ≡ (if has_number n files then Some edge else slice_index_or old n None))
 
--- the inputs of the edge of this number, if there is one, are marked with it
+-- the explicit and the implicit inputs of the edge of this number, if there is one, are marked with it
 pub record MarksInputs (table : JoinTable) (edge : ℕ) (old new : List (Option ℕ)) : Type 0 where
   pub files : List FileNo
-  pub are : AreFiles table.files files (inputs_of (edge_at table.stated edge))
+  pub are : AreFiles table.files files (counted_inputs_of (edge_at table.stated edge))
   pub known : AreNumbers (length table.files) files
   pub marked : MarksFiles files edge old new
