@@ -1,7 +1,7 @@
 -- How the edges that a change reaches are found.
 use Rattle.std.proofs.Common.{◌≡◌, ◌<◌, ◌≤◌, ◌+◌, ◌||◌, ◌⊎◌, ◌↔◌, inl, inr, ℕ, Bool, true, false, cond, List, [], ◌∷◌, ◌++◌, map, length, take, get_or, Some, slice_get, unwrap_or, refl, sym, ap, subst, ◌∙◌, arith, append-nil}
 use Rattle.std.specs.Prelude.{Contains, slice_index}
-use Rattle.std.specs.List.{All}
+use Rattle.std.specs.List.{All, list_any}
 use Rattle.std.specs.List.Sorted.{IsStrictlyIncreasing}
 use Rattle.std.proofs.lemmas.Bool.{both_ways, cases_lt, or_cases}
 use Rattle.std.proofs.lemmas.List.{get_or_past, length_push, map_push, take_more}
@@ -12,9 +12,9 @@ use Rattle.nj_names.proofs.NumberLemmas.{contains-has, has-contains}
 use Rattle.nj_cycles.proofs.Places.{at_left, at_push, contains_at, index_of}
 use Rattle.nj_edges.specs.declared.edges.EdgeNo.{EdgeNo}
 use Rattle.nj_names.specs.declared.files.FileNo.{FileNo}
-use Rattle.nj_edges.specs.Edges.{EdgePaths, edge_at, edges_from, inputs_of, is_among, outputs_of, users_of}
+use Rattle.nj_edges.specs.Edges.{EdgePaths, edge_at, edges_from, is_among, outputs_of}
 use Rattle.nj_names.specs.Files.{path_at, AreFiles}
-use Rattle.nj_edges.specs.Changes.{has_input_of, IsAffected}
+use Rattle.nj_edges.specs.Changes.{IsAffected}
 use Rattle.nj_edges.specs.Changes.IsAffected.{by_file, by_edge}
 use Rattle.nj_edges.specs.Inside.ChangesHeld.{FindsAffected, FindsMore, HasInputOf, IsFlagged}
 use Rattle.nj_edges.specs.Inside.UsersHeld.{numbers_of}
@@ -62,19 +62,20 @@ module _ (flags : List Bool) (found : List EdgeNo) (listed : numbers_of found �
 
 -- ---- users
 
-module _ (edges : List EdgePaths) (path : List ℕ) (e : ℕ) where
-  pub user-has : Contains (users_of edges path) e → is_among (inputs_of (edge_at edges e)) path ≡ true
+-- by some files of an edge, its inputs for example
+module _ (files_of : EdgePaths → List (List ℕ)) (none : files_of (edge_at [] 0) ≡ []) (edges : List EdgePaths) (path : List ℕ) (e : ℕ) where
+  user-has : Contains (edges_from 0 (λ x. is_among (files_of x) path) edges) e → is_among (files_of (edge_at edges e)) path ≡ true
   user-has has =
-      let passes = from-passes (λ x. is_among (inputs_of x) path) (edge_at [] 0) refl edges 0 e has in
+      let passes = from-passes (λ x. is_among (files_of x) path) (edge_at [] 0) (ap (λ ps. is_among ps path) none) edges 0 e has in
       let same : passes.0 ≡ e = omega (arith, passes.1) in
-      subst (λ n. is_among (inputs_of (edge_at edges n)) path ≡ true) same passes.2
+      subst (λ n. is_among (files_of (edge_at edges n)) path ≡ true) same passes.2
 
-  pub has-user : is_among (inputs_of (edge_at edges e)) path ≡ true → Contains (users_of edges path) e
-  has-user is = passes-from (λ x. is_among (inputs_of x) path) (edge_at [] 0) refl edges 0 e (e, omega arith, is)
+  has-user : is_among (files_of (edge_at edges e)) path ≡ true → Contains (edges_from 0 (λ x. is_among (files_of x) path) edges) e
+  has-user is = passes-from (λ x. is_among (files_of x) path) (edge_at [] 0) (ap (λ ps. is_among ps path) none) edges 0 e (e, omega arith, is)
 
--- an edge with an input among these files and one more
-has-more : (paths : List (List ℕ)) (path : List ℕ) (e : EdgePaths) → has_input_of (paths ++ path ∷ []) e ≡ (has_input_of paths e || is_among (inputs_of e) path)
-has-more paths path e = list_any-append (is_among (inputs_of e)) paths (path ∷ []) ∙ ap (λ b. has_input_of paths e || b) (or-none (is_among (inputs_of e) path))
+-- one of these paths, or one more, is among some
+has-more : (paths : List (List ℕ)) (path : List ℕ) (some : List (List ℕ)) → list_any (is_among some) (paths ++ path ∷ []) ≡ (list_any (is_among some) paths || is_among some path)
+has-more paths path some = list_any-append (is_among some) paths (path ∷ []) ∙ ap (λ b. list_any (is_among some) paths || b) (or-none (is_among some path))
   where
     or-none : (b : Bool) → (b || false) ≡ b
     or-none true = refl
@@ -162,19 +163,23 @@ finds-edge first old new edges i d below a b =
     more = ap numbers_of (take_more edges i d below) ∙ map_push (λ (e : EdgeNo). e.0) (take i edges) (get_or edges i d)
 
 -- the users of the first files of a list, and of one more
-module _ (edges : List EdgePaths) (files : List (List ℕ)) where
-  abbrev HaveInput : List FileNo → ℕ → Type 0
-  HaveInput ns = HasInputOf edges (map (path_at files) ns)
+module _ (files_of : EdgePaths → List (List ℕ)) (none : files_of (edge_at [] 0) ≡ []) (edges : List EdgePaths) (files : List (List ℕ)) where
+  abbrev has-one : List (List ℕ) → ℕ → Bool
+  has-one paths e = list_any (is_among (files_of (edge_at edges e))) paths
 
-  pub finds-users : (first old new : NumberSetModel) (ns : List FileNo) (i : ℕ) (d : FileNo) (users : List EdgeNo) → i < length ns → numbers_of users ≡ users_of edges (path_at files (get_or ns i d))
-      → FindsMore (HaveInput (take i ns)) first old → FindsMore (Contains (numbers_of users)) old new → FindsMore (HaveInput (take (i + 1) ns)) first new
+  abbrev HaveOne : List FileNo → ℕ → Type 0
+  HaveOne ns e = list_any (is_among (files_of (edge_at edges e))) (map (path_at files) ns) ≡ true
+
+  pub finds-users : (first old new : NumberSetModel) (ns : List FileNo) (i : ℕ) (d : FileNo) (users : List EdgeNo) → i < length ns
+      → numbers_of users ≡ edges_from 0 (λ x. is_among (files_of x) (path_at files (get_or ns i d))) edges
+      → FindsMore (HaveOne (take i ns)) first old → FindsMore (Contains (numbers_of users)) old new → FindsMore (HaveOne (take (i + 1) ns)) first new
   finds-users first old new ns i d users below are a b =
-      finds-then (HaveInput (take i ns)) (Contains (numbers_of users)) (HaveInput (take (i + 1) ns)) first old new
-      (λ e is. split e ∙ or-left (has_input_of before (edge_at edges e)) (is_among (inputs_of (edge_at edges e)) path) is)
-      (λ e has. split e ∙ or-right (has_input_of before (edge_at edges e)) (is_among (inputs_of (edge_at edges e)) path) (user-has edges path e (subst (λ us. Contains us e) are has)))
-      (λ e is. elim (or_cases (has_input_of before (edge_at edges e)) (is_among (inputs_of (edge_at edges e)) path) (sym (split e) ∙ is)) [
+      finds-then (HaveOne (take i ns)) (Contains (numbers_of users)) (HaveOne (take (i + 1) ns)) first old new
+      (λ e is. split e ∙ or-left (has-one before e) (is_among (files_of (edge_at edges e)) path) is)
+      (λ e has. split e ∙ or-right (has-one before e) (is_among (files_of (edge_at edges e)) path) (user-has files_of none edges path e (subst (λ us. Contains us e) are has)))
+      (λ e is. elim (or_cases (has-one before e) (is_among (files_of (edge_at edges e)) path) (sym (split e) ∙ is)) [
         | inl was ↦ inl was
-        | inr now ↦ inr (subst (λ us. Contains us e) (sym are) (has-user edges path e now))
+        | inr now ↦ inr (subst (λ us. Contains us e) (sym are) (has-user files_of none edges path e now))
       ])
       a b
     where
@@ -184,10 +189,10 @@ module _ (edges : List EdgePaths) (files : List (List ℕ)) where
       before : List (List ℕ)
       before = map (path_at files) (take i ns)
 
-      split : (e : ℕ) → has_input_of (map (path_at files) (take (i + 1) ns)) (edge_at edges e) ≡ (has_input_of before (edge_at edges e) || is_among (inputs_of (edge_at edges e)) path)
+      split : (e : ℕ) → has-one (map (path_at files) (take (i + 1) ns)) e ≡ (has-one before e || is_among (files_of (edge_at edges e)) path)
       split e =
-          ap (λ ps. has_input_of ps (edge_at edges e)) (ap (map (path_at files)) (take_more ns i d below) ∙ map_push (path_at files) (take i ns) (get_or ns i d))
-          ∙ has-more before path (edge_at edges e)
+          ap (λ ps. has-one ps e) (ap (map (path_at files)) (take_more ns i d below) ∙ map_push (path_at files) (take i ns) (get_or ns i d))
+          ∙ has-more before path (files_of (edge_at edges e))
 
 -- ---- the paths of files
 

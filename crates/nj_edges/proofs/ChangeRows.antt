@@ -42,7 +42,7 @@ by-input = by_file refl
 by-phony : IsAffected four (s ∷ []) 2
 by-phony = by_edge {f = 1} refl (by_edge {f = 0} refl by-input)
 
-none-of : (paths : List (List ℕ)) → list_any (is_among []) paths ≡ false
+pub none-of : (paths : List (List ℕ)) → list_any (is_among []) paths ≡ false
 none-of [] = refl
 none-of (path ∷ paths) = none-of paths
 

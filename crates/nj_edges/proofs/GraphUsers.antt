@@ -17,11 +17,11 @@ use Rattle.nj_edges.specs.Inside.UsersHeld.{AreParts, HaveUsers, HaveUsersIfAny,
 use Rattle.nj_edges.proofs.EdgeLemmas.{all-of, get-path, has-among, within-numbers}
 use Rattle.nj_edges.proofs.GraphLemmas.{kinds-joined}
 
-edges-map : {E F : Type 0} (k : ℕ) (test : F → Bool) (f : E → F) (es : List E) → edges_from k test (map f es) ≡ edges_from k (λ e. test (f e)) es
+pub edges-map : {E F : Type 0} (k : ℕ) (test : F → Bool) (f : E → F) (es : List E) → edges_from k test (map f es) ≡ edges_from k (λ e. test (f e)) es
 edges-map k test f [] = refl
 edges-map k test f (e ∷ es) = ap (λ xs. cond (test (f e)) (k ∷ xs) xs) (edges-map (k + 1) test f es)
 
-edges-same : {E : Type 0} (k : ℕ) (t u : E → Bool) (P : E → Type 0) → ((e : E) → P e → t e ≡ u e) → (es : List E) → AllByRecursion P es → edges_from k t es ≡ edges_from k u es
+pub edges-same : {E : Type 0} (k : ℕ) (t u : E → Bool) (P : E → Type 0) → ((e : E) → P e → t e ≡ u e) → (es : List E) → AllByRecursion P es → edges_from k t es ≡ edges_from k u es
 edges-same k t u P same [] all = refl
 edges-same k t u P same (e ∷ es) all =
     ap (λ xs. cond (t e) (k ∷ xs) xs) (edges-same (k + 1) t u P same es all.1) ∙ ap (λ b. cond b (k ∷ edges_from (k + 1) u es) (edges_from (k + 1) u es)) (same e all.0)

@@ -5,6 +5,8 @@ mod ChainRows
 pub mod ChangeLaws
 pub mod ChangeLemmas
 pub mod CycleLemmas
+pub mod DirtyLemmas
+mod DirtyRows
 pub mod EdgeLemmas
 pub mod EndLemmas
 pub mod FinishLemmas

@@ -1,6 +1,7 @@
 -- How the code meets the definitions beside this directory. No contract of a public call needs these.
 pub mod ChainsHeld
 pub mod ChangesHeld
+pub mod DirtyHeld
 pub mod EdgesHeld
 pub mod GraphHeld
 pub mod JoiningHeld

@@ -5,6 +5,7 @@ pub mod Graph
 pub mod Needs
 pub mod Repeats
 pub mod Changes
+pub mod Dirty
 pub mod Distances
 pub mod Chains
 pub mod Joining

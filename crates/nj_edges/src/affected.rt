@@ -14,7 +14,7 @@ use nj_names::{FileNo, NumberSet};
 use std::alloc::{AllocError, Global};
 
 // Adds each of these edges.
-fn add_all(found: &mut NumberSet, edges: &[EdgeNo]) -> Result<(), AllocError>
+pub(crate) fn add_all(found: &mut NumberSet, edges: &[EdgeNo]) -> Result<(), AllocError>
     requires { All (λ edge. edge.0 < found.old.limit) edges.now }
     ensures { OnOk result (FindsMore (Contains (numbers_of edges.now)) found.old found.new) }
 {
@@ -99,7 +99,7 @@ impl EdgeGraph {
 }
 
 // The edges with a flag, by number.
-fn flagged(alloc: Global, flags: &[bool]) -> Result<Vec<EdgeNo>, AllocError>
+pub(crate) fn flagged(alloc: Global, flags: &[bool]) -> Result<Vec<EdgeNo>, AllocError>
     ensures { IfOk result (λ edges.
         numbers_of edges.items ≡ edges_from 0 (λ flag. flag) flags.now) }
 {

@@ -3,6 +3,7 @@
 
 mod affected;
 mod chains;
+mod dirty;
 mod dyndep_edges;
 mod edges;
 mod files_by_kind;
@@ -21,6 +22,7 @@ mod users;
 
 pub use affected::affected_law;
 pub use chains::Step;
+pub use dirty::dirty_law;
 pub use dyndep_edges::JoiningEdges;
 pub use edges::{EdgeNo, Edges, Kind, KindEnds};
 pub use graph::{CycleEdge, EdgeGraph, Finished};

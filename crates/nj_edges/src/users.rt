@@ -1,4 +1,4 @@
-//! The users of files: the edges that have a file among their inputs, or their validations.
+//! The users of files: the edges that have a file among their inputs, or in another part of theirs.
 
 ghost use Rattle.std.specs.Prelude.{◌≡◌, ℕ, List, ◌+◌, ◌<◌, ◌^◌, Some, length, slice_get, slice_index_or, IfOk, OnOk};
 ghost use Rattle.std.specs.List.{AllByRecursion};
@@ -16,6 +16,9 @@ use std::alloc::{AllocError, Global};
 #[derive(Clone, Copy)]
 pub(crate) enum RowPart {
     Inputs,
+    /// The explicit and the implicit inputs.
+    CountedInputs,
+    Outputs,
     Validations,
 }
 
@@ -143,11 +146,25 @@ fn files_of<'a>(files: &'a [FileNo], rows: &Rows, row_part: RowPart, edge: usize
 
 // Where this part of an edge is.
 fn span_of(row: EdgeRow, row_part: RowPart) -> Span
+    requires { (span_of row_part row).end < 2 ^ 64 }
     ensures { result ≡ span_of row_part row }
 {
     match row_part {
         RowPart::Inputs => row.inputs,
+        RowPart::CountedInputs => counted_inputs(row),
+        RowPart::Outputs => row.outputs,
         RowPart::Validations => row.validations,
+    }
+}
+
+// Where the explicit and the implicit inputs of an edge are.
+fn counted_inputs(row: EdgeRow) -> Span
+    requires { row.inputs.start + row.kinds.implicit_inputs < 2 ^ 64 }
+    ensures { result ≡ span_of RowPart.CountedInputs row }
+{
+    Span {
+        start: row.inputs.start,
+        end: row.inputs.start + row.kinds.implicit_inputs,
     }
 }
 

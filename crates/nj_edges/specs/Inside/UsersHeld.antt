@@ -6,13 +6,15 @@ use Rattle.nj_edges.specs.declared.edges.EdgeNo.{EdgeNo}
 use Rattle.nj_edges.specs.declared.edges.EdgeRow.{EdgeRow}
 use Rattle.nj_edges.specs.declared.edges.Span.{Span}
 use Rattle.nj_edges.specs.declared.users.RowPart.{RowPart}
-use Rattle.nj_edges.specs.declared.users.RowPart.TheVariants.{Inputs, Validations}
+use Rattle.nj_edges.specs.declared.users.RowPart.TheVariants.{CountedInputs, Inputs, Outputs, Validations}
 use Rattle.nj_edges.specs.declared.users.Users.{Users}
 use Rattle.nj_edges.specs.Edges.{edges_from}
 use Rattle.nj_edges.specs.Inside.EdgesHeld.{has_number, within}
 
 abbrev pub span_of : RowPart → EdgeRow → Span
 span_of Inputs row = row.inputs
+span_of CountedInputs row = record { start = row.inputs.start; end = row.inputs.start + row.kinds.implicit_inputs }
+span_of Outputs row = row.outputs
 span_of Validations row = row.validations
 
 -- the edges that have the file in this part of theirs, where the rows are those from this edge on
