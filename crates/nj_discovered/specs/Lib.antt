@@ -1,0 +1,7 @@
+-- the definitions to believe
+pub mod Discovered
+pub mod Discoveries
+pub mod Faults
+pub mod Times
+-- how the code does that
+pub mod Inside
