@@ -1,6 +1,6 @@
 //! The files of the working directory.
 
-ghost use Rattle.std.specs.Prelude.{◌≡◌, ◌+◌, ◌<◌, ◌≤◌, ◌↔◌, [], Some, Ok, Err, option_copied, vec_len, vec_capacity, length, take, drop, IfOk, OnOk, IsTrue};
+ghost use Rattle.std.specs.Prelude.{◌≡◌, ◌+◌, ◌<◌, ◌≤◌, ◌↔◌, [], Some, None, Ok, Err, option_copied, vec_len, vec_capacity, length, take, drop, IfOk, OnOk, IsTrue};
 ghost use Rattle.std.specs.Io.KnownBytes.{Consumes, IsAtEnd};
 
 use nj_scope::{FileSource, HashKeys, SourceFault};
@@ -32,6 +32,8 @@ const PIECE: usize = 131_072;
 pub struct DiskFiles<R: Drop> {
     rt: R,
     input_name: Option<String>,
+    // Whether all other files than regular ones are refused.
+    regular_only: bool,
     keys: HashKeys,
     failed: u64,
 }
@@ -64,9 +66,25 @@ impl<R: RandomSource + Drop> DiskFiles<R> {
         Ok(DiskFiles {
             rt,
             input_name,
+            regular_only: false,
             keys,
             failed: 0,
         })
+    }
+
+    /// The regular files of the working directory. To read another one, as a directory or a pipe,
+    /// which could wait for ever, fails with `Io`.
+    pub fn of_regular_files(rt: R) -> DiskFiles<R>
+        ensures { result ≡ record { input_name = None; failed = 0 } }
+    {
+        let keys = drawn_keys(&rt);
+        DiskFiles {
+            rt,
+            input_name: None,
+            regular_only: true,
+            keys,
+            failed: 0,
+        }
     }
 }
 
@@ -85,6 +103,7 @@ impl<R: Files + Input + Drop> DiskFiles<R> {
         if self.is_input(path) {
             return Ok(Some(read_whole(alloc, &mut self.rt.reader(), 0)?));
         }
+        self.check_type(path)?;
         match fs::open(&self.rt, path) {
             Ok(mut file) => {
                 let stated = file.metadata().map_or(0, |metadata| metadata.len());
@@ -92,6 +111,19 @@ impl<R: Files + Input + Drop> DiskFiles<R> {
             }
             Err(e) if e.kind() == ErrorKind::NotFound => Ok(None),
             Err(_) => Err(SourceFault::Io),
+        }
+    }
+
+    // Refuses all but a regular file, if only those are to be read. Where nothing can be looked up,
+    // opening tells why.
+    fn check_type(&self, path: &str) -> Result<(), SourceFault> {
+        if !self.regular_only {
+            return Ok(());
+        }
+        match fs::metadata(&self.rt, path) {
+            Ok(metadata) if !metadata.is_file() => Err(SourceFault::Io),
+            Err(error) if error.kind() == ErrorKind::OutOfMemory => Err(SourceFault::OutOfMemory),
+            _ => Ok(()),
         }
     }
 

@@ -1,0 +1,57 @@
+//! The times of the files of the working directory.
+
+ghost use Rattle.std.specs.Prelude.{◌≡◌, ◌<◌, None};
+
+use nj_discovered::FileTimes;
+use nj_scope::SourceFault;
+use std::fs::{self, Metadata};
+use std::io::ErrorKind;
+use std::rt::Files;
+use std::time::UNIX_EPOCH;
+
+/// Nanoseconds in a second.
+const SECOND: u64 = 1_000_000_000;
+
+/// The times of the files of the working directory.
+pub struct DiskTimes<R> {
+    rt: R,
+}
+
+impl<R> DiskTimes<R> {
+    /// The times of the files of the working directory.
+    pub fn new(rt: R) -> DiskTimes<R> {
+        DiskTimes { rt }
+    }
+}
+
+impl<R: Files> FileTimes for DiskTimes<R> {
+    ghost times = { λ _ path. None };
+
+    fn time(&self, path: &str) -> Result<Option<u64>, SourceFault> {
+        match fs::metadata(&self.rt, path) {
+            Ok(metadata) => Ok(Some(time_in(&metadata))),
+            Err(error) => match error.kind() {
+                ErrorKind::NotFound | ErrorKind::NotADirectory => Ok(None),
+                ErrorKind::OutOfMemory => Err(SourceFault::OutOfMemory),
+                _ => Err(SourceFault::Io),
+            },
+        }
+    }
+}
+
+// The time of the last change. As in Ninja, all of the second 0 is one nanosecond after 1970 began,
+// so that it differs from no time; a time before that, which the system's library does not tell, is
+// 0.
+fn time_in(metadata: &Metadata) -> u64 {
+    let Ok(time) = metadata.modified() else {
+        return 0;
+    };
+    let Ok(since_1970) = time.duration_since(UNIX_EPOCH) else {
+        return 0;
+    };
+    match u64::try_from(since_1970.as_nanos()) {
+        Ok(time) if time < SECOND => 1,
+        Ok(time) => time,
+        Err(_) => u64::MAX,
+    }
+}
