@@ -6,9 +6,13 @@ pub mod Faultless
 pub mod FirstPositions
 pub mod FirstTimes
 pub mod Found
+pub mod FoundInputLemmas
 pub mod FoundLemmas
 pub mod GraphRows
 pub mod Holding
+pub mod DiscoveredLemmas
+pub mod InputGraphs
+pub mod InputLemmas
 pub mod JoinRows
 pub mod JoiningFiles
 pub mod JoiningGraphs
@@ -18,7 +22,6 @@ pub mod JoiningStrings
 pub mod JoiningPending
 pub mod LaterBindings
 pub mod ListedLemmas
-pub mod LogGraphs
 pub mod LogLaws
 pub mod LogLemmas
 pub mod LogRows

@@ -22,7 +22,8 @@ use Rattle.nj_statements.proofs.DiscoverEdges.{SameEdge}
 use Rattle.nj_statements.proofs.DiscoverLemmas.{names_of_edge-same}
 use Rattle.nj_statements.proofs.LoggedLemmas.{as_read-named, paths-named, same-edges}
 use Rattle.nj_graph.specs.DepsLogs.{SameLogChangesNothing, has_deps, inputs_logged, number_logged, with_log}
-use Rattle.nj_graph.proofs.LogLemmas.{among-kept, among-once, named}
+use Rattle.nj_graph.proofs.InputLemmas.{among-kept, among-once, news}
+use Rattle.nj_graph.proofs.LogLemmas.{logged}
 
 -- ---- where nothing is named, nothing changes
 
@@ -99,24 +100,24 @@ module _ (log : LogModel) (stated : List ReadStatement) where
 
   deps-same : (k : ℕ) → has_deps others k ≡ has_deps stated k
   deps-same k = ap (λ text. not (is_empty text))
-      (late-same (λ e. asked_text (names_of_edge stated e) (codes "deps")) (λ e. asked_text (names_of_edge others e) (codes "deps")) k (edges_read stated) (edges_read others) (same-edges (named log stated) stated)
-      (λ e outs ins. ap (λ (n : LateNames). asked_text n (codes "deps")) (names_of_edge-same stated others (as_read-named (named log stated) stated) (record e { paths = record e.paths { implicit_outputs = outs; implicit_inputs = ins } }))))
+      (late-same (λ e. asked_text (names_of_edge stated e) (codes "deps")) (λ e. asked_text (names_of_edge others e) (codes "deps")) k (edges_read stated) (edges_read others) (same-edges (news (logged log stated) stated) stated)
+      (λ e outs ins. ap (λ (n : LateNames). asked_text n (codes "deps")) (names_of_edge-same stated others (as_read-named (news (logged log stated) stated) stated) (record e { paths = record e.paths { implicit_outputs = outs; implicit_inputs = ins } }))))
 
-  edge-at : (k : ℕ) → (edge_at (paths_of_edges (edges_read others)) k ≡ with_added (record { outputs = []; inputs = named log stated k }) (edge_at all k)) ⊎ ((edge_at (paths_of_edges (edges_read others)) k ≡ edge_at all k) × (length all ≤ k))
-  edge-at k = by (added-at (named log stated) 0 k all)
+  edge-at : (k : ℕ) → (edge_at (paths_of_edges (edges_read others)) k ≡ with_added (record { outputs = []; inputs = news (logged log stated) stated k }) (edge_at all k)) ⊎ ((edge_at (paths_of_edges (edges_read others)) k ≡ edge_at all k) × (length all ≤ k))
+  edge-at k = by (added-at (news (logged log stated) stated) 0 k all)
     where
-      is : edge_at (paths_of_edges (edges_read others)) k ≡ edge_at (with_inputs_added (named log stated) 0 all) k
-      is = ap (λ es. edge_at es k) (paths-named (named log stated) stated)
+      is : edge_at (paths_of_edges (edges_read others)) k ≡ edge_at (with_inputs_added (news (logged log stated) stated) 0 all) k
+      is = ap (λ es. edge_at es k) (paths-named (news (logged log stated) stated) stated)
 
-      by : (edge_at (with_inputs_added (named log stated) 0 all) k ≡ with_added (record { outputs = []; inputs = named log stated (0 + k) }) (edge_at all k)) ⊎ ((edge_at (with_inputs_added (named log stated) 0 all) k ≡ edge_at all k) × (length all ≤ k))
-          → (edge_at (paths_of_edges (edges_read others)) k ≡ with_added (record { outputs = []; inputs = named log stated k }) (edge_at all k)) ⊎ ((edge_at (paths_of_edges (edges_read others)) k ≡ edge_at all k) × (length all ≤ k))
-      by (inl added) = inl (is ∙ added ∙ ap (λ m. with_added (record { outputs = []; inputs = named log stated m }) (edge_at all k)) (let z : 0 + k ≡ k = omega arith in z))
+      by : (edge_at (with_inputs_added (news (logged log stated) stated) 0 all) k ≡ with_added (record { outputs = []; inputs = news (logged log stated) stated (0 + k) }) (edge_at all k)) ⊎ ((edge_at (with_inputs_added (news (logged log stated) stated) 0 all) k ≡ edge_at all k) × (length all ≤ k))
+          → (edge_at (paths_of_edges (edges_read others)) k ≡ with_added (record { outputs = []; inputs = news (logged log stated) stated k }) (edge_at all k)) ⊎ ((edge_at (paths_of_edges (edges_read others)) k ≡ edge_at all k) × (length all ≤ k))
+      by (inl added) = inl (is ∙ added ∙ ap (λ m. with_added (record { outputs = []; inputs = news (logged log stated) stated m }) (edge_at all k)) (let z : 0 + k ≡ k = omega arith in z))
       by (inr (same, past)) = inr (is ∙ same, past)
 
   output-same : (k : ℕ) → first_output (edge_at (paths_of_edges (edges_read others)) k) ≡ first_output (edge_at all k)
   output-same k = by (edge-at k)
     where
-      by : (edge_at (paths_of_edges (edges_read others)) k ≡ with_added (record { outputs = []; inputs = named log stated k }) (edge_at all k)) ⊎ ((edge_at (paths_of_edges (edges_read others)) k ≡ edge_at all k) × (length all ≤ k))
+      by : (edge_at (paths_of_edges (edges_read others)) k ≡ with_added (record { outputs = []; inputs = news (logged log stated) stated k }) (edge_at all k)) ⊎ ((edge_at (paths_of_edges (edges_read others)) k ≡ edge_at all k) × (length all ≤ k))
           → first_output (edge_at (paths_of_edges (edges_read others)) k) ≡ first_output (edge_at all k)
       by (inl added) = ap first_output added ∙ ap (λ outs. slice_get ((edge_at all k).explicit_outputs ++ outs) 0) (append-nil (edge_at all k).implicit_outputs)
       by (inr (same, past)) = ap first_output same
@@ -136,16 +137,16 @@ module _ (log : LogModel) (stated : List ReadStatement) where
       no-deps : has_deps stated k ≡ false
       no-deps = ap (λ o. not (is_empty (unwrap_or (option_map (λ e. asked_text (names_of_edge stated e) (codes "deps")) o) []))) (slice_get_past (edges_read stated) k (omega (arith, count, past)))
 
-  none-again : (k : ℕ) → named log others k ≡ []
+  none-again : (k : ℕ) → news (logged log others) others k ≡ []
   none-again k = ap (λ o. new_inputs (edge_at (paths_of_edges (edges_read others)) k) (inputs_logged log o)) (number-same k) ∙ by (edge-at k)
     where
-      logged : List (List ℕ)
-      logged = inputs_logged log (number_logged log stated k)
+      paths : List (List ℕ)
+      paths = inputs_logged log (number_logged log stated k)
 
-      by : (edge_at (paths_of_edges (edges_read others)) k ≡ with_added (record { outputs = []; inputs = named log stated k }) (edge_at all k)) ⊎ ((edge_at (paths_of_edges (edges_read others)) k ≡ edge_at all k) × (length all ≤ k))
-          → new_inputs (edge_at (paths_of_edges (edges_read others)) k) logged ≡ []
-      by (inl added) = ap (λ (e : EdgePaths). new_inputs e logged) added ∙ none-new (edge_at all k) logged
+      by : (edge_at (paths_of_edges (edges_read others)) k ≡ with_added (record { outputs = []; inputs = news (logged log stated) stated k }) (edge_at all k)) ⊎ ((edge_at (paths_of_edges (edges_read others)) k ≡ edge_at all k) × (length all ≤ k))
+          → new_inputs (edge_at (paths_of_edges (edges_read others)) k) paths ≡ []
+      by (inl added) = ap (λ (e : EdgePaths). new_inputs e paths) added ∙ none-new (edge_at all k) paths
       by (inr (same, past)) = ap (λ o. new_inputs (edge_at (paths_of_edges (edges_read others)) k) (inputs_logged log o)) (none-past k past)
 
 pub same_log : SameLogChangesNothing
-same_log log stated = none-named (named log (with_log log stated)) (none-again log stated) (with_log log stated)
+same_log log stated = none-named (news (logged log (with_log log stated)) (with_log log stated)) (none-again log stated) (with_log log stated)

@@ -1,4 +1,4 @@
--- A deps log that is joined to the graph of a run ("Deps" in the manual).
+-- Inputs that builds discovered, as a deps log names them, joined to the graph of a run ("Deps" in the manual).
 use Rattle.std.specs.Prelude.{◌≡◌, ◌⊎◌, ℕ, Bool, not, if◌then◌else◌, Option, Some, None, option_and_then, Result, Ok, Err, List, [], map, position, codes, bytes_eq}
 use Rattle.nj_text.specs.Calls.{is_empty}
 use Rattle.nj_text.specs.Paths.{clean_path_of}
@@ -34,19 +34,25 @@ paths_logged log (Some o) = map (name_at log.paths) o.inputs
 abbrev pub inputs_logged : LogModel → Option ℕ → List (List ℕ)
 inputs_logged log number = map clean_path_of (paths_logged log (option_and_then (output_of log.outputs) number))
 
--- Each file that the log names for an edge with `deps` becomes an implicit input of it, unless it is an explicit or
--- implicit one already.
-abbrev pub with_log : LogModel → List ReadStatement → List ReadStatement
-with_log log entries =
-    with_inputs_named (λ edge.
-    new_inputs (edge_at (paths_of_edges (edges_read entries)) edge) (inputs_logged log (number_logged log entries edge)))
-    entries
+-- ---- joined
 
--- The graph of the statements with the files of the log; where these have a dependency cycle, its fault; or memory ran
+-- Each path that is named for an edge becomes an implicit input of it, unless it is an explicit or implicit one already.
+abbrev pub with_named : (named : (edge : ℕ) → List (List ℕ)) → List ReadStatement → List ReadStatement
+with_named named entries =
+    with_inputs_named (λ edge. new_inputs (edge_at (paths_of_edges (edges_read entries)) edge) (named edge)) entries
+
+-- The graph of the statements with the inputs that are named; where these have a dependency cycle, its fault; or memory ran
 -- out.
+abbrev pub JoinsNamed : (named : (edge : ℕ) → List (List ℕ)) → (stated : List ReadStatement) → Result GraphModel GraphFault → Type 0
+JoinsNamed named stated (Ok graph) = IsGraphOf graph (with_named named stated)
+JoinsNamed named stated (Err fault) = (fault ≡ no_memory) ⊎ IsCycleFault (edges_read (with_named named stated)) fault
+
+-- the files that the log names for the edges with `deps`
+abbrev pub with_log : LogModel → List ReadStatement → List ReadStatement
+with_log log entries = with_named (λ edge. inputs_logged log (number_logged log entries edge)) entries
+
 abbrev pub JoinsLog : LogModel → (stated : List ReadStatement) → Result GraphModel GraphFault → Type 0
-JoinsLog log stated (Ok graph) = IsGraphOf graph (with_log log stated)
-JoinsLog log stated (Err fault) = (fault ≡ no_memory) ⊎ IsCycleFault (edges_read (with_log log stated)) fault
+JoinsLog log stated result = JoinsNamed (λ edge. inputs_logged log (number_logged log stated edge)) stated result
 
 -- ---- laws
 

@@ -1,5 +1,6 @@
 -- the definitions to believe
 pub mod DepsLogs
+pub mod Discovering
 pub mod Errors
 pub mod Graph
 pub mod Joining
@@ -21,6 +22,7 @@ pub use Rattle.nj_scope.specs.ReadingList
 pub use Rattle.nj_scope.specs.Rules
 pub use Rattle.nj_edges.specs.Changes
 pub use Rattle.nj_edges.specs.Chains
+pub use Rattle.nj_edges.specs.Dirty
 pub use Rattle.nj_edges.specs.Distances
 pub use Rattle.nj_edges.specs.Edges
 pub use Rattle.nj_names.specs.Files

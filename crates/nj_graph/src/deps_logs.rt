@@ -1,6 +1,6 @@
 //! Joins deps logs to the graph of a run.
 
-ghost use Rattle.std.specs.Prelude.{◌≡◌, List, ◌<◌, Option, None, fold, length, map, position, bytes_eq, option_and_then, IfOk, OnOk};
+ghost use Rattle.std.specs.Prelude.{◌≡◌, List, ◌<◌, fold, length, map, position, bytes_eq, option_and_then, IfOk, OnOk};
 ghost use Rattle.std.specs.List.{AllByRecursion};
 ghost use Rattle.nj_text.specs.Paths.{clean_path_of};
 ghost use Rattle.nj_names.specs.NameTables.{name_at};
@@ -8,17 +8,17 @@ ghost use Rattle.nj_scope.specs.ReadingList.{ReadStatement};
 ghost use Rattle.nj_scope.specs.Readings.{IsPrefix};
 ghost use Rattle.nj_edges.specs.Edges.{edge_at, first_output};
 ghost use Rattle.nj_edges.specs.MoreInputs.{with_new_input};
-ghost use Rattle.nj_statements.specs.Built.{ComesTo, IsBuiltOf};
 ghost use Rattle.nj_graph.specs.Graph.{edges_of, files_of, IsGraphOf};
-ghost use Rattle.nj_graph.specs.DepsLogs.{JoinsLog, inputs_logged, number_logged, with_log};
-ghost use Rattle.nj_graph.specs.Inside.LogSteps.{AreNumbersLogged, FinishesWithLog, joined_edges};
+ghost use Rattle.nj_graph.specs.DepsLogs.{JoinsLog, inputs_logged, number_logged};
+ghost use Rattle.nj_graph.specs.Inside.InputSteps.{joined_edges};
+ghost use Rattle.nj_graph.specs.Inside.LogSteps.{AreNumbersLogged, inputs_by_numbers};
 
+use crate::edge_inputs::{EdgeInputs, join_built};
 use crate::graph::Graph;
 use nj_deps::DepsLog;
-use nj_edges::{EdgeGraph, EdgeNo, Finished, JoiningInputs};
-use nj_faults::{GraphFault, Name};
-use nj_statements::Built;
-use nj_text::{TextFault, clean_into, is_clean};
+use nj_discovered::clean;
+use nj_edges::{EdgeGraph, EdgeNo, JoiningInputs};
+use nj_faults::GraphFault;
 use std::alloc::{AllocError, Global};
 
 impl Graph {
@@ -46,7 +46,11 @@ impl Graph {
     {
         let numbers = self.logged_numbers(alloc, log)?;
         let Graph { built, declared } = self;
-        let built = join_built(alloc, built, log, &numbers)?;
+        let named = LoggedInputs {
+            log,
+            numbers: &numbers,
+        };
+        let built = join_built(alloc, built, &named)?;
         Ok(Graph { built, declared })
     }
 
@@ -102,45 +106,21 @@ fn first_output_number(graph: &EdgeGraph, log: &DepsLog, edge: EdgeNo) -> Option
     log.number(graph.path(*output))
 }
 
-// The edges of a run, with the log's inputs for outputs of these numbers, by edge.
-fn join_built(
-    alloc: Global,
-    built: Built,
-    log: &DepsLog,
-    numbers: &[Option<usize>],
-) -> Result<Built, GraphFault>
-    requires { length numbers.now ≡ length built.graph.edges }
-    ensures comes { (stated : List ReadStatement) → IsBuiltOf built stated
-        → AreNumbersLogged log.now stated numbers.now
-        → ComesTo (with_log log.now stated) result }
-    ensures details { IfOk result (λ joined. joined.details ≡ built.details) }
-    ensures count { IfOk result (λ joined.
-        length joined.graph.edges ≡ length built.graph.edges) }
-    ensures files { IfOk result (λ joined. IsPrefix built.graph.files joined.graph.files) }
-{
-    let (graph, records) = built.into_parts();
-    match joined_graph(alloc, graph, log, numbers)? {
-        Finished::Graph(joined) => Ok(records.with_graph(joined)),
-        Finished::Cycle(cycle) => {
-            let output = Name::from(cycle.output);
-            Err(records.cycle_fault(alloc, cycle.edge, output))
-        }
-    }
+// The inputs that a log has for the outputs of these numbers, by edge.
+#[derive(Drop)]
+struct LoggedInputs<'a> {
+    log: &'a DepsLog,
+    numbers: &'a [Option<usize>],
 }
 
-// The graph with the log's inputs for outputs of these numbers, by edge.
-fn joined_graph(
-    alloc: Global,
-    graph: EdgeGraph,
-    log: &DepsLog,
-    numbers: &[Option<usize>],
-) -> Result<Finished, AllocError>
-    requires { length numbers.now ≡ length graph.edges }
-    ensures { IfOk result (λ finished. FinishesWithLog log.now numbers.now graph finished) }
-{
-    let mut joining = graph.join_inputs(alloc)?;
-    join_edges(alloc, &mut joining, log, numbers)?;
-    joining.finish(alloc)
+impl<'a> EdgeInputs for LoggedInputs<'a> {
+    ghost use Rattle.nj_graph.specs.Inside.LogSteps.{inputs_by_numbers};
+
+    ghost inputs = { λ l. inputs_by_numbers l.log.now l.numbers.now };
+
+    fn join(&self, alloc: Global, joining: &mut JoiningInputs) -> Result<(), AllocError> {
+        join_edges(alloc, joining, self.log, self.numbers)
+    }
 }
 
 // Adds to each edge the log's inputs for the output of its number.
@@ -152,7 +132,8 @@ fn join_edges(
 ) -> Result<(), AllocError>
     requires count { length numbers.now ≡ length joining.old.table.stated }
     requires start { joining.old.edge ≡ 0 }
-    ensures { OnOk result (joining.new ≡ joined_edges log.now numbers.now joining.old) }
+    ensures { OnOk result (joining.new
+        ≡ joined_edges (inputs_by_numbers log.now numbers.now) joining.old) }
 {
     let mut buffer = Vec::new(alloc);
     'numbers: for number in numbers {
@@ -196,19 +177,4 @@ fn add_inputs(
         joining.add_input(clean(buffer, log.path(*number as usize))?)?;
     }
     Ok(())
-}
-
-// The clean path of a path, in the buffer where it is another one. A log has no empty path.
-pub(crate) fn clean<'b>(buffer: &'b mut Vec<u8>, path: &'b [u8]) -> Result<&'b [u8], AllocError>
-    ensures { IfOk result (λ clean. clean.now ≡ clean_path_of path.now) }
-{
-    if is_clean(path) {
-        return Ok(path);
-    }
-    buffer.clear();
-    match clean_into(buffer, path) {
-        Ok(()) => Ok(buffer.as_slice()),
-        Err(TextFault::EmptyPath) => Ok(b"."),
-        Err(TextFault::OutOfMemory) => Err(AllocError),
-    }
 }

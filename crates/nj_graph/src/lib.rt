@@ -5,8 +5,11 @@ mod block_bindings;
 mod build_statements;
 mod declaring;
 mod deps_logs;
+mod discovered_inputs;
+mod discovering;
 mod dyndep_files;
 mod edge_assignments;
+mod edge_inputs;
 mod edge_values;
 mod error;
 mod file_statements;
@@ -35,6 +38,7 @@ pub use laws::{
     statements_up_to_the_first_fault, words_mean_targets,
 };
 pub use loading::{Loaded, load};
+pub use nj_discovered::{DepfileError, Discoveries, FileTimes, TimeFound, Unknown, Verdict};
 pub use nj_edges::{EdgeGraph, EdgeNo, EdgeNumbers, FileNo, FileNumbers, Kind, NeedsSearch, Step};
 pub use nj_faults::{Cause, GraphFault, Name, Place, PlaceRef};
 pub use nj_manifest::{Spot, SyntaxCause, Wanted};

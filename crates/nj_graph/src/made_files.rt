@@ -4,8 +4,8 @@ ghost use Rattle.std.specs.Prelude.{◌≡◌, length, All, IfOk, OnOk, bytes_eq
 ghost use Rattle.std.specs.List.{IsDistinct};
 ghost use Rattle.nj_graph.specs.Inside.UndeclaredFound.{AreMade, IsKnownIfAny, MadeIs};
 
-use crate::deps_logs::clean;
 use nj_deps::DepsLog;
+use nj_discovered::clean;
 use nj_edges::{EdgeGraph, EdgeNo, FileNo};
 use std::alloc::{AllocError, Global};
 

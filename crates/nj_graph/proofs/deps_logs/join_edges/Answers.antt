@@ -1,14 +1,16 @@
-use Rattle.std.proofs.Common.{◌∙◌, ◌+◌, None, ap, arith, get_or, length}
-use Rattle.std.proofs.lemmas.Option.{slice_get-get_or}
+use Rattle.std.proofs.Common.{◌∙◌, ◌+◌, None, ap, arith, get_or, length, option_map}
+use Rattle.std.proofs.lemmas.Option.{slice_get-get_or, slice_get-map}
 use Rattle.nj_edges.specs.MoreInputs.{InputTable, at_next_edge}
-use Rattle.nj_graph.proofs.LogLemmas.{after-edge, after-stated, one-more}
+use Rattle.nj_graph.specs.DepsLogs.{inputs_logged}
+use Rattle.nj_graph.specs.Inside.LogSteps.{inputs_by_numbers}
+use Rattle.nj_graph.proofs.InputLemmas.{after-edge, after-stated, one-more}
 use Rattle.nj_graph.proofs.deps_logs.join_edges.Goals as goal
 
 pub end_edge-requires : goal.end_edge-requires
 end_edge-requires c =
-    let number = get_or c.args.numbers.now c.numbers.number-index None in
-    let same = after-edge c.args.log.now number c.numbers.joining c.add_logged.new.joining c.in_ok-add_logged.ensures in
-    let stated = after-stated c.args.log.now number c.numbers.joining c.add_logged.new.joining c.in_ok-add_logged.ensures in
+    let paths = inputs_logged c.args.log.now (get_or c.args.numbers.now c.numbers.number-index None) in
+    let same = after-edge paths c.numbers.joining c.add_logged.new.joining c.in_ok-add_logged.ensures in
+    let stated = after-stated paths c.numbers.joining c.add_logged.new.joining c.in_ok-add_logged.ensures in
     omega (arith, same, stated, c.numbers.invariant.edge, c.numbers.invariant.stated, c.requires.count, c.numbers-test.true)
 
 pub numbers-preserved : goal.numbers-preserved
@@ -17,8 +19,10 @@ numbers-preserved c =
     let numbers = c.args.numbers.now in
     let i = c.numbers.number-index in
     let number = get_or numbers i None in
+    let paths = inputs_logged log number in
+    let here = slice_get-map (inputs_logged log) numbers i ∙ ap (option_map (inputs_logged log)) (slice_get-get_or numbers i None c.numbers-test.true) in
     record {
-      joins = one-more log numbers i number c.numbers.joining c.end_edge.new.self (slice_get-get_or numbers i None c.numbers-test.true) (c.end_edge.ensures ∙ ap at_next_edge c.in_ok-add_logged.ensures) ∙ c.numbers.invariant.joins;
-      edge = ap (λ (t : InputTable). t.edge) c.end_edge.ensures ∙ ap (λ n. n + 1) (after-edge log number c.numbers.joining c.add_logged.new.joining c.in_ok-add_logged.ensures ∙ c.numbers.invariant.edge);
-      stated = ap (λ (t : InputTable). length t.table.stated) c.end_edge.ensures ∙ after-stated log number c.numbers.joining c.add_logged.new.joining c.in_ok-add_logged.ensures ∙ c.numbers.invariant.stated;
+      joins = one-more (inputs_by_numbers log numbers) i paths c.numbers.joining c.end_edge.new.self here (c.end_edge.ensures ∙ ap at_next_edge c.in_ok-add_logged.ensures) ∙ c.numbers.invariant.joins;
+      edge = ap (λ (t : InputTable). t.edge) c.end_edge.ensures ∙ ap (λ n. n + 1) (after-edge paths c.numbers.joining c.add_logged.new.joining c.in_ok-add_logged.ensures ∙ c.numbers.invariant.edge);
+      stated = ap (λ (t : InputTable). length t.table.stated) c.end_edge.ensures ∙ after-stated paths c.numbers.joining c.add_logged.new.joining c.in_ok-add_logged.ensures ∙ c.numbers.invariant.stated;
     }

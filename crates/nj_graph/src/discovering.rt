@@ -1,0 +1,55 @@
+//! What builds discovered for the edges of a graph.
+
+ghost use Rattle.std.specs.Prelude.{◌≡◌, List, IfOk, length};
+ghost use Rattle.nj_scope.specs.ReadingList.{ReadStatement};
+ghost use Rattle.nj_discovered.specs.Discovered.{IsLater};
+ghost use Rattle.nj_graph.specs.Graph.{edges_of, IsGraphOf};
+ghost use Rattle.nj_graph.specs.Discovering.{AreDiscovered};
+
+use crate::graph::Graph;
+use nj_deps::DepsLog;
+use nj_discovered::{Discoveries, FileTimes, Finder};
+use nj_edges::EdgeNo;
+use nj_scope::FileSource;
+use std::alloc::{AllocError, Global};
+
+impl Graph {
+    /// What builds discovered for each edge, as Ninja loads it before a build ("Deps" and "C/C++
+    /// header dependencies" in the Ninja manual): by the log for an edge whose value of `deps` is
+    /// not empty, else by its depfile, if it has one. Each such depfile is read, and where the log
+    /// has a record for the first output of an edge, the time of that output is asked.
+    ///
+    /// Call it before [`Graph::join_discovered`], which makes the inputs that were found inputs of
+    /// the edges.
+    ///
+    /// # Errors
+    ///
+    /// If an allocation failed. A fault of a depfile is a verdict about its edge.
+    pub fn discover<S: FileSource, T: FileTimes>(
+        &self,
+        alloc: Global,
+        log: &DepsLog,
+        files: &mut S,
+        times: &T,
+    ) -> Result<Discoveries, AllocError>
+        ensures later { IsLater (S.state files.old) (S.state files.new) }
+        ensures count { IfOk result (λ found.
+            length found.edges ≡ length (edges_of self.now)) }
+        ensures discovered { (entries : List ReadStatement) → IsGraphOf self.now entries
+            → IfOk result (AreDiscovered (S.state files.old) (S.state files.new)
+            (T.times times.now) log.now entries) }
+    {
+        let graph = self.edge_graph();
+        let mut finder = Finder::new(alloc, files.hash_keys(), graph, log)?;
+        let mut deps = Vec::new(alloc);
+        let mut depfile = Vec::new(alloc);
+        'edges: for edge in 0..graph.edge_count() {
+            deps.clear();
+            self.append_variable(&mut deps, EdgeNo(edge), b"deps")?;
+            depfile.clear();
+            self.append_variable(&mut depfile, EdgeNo(edge), b"depfile")?;
+            finder = finder.with_edge(alloc, files, times, &deps, &depfile)?;
+        }
+        Ok(finder.finish())
+    }
+}
