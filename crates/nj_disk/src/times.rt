@@ -13,18 +13,19 @@ use std::time::UNIX_EPOCH;
 const SECOND: u64 = 1_000_000_000;
 
 /// The times of the files of the working directory.
-pub struct DiskTimes<R> {
+#[derive(Drop)]
+pub struct DiskTimes<R: Drop> {
     rt: R,
 }
 
-impl<R> DiskTimes<R> {
+impl<R: Drop> DiskTimes<R> {
     /// The times of the files of the working directory.
     pub fn new(rt: R) -> DiskTimes<R> {
         DiskTimes { rt }
     }
 }
 
-impl<R: Files> FileTimes for DiskTimes<R> {
+impl<R: Files + Drop> FileTimes for DiskTimes<R> {
     ghost times = { λ _ path. None };
 
     fn time(&self, path: &str) -> Result<Option<u64>, SourceFault> {
