@@ -2,6 +2,7 @@
 
 use crate::depfiles::put_depfile;
 use crate::deps_logs::put_of_log;
+use crate::discovered::{put_dirtied, put_discovered, put_joined_discoveries};
 use crate::joined_logs::{put_joined, put_undeclared};
 use crate::keys::DrawnKeys;
 use crate::lexing::put_lexed;
@@ -49,6 +50,9 @@ fn put_call(
         "hash-keys" => keys.put_compared(alloc, text),
         "join-deps" => put_joined(alloc, text, given, row.rest),
         "undeclared" => put_undeclared(alloc, text, given, row.rest),
+        "discovered" => put_discovered(alloc, text, given, row.rest),
+        "join-discovered" => put_joined_discoveries(alloc, text, given, row.rest),
+        "dirtied" => put_dirtied(alloc, text, given, row.rest),
         _ => put_other(alloc, text, given, row),
     }
 }

@@ -7,6 +7,7 @@ mod changes;
 mod declared;
 mod depfiles;
 mod deps_logs;
+mod discovered;
 mod graphs;
 mod joined_logs;
 mod keys;
