@@ -14,7 +14,7 @@ pub record FoundModel : Type 0 where
   pub verdict : Verdict
   pub inputs : List ℕ
 
--- clean paths, each once, and the edges in the order of their numbers
+-- clean paths without duplicates, and the edges in the order of their numbers
 pub record DiscoveriesModel : Type 0 where
   pub names : List (List ℕ)
   pub edges : List FoundModel

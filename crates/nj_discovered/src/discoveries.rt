@@ -2,7 +2,7 @@
 
 ghost use Rattle.std.specs.Prelude.{◌≡◌, ◌<◌, [], length, slice_get, Some, All};
 ghost use Rattle.nj_discovered.specs.Discoveries.{found_at};
-ghost use Rattle.nj_discovered.specs.Inside.Numbers.{AreBelow};
+ghost use Rattle.std.specs.List.{AllByRecursion};
 
 use crate::verdict::Verdict;
 use nj_names::{HashKeys, Names};
@@ -58,7 +58,7 @@ impl Discoveries {
     pub fn inputs(&self, edge: usize) -> &[u32]
         requires { edge < length self.now.edges }
         ensures inputs { result.now ≡ (found_at self.now edge).inputs }
-        ensures known { AreBelow (length self.now.names) result.now }
+        ensures known { AllByRecursion (λ number. number < length self.now.names) result.now }
     {
         let found = &self.edges[edge];
         &self.inputs.as_slice()[found.start..found.end]

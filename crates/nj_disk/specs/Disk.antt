@@ -11,3 +11,6 @@ pub record Disk : Type 0 where
 -- its known state as a source: how often it failed, and nothing about its readings and files
 abbrev pub disk_state : Disk → SourceState
 disk_state disk = record { readings = None; failures = disk.failed; files = λ path. None }
+
+-- nothing is known of the times of a disk
+pub record Times : Type 0 where

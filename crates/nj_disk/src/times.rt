@@ -6,6 +6,7 @@ use nj_discovered::FileTimes;
 use nj_scope::SourceFault;
 use std::fs::{self, Metadata};
 use std::io::ErrorKind;
+use std::marker::Model;
 use std::rt::Files;
 use std::time::UNIX_EPOCH;
 
@@ -16,6 +17,14 @@ const SECOND: u64 = 1_000_000_000;
 #[derive(Drop)]
 pub struct DiskTimes<R: Drop> {
     rt: R,
+}
+
+impl<R: Drop> Model for DiskTimes<R> {
+    ghost use Rattle.nj_disk.specs.Disk.{Times};
+
+    ghost Value = { Times };
+
+    ghost view = { λ _. record {} };
 }
 
 impl<R: Drop> DiskTimes<R> {
