@@ -368,11 +368,14 @@ def try_deps_log(tests):
     log = deps.log_after([], folder)
     with Graph.load(folder=folder) as plain, Graph.load(folder=folder, deps_log=deps.LOG) as joined:
         for output, wanted in deps.BEFORE.items():
-            before, after = ([each.path for each in it.file(output).maker.inputs] for it in (plain, joined))
-            tests.expect("deps logs", f"{output}, all", set(after), {*before, *wanted})
-            tests.expect("deps logs", f"{output}, each once", len(after), len(set(after)))
-            named = [each.path for each in joined.file(output).maker.inputs if each.kind == Kind.IMPLICIT]
-            tests.expect("deps logs", f"{output}, implicit", set(named), wanted - set(before))
+            before, after = (it.file(output).maker.inputs for it in (plain, joined))
+            all_of_them = {each.path for each in before} | wanted
+            tests.expect("deps logs", f"{output}, all", {each.path for each in after}, all_of_them)
+            counted = [each.path for each in after if each.kind != Kind.ORDER_ONLY]
+            tests.expect("deps logs", f"{output}, without duplicates", len(counted), len(set(counted)))
+            stated = {each.path for each in before if each.kind != Kind.ORDER_ONLY}
+            named = {each.path for each in after if each.kind == Kind.IMPLICIT}
+            tests.expect("deps logs", f"{output}, implicit", named, wanted - stated)
         chain = joined.path_between(joined.target("b c.o"), joined.target("sub/b.h"))
         tests.expect("deps logs", "a chain", [(it.file.path, it.kind) for it in chain], [("sub/b.h", Kind.IMPLICIT)])
         tests.expect("deps logs", "no file", plain.file("sub/b.h"), None)

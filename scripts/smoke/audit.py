@@ -501,8 +501,10 @@ def undeclared_by(build, log):
 
 
 def join(build, log):
+    """Adds the inputs of a log, also those that are order-only, which are then repeated."""
     for edge, paths in logged_inputs(build, log):
-        edge.inputs += [("|", path) for path in paths if path not in edge.paths()]
+        counted = {path for bars, path in edge.inputs if bars != "||"}
+        edge.inputs += [("|", path) for path in paths if path not in counted]
 
 
 @check

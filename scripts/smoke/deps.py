@@ -105,7 +105,8 @@ def read_by_ninja(log, folder):
 
 READ_LOG = ["json", "--deps-log-file", LOG]
 NOT_A_LOG = FAULT, "", f"ninja-graph: {LOG}: not a deps log\n"
-INPUTS = "inputs", "implicit_inputs", "order_only_inputs"
+# Those of an edge that a log does not add again.
+COUNTED = "inputs", "implicit_inputs"
 
 
 def edges_of(ending):
@@ -126,7 +127,7 @@ def joined(edges, outputs):
     docs/DEPS.md describes it."""
     logged = {path: inputs for path, _, inputs in outputs}
     for edge in edges:
-        own = {path for kind in INPUTS for path in edge[kind]}
+        own = {path for kind in COUNTED for path in edge[kind]}
         paths = logged.get((edge["outputs"] + edge["implicit_outputs"])[0], []) if edge["deps"] else []
         added = [path for path in dict.fromkeys(paths) if path not in own]
         yield {**edge, "implicit_inputs": edge["implicit_inputs"] + added}
