@@ -105,8 +105,9 @@ def read_by_ninja(log, folder):
 
 READ_LOG = ["json", "--deps-log-file", LOG]
 NOT_A_LOG = FAULT, "", f"ninja-graph: {LOG}: not a deps log\n"
+INPUTS = "inputs", "implicit_inputs", "order_only_inputs"
 # Those of an edge that a log does not add again.
-COUNTED = "inputs", "implicit_inputs"
+COUNTED = INPUTS[:2]
 
 
 def edges_of(ending):

@@ -51,9 +51,9 @@ State = namedtuple("State", "seed history before")
 Runs = namedtuple("Runs", "edges unknown")
 
 
-def need_deps(graph):
+def need_deps(graph, folder):
     """Skips a check as long as the program has no `--deps`."""
-    if "--deps " not in graph.run(["affected", "--help"]).as_text().output:
+    if "--deps " not in graph.run(["affected", "--help"], folder).as_text().output:
         raise Skipped("ninja-graph has no --deps")
 
 
@@ -203,13 +203,13 @@ def histories_differ(graph, folder, first):
 # Two checks, as each runs on one processor.
 @check(needs=["ninja"])
 def histories(graph, folder):
-    need_deps(graph)
+    need_deps(graph, folder)
     return itertools.islice(histories_differ(graph, folder, 0), SHOWN)
 
 
 @check(needs=["ninja"])
 def other_histories(graph, folder):
-    need_deps(graph)
+    need_deps(graph, folder)
     return itertools.islice(histories_differ(graph, folder, 1), SHOWN)
 
 
@@ -261,12 +261,12 @@ def random_prefixes_differ(graph, folder):
 
 @check(needs=["ninja"])
 def every_prefix_of_a_log(graph, folder):
-    need_deps(graph)
+    need_deps(graph, folder)
     return itertools.islice(small_prefixes_differ(graph, folder), SHOWN)
 
 
 @check(needs=["ninja"])
 def prefixes_of_logs(graph, folder):
     """Logs of random histories, cut off at random bytes."""
-    need_deps(graph)
+    need_deps(graph, folder)
     return itertools.islice(random_prefixes_differ(graph, folder), SHOWN)

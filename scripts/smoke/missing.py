@@ -17,7 +17,7 @@ import subprocess
 from lib.checks import check, expect
 from lib.programs import DONE, FAULT, Program, shown
 from lib.projects import MAIN, write_files
-from smoke.deps import INPUTS, LOG, READ_LOG, contents_differ, cut_off, edges_of, run_ninja, stated_edges
+from smoke.deps import COUNTED, LOG, READ_LOG, contents_differ, cut_off, edges_of, run_ninja, stated_edges
 from smoke.graph import LOOK, without_memory
 
 NINJA = Program("ninja")
@@ -225,7 +225,7 @@ def built_by_hand(made):
 def is_stated(edges, found):
     """Whether these are edges of the manifest, some of which have more implicit inputs at the end."""
     for edge, other in zip(edges, found):
-        own = {path for kind in INPUTS for path in edge[kind]}
+        own = {path for kind in COUNTED for path in edge[kind]}
         stated, inputs = edge["implicit_inputs"], other["implicit_inputs"]
         added = inputs[len(stated) :]
         is_same = {**edge, "implicit_inputs": inputs} == other and inputs[: len(stated)] == stated
