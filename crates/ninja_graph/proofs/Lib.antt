@@ -1,7 +1,1 @@
-mod LineLemmas
 mod LoggedLemmas
-mod FlagLemmas
-mod NeedLemmas
-mod ManifestLemmas
-mod ReportLaws
-mod WritingLemmas

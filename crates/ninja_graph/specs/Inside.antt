@@ -1,3 +1,2 @@
 -- How the code meets the definitions beside this directory.
-pub mod Flags
-pub mod Reached
+pub mod Logged

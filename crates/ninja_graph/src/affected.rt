@@ -1,11 +1,11 @@
 //! The subcommand `affected`: the outputs that a change of files affects.
 
+ghost use Rattle.nj_ask.specs.Joined.{HasEdges};
+
 use crate::failure::Failure;
-use crate::listing::{Listed, unknown_rule};
-use crate::report::write_answer;
-use crate::status::Status;
 use crate::words::{flag, option, repeated};
 use clap::{ArgMatches, Command};
+use nj_ask::{Change, DiscoveredGraph, Listed, Status, unknown_rule, write_answer};
 use nj_graph::Graph;
 use nj_tools::WriteSink;
 use std::alloc::{AllocError, Global};
@@ -16,13 +16,14 @@ const NAME: &str = "affected";
 const ABOUT: &str = "Read changed paths, and write the outputs that the change affects";
 
 const MORE: &str = "\
-A line of standard input is a changed path. Status 3 means that more may be affected: standard error
-names each path that no edge names, as a header that only a compiler knows, and each from which the
-manifest itself is made; or it says that no path was given.
+A line of standard input is a changed path. With --deps the outputs are those that Ninja would build
+again for the change. Status 3 means that more may be affected: standard error names each path that
+no edge names, each from which the manifest itself is made, each dyndep file and each manifest that
+may change, and what could not be read; or it says that no path was given.
 
 Where CMake wrote the manifest, sources have absolute paths, and with Meson they are relative:
-  git diff --name-only main | ninja-graph affected -C build --source-dir \"$PWD\"
-  git diff --name-only main | ninja-graph affected -C build --source-dir ..";
+  git diff --name-only main | ninja-graph affected -C build --deps --source-dir \"$PWD\"
+  git diff --name-only main | ninja-graph affected -C build --deps --source-dir ..";
 
 /// The subcommand with its options.
 pub fn command<'a>(alloc: Global) -> Result<Command<'a>, AllocError> {
@@ -50,6 +51,11 @@ pub fn command<'a>(alloc: Global) -> Result<Command<'a>, AllocError> {
         .arg(flag(alloc, "no-phony", "List no outputs of phony edges"))?
         .arg(flag(
             alloc,
+            "ignore-unknown",
+            "Do not report changed paths that no edge names",
+        ))?
+        .arg(flag(
+            alloc,
             "allow-empty",
             "End with status 0 if no changed path is given",
         ))
@@ -57,24 +63,34 @@ pub fn command<'a>(alloc: Global) -> Result<Command<'a>, AllocError> {
 
 /// Writes the outputs that a change of the files at the paths of standard input affects.
 #[inline(never)]
-pub fn answer(rt: HostRuntime, graph: &Graph, options: &ArgMatches<'_>) -> Result<Status, Failure> {
+pub fn answer(
+    rt: HostRuntime,
+    known: &DiscoveredGraph,
+    options: &ArgMatches<'_>,
+) -> Result<Status, Failure>
+    requires { HasEdges known.now }
+{
     let rules = options.get_strs("rule").unwrap_or(&[]);
-    check_rules(rt.alloc(), graph, rules)?;
+    check_rules(rt.alloc(), &known.graph, rules)?;
     let paths = changed_paths(rt)?;
+    let change = Change {
+        source_dir: options.get_str("source-dir"),
+        paths: &paths,
+        ignores_unknown: options.get_flag("ignore-unknown"),
+    };
     let listed = Listed {
         rules,
         prefix: options.get_str("prefix").unwrap_or(""),
         no_phony: options.get_flag("no-phony"),
     };
+    let allow_empty = options.get_flag("allow-empty");
     let mut out = WriteSink::new(rt.stdout());
     let mut err = WriteSink::new(rt.stderr());
-    let source_dir = options.get_str("source-dir");
     Ok(write_answer(
         rt.alloc(),
-        graph,
-        source_dir,
-        &paths,
-        options.get_flag("allow-empty"),
+        known,
+        change,
+        allow_empty,
         listed,
         &mut out,
         &mut err,

@@ -1,15 +1,15 @@
 //! The subcommand `audit`: findings about the manifest.
 
-ghost use Rattle.ninja_graph.specs.LoggedGraphs.{HasInputs};
+ghost use Rattle.ninja_graph.specs.Inside.Logged.{HasInputs};
 
+use crate::caveats::with_caveats;
 use crate::failure::Failure;
 use crate::findings::{finding_lines, kind_lines, lookup_lines};
 use crate::reading::{LoggedGraph, read_logged_graph};
 use crate::sources::Sources;
-use crate::status::Status;
 use crate::words::{flag, repeated};
-use crate::writing::write_both;
 use clap::{ArgMatches, Command};
+use nj_ask::{Status, write_both};
 use nj_audit::{Kind, Kinds, audit};
 use nj_graph::Graph;
 use nj_tools::{WriteSink, write_whole};
@@ -63,6 +63,7 @@ pub fn answer(rt: HostRuntime, options: &ArgMatches<'_>) -> Result<Status, Failu
     let kinds = kinds_of(rt.alloc(), options)?;
     let logged = read_logged_graph(rt, options, kinds.contains(Kind::UndeclaredInput))?;
     let written = write_findings(rt, &logged, kinds, options.get_flag("json"));
+    let written = with_caveats(rt, &logged.known, written);
     // The process ends here, and its memory with it.
     mem::forget(logged);
     written
@@ -98,7 +99,7 @@ fn write_findings(
 ) -> Result<Status, Failure>
     requires { HasInputs logged.now }
 {
-    let graph = &logged.graph;
+    let graph = &logged.known.graph;
     let sources = sources_of(rt, graph, kinds)?;
     let folder = working_folder(rt)?;
     let found = audit(

@@ -3,13 +3,13 @@
 
 ghost use Rattle.std.specs.Prelude.{◌<◌, All, length};
 ghost use Rattle.nj_graph.specs.Graph.{files_of};
+ghost use Rattle.nj_ask.specs.Joined.{HasEdges};
 
-use crate::drawing::{Extent, draw_affected, draw_needed};
 use crate::failure::Failure;
-use crate::status::Status;
 use crate::words::{count, flag};
 use clap::{Arg, ArgAction, ArgMatches, Command};
-use nj_graph::{FileNo, Graph};
+use nj_ask::{DiscoveredGraph, Extent, Status, draw_affected, draw_needed};
+use nj_graph::FileNo;
 use nj_tools::{Error, WriteSink, write_whole};
 use std::alloc::{AllocError, Global};
 
@@ -62,10 +62,16 @@ pub fn command<'a>(alloc: Global) -> Result<Command<'a>, AllocError> {
 
 /// Writes the requested drawing.
 #[inline(never)]
-pub fn answer(rt: HostRuntime, graph: &Graph, options: &ArgMatches<'_>) -> Result<Status, Failure> {
+pub fn answer(
+    rt: HostRuntime,
+    known: &DiscoveredGraph,
+    options: &ArgMatches<'_>,
+) -> Result<Status, Failure>
+    requires { HasEdges known.now }
+{
     let words = options.get_strs("targets").unwrap_or(&[]);
-    let files = graph.pick_targets(rt.alloc(), words)?;
-    let drawing = drawing_of(rt.alloc(), graph, &files, options)?;
+    let files = known.graph.pick_targets(rt.alloc(), words)?;
+    let drawing = drawing_of(rt.alloc(), known, &files, options)?;
     let mut out = WriteSink::new(rt.stdout());
     match write_whole(&mut out, &drawing) {
         Ok(()) => Ok(Status::Done),
@@ -76,11 +82,12 @@ pub fn answer(rt: HostRuntime, graph: &Graph, options: &ArgMatches<'_>) -> Resul
 /// The drawing of the edges that these files need or affect.
 fn drawing_of(
     alloc: Global,
-    graph: &Graph,
+    known: &DiscoveredGraph,
     files: &[FileNo],
     options: &ArgMatches<'_>,
 ) -> Result<Vec<u8>, Failure>
-    requires { All (λ file. file.0 < length (files_of graph.now)) files.now }
+    requires edges { HasEdges known.now }
+    requires files { All (λ file. file.0 < length (files_of known.now.graph)) files.now }
 {
     let extent = Extent {
         nodes: options.get_one::<usize>("limit").unwrap_or(usize::MAX),
@@ -88,9 +95,9 @@ fn drawing_of(
         folds: options.get_flag("fold"),
     };
     let drawing = if options.get_flag("affected") {
-        draw_affected(alloc, graph, files, extent)
+        draw_affected(alloc, known, files, extent)
     } else {
-        draw_needed(alloc, graph, files, extent)
+        draw_needed(alloc, &known.graph, files, extent)
     };
     match drawing {
         Ok(drawing) => Ok(drawing),

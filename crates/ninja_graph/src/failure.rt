@@ -1,8 +1,8 @@
 //! Why a run does not reach its end.
 
-use crate::status::Status;
+use nj_ask::Status;
 use nj_deps::DepsLogFault;
-use nj_graph::{GraphFault, SourceFault};
+use nj_graph::{Cause, GraphFault, SourceFault};
 use nj_tools::{Error, SinkFault};
 use std::alloc::{AllocError, AllocFailed, Global};
 use std::fmt;
@@ -23,6 +23,10 @@ pub enum Failure {
     Log(String, LogFault),
     /// The path of Ninja's deps log is not UTF-8.
     LogPath,
+    /// The graph has a fault with the inputs that the deps log at this path and depfiles name.
+    Discovered(String, GraphFault),
+    /// The option that `--deps` has replaced is given.
+    OldOption,
     /// The value of `--base` is not absolute.
     Base(String),
     /// No finding is of this kind.
@@ -69,12 +73,23 @@ impl Failure {
         Ok(Failure::Log(String::from_str(alloc, path)?, fault))
     }
 
+    /// That a graph has a fault with the inputs that the deps log at a path and depfiles name.
+    pub fn of_discovered(path: String, fault: GraphFault) -> Failure {
+        if matches!(fault.cause, Cause::OutOfMemory) {
+            return Failure::Graph(Error::OutOfMemory);
+        }
+        Failure::Discovered(path, fault)
+    }
+
     /// How the run ends.
     pub fn status(&self) -> Status {
         match self {
             Failure::Graph(Error::Write) => Status::OutputFailed,
-            Failure::Graph(Error::BadMark) | Failure::Words | Failure::Base(_) | Failure::Kind(_) =>
-                Status::Usage,
+            Failure::Graph(Error::BadMark)
+            | Failure::Words
+            | Failure::OldOption
+            | Failure::Base(_)
+            | Failure::Kind(_) => Status::Usage,
             _ => Status::Fault,
         }
     }
@@ -84,6 +99,7 @@ impl Failure {
     pub fn line(&self, alloc: Global) -> Result<Vec<u8>, AllocError> {
         let mut line = match self {
             Failure::Graph(Error::Graph(fault)) => fault.line_for(alloc, "ninja-graph")?,
+            Failure::Discovered(path, fault) => discovered_line(alloc, path, fault)?,
             _ => format!(in alloc; "ninja-graph: {self}")?.into_bytes(),
         };
         line.push(b'\n')?;
@@ -100,6 +116,12 @@ impl fmt::Display for Failure {
             Failure::Input(error) => write!(f, "cannot read standard input: {error}"),
             Failure::Log(path, fault) => write!(f, "{path}: {fault}"),
             Failure::LogPath => f.write_str("the path of the deps log is not UTF-8"),
+            Failure::Discovered(path, fault) => {
+                write!(f, "{fault}, by the inputs of {path} and of depfiles")
+            }
+            Failure::OldOption => {
+                f.write_str("--deps-log is now --deps, which reads depfiles and times too")
+            }
             Failure::Base(path) => write!(f, "'{path}' of --base is not absolute"),
             Failure::Kind(word) => {
                 write!(
@@ -110,6 +132,14 @@ impl fmt::Display for Failure {
             Failure::Rule(name) => write!(f, "unknown rule '{name}'"),
         }
     }
+}
+
+/// The line of a fault of a graph with the inputs that the deps log at a path and depfiles name.
+fn discovered_line(alloc: Global, path: &str, fault: &GraphFault) -> Result<Vec<u8>, AllocError> {
+    let mut line = fault.line_for(alloc, "ninja-graph")?;
+    let by = format!(in alloc; ", by the inputs of {path} and of depfiles")?;
+    line.extend_from_slice(by.as_bytes())?;
+    Ok(line)
 }
 
 impl LogFault {

@@ -4,8 +4,8 @@ ghost use Rattle.std.specs.Prelude.{◌<◌, length};
 ghost use Rattle.nj_graph.specs.Graph.{edges_of};
 
 use crate::failure::Failure;
-use crate::status::Status;
 use clap::Command;
+use nj_ask::Status;
 use nj_graph::{Cause, EdgeNo, Graph, GraphFault};
 use nj_tools::{Error, ToolFault, WriteSink, write_edge_objects};
 use std::alloc::{AllocError, Global};

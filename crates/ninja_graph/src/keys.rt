@@ -1,19 +1,15 @@
 //! The subcommand `keys`: a key for each command that targets need.
 
-ghost use Rattle.std.specs.Prelude.{◌≡◌, IfOk, option_copied};
-ghost use Rattle.ninja_graph.specs.Pages.{mark_line};
-ghost use Rattle.ninja_graph.specs.Reports.{Reports};
-
+use crate::caveats::with_caveats;
 use crate::failure::Failure;
 use crate::reading::read_graph;
-use crate::status::Status;
 use crate::words::{number, option, repeated, targets};
-use crate::writing::write_both;
 use clap::{ArgMatches, Command};
+use nj_ask::{Status, write_page};
 use nj_graph::Graph;
 use nj_keys::{Bases, Page, page_from};
 use nj_needs::Mark;
-use nj_tools::{Error, Sink, WriteSink};
+use nj_tools::{Error, WriteSink};
 use std::alloc::{AllocError, Global};
 use std::mem;
 
@@ -58,13 +54,24 @@ pub fn command<'a>(alloc: Global) -> Result<Command<'a>, AllocError> {
 pub fn answer(rt: HostRuntime, options: &ArgMatches<'_>) -> Result<Status, Failure> {
     let bases = bases_of(rt.alloc(), options.get_strs("base").unwrap_or(&[]))?;
     let mark = mark_of(rt.alloc(), options.get_str("resume"))?;
-    let graph = read_graph(rt, options)?;
-    let page = page_of(rt.alloc(), &graph, &bases, &mark, options);
+    let known = read_graph(rt, options)?;
+    let page = page_of(rt.alloc(), &known.graph, &bases, &mark, options);
+    let answered = match page {
+        Ok(page) => written(rt, &page),
+        Err(error) => Err(error.into()),
+    };
+    let answered = with_caveats(rt, &known, answered);
     // The process ends here, and its memory with it.
-    mem::forget(graph);
+    mem::forget(known);
+    answered
+}
+
+/// Writes a page.
+#[inline(never)]
+fn written(rt: HostRuntime, page: &Page) -> Result<Status, Failure> {
     let mut out = WriteSink::new(rt.stdout());
     let mut err = WriteSink::new(rt.stderr());
-    Ok(write_page(rt.alloc(), &page?, &mut out, &mut err)?)
+    Ok(write_page(rt.alloc(), page, &mut out, &mut err)?)
 }
 
 /// The page of a graph that the options request, after a mark.
@@ -97,37 +104,4 @@ fn bases_of(alloc: Global, paths: &[&str]) -> Result<Bases, Failure> {
 #[inline(never)]
 fn mark_of(alloc: Global, text: Option<&str>) -> Result<Mark, Error> {
     Ok(Mark::read(alloc, text.unwrap_or("start"))?)
-}
-
-/// Writes the lines of a page to standard output, and its mark, if more are left, to standard
-/// error.
-///
-/// # Errors
-///
-/// `Write` if a sink failed, and `OutOfMemory` if an allocation failed; then nothing was written.
-fn write_page<O: Sink, E: Sink>(
-    alloc: Global,
-    page: &Page,
-    out: &mut O,
-    err: &mut E,
-) -> Result<Status, Error>
-    ensures { Reports (λ outputs warnings. (outputs ≡ page.now.lines.items)
-        × (warnings ≡ mark_line page.now.mark))
-        (O.state out.old) (O.state out.new) (E.state err.old) (E.state err.new) result }
-{
-    let told = mark_line(alloc, page.mark.as_ref())?;
-    write_both(&page.lines, &told, out, err)
-}
-
-/// The line that names a mark; empty if there is none.
-fn mark_line(alloc: Global, mark: Option<&Mark>) -> Result<Vec<u8>, AllocError>
-    ensures { IfOk result (λ line. line.items ≡ mark_line (option_copied mark.entry)) }
-{
-    let mut line = Vec::new(alloc);
-    if let Some(mark) = mark {
-        line.extend_from_slice(b"mark ")?;
-        line.extend_from_slice(mark.to_text(alloc)?.as_bytes())?;
-        line.push(b'\n')?;
-    }
-    Ok(line)
 }

@@ -3,30 +3,25 @@
 
 mod affected;
 mod audit;
-mod chains;
-mod changes;
+mod caveats;
 mod deps_log;
 mod draw;
-mod drawing;
 mod failure;
 mod findings;
 mod json;
 mod keys;
-mod listing;
-mod manifest;
 mod reading;
-mod report;
 mod sources;
-mod status;
 mod why;
 mod words;
-mod writing;
 
+use crate::caveats::with_caveats;
 use crate::failure::Failure;
 use crate::reading::read_graph;
-use crate::status::Status;
+use crate::words::has_old_option;
 use clap::ArgMatches;
 use clap::error::ErrorKind as WordError;
+use nj_ask::Status;
 use nj_tools::Error;
 use std::alloc::Global;
 use std::io::{ErrorKind, Write};
@@ -67,6 +62,9 @@ fn report_out_of_memory(rt: HostRuntime) -> Status {
 /// Runs the program with its words.
 fn run(rt: HostRuntime) -> Result<Status, Failure> {
     let words = arguments(rt)?;
+    if has_old_option(&words) {
+        return Err(Failure::OldOption);
+    }
     match matches_of(rt.alloc(), &words) {
         Ok(matches) => answer(rt, &matches),
         Err(error) => print_error(rt, &error),
@@ -135,15 +133,15 @@ fn answer_about_graph(
     name: &str,
     options: &ArgMatches<'_>,
 ) -> Result<Status, Failure> {
-    let graph = read_graph(rt, options)?;
+    let known = read_graph(rt, options)?;
     let answered = match name {
-        "affected" => affected::answer(rt, &graph, options),
-        "draw" => draw::answer(rt, &graph, options),
-        "json" => json::answer(rt, &graph),
-        "why" => why::answer(rt, &graph, options),
+        "affected" => affected::answer(rt, &known, options),
+        "draw" => with_caveats(rt, &known, draw::answer(rt, &known, options)),
+        "json" => with_caveats(rt, &known, json::answer(rt, &known.graph)),
+        "why" => with_caveats(rt, &known, why::answer(rt, &known.graph, options)),
         _ => Ok(Status::Usage),
     };
     // The process ends here, and its memory with it.
-    mem::forget(graph);
+    mem::forget(known);
     answered
 }

@@ -1,37 +1,51 @@
 //! The graph that the options of a subcommand name.
 
-ghost use Rattle.std.specs.Prelude.{◌≡◌, List, Ok, MatchOption, IfOk};
-ghost use Rattle.nj_graph.specs.DepsLogs.{JoinsLog};
-ghost use Rattle.nj_graph.specs.Graph.{IsGraphOf};
+ghost use Rattle.std.specs.Prelude.{◌≡◌, List, IfOk, map, true};
+ghost use Rattle.nj_graph.specs.Graph.{files_of, IsGraphOf};
 ghost use Rattle.nj_graph.specs.ReadingList.{ReadStatement};
-ghost use Rattle.ninja_graph.specs.LoggedGraphs.{HasInputs, JoinsAndFinds};
+ghost use Rattle.nj_graph.specs.Undeclared.{AreUndeclared, input_of_edge};
+ghost use Rattle.nj_ask.specs.Joined.{Follows, HasEdges};
+ghost use Rattle.ninja_graph.specs.Inside.Logged.{AreInputsOf, HasInputs};
 
-use crate::deps_log::read_log;
+use crate::deps_log::{ReadLog, joins_discovered, read_log};
 use crate::failure::Failure;
 use clap::ArgMatches;
+use nj_ask::{Discovered, DiscoveredGraph, Doubts, all_are_there, with_discovered};
 use nj_deps::DepsLog;
-use nj_disk::DiskFiles;
+use nj_disk::{DiskFiles, DiskTimes};
 use nj_graph::{
-    FileSource, Graph, GraphFault, Loaded, UndeclaredInput, join_dyndeps, load, undeclared_inputs,
+    FileSource, Graph, GraphFault, HashKeys, Loaded, UndeclaredInput, join_dyndeps, load,
+    undeclared_inputs,
 };
 use std::alloc::{AllocError, Global};
 use std::env;
 
-/// A graph with the inputs of the requested deps log, and those among them that edges do not
-/// declare, in numbers of this graph.
+/// The same, with those inputs of the deps log that edges do not declare, if they are requested.
 #[derive(Drop)]
 pub struct LoggedGraph {
-    pub graph: Graph,
+    pub known: DiscoveredGraph,
     pub undeclared: Vec<UndeclaredInput>,
 }
 
-/// Changes to the directory of `-C`, and reads the main file there and all that it includes; with
-/// `--dyndep` also dyndep files, and last the requested deps log.
+/// A graph, and whether dyndep files were joined to it.
+#[derive(Drop)]
+struct JoinedGraph {
+    graph: Graph,
+    has_dyndeps: bool,
+}
+
+/// Changes to the directory of `-C`, and reads the main file there and all that it includes; then
+/// dyndep files and what builds discovered, if they are requested.
 #[inline(never)]
-pub fn read_graph(rt: HostRuntime, options: &ArgMatches<'_>) -> Result<Box<Graph>, Failure> {
-    let mut files = files_of(rt, options)?;
-    let loaded = read_manifest(rt.alloc(), &mut files, options)?;
-    graph_of(rt, &mut files, loaded, options)
+pub fn read_graph(
+    rt: HostRuntime,
+    options: &ArgMatches<'_>,
+) -> Result<Box<DiscoveredGraph>, Failure>
+    ensures { IfOk result (λ known. HasEdges known.value) }
+{
+    let logged = read_logged_graph(rt, options, false)?;
+    let LoggedGraph { known, .. } = Box::into_inner(logged);
+    Ok(Box::new(rt.alloc(), known)?)
 }
 
 /// Reads the same, and finds the inputs of the deps log that edges do not declare, if they are
@@ -46,7 +60,8 @@ pub fn read_logged_graph(
 {
     let mut files = files_of(rt, options)?;
     let loaded = read_manifest(rt.alloc(), &mut files, options)?;
-    boxed_logged_of(rt, &mut files, loaded, options, finds_undeclared)
+    let logged = logged_of(rt, &mut files, loaded, options, finds_undeclared)?;
+    Ok(Box::new(rt.alloc(), logged)?)
 }
 
 /// The files of the directory of `-C`, to which it changes.
@@ -81,35 +96,6 @@ fn boxed(alloc: Global, loaded: Loaded) -> Result<Box<Loaded>, AllocError> {
 
 /// The graph of these files, with all that the options join.
 #[inline(never)]
-fn graph_of<S: FileSource>(
-    rt: HostRuntime,
-    files: &mut S,
-    loaded: Box<Loaded>,
-    options: &ArgMatches<'_>,
-) -> Result<Box<Graph>, Failure> {
-    let graph = with_dyndeps(rt.alloc(), files, loaded, options)?;
-    let log = read_log(rt, files, &graph, options)?;
-    let graph = with_log(rt.alloc(), graph, log)?;
-    Ok(Box::new(rt.alloc(), graph)?)
-}
-
-/// The same, with the inputs of the deps log that edges do not declare, if they are requested.
-#[inline(never)]
-fn boxed_logged_of<S: FileSource>(
-    rt: HostRuntime,
-    files: &mut S,
-    loaded: Box<Loaded>,
-    options: &ArgMatches<'_>,
-    finds_undeclared: bool,
-) -> Result<Box<LoggedGraph>, Failure>
-    ensures { IfOk result (λ logged. HasInputs logged.value) }
-{
-    let logged = logged_of(rt, files, loaded, options, finds_undeclared)?;
-    Ok(Box::new(rt.alloc(), logged)?)
-}
-
-/// The same, not boxed.
-#[inline(never)]
 fn logged_of<S: FileSource>(
     rt: HostRuntime,
     files: &mut S,
@@ -119,82 +105,103 @@ fn logged_of<S: FileSource>(
 ) -> Result<LoggedGraph, Failure>
     ensures { IfOk result HasInputs }
 {
-    let graph = with_dyndeps(rt.alloc(), files, loaded, options)?;
-    match read_log(rt, files, &graph, options)? {
-        Some(log) => Ok(join_log(rt.alloc(), graph, &log, finds_undeclared)?),
-        None => Ok(LoggedGraph {
-            graph,
+    let joined = with_dyndeps(rt, files, loaded, options)?;
+    let keys = files.hash_keys();
+    if !joins_discovered(options) {
+        return Ok(LoggedGraph {
+            known: undiscovered(rt.alloc(), joined, keys),
             undeclared: Vec::new(rt.alloc()),
-        }),
+        });
     }
+    let log = read_log(rt, files, &joined.graph, options)?;
+    let undeclared = undeclared_of(rt.alloc(), &joined.graph, &log.log, finds_undeclared)?;
+    let known = discover(rt, joined, log, keys)?;
+    Ok(LoggedGraph { known, undeclared })
 }
 
-/// The graph of these files; with `--dyndep` joined with dyndep files.
+/// The graph of these files. Dyndep files are joined with `--dyndep`, and where the inputs that
+/// builds discovered are requested, if all of these files are there.
 #[inline(never)]
 fn with_dyndeps<S: FileSource>(
-    alloc: Global,
+    rt: HostRuntime,
     files: &mut S,
     loaded: Box<Loaded>,
     options: &ArgMatches<'_>,
-) -> Result<Graph, GraphFault> {
+) -> Result<JoinedGraph, Failure> {
     let loaded = Box::into_inner(loaded);
-    if options.get_flag("dyndep") {
-        return Ok(join_dyndeps(alloc, loaded, files)?.into_graph());
-    }
-    Ok(loaded.into_graph())
+    let has_dyndeps = options.get_flag("dyndep")
+        || joins_discovered(options) && all_are_there(loaded.graph(), &DiskTimes::new(rt))?;
+    let graph = if has_dyndeps {
+        join_dyndeps(rt.alloc(), loaded, files)?.into_graph()
+    } else {
+        loaded.into_graph()
+    };
+    Ok(JoinedGraph { graph, has_dyndeps })
 }
 
-/// The graph with a deps log's inputs for its edges, if there is one.
-///
-/// # Errors
-///
-/// Those of [`Graph::join_deps`].
-#[inline(never)]
-fn with_log(alloc: Global, graph: Graph, log: Option<DepsLog>) -> Result<Graph, GraphFault>
-    ensures { MatchOption log (result ≡ Ok graph) (λ log. (stated : List ReadStatement)
-        → IsGraphOf graph stated → JoinsLog log stated result) }
+/// A graph without the inputs that builds discovered.
+fn undiscovered(alloc: Global, joined: JoinedGraph, keys: HashKeys) -> DiscoveredGraph
+    ensures { HasEdges result }
 {
-    match log {
-        Some(log) => graph.join_deps(alloc, &log),
-        None => Ok(graph),
+    DiscoveredGraph {
+        graph: joined.graph,
+        has_discovered: false,
+        has_dyndeps: joined.has_dyndeps,
+        unknown: Vec::new(alloc),
+        caveats: Vec::new(alloc),
+        keys,
     }
 }
 
-/// The graph with a deps log's inputs for its edges, and those that the edges do not declare, if they
-/// are requested.
-///
-/// # Errors
-///
-/// Those of [`Graph::join_deps`].
+/// The inputs of the deps log that edges do not declare, if they are requested.
 #[inline(never)]
-fn join_log(
+fn undeclared_of(
     alloc: Global,
-    graph: Graph,
+    graph: &Graph,
     log: &DepsLog,
     finds_undeclared: bool,
-) -> Result<LoggedGraph, GraphFault>
-    ensures { IfOk result HasInputs }
+) -> Result<Vec<UndeclaredInput>, AllocError>
+    ensures inputs { IfOk result (λ inputs. AreInputsOf graph.now inputs.items) }
+    ensures undeclared { finds_undeclared ≡ true → (stated : List ReadStatement)
+        → IsGraphOf graph.now stated → IfOk result (λ inputs. AreUndeclared log.now stated
+        (map (input_of_edge (files_of graph.now)) inputs.items)) }
 {
     if finds_undeclared {
-        return join_and_find(alloc, graph, log);
+        return undeclared_inputs(alloc, graph, log);
     }
-    Ok(LoggedGraph {
-        graph: graph.join_deps(alloc, log)?,
-        undeclared: Vec::new(alloc),
-    })
+    Ok(Vec::new(alloc))
 }
 
-/// The graph with a deps log's inputs for its edges, and those that the edges do not declare.
-///
-/// # Errors
-///
-/// Those of [`Graph::join_deps`].
-fn join_and_find(alloc: Global, graph: Graph, log: &DepsLog) -> Result<LoggedGraph, GraphFault>
-    ensures joins { (stated : List ReadStatement) → IsGraphOf graph stated
-        → JoinsAndFinds log.now stated result }
-    ensures inputs { IfOk result HasInputs }
+/// The graph with the inputs that builds discovered, by this deps log and by the depfiles and times
+/// of the disk.
+#[inline(never)]
+fn discover(
+    rt: HostRuntime,
+    joined: JoinedGraph,
+    log: ReadLog,
+    keys: HashKeys,
+) -> Result<DiscoveredGraph, Failure>
+    ensures edges { IfOk result HasEdges }
+    ensures follows { IfOk result (λ known. Follows joined.graph known.graph) }
 {
-    let undeclared = undeclared_inputs(alloc, &graph, log)?;
-    let graph = graph.join_deps(alloc, log)?;
-    Ok(LoggedGraph { graph, undeclared })
+    let mut files = DiskFiles::of_regular_files(rt);
+    let times = DiskTimes::new(rt);
+    let JoinedGraph { graph, has_dyndeps } = joined;
+    let ReadLog { path, log, caveat } = log;
+    let discovered = match with_discovered(rt.alloc(), graph, &log, &mut files, &times) {
+        Ok(discovered) => discovered,
+        Err(fault) => return Err(Failure::of_discovered(path, fault)),
+    };
+    let Discovered { graph, doubts } = discovered;
+    let Doubts { edges, lines } = doubts;
+    let mut caveats = caveat;
+    caveats.extend_from_slice(&lines)?;
+    Ok(DiscoveredGraph {
+        graph,
+        has_discovered: true,
+        has_dyndeps,
+        unknown: edges,
+        caveats,
+        keys,
+    })
 }

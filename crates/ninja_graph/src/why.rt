@@ -3,11 +3,10 @@
 ghost use Rattle.std.specs.Prelude.{◌<◌, IfOk, length};
 ghost use Rattle.nj_graph.specs.Graph.{files_of};
 
-use crate::chains::write_chain;
 use crate::failure::Failure;
-use crate::status::Status;
 use crate::words::flag;
 use clap::{Arg, ArgMatches, Command};
+use nj_ask::{Status, write_chain};
 use nj_graph::{FileNo, Graph, GraphFault, pick_target};
 use nj_tools::WriteSink;
 use std::alloc::{AllocError, Global};

@@ -38,15 +38,28 @@ fn of_graph<'a>(alloc: Global, command: Command<'a>) -> Result<Command<'a>, Allo
         ))?
         .arg(flag(
             alloc,
-            "deps-log",
-            "Join the headers that compilers reported, from .ninja_deps in builddir",
+            "deps",
+            "Join the inputs that builds discovered: .ninja_deps in builddir, and depfiles",
         ))?
         .arg(option(
             alloc,
             "deps-log-file",
             "FILE",
-            "Join the headers of the deps log FILE",
+            "The same as --deps, with the deps log FILE",
         ))
+}
+
+/// Whether one of these words is the option that `--deps` has replaced. Words after `--` are not
+/// options.
+pub fn has_old_option(words: &[String]) -> bool {
+    for word in words {
+        match word.as_str() {
+            "--" => return false,
+            "--deps-log" => return true,
+            _ => {}
+        }
+    }
+    false
 }
 
 /// `--NAME VALUE`

@@ -1,6 +1,0 @@
-use Rattle.std.proofs.Common.{◌≡◌, drop}
-use Rattle.ninja_graph.specs.Affected.{texts, unknown_rule}
-use Rattle.ninja_graph.proofs.listing.unknown_rule.Given as goal
-
-abbrev pub invariant-names : goal.invariant-names
-invariant-names l = unknown_rule l.fn.graph (texts (drop l.name-index l.names)) ≡ unknown_rule l.fn.graph (texts l.names)

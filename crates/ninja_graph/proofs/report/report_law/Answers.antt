@@ -1,8 +1,0 @@
-use Rattle.ninja_graph.proofs.ReportLaws.{complete, unique}
-use Rattle.ninja_graph.proofs.report.report_law.Goals as goal
-
-pub returns-clause-complete : goal.returns-clause-complete
-returns-clause-complete c = complete
-
-pub returns-clause-unique : goal.returns-clause-unique
-returns-clause-unique c = unique

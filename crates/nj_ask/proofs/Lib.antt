@@ -1,0 +1,8 @@
+mod LineLemmas
+mod DoubtLemmas
+mod OpenedLemmas
+mod FlagLemmas
+mod NeedLemmas
+mod ManifestLemmas
+mod ReportLaws
+mod WritingLemmas

@@ -1,0 +1,8 @@
+use Rattle.nj_ask.proofs.ReportLaws.{complete, unique}
+use Rattle.nj_ask.proofs.report.report_law.Goals as goal
+
+pub returns-clause-complete : goal.returns-clause-complete
+returns-clause-complete c = complete
+
+pub returns-clause-unique : goal.returns-clause-unique
+returns-clause-unique c = unique

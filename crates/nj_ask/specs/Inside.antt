@@ -1,0 +1,5 @@
+-- How the code meets the definitions beside this directory.
+pub mod Findings
+pub mod Flags
+pub mod Quotes
+pub mod Reached

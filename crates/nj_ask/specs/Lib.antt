@@ -1,0 +1,12 @@
+-- the definitions to believe
+pub mod Affected
+pub mod Chains
+pub mod DiscoveredGraphs
+pub mod Joined
+pub mod Manifest
+pub mod Pages
+pub mod Reports
+pub mod Shape
+pub mod Statuses
+-- how the code does that
+pub mod Inside

@@ -1,0 +1,134 @@
+//! The requested outputs of edges.
+
+ghost use Rattle.std.specs.Prelude.{◌≡◌, ◌++◌, ◌<◌, All, IfOk, OnOk, length, map, option_map};
+ghost use Rattle.std.specs.List.{flat_map};
+ghost use Rattle.nj_graph.specs.Edges.{edge_at, is_among, outputs_of};
+ghost use Rattle.nj_graph.specs.Graph.{edges_of};
+ghost use Rattle.nj_ask.specs.Affected.{asked_of, is_asked_for, is_of_rules, line, line_of_output, lines_of_outputs, rule_names, texts, unknown_rule};
+
+use nj_graph::{EdgeNo, Graph};
+use std::alloc::{AllocError, Global};
+
+/// Which outputs are listed.
+#[derive(Clone, Copy)]
+pub struct Listed<'a> {
+    /// The rules of their edges; any rule if there are none.
+    pub rules: &'a [&'a str],
+    /// How their paths begin.
+    pub prefix: &'a str,
+    /// Whether the outputs of phony edges are left out.
+    pub no_phony: bool,
+}
+
+/// The first of these names that no rule has, in any scope; `phony` is a rule too.
+pub fn unknown_rule<'a>(graph: &Graph, names: &[&'a str]) -> Option<&'a str>
+    ensures { option_map (λ name. name.now) result ≡ unknown_rule graph.now (texts names.now) }
+{
+    'names: for name in names {
+        if !is_rule(graph, name.as_bytes()) {
+            return Some(*name);
+        }
+    }
+    None
+}
+
+/// Whether a rule of any scope has this name.
+fn is_rule(graph: &Graph, name: &[u8]) -> bool
+    ensures { result ≡ is_among (rule_names graph.now) name.now }
+{
+    graph.rules().iter().any(|rule| name == rule.name())
+}
+
+/// The requested outputs of these edges, a line each, in the order of the edges.
+pub fn list_outputs(
+    alloc: Global,
+    graph: &Graph,
+    edges: &[EdgeNo],
+    listed: Listed<'_>,
+) -> Result<Vec<u8>, AllocError>
+    requires { All (λ edge. edge.0 < length (edges_of graph.now)) edges.now }
+    ensures { IfOk result (λ lines. lines.items ≡ flat_map (lines_of_outputs graph.now
+        (asked_of listed.entry)) (map (λ edge. edge.0) edges.now)) }
+{
+    let mut lines = Vec::new(alloc);
+    'edges: for edge in edges {
+        push_outputs(&mut lines, graph, *edge, listed)?;
+    }
+    Ok(lines)
+}
+
+/// Appends the requested outputs of an edge.
+fn push_outputs(
+    lines: &mut Vec<u8>,
+    graph: &Graph,
+    edge: EdgeNo,
+    listed: Listed<'_>,
+) -> Result<(), AllocError>
+    requires { edge.0 < length (edges_of graph.now) }
+    ensures { OnOk result (lines.new.items ≡ lines.old.items
+        ++ lines_of_outputs graph.now (asked_of listed.entry) edge.0) }
+{
+    if is_asked_for(graph, edge, listed) {
+        push_paths(lines, graph, edge, listed.prefix)?;
+    }
+    Ok(())
+}
+
+/// Appends the outputs of an edge whose paths begin in this way.
+fn push_paths(
+    lines: &mut Vec<u8>,
+    graph: &Graph,
+    edge: EdgeNo,
+    prefix: &str,
+) -> Result<(), AllocError>
+    requires { edge.0 < length (edges_of graph.now) }
+    ensures { OnOk result (lines.new.items ≡ lines.old.items ++ flat_map
+        (line_of_output prefix.now) (outputs_of (edge_at (edges_of graph.now) edge.0))) }
+{
+    'paths: for output in graph.outputs(edge) {
+        push_path(lines, graph.path(*output), prefix)?;
+    }
+    Ok(())
+}
+
+/// Appends a path as a line if it begins in this way.
+fn push_path(lines: &mut Vec<u8>, path: &[u8], prefix: &str) -> Result<(), AllocError>
+    ensures { OnOk result (lines.new.items ≡ lines.old.items
+        ++ line_of_output prefix.now path.now) }
+{
+    if path.starts_with(prefix.as_bytes()) {
+        push_line(lines, path)?;
+    }
+    Ok(())
+}
+
+/// Whether outputs of an edge are requested.
+fn is_asked_for(graph: &Graph, edge: EdgeNo, listed: Listed<'_>) -> bool
+    requires { edge.0 < length (edges_of graph.now) }
+    ensures { result ≡ is_asked_for graph.now (asked_of listed.entry) edge.0 }
+{
+    is_of_rules(listed.rules, graph.rule_name(edge)) && !(listed.no_phony && graph.is_phony(edge))
+}
+
+/// Whether a rule is one of these, or there are none.
+fn is_of_rules(rules: &[&str], name: &[u8]) -> bool
+    ensures { result ≡ is_of_rules (texts rules.now) name.now }
+{
+    rules.is_empty() || is_named(rules, name)
+}
+
+/// Whether one of these words is a name.
+fn is_named(words: &[&str], name: &[u8]) -> bool
+    ensures { result ≡ is_among (texts words.now) name.now }
+{
+    words.iter().any(|word| name == word.as_bytes())
+}
+
+/// Appends a path as a line.
+pub fn push_line(lines: &mut Vec<u8>, path: &[u8]) -> Result<(), AllocError>
+    ensures { OnOk result (lines.new.items ≡ lines.old.items ++ line path.now) }
+{
+    lines.extend_from_slice(path)?;
+    lines.push(b'\n')?;
+    Ok(())
+}

@@ -1,0 +1,257 @@
+//! A report about a change of files.
+
+ghost use Rattle.std.specs.Prelude.{◌≡◌, ◌≢◌, ◌⊎◌, ◌<◌, ◌++◌, List, [], All, IfOk, OnOk, false, length, map, true};
+ghost use Rattle.nj_graph.specs.ReadingList.{ReadStatement};
+ghost use Rattle.nj_graph.specs.Changes.{IsAffected};
+ghost use Rattle.nj_graph.specs.Files.{path_at};
+ghost use Rattle.nj_graph.specs.Graph.{edges_of, files_of, IsGraphOf};
+ghost use Rattle.nj_ask.specs.Affected.{asked_of};
+ghost use Rattle.nj_ask.specs.DiscoveredGraphs.{IsTouched};
+ghost use Rattle.nj_ask.specs.Reports.{made_from_line, no_path_line, question_of, DoneMissesNothing, HasWarnings, IsReport, Reports, WarningsAreUnique};
+ghost use Rattle.nj_ask.specs.Joined.{HasEdges};
+ghost use Rattle.nj_ask.specs.Inside.Reached.{AddsWarning, AreAffected, AreOpened, AreTouched, CanTellAll, CanTellAt, unnamed_warning};
+
+use crate::changes::{find_file, known_files};
+use crate::discovered::DiscoveredGraph;
+use crate::shape::shape_lines;
+use crate::listing::{Listed, list_outputs, push_line};
+use crate::manifest::Manifest;
+use crate::status::Status;
+use crate::writing::write_both;
+use nj_graph::{EdgeNo, FileNo, Graph};
+use nj_tools::{Error, Sink};
+use std::alloc::{AllocError, Global};
+
+/// A change of files.
+#[derive(Clone, Copy)]
+pub struct Change<'a> {
+    /// The directory in which the paths are, if one is given.
+    pub source_dir: Option<&'a str>,
+    /// The changed paths.
+    pub paths: &'a [Vec<u8>],
+    /// Whether paths that no edge names are not reported.
+    pub ignores_unknown: bool,
+}
+
+/// A report about a change of files.
+#[derive(Drop)]
+struct Report {
+    /// The outputs that the change touches, a line each.
+    outputs: Vec<u8>,
+    /// Why these may not be all, a line for each reason.
+    warnings: Vec<u8>,
+}
+
+/// What standard error says where no path was given.
+const NO_PATH: &[u8] = b"ninja-graph: no changed path was given\n";
+
+/// Writes the answer about a change. Without a path that is a line on standard error, and something
+/// to look at, unless no path need be given: what should have listed the paths may have failed.
+///
+/// # Errors
+///
+/// Those of [`write_report`].
+pub fn write_answer<O: Sink, E: Sink>(
+    alloc: Global,
+    known: &DiscoveredGraph,
+    change: Change<'_>,
+    allow_empty: bool,
+    listed: Listed<'_>,
+    out: &mut O,
+    err: &mut E,
+) -> Result<Status, Error>
+    requires { HasEdges known.now }
+    ensures nothing { allow_empty ≡ false → change.entry.paths.now ≡ []
+        → Reports (λ outputs warnings. (outputs ≡ []) × (warnings ≡ no_path_line))
+        (O.state out.old) (O.state out.new) (E.state err.old) (E.state err.new) result }
+    ensures report { (allow_empty ≡ true) ⊎ (change.entry.paths.now ≢ [])
+        → (entries : List ReadStatement) → IsGraphOf known.now.graph entries
+        → Reports (IsReport known.now entries (question_of change.entry) (asked_of listed.entry))
+        (O.state out.old) (O.state out.new) (E.state err.old) (E.state err.new) result }
+{
+    if change.paths.is_empty() && !allow_empty {
+        return write_both(b"", NO_PATH, out, err);
+    }
+    write_report(alloc, known, change, listed, out, err)
+}
+
+/// Writes the report about a change: to standard output the requested ones of the outputs of exactly
+/// the edges that it touches, in reading order, and to standard error why these may not be all. If
+/// there is a reason, there is something to look at.
+///
+/// # Errors
+///
+/// `Write` if a sink failed, and `OutOfMemory` if an allocation failed; then nothing was written.
+pub fn write_report<O: Sink, E: Sink>(
+    alloc: Global,
+    known: &DiscoveredGraph,
+    change: Change<'_>,
+    listed: Listed<'_>,
+    out: &mut O,
+    err: &mut E,
+) -> Result<Status, Error>
+    requires { HasEdges known.now }
+    ensures { (entries : List ReadStatement) → IsGraphOf known.now.graph entries
+        → Reports (IsReport known.now entries (question_of change.entry) (asked_of listed.entry))
+        (O.state out.old) (O.state out.new) (E.state err.old) (E.state err.new) result }
+{
+    let report = report_of(alloc, known, change, listed)?;
+    write_both(&report.outputs, &report.warnings, out, err)
+}
+
+/// The report about a change.
+fn report_of(
+    alloc: Global,
+    known: &DiscoveredGraph,
+    change: Change<'_>,
+    listed: Listed<'_>,
+) -> Result<Report, AllocError>
+    requires { HasEdges known.now }
+    ensures { (entries : List ReadStatement) → IsGraphOf known.now.graph entries
+        → IfOk result (λ report. IsReport known.now entries (question_of change.entry)
+        (asked_of listed.entry) report.outputs.items report.warnings.items) }
+{
+    let graph = &known.graph;
+    let changed = known_files(alloc, graph, change.source_dir, change.paths)?;
+    let affected = graph.affected_by(alloc, &changed)?;
+    let about = warnings_of(alloc, known, change, &affected)?;
+    let touched = touched_by(alloc, known, &changed, affected)?;
+    let outputs = list_outputs(alloc, graph, &touched, listed)?;
+    let shape = shape_lines(alloc, known, &changed, &touched)?;
+    let warnings = joined(alloc, &known.caveats, &about, &shape)?;
+    Ok(Report { outputs, warnings })
+}
+
+/// Three texts, one after the other.
+fn joined(alloc: Global, first: &[u8], second: &[u8], third: &[u8]) -> Result<Vec<u8>, AllocError>
+    ensures { IfOk result (λ text. text.items ≡ first.now ++ second.now ++ third.now) }
+{
+    let mut text = Vec::new(alloc);
+    text.extend_from_slice(first)?;
+    text.extend_from_slice(second)?;
+    text.extend_from_slice(third)?;
+    Ok(text)
+}
+
+/// The edges that a change of these files touches: those that are to be built again, by the inputs
+/// that builds discovered, if these were joined; otherwise the affected ones, which are given.
+pub fn touched_by(
+    alloc: Global,
+    known: &DiscoveredGraph,
+    changed: &[FileNo],
+    affected: Vec<EdgeNo>,
+) -> Result<Vec<EdgeNo>, AllocError>
+    requires edges { HasEdges known.now }
+    requires files { All (λ file. file.0 < length (files_of known.now.graph)) changed.now }
+    requires affected { AreTouched known.now (IsAffected (edges_of known.now.graph)
+        (map (path_at (files_of known.now.graph)) changed.now)) affected.items }
+    ensures { IfOk result (λ touched. AreTouched known.now (IsTouched known.now
+        (map (path_at (files_of known.now.graph)) changed.now)) touched.items) }
+{
+    if known.has_discovered {
+        return known.graph.dirtied_by(alloc, changed, &known.unknown);
+    }
+    Ok(affected)
+}
+
+/// The warnings about the changed paths, which affect exactly these edges.
+fn warnings_of(
+    alloc: Global,
+    known: &DiscoveredGraph,
+    change: Change<'_>,
+    affected: &[EdgeNo],
+) -> Result<Vec<u8>, AllocError>
+    requires known { All (λ edge. edge.0 < length (edges_of known.now.graph)) affected.now }
+    requires affected { AreAffected known.now.graph (question_of change)
+        (map (λ edge. edge.0) affected.now) }
+    ensures { (entries : List ReadStatement) → IsGraphOf known.now.graph entries
+        → IfOk result (λ text. HasWarnings known.now.graph entries (question_of change.entry)
+        (map (λ path. path.items) change.entry.paths.now) text.items) }
+{
+    let manifest = Manifest::new(alloc, &known.graph, known.keys, affected)?;
+    warnings_about(alloc, &known.graph, change, &manifest)
+}
+
+/// The warnings about the changed paths, by whether the manifest is made from them.
+fn warnings_about(
+    alloc: Global,
+    graph: &Graph,
+    change: Change<'_>,
+    manifest: &Manifest,
+) -> Result<Vec<u8>, AllocError>
+    requires tells { (entries : List ReadStatement) → IsGraphOf graph.now entries
+        → CanTellAll graph.now entries (question_of change) manifest.now }
+    requires names { AreOpened graph.now manifest.now.names }
+    ensures { (entries : List ReadStatement) → IsGraphOf graph.now entries
+        → IfOk result (λ text. HasWarnings graph.now entries (question_of change.entry)
+        (map (λ path. path.items) change.entry.paths.now) text.items) }
+{
+    let mut warnings = Vec::new(alloc);
+    'paths: for path in change.paths {
+        push_warning(alloc, graph, change, manifest, path, &mut warnings)?;
+    }
+    Ok(warnings)
+}
+
+/// Appends the warning about a changed path, if there is one.
+fn push_warning(
+    alloc: Global,
+    graph: &Graph,
+    change: Change<'_>,
+    manifest: &Manifest,
+    path: &[u8],
+    warnings: &mut Vec<u8>,
+) -> Result<(), AllocError>
+    requires tells { (entries : List ReadStatement) → IsGraphOf graph.now entries
+        → CanTellAt graph.now entries (question_of change) path.now manifest.now }
+    requires names { AreOpened graph.now manifest.now.names }
+    ensures { (entries : List ReadStatement) → IsGraphOf graph.now entries
+        → OnOk result (AddsWarning graph.now entries (question_of change.entry)
+        path.now warnings.old.items warnings.new.items) }
+{
+    let Some(file) = find_file(alloc, graph, change.source_dir, path)? else {
+        return push_unnamed(alloc, change, manifest, path, warnings);
+    };
+    if manifest.is_made_from(graph, file) {
+        return push_made_from(warnings, path);
+    }
+    Ok(())
+}
+
+/// Appends the warning about a changed path that no edge names, if there is one.
+fn push_unnamed(
+    alloc: Global,
+    change: Change<'_>,
+    manifest: &Manifest,
+    path: &[u8],
+    warnings: &mut Vec<u8>,
+) -> Result<(), AllocError>
+    ensures { OnOk result (warnings.new.items ≡ warnings.old.items
+        ++ unnamed_warning manifest.now.names (question_of change.entry) path.now) }
+{
+    if manifest.is_opened(alloc, change.source_dir, path)? {
+        return push_made_from(warnings, path);
+    }
+    if change.ignores_unknown {
+        return Ok(());
+    }
+    push_line(warnings, path)
+}
+
+/// Appends a path as a line that says that the manifest is made from it.
+fn push_made_from(lines: &mut Vec<u8>, path: &[u8]) -> Result<(), AllocError>
+    ensures { OnOk result (lines.new.items ≡ lines.old.items ++ made_from_line path.now) }
+{
+    lines.extend_from_slice(path)?;
+    lines.extend_from_slice(b": the manifest is made from it")?;
+    lines.push(b'\n')?;
+    Ok(())
+}
+
+/// Where a change is reported with status 0, each changed path names a file that was not opened and
+/// that no edge which makes the manifest needs, and the outputs that were written are all that it
+/// affects; some paths have one text of warnings only.
+pub fn report_law()
+    ensures complete { DoneMissesNothing }
+    ensures unique { WarningsAreUnique }
+{}

@@ -1,0 +1,235 @@
+//! The files that shape the graph, where they may change.
+
+ghost use Rattle.std.specs.Prelude.{◌≡◌, ◌++◌, ◌<◌, ℕ, List, All, IfOk, IfSome, OnOk, length, map, option_map};
+ghost use Rattle.std.specs.List.{flat_map, range_with_len};
+ghost use Rattle.nj_graph.specs.Graph.{edges_of, files_of, IsGraphOf};
+ghost use Rattle.nj_graph.specs.ReadingList.{ReadStatement};
+ghost use Rattle.nj_ask.specs.Affected.{line};
+ghost use Rattle.nj_ask.specs.Shape.{dyndep_files, dyndep_of, dyndep_text, line_if_changes, lines_of_changing, may_change, remade_text, shape_text};
+ghost use Rattle.nj_ask.specs.Inside.Flags.{is_made_flag, AreMarks};
+
+use crate::discovered::DiscoveredGraph;
+use crate::listing::push_line;
+use crate::manifest::{edge_flags, file_flags, is_set, opened_files};
+use nj_graph::{EdgeNo, FileNo, FileTimes, Graph, SourceFault};
+use std::alloc::{AllocError, Global};
+
+/// Whether the dyndep files of all edges are there.
+pub fn all_are_there<T: FileTimes>(graph: &Graph, times: &T) -> Result<bool, AllocError> {
+    'edges: for number in 0..graph.edge_count() {
+        if !is_there(graph.dyndep(EdgeNo(number)), times)? {
+            return Ok(false);
+        }
+    }
+    Ok(true)
+}
+
+/// Whether the file at the path of an edge's dyndep file is there, if the edge has one.
+fn is_there<T: FileTimes>(path: Option<&[u8]>, times: &T) -> Result<bool, AllocError> {
+    let Some(path) = path else {
+        return Ok(true);
+    };
+    let Ok(path) = str::from_utf8(path) else {
+        return Ok(false);
+    };
+    match times.time(path) {
+        Ok(time) => Ok(time.is_some()),
+        Err(SourceFault::OutOfMemory) => Err(AllocError),
+        Err(SourceFault::Io) => Ok(false),
+    }
+}
+
+/// Of files and edges, what may change.
+#[derive(Drop)]
+struct Marks {
+    /// Of each file whether it is one of those that are asked about.
+    is_some: Vec<bool>,
+    /// Of each file whether it changed.
+    has_changed: Vec<bool>,
+    /// Of each edge whether the change touches it.
+    is_touched: Vec<bool>,
+}
+
+/// Where these files changed, which touches these edges: why the graph may have another shape, a line
+/// each. Those are dyndep files that changed, that such an edge makes, or that were not joined; and,
+/// with the inputs that builds discovered, manifests that such an edge makes.
+pub fn shape_lines(
+    alloc: Global,
+    known: &DiscoveredGraph,
+    changed: &[FileNo],
+    touched: &[EdgeNo],
+) -> Result<Vec<u8>, AllocError>
+    requires changed { All (λ file. file.0 < length (files_of known.now.graph)) changed.now }
+    requires touched { All (λ edge. edge.0 < length (edges_of known.now.graph)) touched.now }
+    ensures { (entries : List ReadStatement) → IsGraphOf known.now.graph entries
+        → IfOk result (λ lines. lines.items ≡ shape_text known.now entries
+        (map (λ file. file.0) changed.now) (map (λ edge. edge.0) touched.now)) }
+{
+    let mut lines = dyndep_lines(alloc, known, changed, touched)?;
+    lines.extend_from_slice(&remade_lines(alloc, known, touched)?)?;
+    Ok(lines)
+}
+
+/// A line for each dyndep file that may change.
+fn dyndep_lines(
+    alloc: Global,
+    known: &DiscoveredGraph,
+    changed: &[FileNo],
+    touched: &[EdgeNo],
+) -> Result<Vec<u8>, AllocError>
+    requires changed { All (λ file. file.0 < length (files_of known.now.graph)) changed.now }
+    requires touched { All (λ edge. edge.0 < length (edges_of known.now.graph)) touched.now }
+    ensures { (entries : List ReadStatement) → IsGraphOf known.now.graph entries
+        → IfOk result (λ lines. lines.items ≡ dyndep_text known.now.graph entries
+        known.now.has_dyndeps (map (λ file. file.0) changed.now)
+        (map (λ edge. edge.0) touched.now)) }
+{
+    let graph = &known.graph;
+    let files = dyndep_files(alloc, graph)?;
+    let marks = marks_of(alloc, graph, &files, changed, touched)?;
+    marked_lines(alloc, graph, b": a dyndep file, may change", known.has_dyndeps, &marks)
+}
+
+/// A line for each file that was opened and that one of these edges makes, if it is known what
+/// builds discovered: otherwise the warnings about changed paths say that.
+fn remade_lines(
+    alloc: Global,
+    known: &DiscoveredGraph,
+    touched: &[EdgeNo],
+) -> Result<Vec<u8>, AllocError>
+    requires { All (λ edge. edge.0 < length (edges_of known.now.graph)) touched.now }
+    ensures { IfOk result (λ lines. lines.items ≡ remade_text known.now.graph
+        known.now.has_discovered (map (λ edge. edge.0) touched.now)) }
+{
+    if !known.has_discovered {
+        return Ok(Vec::new(alloc));
+    }
+    let graph = &known.graph;
+    let files = opened_files(alloc, graph)?;
+    let marks = marks_of(alloc, graph, &files, &[], touched)?;
+    marked_lines(alloc, graph, b": a manifest, may change", true, &marks)
+}
+
+/// The marks of these files, changed files and touched edges.
+fn marks_of(
+    alloc: Global,
+    graph: &Graph,
+    files: &[FileNo],
+    changed: &[FileNo],
+    touched: &[EdgeNo],
+) -> Result<Marks, AllocError>
+    requires files { All (λ file. file.0 < length (files_of graph.now)) files.now }
+    requires changed { All (λ file. file.0 < length (files_of graph.now)) changed.now }
+    requires touched { All (λ edge. edge.0 < length (edges_of graph.now)) touched.now }
+    ensures { IfOk result (AreMarks graph.now (map (λ file. file.0) files.now)
+        (map (λ file. file.0) changed.now) (map (λ edge. edge.0) touched.now)) }
+{
+    let is_some = file_flags(alloc, graph.file_count(), files)?;
+    let has_changed = file_flags(alloc, graph.file_count(), changed)?;
+    let is_touched = edge_flags(alloc, graph.edge_count(), touched)?;
+    Ok(Marks {
+        is_some,
+        has_changed,
+        is_touched,
+    })
+}
+
+/// The dyndep files of all edges, as often as edges are bound to them.
+fn dyndep_files(alloc: Global, graph: &Graph) -> Result<Vec<FileNo>, AllocError>
+    ensures files { (entries : List ReadStatement) → IsGraphOf graph.now entries
+        → IfOk result (λ files. map (λ file. file.0) files.items
+        ≡ dyndep_files graph.now entries) }
+    ensures known { IfOk result (λ files.
+        All (λ file. file.0 < length (files_of graph.now)) files.items) }
+{
+    let mut files = Vec::new(alloc);
+    'edges: for number in 0..graph.edge_count() {
+        let found = dyndep_file(graph, EdgeNo(number));
+        match found {
+            Some(file) => files.push(file)?,
+            None => {}
+        }
+    }
+    Ok(files)
+}
+
+/// The dyndep file of an edge, if it has one.
+fn dyndep_file(graph: &Graph, edge: EdgeNo) -> Option<FileNo>
+    requires { edge.0 < length (edges_of graph.now) }
+    ensures file { (entries : List ReadStatement) → IsGraphOf graph.now entries
+        → option_map (λ file. file.0) result ≡ dyndep_of graph.now entries edge.0 }
+    ensures known { IfSome result (λ file. file.0 < length (files_of graph.now)) }
+{
+    match graph.dyndep(edge) {
+        Some(path) => graph.file_named(path),
+        None => None,
+    }
+}
+
+/// A line for each marked file that may change, with what it is.
+fn marked_lines(
+    alloc: Global,
+    graph: &Graph,
+    what: &[u8],
+    are_joined: bool,
+    marks: &Marks,
+) -> Result<Vec<u8>, AllocError>
+    ensures { (files changed edges : List ℕ) → AreMarks graph.now files changed edges marks.now
+        → IfOk result (λ lines. lines.items
+        ≡ lines_of_changing graph.now what.now are_joined files changed edges) }
+{
+    let mut lines = Vec::new(alloc);
+    'files: for number in 0..graph.file_count() {
+        push_if_changes(&mut lines, graph, what, are_joined, marks, FileNo(number))?;
+    }
+    Ok(lines)
+}
+
+/// Appends the line of a file if it is marked and may change.
+fn push_if_changes(
+    lines: &mut Vec<u8>,
+    graph: &Graph,
+    what: &[u8],
+    are_joined: bool,
+    marks: &Marks,
+    file: FileNo,
+) -> Result<(), AllocError>
+    requires { file.0 < length (files_of graph.now) }
+    ensures { (files changed edges : List ℕ) → AreMarks graph.now files changed edges marks.now
+        → OnOk result (lines.new.items ≡ lines.old.items
+        ++ line_if_changes graph.now what.now are_joined files changed edges file.0) }
+{
+    if is_set(&marks.is_some, file.0) && may_change(graph, are_joined, marks, file) {
+        return push_changing(lines, graph.path(file), what);
+    }
+    Ok(())
+}
+
+/// Whether a marked file may change.
+fn may_change(graph: &Graph, are_joined: bool, marks: &Marks, file: FileNo) -> bool
+    requires { file.0 < length (files_of graph.now) }
+    ensures { (files changed edges : List ℕ) → AreMarks graph.now files changed edges marks.now
+        → result ≡ may_change graph.now are_joined changed edges file.0 }
+{
+    !are_joined
+        || is_set(&marks.has_changed, file.0)
+        || is_made_by(&marks.is_touched, graph.maker(file))
+}
+
+/// Whether there is a maker, and it has a flag.
+fn is_made_by(flags: &[bool], maker: Option<EdgeNo>) -> bool
+    ensures { result ≡ is_made_flag flags.now (option_map (λ edge. edge.0) maker) }
+{
+    match maker {
+        Some(edge) => is_set(flags, edge.0),
+        None => false,
+    }
+}
+
+/// Appends a path, with what is at it, as a line.
+fn push_changing(lines: &mut Vec<u8>, path: &[u8], what: &[u8]) -> Result<(), AllocError>
+    ensures { OnOk result (lines.new.items ≡ lines.old.items ++ line (path.now ++ what.now)) }
+{
+    lines.extend_from_slice(path)?;
+    push_line(lines, what)
+}
