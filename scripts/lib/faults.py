@@ -51,7 +51,7 @@ PLACED_FAULTS = [
     (rb"path is not UTF-8", ANYTHING),
     (rb"more than 32 files open", WORD),
     (rb"more than 65536 files opened", WORD),
-    (rb"dependency cycle through '.*'", LINE_START + rb"build"),
+    (rb"dependency cycle through '.*'(?:, by the inputs of .* and of depfiles)?", LINE_START + rb"build"),
     (rb"'.*' not mentioned in its dyndep file '.*'", LINE_START + rb"build"),
     (rb"multiple statements for '.*'", WORD),
     (rb"'.*' has no dyndep binding for this file", WORD),
@@ -91,6 +91,7 @@ USAGE_FAULTS = {
         rb"ninja-graph: bad mark\n",
         rb"ninja-graph: '.*' of --base is not absolute\n",
         rb"ninja-graph: unknown kind '.*'; ninja-graph audit --list lists the kinds\n",
+        rb"ninja-graph: --deps-log is now --deps, which reads depfiles and times too\n",
         rb"error: (?!out of memory).*\n",
     ],
 }
@@ -150,10 +151,10 @@ def fault_is_wrong(name, error, files):
 
 def look_is_wrong(rows, words, ending):
     """The problem, if any, with a run of these arguments that ended with status 3."""
-    tool = rows.tools.get(rows.tool_of(words))
-    if not tool or not tool.looks:
+    looks = rows.looks_of(words)
+    if not looks:
         return "it has no status 3"
-    for output, error in tool.looks:
+    for output, error in looks:
         if is_one_of(ending.output, [output]) and is_one_of(ending.error, [error]):
             return None
     return "there is nothing to look at"

@@ -127,8 +127,27 @@ build a.o: cc a.c
 build b.o: cc b.c || gen.h
 build app: phony a.o b.o
 """
-LOG = deps_log({"a.o": ["a.c", "a.h", "gen.h"], "b.o": ["./gen.h", "/usr/b.h"], "old.o": ["a.h"]})
+RECORDS = {"a.o": ["a.c", "a.h", "gen.h"], "b.o": ["./gen.h", "/usr/b.h"], "old.o": ["a.h"]}
+LOG = deps_log(RECORDS)
 LOG_OF_NINJA = "out/.ninja_deps"
+# The depfiles of edges without `deps`, one of which waits for a generated header.
+DEPFILES = """\
+builddir = out
+rule cc
+  command = cc -c $in -o $out
+  depfile = $out.d
+rule gen
+  command = gen $out
+build gen.h: gen
+build a.o: cc a.c || gen.h
+build b.o: cc b.c
+build all: phony a.o b.o
+"""
+DEPFILE_A = """\
+a.o: a.c a.h \\
+  gen.h
+"""
+DEPFILE_B = "./b.o: b.c ./b.h\n"
 
 # An input that is the single byte FF.
 NOT_UTF8 = as_bytes(RESPONSE).replace(b" a b", b" \xff b")
@@ -171,6 +190,7 @@ OTHER_LOGS = {
     "old": OPENING[:-4] + b"\3\0\0\0",
 }
 LOGGED_PROJECTS = {
+    "depfile": Project({MAIN: DEPFILES, "a.o.d": DEPFILE_A, "b.o.d": DEPFILE_B}, {}),
     "logged": Project({MAIN: LOGGED, LOG_OF_NINJA: LOG}, {}),
     "other logs": Project({MAIN: LOGGED, **OTHER_LOGS}, {}),
 }

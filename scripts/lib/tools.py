@@ -13,6 +13,15 @@ CHANGED = "<"
 MARK = rb"mark v?(?:start|\d+(?:\.\d+)*)\n"
 NOTHING, ANYTHING, LINES = rb"", rb".*", rb"(?:[^\n]+\n)+"
 NOT_LOOKED_UP = rb"(?:[^\n]+: cannot look up source '[^\n]*'\n)+"
+# With these options standard error may end in caveats: lines about a deps log, a depfile, the time of an output
+# and a dyndep file.
+JOINING = {"--deps", "--deps-log-file"}
+CAVEATS = (
+    rb"(?:[^\n]+: (?:\d+ of its \d+ bytes were read|not a deps log|deps log of version \d+"
+    rb"|it cannot be read|expected ':' in depfile|inputs may not also have inputs|no outputs declared"
+    rb"|depfile mentions '[^\n]*' as an output, but no such output was declared"
+    rb"|its time cannot be read|a dyndep file, may change)\n)+"
+)
 
 
 class Run(NamedTuple):
@@ -68,6 +77,14 @@ class Rows:
         """The runs on these projects, or on all."""
         names = projects or self.runs
         return [run_of(name, line) for name in names for line in self.runs[name]]
+
+    def looks_of(self, words):
+        """The patterns of both outputs with which a run of these arguments may end with status 3."""
+        tool = self.tools.get(self.tool_of(words))
+        looks = tool.looks if tool else ()
+        if tool and JOINING & {word.partition("=")[0] for word in words}:
+            looks += tuple((output, error + CAVEATS) for output, error in [(ANYTHING, NOTHING), *looks])
+        return looks
 
     def tool_of(self, words):
         """The name of the tool that arguments name; `None` if they name none."""
@@ -240,6 +257,7 @@ GRAPH_TOOLS = {
             "--rule": "NAME",
             "--prefix": "TEXT",
             "--no-phony": None,
+            "--ignore-unknown": None,
             "--allow-empty": None,
         },
         looks=((ANYTHING, LINES),),
@@ -292,6 +310,8 @@ GRAPH_RUNS = {
     "two scopes": ["affected < s", "json", "keys P", "why C P"],
     "dyndep file": [
         "affected --dyndep < extra",
+        "affected --deps < extra a",
+        "affected < extra dd",
         "audit --dyndep",
         "draw --dyndep --inputs 2",
         "json --dyndep",
@@ -325,21 +345,29 @@ GRAPH_RUNS = {
     "not UTF-8": ["audit", "draw", "json", "keys"],
     "cycle": ["json", "affected < c"],
     "logged": [
-        "affected --deps-log < a.h",
-        "audit --deps-log --except missing-source",
-        "draw --deps-log --affected gen.h",
-        "json --deps-log",
-        "keys --deps-log b.o",
-        "why --deps-log app /usr/b.h",
+        "affected --deps < a.h",
+        "audit --deps --except missing-source",
+        "draw --deps --affected gen.h",
+        "json --deps",
+        "keys --deps b.o",
+        "why --deps app /usr/b.h",
     ],
     "other logs": [
-        "affected --deps-log < a.h",
+        "affected --deps < a.h",
         "audit --deps-log-file cut",
-        "json --deps-log-file cut --deps-log",
+        "json --deps-log-file cut --deps",
         "json --deps-log-file cycle",
         "json --deps-log-file old",
         "keys --deps-log-file build.ninja",
         "why --deps-log-file nothing app a.c",
+        "json --deps-log",
+    ],
+    "depfile": [
+        "affected --deps < a.h",
+        "affected --deps --ignore-unknown < b.h none build.ninja",
+        "audit --deps",
+        "json --deps",
+        "why --deps all b.h",
     ],
 }
 GRAPH_CHAIN = (
@@ -353,7 +381,7 @@ GRAPH_CHAIN = (
 
 GRAPH_NESTED = (
     "affected --rule deep --prefix a --no-phony --source-dir . < d",
-    "affected --deps-log < h f7",
+    "affected --deps < h f7",
     "affected --allow-empty",
     "audit --deps-log-file log --only unused-output --except missing-source --json",
     "audit --list",
@@ -376,7 +404,7 @@ PROGRAMS = {
         EXPLAIN_NESTED,
     ),
     GRAPH: Rows(
-        {"-C": "DIR", "-f": "FILE", "--dyndep": None, "--deps-log": None, "--deps-log-file": "FILE"},
+        {"-C": "DIR", "-f": "FILE", "--dyndep": None, "--deps": None, "--deps-log-file": "FILE"},
         GRAPH_TOOLS,
         GRAPH_RUNS,
         GRAPH_CHAIN,

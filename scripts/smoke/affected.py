@@ -46,6 +46,7 @@ build once: mk once.in
 anew = 1
 """,
     "rules.ninja": b"# The rules of all.\n",
+    "dd": b"ninja_dyndep_version = 1\nbuild app: dyndep\n",
     "parts.ninja": b"build part: mk part.c\n",
     "made.ninja": b"rule mk\n  command = mk\nbuild made.ninja: mk made.in\nbuild other: mk made.in\n",
 }
@@ -59,15 +60,11 @@ MADE_FROM = {
     "rules.ninja": ["handbook"],  # a file that was opened, and that is an input
     "once.in": ["once"],  # `generator` in the block of the edge
 }
-# And where it is not: an empty `generator` in a block hides the one of the rule, and the maker of
-# a dyndep file makes no manifest.
-OTHERS = {
-    "plain.in": ["plain"],
-    "part.c": ["part"],
-    "app.c": ["app"],
-    "dd.in": ["dd", "app"],
-    "dd": ["app"],
-}
+# And where it is not: an empty `generator` in a block hides the one of the rule. The dyndep file is joined.
+OTHERS = {"plain.in": ["plain"], "part.c": ["part"], "app.c": ["app"]}
+# The maker of a dyndep file makes no manifest, but that file may say something else then.
+OF_DYNDEP = {"dd.in": ["dd", "app"], "dd": ["app"]}
+MAY_CHANGE = "dd: a dyndep file, may change\n"
 
 
 def lines(texts):
@@ -87,11 +84,16 @@ def manifest_is_made_from(graph, folder):
     write_files(folder, FILES)
     for path, outputs in MADE_FROM.items():
         wanted = LOOK, lines(outputs), told([path])
-        yield from expect(path, run(graph, folder, [], [path]), wanted)
+        yield from expect(path, run(graph, folder, ["--dyndep"], [path]), wanted)
     for path, outputs in OTHERS.items():
-        yield from expect(path, run(graph, folder, [], [path]), (DONE, lines(outputs), ""))
-    wanted = DONE, lines(["part", "dd", "app", "plain"]), ""
-    yield from expect("no manifest", run(graph, folder, [], OTHERS), wanted)
+        yield from expect(path, run(graph, folder, ["--dyndep"], [path]), (DONE, lines(outputs), ""))
+    for path, outputs in OF_DYNDEP.items():
+        wanted = LOOK, lines(outputs), MAY_CHANGE
+        yield from expect(path, run(graph, folder, ["--dyndep"], [path]), wanted)
+    wanted = DONE, lines(["part", "app", "plain"]), ""
+    yield from expect("no manifest", run(graph, folder, ["--dyndep"], OTHERS), wanted)
+    wanted = LOOK, lines(["part"]), MAY_CHANGE
+    yield from expect("a dyndep file that is not joined", run(graph, folder, [], ["part.c"]), wanted)
 
 
 def timed(graph, folder, paths):
@@ -145,7 +147,7 @@ def of_rules(graph, folder):
     ran = run(graph, PROJECT, ["--rule", "check"], ["main.c"])
     yield from expect("no edge of the rule", ran, (DONE, "", ""))
     write_files(folder, FILES)
-    words, told_of = ["--no-phony"], told(["settings.txt"])
+    words, told_of = ["--no-phony", "--dyndep"], told(["settings.txt"])
     ran = run(graph, folder, words, ["settings.txt"])
     yield from expect("no phony", ran, (LOOK, lines(["stamp"]), told_of))
     ran = run(graph, folder, [*words, "--rule", "phony"], ["settings.txt"])
@@ -195,10 +197,10 @@ def warnings_are_in_order(graph, folder):
     """Each path has its warning, whatever the others are, and the tests are written all the same."""
     write_files(folder, FILES)
     paths = ["app.c", "none.c", "./configure", "dd.in", "rules.ninja", "configure", "part.c"]
-    found = run(graph, folder, ["--prefix", "app"], paths)
-    told_of = lines(["none.c"]) + told(["./configure", "rules.ninja", "configure"])
+    found = run(graph, folder, ["--dyndep", "--prefix", "app"], paths)
+    told_of = lines(["none.c"]) + told(["./configure", "rules.ninja", "configure"]) + MAY_CHANGE
     yield from expect("all", found, (LOOK, lines(["app"]), told_of))
-    found = run(graph, folder, ["--rule", "mk"], ["configure"])
+    found = run(graph, folder, ["--dyndep", "--rule", "mk"], ["configure"])
     yield from expect("no test", found, (LOOK, "", told(["configure"])))
 
 
@@ -255,6 +257,8 @@ build a: phony a.o
 builddir = out
 """
 LOG = deps_log({"a.o": ["a.c", "./a.h", "/usr/a.h"], "b.o": ["b.h"], "gone.o": ["gone.h"]})
+# The bytes of a record with one input: its size, the output, the time and the input.
+LAST_RECORD = 4 + 4 + 8 + 4
 
 
 @check
@@ -263,15 +267,15 @@ def headers_of_a_log(graph, folder):
     write_files(folder, {"build.ninja": LOGGED.encode(), "out/.ninja_deps": LOG, "copy": LOG})
     paths = ["a.h", "/usr/a.h", "b.h", "gone.h"]
     known, others = lines(["a.o", "a"]), lines(paths[2:])
-    for words in ["--deps-log"], ["--deps-log-file", "copy"], ["--deps-log", "--deps-log-file=copy"]:
+    for words in ["--deps"], ["--deps-log-file", "copy"], ["--deps", "--deps-log-file=copy"]:
         yield from expect(words, run(graph, folder, words, paths), (LOOK, known, others))
         yield from expect(f"{words}, one", run(graph, folder, words, paths[:1]), (DONE, known, ""))
     yield from expect("no log", run(graph, folder, [], paths), (LOOK, "", lines(paths)))
-    words = ["--deps-log", "--source-dir", "/usr"]
+    words = ["--deps", "--source-dir", "/usr"]
     yield from expect("folder", run(graph, folder, words, ["a.h"]), (DONE, known, ""))
     (folder / "out/.ninja_deps").unlink()
-    ran = run(graph, folder, ["--deps-log"], paths)
-    yield from expect("a log that is not there", ran, (LOOK, "", lines(paths)))
+    ran = run(graph, folder, ["--deps"], paths)
+    yield from expect("a log that is not there has no records", ran, (LOOK, known, lines(paths)))
 
 
 @check
@@ -279,7 +283,7 @@ def logs_without_builddir(graph, folder):
     for value in "", "builddir = out\nbuilddir =\n":
         text = LOGGED.replace("builddir = old\n", "").replace("builddir = out\n", value)
         write_files(folder, {"build.ninja": text.encode(), ".ninja_deps": LOG})
-        ran = run(graph, folder, ["--deps-log"], ["a.h"])
+        ran = run(graph, folder, ["--deps"], ["a.h"])
         yield from expect(f"builddir {value!r}", ran, (DONE, lines(["a.o", "a"]), ""))
 
 
@@ -289,9 +293,9 @@ def logs_after_dyndep_files(graph, folder):
     dyndep = b"ninja_dyndep_version = 1\nbuild a.o: dyndep | a.h d.h\n"
     text = LOGGED.replace("cc a.c", "cc a.c || dd\n  dyndep = dd")
     write_files(folder, {"build.ninja": text.encode(), "dd": dyndep, "out/.ninja_deps": LOG})
-    words = ["--dyndep", "--deps-log"]
-    ran = run(graph, folder, words, ["a.h", "d.h", "/usr/a.h"])
-    yield from expect("both", ran, (DONE, lines(["a.o", "a"]), ""))
+    for words in ["--dyndep", "--deps"], ["--deps"]:
+        ran = run(graph, folder, words, ["a.h", "d.h", "/usr/a.h"])
+        yield from expect(words, ran, (DONE, lines(["a.o", "a"]), ""))
 
 
 @check
@@ -305,16 +309,13 @@ def faults_of_logs(graph, folder):
     for name, text in texts.items():
         ran = run(graph, folder, ["--deps-log-file", name], ["a.c"])
         yield from expect(name, ran, (FAULT, "", f"ninja-graph: {name}: {text}\n"))
-    cycle = deps_log({"a.o": ["a"]})
-    write_files(folder, {"cycle": cycle, "cut": LOG[:-4]})
-    status, output, error = run(graph, folder, ["--deps-log-file", "cycle"], ["a.c"])
-    found = status, output, error.startswith("build.ninja:5:1: dependency cycle")
-    yield from expect("a cycle", found, (FAULT, "", True))
+    write_files(folder, {"cut": LOG[:-4]})
     ran = run(graph, folder, ["--deps-log-file", "cut"], ["a.h", "gone.h"])
-    yield from expect("cut off", ran, (LOOK, lines(["a.o", "a"]), lines(["gone.h"])))
+    told_of = f"cut: {len(LOG) - LAST_RECORD} of its {len(LOG) - 4} bytes were read\ngone.h\n"
+    yield from expect("cut off", ran, (LOOK, lines(["a.o", "a"]), told_of))
     write_files(folder, {"build.ninja": LOGGED.encode().replace(b"= out", b"= \xff")})
     text = "ninja-graph: the path of the deps log is not UTF-8\n"
-    yield from expect("not UTF-8", run(graph, folder, ["--deps-log"], ["a.c"]), (FAULT, "", text))
+    yield from expect("not UTF-8", run(graph, folder, ["--deps"], ["a.c"]), (FAULT, "", text))
 
 
 @check
@@ -325,7 +326,7 @@ def logs_that_are_no_files(graph, folder):
     os.mkfifo(folder / "pipe")
     os.mkfifo(folder / "out/.ninja_deps")
     (folder / "link").symlink_to("pipe")
-    asked = [([name, "--deps-log", *words], "out/.ninja_deps") for name, (_, words) in SUBCOMMANDS.items()]
+    asked = [([name, "--deps", *words], "out/.ninja_deps") for name, (_, words) in SUBCOMMANDS.items()]
     for path in "pipe", "link", "out", "/dev/zero", "/dev/null":
         asked.append((["json", "--deps-log-file", path], path))
     for words, path in asked:
@@ -334,22 +335,39 @@ def logs_that_are_no_files(graph, folder):
 
 
 def with_log(build, log):
-    """The inputs of edges, with the log's for the first output of an edge with `deps`."""
+    """Adds the log's inputs for the first output of an edge with `deps`. Returns the edges whose discovered
+    inputs are not known: there are no depfiles, and no outputs."""
+    unknown = []
     for edge in build.edges:
         if build.value(edge, "deps"):
             edge.inputs += [("|", path) for path in log.get(edge.outputs[0], [])]
+            unknown += [edge] if edge.outputs[0] not in log else []
+        elif build.value(edge, "depfile"):
+            unknown.append(edge)
+    return unknown
 
 
-def wanted_of(build, paths):
-    """The output for a change of these paths."""
+def is_dirty(edge, reached, unknown):
+    """Whether an edge is to be built again, once these files change."""
+    counted = {path for bars, path in edge.inputs if bars != "||"}
+    return edge in unknown or bool(reached & {*counted, *edge.outputs})
+
+
+def wanted_of(build, paths, unknown=None):
+    """The output for a change of these paths; with a log if the edges are given that are not known by it."""
+    if not paths:
+        return LOOK, "", NO_PATH
     named = {it for edge in build.edges for it in [*edge.outputs, *edge.paths(), *edge.validations]}
     reached, affected = set(paths) & named, []
     # outputs come before those made from them, but for inputs that only a log names
     for _ in build.edges:
-        affected = [edge for edge in build.edges if reached & set(edge.paths())]
+        if unknown is None:
+            affected = [edge for edge in build.edges if reached & set(edge.paths())]
+        else:
+            affected = [edge for edge in build.edges if is_dirty(edge, reached, unknown)]
         reached |= {path for edge in affected for path in edge.outputs}
     outputs = lines(path for edge in affected for path in edge.outputs)
-    told = lines(path for path in paths if path not in named) if paths else NO_PATH
+    told = lines(path for path in paths if path not in named)
     return LOOK if told else DONE, outputs, told
 
 
@@ -369,9 +387,9 @@ def random_logs(graph, folder):
         paths = some(chance, [*HEADERS, *SOURCES, *firsts, "gone"], 8)
         plain = wanted_of(build, paths)
         yield from expect(f"build {seed}", run(graph, folder, [], paths), plain)
-        with_log(build, log)
-        logged = wanted_of(build, paths)
-        yield from expect(f"build {seed}, log", run(graph, folder, ["--deps-log"], paths), logged)
+        unknown = with_log(build, log)
+        logged = wanted_of(build, paths, unknown)
+        yield from expect(f"build {seed}, log", run(graph, folder, ["--deps"], paths), logged)
         only_by_log += plain != logged
     yield from expect("builds that a log changes", only_by_log > 40, True)
 

@@ -555,6 +555,6 @@ def generated_headers(graph, folder):
     declared = "build.ninja:11:1: undeclared input 'c.h'\n"
     yield from expect("no log", run(graph, folder, []), (LOOK, declared, ""))
     first = "build.ninja:9:1: undeclared input 'a.h'\n"
-    yield from expect("a log", run(graph, folder, ["--deps-log"]), (LOOK, first + declared, ""))
+    yield from expect("a log", run(graph, folder, ["--deps"]), (LOOK, first + declared, ""))
     (folder / ".ninja_deps").unlink()
-    yield from expect("none there", run(graph, folder, ["--deps-log"]), (LOOK, declared, ""))
+    yield from expect("none there", run(graph, folder, ["--deps"]), (LOOK, declared, ""))

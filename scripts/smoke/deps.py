@@ -11,7 +11,7 @@ import json
 import re
 
 from lib.checks import check, expect
-from lib.programs import DONE, FAULT, Program
+from lib.programs import DONE, FAULT, LOOK, Program
 from lib.projects import MAIN, Project, write_files
 
 NINJA = Program("ninja")
@@ -134,24 +134,36 @@ def joined(edges, outputs):
         yield {**edge, "implicit_inputs": edge["implicit_inputs"] + added}
 
 
-def contents_differ(graph, folder, logs):
-    """Compares the edges to which ninja-graph joins a log with what Ninja reads in it."""
-    edges = stated_edges(graph, folder)
-    for log in logs:
-        outputs, warning, _ = read_by_ninja(log, folder)
-        (folder / LOG).write_bytes(log)
-        ran = graph.run(READ_LOG, folder).as_text()
-        name = f"a log of {len(log)} bytes"
-        if NO_LOG in warning:
-            yield from expect(name, ran, NOT_A_LOG)
-        else:
-            yield from expect(f"{name}, its end", (ran.status, ran.error), (DONE, ""))
-            yield from expect(name, edges_of(ran), [*joined(edges, outputs)])
+def content_differs(graph, folder, edges, log, read, end):
+    """Compares the edges to which ninja-graph joins a log with what Ninja reads in it, which is up to a byte."""
+    outputs, warning, _ = read
+    (folder / LOG).write_bytes(log)
+    ran = graph.run(READ_LOG, folder).as_text()
+    name = f"a log of {len(log)} bytes"
+    if NO_LOG in warning:
+        yield from expect(name, ran, NOT_A_LOG)
+        return
+    caveat = f"{LOG}: {end} of its {len(log)} bytes were read\n" if end < len(log) else ""
+    yield from expect(f"{name}, its end", (ran.status, ran.error), (LOOK if caveat else DONE, caveat))
+    yield from expect(name, edges_of(ran), [*joined(edges, outputs)])
 
 
 def cut_off(log):
     """A log that is cut off at each byte."""
     return [log[:size] for size in range(len(log) + 1)]
+
+
+def contents_differ(graph, folder, logs):
+    """The same for logs that Ninja reads whole, and for the second of them cut off at each byte. Ninja truncates
+    a log to its last whole record, unless at most three bytes are left."""
+    edges = stated_edges(graph, folder)
+    for log in logs:
+        yield from content_differs(graph, folder, edges, log, read_by_ninja(log, folder), len(log))
+    cut = [(log, read_by_ninja(log, folder)) for log in cut_off(logs[1])]
+    ends = {len(logs[1]), *(kept for _, (_, warning, kept) in cut if CUT_OFF in warning)}
+    for log, read in cut:
+        end = max((it for it in ends if it <= len(log)), default=0)
+        yield from content_differs(graph, folder, edges, log, read, end)
 
 
 @check(needs=["ninja", "cc"])
@@ -166,4 +178,4 @@ def logs_of_ninja(graph, folder):
         outputs, warning, kept = read_by_ninja(log, copy)
         found = {path: {*inputs} for path, _, inputs in outputs}
         yield from expect("by Ninja", (found, warning, kept), (wanted, "", len(log)))
-    yield from contents_differ(graph, copy, [*logs, *cut_off(second)])
+    yield from contents_differ(graph, copy, logs)

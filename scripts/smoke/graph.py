@@ -60,7 +60,7 @@ def wrong_words(graph):
         status, output, error = run(graph, PROJECT, words)
         yield from expect(words, (status, output, error == ""), (USAGE, "", False))
     for name, (_, answered) in SUBCOMMANDS.items():
-        for words in ["--nothing"], ["-f"], ["-C"], ["-f", "a", "-f", "b"], ["-V"], ["--dyndep=x"], ["--deps-log=x"]:
+        for words in ["--nothing"], ["-f"], ["-C"], ["-f", "a", "-f", "b"], ["-V"], ["--dyndep=x"], ["--deps=x"]:
             status, output, error = run(graph, PROJECT, [name, *words, *answered])
             yield from expect([name, *words], (status, output, error == ""), (USAGE, "", False))
     ran = graph.run_by_shell(["affected"], PROJECT, after="$(printf '\\377')")
@@ -184,7 +184,7 @@ def stack_of_subcommands(graph, folder):
     """Every subcommand has the same output with little stack as with much, with 32 files open."""
     nested(MOST_OPEN).write_to(folder)
     write_files(folder, LOGGED)
-    for options in [], ["--dyndep"], ["--deps-log"], ["--dyndep", "--deps-log"]:
+    for options in [], ["--dyndep"], ["--deps"], ["--dyndep", "--deps"]:
         for name, *words in ON_NESTED:
             asked = [name, *options, *words]
             usual = graph.run(asked, folder, b"d\nh\n")

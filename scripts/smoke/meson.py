@@ -155,15 +155,15 @@ def configured_anew(graph, program, folder):
     for words in ["meson", "setup", "build"], ["ninja", "-C", "build"]:
         subprocess.run(words, cwd=source, stdout=subprocess.DEVNULL, check=True)
     yield from explained_differs(graph, program, build)
-    words = ["--source-dir", "..", "--rule", "c_LINKER", "--deps-log"]
+    words = ["--source-dir", "..", "--rule", "c_LINKER", "--deps"]
     for changed, wanted in ("include/text/words.h", ["count", "words_test"]), ("src/main.c", ["count"]):
         found = affected(graph, build, words, [changed])
         yield from expect(changed, found, (DONE, lines(wanted), ""))
     found = affected(graph, build, ["--source-dir", ".."], ["meson.build"])
     yield from expect("its lists", found.status, LOOK)
-    found = why(graph, build, "--deps-log", "count", "../include/text/words.h")
+    found = why(graph, build, "--deps", "count", "../include/text/words.h")
     yield from expect("why", (found.status, found.error, found.output.count("\n")), (DONE, "", 2))
-    found = graph.run(["audit", "--deps-log"], build).as_text()
+    found = graph.run(["audit", "--deps"], build).as_text()
     wanted = f"build.ninja:{line_of('reconfigure', build)}:1: repeated command 'reconfigure'\n"
     yield from expect("audit", found, (LOOK, wanted, ""))
     yield from drawing_differs("anew", graph, build, ["words_test"], DRAWN)

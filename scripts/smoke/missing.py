@@ -105,13 +105,20 @@ def pairs_of(edges, ending):
     return [(outputs[":".join(place)], name) for *place, name in found]
 
 
+def is_audit(ending):
+    """Whether `audit` ends like this with a log: its findings, and perhaps that the log is cut off."""
+    is_whole = not ending.error
+    status = LOOK if ending.output or not is_whole else DONE
+    return ending.status == status and (is_whole or bool(CUT.fullmatch(ending.error)))
+
+
 def undeclared(graph, edges, log, folder):
     """The pairs that `audit` finds by a log; none where it is refused."""
     (folder / LOG).write_bytes(log)
     ran = graph.run(AUDIT_LOG, folder)
     if REFUSED_LOG.fullmatch(ran.error) and (ran.status, ran.output) == (FAULT, b""):
         return []
-    if ran.status != (LOOK if ran.output else DONE) or ran.error:
+    if not is_audit(ran):
         raise RuntimeError(f"audit ends with {shown(ran)}")
     return pairs_of(edges, ran)
 
@@ -119,7 +126,11 @@ def undeclared(graph, edges, log, folder):
 # The parts replaced by these bytes: the numbers of a record, its size, and its kind.
 DAMAGE = 0, 1, 127, 128, 255
 REFUSED_LOG = re.compile(rb"ninja-graph: %b: (not a deps log|deps log of version \d+)\n" % re.escape(LOG.encode()))
-CYCLE = re.compile(rb"build\.ninja:\d+:1: dependency cycle through '.*'\n")
+CUT = re.compile(rb"%b: \d+ of its \d+ bytes were read\n" % re.escape(LOG.encode()))
+CYCLE = re.compile(
+    rb"build\.ninja:\d+:1: dependency cycle through '.*', by the inputs of %b and of depfiles\n"
+    % re.escape(LOG.encode())
+)
 # Of an edge that `json` cannot write, after those before it.
 NOT_UTF8 = re.compile(rb"build\.ninja:\d+:1: text is not UTF-8\n")
 
@@ -158,7 +169,7 @@ def compare(graph, folder, files, logs, wanted):
         found = undeclared(graph, edges, log, copy)
         yield from expect(f"the pairs by a log of {len(log)} bytes", {*found}, pairs)
         yield from expect(f"the pairs by a log of {len(log)} bytes, repeated", len(found), len(pairs))
-    yield from contents_differ(graph, copy, every)
+    yield from contents_differ(graph, copy, logs)
 
 
 def logs_by_hand(made):
@@ -242,7 +253,8 @@ def way_of(edges, ran):
     if ran.status == FAULT and (REFUSED_LOG.fullmatch(ran.error) or CYCLE.fullmatch(ran.error)):
         return None if ran.output else REFUSED
     found = edges_of(ran)
-    is_whole = (ran.status, ran.error, len(found)) == (DONE, b"", len(edges))
+    is_told = (ran.status, ran.error) == (DONE, b"") or ran.status == LOOK and CUT.fullmatch(ran.error)
+    is_whole = is_told and len(found) == len(edges)
     is_cut = ran.status == FAULT and NOT_UTF8.fullmatch(ran.error) and len(found) < len(edges)
     if not is_stated(edges, found) or not (is_whole or is_cut):
         return None
@@ -263,7 +275,7 @@ def damaged_logs(graph, folder):
             yield f"json with {text!r}: {shown(ran)}"
         elif way == REFUSED:
             yield from expect(f"audit with {text!r}", found, ran)
-        elif found.status != (LOOK if found.output else DONE) or found.error:
+        elif not is_audit(found):
             yield f"audit with {text!r}: {shown(found)}"
         else:
             pairs_of(edges, found)

@@ -361,9 +361,12 @@ def isolated_keys(numbers):
 
 def graph_of_discovery():
     """The same for the manifest with a dyndep file."""
-    yield "affected < dd", done(paths(ALL))
-    yield "affected < e7", done("")
+    may_change = "dd: a dyndep file, may change\n"
+    yield "affected < dd", (LOOK, paths(ALL), may_change)
+    yield "affected < e7", (LOOK, "", may_change)
     yield "affected --dyndep < e7", done(paths(ALL[8:]))
+    # the edge of an output that changed is built again
+    yield "affected --deps < e7", done(paths(ALL[7:]))
     yield "audit --dyndep --except missing-source", done("")
     wanted = {f"dd > mk > e{n}" if not n else f"e{n - 1} dd > mk > e{n}" for n in ALL}
     yield "draw --dyndep", done({edge.replace("dd >", "|| dd >") for edge in wanted}), draw.edges
@@ -386,8 +389,9 @@ def graph_of_log():
     inputs = [(b"", b"s7", b""), (b"|", b"h", b""), (b"|", b"g", of_gen)]
     of_cc = key([b"cc o7", b"", b""], b"o7", inputs)
     yield "affected < h", (LOOK, "", "h\n")
-    for word in "--deps-log", "--deps-log-file=.ninja_deps":
+    for word in "--deps", "--deps-log-file=.ninja_deps":
         yield f"affected {word} < h", done(outputs)
+        yield f"affected {word} --ignore-unknown < none g", done(lines(["g"]) + outputs)
         yield f"audit {word} --only undeclared-input", (LOOK, undeclared, "")
         yield f"audit {word} --json --except missing-source", (LOOK, in_json, "")
         yield f"draw {word} --affected h", done(arrows), draw.edges
