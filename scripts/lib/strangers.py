@@ -3,7 +3,7 @@
 Most of them are real projects with bytes and lines that are deleted, doubled, swapped or spliced.
 Others include themselves, have long lines, deep or wide graphs, values that grow, dyndep files that
 are mostly wrong, or names that collide if hashes start from 0. For ninja-graph the same manifests come
-with hostile changed paths, and with deps logs, most of which are damaged.
+with hostile changed paths, and with deps logs and depfiles, most of which are damaged.
 """
 
 import random
@@ -93,7 +93,7 @@ VALUES = {
     "K": ["0", "1", "9", "x"],
     "MARK": MARKS,
 }
-LOG, LOG_OF_NINJA = "log", ".ninja_deps"
+LOG, LOG_OF_NINJA, DEPFILE = "log", ".ninja_deps", "d"
 VERSIONS = [b"\3\0\0\0", b"\4\0\0\0", b"\5\0\0\0", b"\xff" * 4, b"\4\0"]
 VIEWS = ["", "all", "rule", "rule mk", "depth", "depth 0", "depth 2", "depth 3000000000", "some"]
 
@@ -133,7 +133,7 @@ class Maker:
             words = self.words(files)
             return files, words, b"", "depth" in words or grows
         self.chance = random.Random(f"{name} {seed}")
-        files = self.with_logs(files)
+        files = self.pick([self.with_logs, self.with_logs, self.with_depfile])(files)
         return files, self.words_for_graph(files), self.changed_paths(files), grows
 
     def files(self):
@@ -331,6 +331,18 @@ class Maker:
             files = {name: text.replace(before, after) for name, text in files.items()}
         return {**files, self.pick([LOG, LOG_OF_NINJA]): self.log(files)}
 
+    def with_depfile(self, files):
+        """The files with a depfile, mostly a damaged one, of all edges."""
+        line = b"\n  depfile = %b\n  command =" % self.pick([DEPFILE.encode()] * 9 + [b"$out", b"\xff", b"."])
+        files = {name: text.replace(b"\n  command =", line) for name, text in files.items()}
+        words = files[MAIN][:20_000].replace(b":", b" ").split()
+        outputs = [word for at, word in enumerate(words) if words[at - 1] == b"build"]
+        named = self.chance.choices([*words, b"h", b"./h", b"\\\n", b"x" * 5000], k=self.pick([0, 1, 3, 30]))
+        text = b"%b: %b\n" % (self.pick([*outputs, b"o"]), b" ".join(named))
+        for _ in range(self.pick([0, 0, 1, 2, 5])):
+            text = self.change_bytes(text)
+        return {**files, DEPFILE: text}
+
     def log(self, files):
         """A log that names the outputs and other words of the main file."""
         words = files[MAIN][:20_000].decode("latin-1").replace(":", " ").split()
@@ -359,8 +371,8 @@ class Maker:
         chosen = [it for it in tool.options.items() if self.chance.random() < 0.2]
         chosen += [it for it in rows.every.items() if self.chance.random() < 0.1]
         chosen += [("--dyndep", None)] * (self.chance.random() < 0.2 and "--dyndep" not in dict(chosen))
-        if LOG_OF_NINJA in files and not any(option == "--deps-log" for option, _ in chosen):
-            chosen.append(("--deps-log", None))
+        if {LOG_OF_NINJA, DEPFILE} & {*files} and not any(option == "--deps" for option, _ in chosen):
+            chosen.append(("--deps", None))
         if LOG in files and not any(option == "--deps-log-file" for option, _ in chosen):
             return [name, *self.given(chosen), f"--deps-log-file={LOG}", *self.end(), *words]
         foreign = ["-s", "-d", "--nothing", "--help", "-V", "--fold", "--json", "--take=1", "--list"]

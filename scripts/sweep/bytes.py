@@ -1,7 +1,7 @@
 """Changes each byte of small projects.
 
 One project has a dyndep file, one has two files with lines that end in CR LF, and for ninja-graph one
-has a deps log. Each file is cut off after each of its bytes, and each byte is replaced in turn by NUL,
+has a deps log and one has depfiles. Each file is cut off after each of its bytes, and each byte is replaced in turn by NUL,
 a tab, CR and `$`. All runs on the project (lib/tools.py) have to succeed or to report one fault, and
 the place of the fault has to contain the subject of such a fault.
 """
@@ -19,7 +19,7 @@ from lib.tools import EXPLAIN, GRAPH, PROGRAMS
 BYTES = {"NUL": b"\0", "a tab": b"\t", "CR": b"\r", "$": b"$"}
 CHANGED = {
     EXPLAIN: ["dyndep file", "generated"],
-    GRAPH: ["dyndep file", "generated", "logged"],
+    GRAPH: ["dyndep file", "generated", "logged", "depfile"],
 }
 ENDINGS = DONE, FAULT, LOOK
 LAST_DOLLAR = {EXPLAIN: ["-t", "commands"], GRAPH: ["json"]}

@@ -16,9 +16,9 @@ from pathlib import Path
 
 from lib.checks import check
 from lib.programs import FAULT, LOOK, OUTPUT_FAILED, STOPPED, Ending, compiled, shown
-from lib.projects import EVERY_PROJECT, LOG_OF_NINJA, MAIN, Project, input_of
+from lib.projects import EVERY_PROJECT, MAIN, RECORDS, Project, input_of
 from lib.sweeps import Sweep, lacks_runs
-from lib.tools import EXPLAIN, GRAPH, PROGRAMS, run_of
+from lib.tools import EXPLAIN, GRAPH, JOINING, PROGRAMS, run_of
 
 # The errors with which a call fails, and the numbers of bytes to which it is cut short.
 ERRORS = {
@@ -64,22 +64,40 @@ def ways():
 # ---- how a run may end
 
 
-def log_of(words):
-    """The deps log that arguments request, or `None`."""
-    if "--deps-log-file" in words:
-        return words[words.index("--deps-log-file") + 1]
-    return LOG_OF_NINJA if "--deps-log" in words else None
+def own_log(runs):
+    """Ninja's log of the project."""
+    folder = re.search(rb"^builddir = (.*)$", runs.project.files[MAIN], re.M)
+    return f"{folder[1].decode()}/.ninja_deps" if folder else ".ninja_deps"
+
+
+def log_of(runs):
+    """The deps log that a run requests, or `None`."""
+    if "--deps-log-file" in runs.words:
+        return runs.words[runs.words.index("--deps-log-file") + 1]
+    return own_log(runs) if "--deps" in runs.words else None
+
+
+def depfiles_of(runs):
+    """The depfiles that a run reads, in the order of their edges."""
+    return [name for name in runs.project.files if name.endswith(".d")] if log_of(runs) else []
+
+
+def dyndep_of(runs):
+    """The dyndep file that a run joins if it is there, or `None`."""
+    names = [name for name in runs.project.files if name == "dd"]
+    return names[0] if names and JOINING & {*runs.words} else None
 
 
 def opened_files(runs):
     """The files that a run may open, in this order: each with the place of the statement that opens it,
-    or `None` for a log."""
+    or `None` for a log and a depfile."""
     places, words = list(runs.project.places.items()), runs.words
     if "-f" in words:
         name = words[words.index("-f") + 1]
         places[0] = name, f"{name}:1:1"
-    log = log_of(words)
-    return [*places, (log, None)] if log else places
+    log = log_of(runs)
+    others = [log, *depfiles_of(runs)] if log else []
+    return [*places, *((name, None) for name in others)]
 
 
 def fault_of_file(runs, number, text, text_of_log):
@@ -89,15 +107,34 @@ def fault_of_file(runs, number, text, text_of_log):
     return Ending(FAULT, b"", f"{line}\n".encode())
 
 
+def with_caveat(runs, ending, caveat):
+    """How a run ends like this one and says something of what builds discovered: `affected` first, others last.
+    A fault comes alone."""
+    if ending.status == FAULT:
+        return ending
+    line = f"{caveat}\n".encode()
+    error = line + ending.error if "affected" in runs.words else ending.error + line
+    return Ending(LOOK, ending.output, error)
+
+
+def unread(runs, number):
+    """How a run ends in which a file cannot be read: of a depfile there is a caveat, and its edge is not known."""
+    name, _ = opened_files(runs)[number - 1]
+    if name in depfiles_of(runs):
+        return with_caveat(runs, runs.run_with(name, None), f"{name}: it cannot be read")
+    return fault_of_file(runs, number, "cannot read", "the file could not be read")
+
+
 def wanted_open(runs, opened, way):
-    """A file that does not exist cannot be found; Ninja's own log is empty then. An interrupted call is
-    tried again. After any other error the file cannot be read."""
+    """A file that does not exist cannot be found; Ninja's own log is empty then, and of a depfile the edge is not
+    known. An interrupted call is tried again. After any other error the file cannot be read."""
     if way == "EINTR":
         return runs.usual
     if way != "ENOENT":
-        return fault_of_file(runs, opened, "cannot read", "the file could not be read")
-    if opened_files(runs)[opened - 1] == (LOG_OF_NINJA, None):
-        return runs.without_log()
+        return unread(runs, opened)
+    name, place = opened_files(runs)[opened - 1]
+    if not place and name in {own_log(runs), *depfiles_of(runs)}:
+        return runs.run_with(name, None)
     return fault_of_file(runs, opened, "cannot find", "there is no such file")
 
 
@@ -116,20 +153,32 @@ def read_is_wrong(runs, failed, way, ran):
     if is_of_paths:
         text = LACKS_MEMORY if way == "ENOMEM" else rb"cannot read standard input: [^\n]+"
         return not is_fault(ran, text)
-    wanted = fault_of_file(runs, max(failed.opened, 1), "cannot read", "the file could not be read")
-    return ran != wanted
+    return ran != unread(runs, max(failed.opened, 1))
+
+
+def wanted_statx(runs, path):
+    """How a run ends in which a path of what builds discovered cannot be looked up, or `None`. The type of a log
+    or a depfile is not known before it is read. A dyndep file is not joined. An output counts as one that is newer
+    than its record, with a caveat."""
+    log = log_of(runs)
+    if path in {log, *depfiles_of(runs)} - {None}:
+        return runs.usual
+    if path == dyndep_of(runs):
+        return runs.run_with(path, None)
+    if path in RECORDS and log in runs.project.files:
+        return with_caveat(runs, runs.run_with(path, b""), f"{path}: its time cannot be read")
+    return None
 
 
 def statx_is_wrong(runs, failed, way, ran):
     """Sizes of files are only guesses. A source that a command needs and that cannot be looked up is not
-    reported as missing, but on standard error. The type of a log that cannot be looked up is not known
-    before it is read."""
+    reported as missing, but on standard error."""
     if not failed.file:
         return ran != runs.usual
     if way == "ENOMEM":
         return not is_fault(ran, LACKS_MEMORY)
-    if failed.file == log_of(runs.words):
-        return ran != runs.usual
+    if wanted := wanted_statx(runs, failed.file):
+        return ran != wanted
     lines = runs.usual.output.decode().splitlines(True)
     ends = f"missing source '{failed.file}'\n", f'"missing-source","name":"{failed.file}"}}\n'
     left = "".join(line for line in lines if not line.endswith(ends)).encode()
@@ -222,14 +271,17 @@ class Runs:
     def run(self, **fails):
         return self.program.run(self.words, self.folder, self.text, **fails)
 
-    def without_log(self):
-        """How the run ends where Ninja has no log."""
-        log = Path(self.folder, LOG_OF_NINJA)
-        text = log.read_bytes() if log.exists() else None
-        log.unlink(missing_ok=True)
-        ran = self.run()
+    def run_with(self, name, text):
+        """How the run ends where a file has this text, or is not there."""
+        file = Path(self.folder, name)
+        own = file.read_bytes() if file.exists() else None
+        file.unlink(missing_ok=True)
         if text is not None:
-            log.write_bytes(text)
+            file.write_bytes(text)
+        ran = self.run()
+        file.unlink(missing_ok=True)
+        if own is not None:
+            file.write_bytes(own)
         return ran
 
     def run_failing(self, call, way, number):
