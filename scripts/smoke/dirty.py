@@ -4,9 +4,6 @@ Random projects are built by Ninja, with random histories. Then `ninja -n` tells
 directory which edges it would run, and which after some sources were touched. Those that come on top
 are affected by the change, as are those of which Ninja does not know what they discover; and Ninja
 runs whatever is affected.
-
-ninja-graph does not have `--deps` yet: until then these checks are skipped, and only a stand-in in
-Python has passed them.
 """
 
 import contextlib
@@ -16,7 +13,7 @@ import re
 import shutil
 from collections import Counter, namedtuple
 
-from lib.checks import Skipped, check
+from lib.checks import check
 from lib.histories import LOGS, NINJA, History, latest, set_time
 from lib.programs import DONE
 from lib.projects import MAIN
@@ -49,12 +46,6 @@ State = namedtuple("State", "seed history before")
 # The first outputs of the edges that Ninja would run, and of those of which it does not know what
 # they discover.
 Runs = namedtuple("Runs", "edges unknown")
-
-
-def need_deps(graph, folder):
-    """Skips a check as long as the program has no `--deps`."""
-    if "--deps " not in graph.run(["affected", "--help"], folder).as_text().output:
-        raise Skipped("ninja-graph has no --deps")
 
 
 @contextlib.contextmanager
@@ -203,13 +194,11 @@ def histories_differ(graph, folder, first):
 # Two checks, as each runs on one processor.
 @check(needs=["ninja"])
 def histories(graph, folder):
-    need_deps(graph, folder)
     return itertools.islice(histories_differ(graph, folder, 0), SHOWN)
 
 
 @check(needs=["ninja"])
 def other_histories(graph, folder):
-    need_deps(graph, folder)
     return itertools.islice(histories_differ(graph, folder, 1), SHOWN)
 
 
@@ -261,12 +250,10 @@ def random_prefixes_differ(graph, folder):
 
 @check(needs=["ninja"])
 def every_prefix_of_a_log(graph, folder):
-    need_deps(graph, folder)
     return itertools.islice(small_prefixes_differ(graph, folder), SHOWN)
 
 
 @check(needs=["ninja"])
 def prefixes_of_logs(graph, folder):
     """Logs of random histories, cut off at random bytes."""
-    need_deps(graph, folder)
     return itertools.islice(random_prefixes_differ(graph, folder), SHOWN)
