@@ -19,7 +19,7 @@ _ninja_graph_limited() {
 # The options of a subcommand, without those that every subcommand takes.
 _ninja_graph_options() {
     case $1 in
-        affected) echo '--source-dir --rule --prefix --no-phony --allow-empty' ;;
+        affected) echo '--source-dir --rule --prefix --no-phony --ignore-unknown --allow-empty' ;;
         draw) echo '--affected --fold --limit --inputs' ;;
         why) echo '--validations' ;;
         audit) echo '--only --except --json --list' ;;
@@ -120,7 +120,7 @@ _ninja_graph() {
     elif [[ ! $subcommand ]]; then
         offer=(-W 'affected audit draw json keys why')
     elif [[ ! $ended && $current == -* ]]; then
-        offer=(-W "-C -f --dyndep --deps-log --deps-log-file -h --help --
+        offer=(-W "-C -f --dyndep --deps --deps-log-file -h --help --
             $(_ninja_graph_options "$subcommand")")
     elif [[ $subcommand == draw || $subcommand == keys || $subcommand == why ]]; then
         _ninja_graph_offer_targets

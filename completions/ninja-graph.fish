@@ -87,8 +87,8 @@ complete -c ninja-graph -n __ninja_graph_has_subcommand -s C -x -d 'Change to th
     -a '(__fish_complete_directories)'
 complete -c ninja-graph -n __ninja_graph_has_subcommand -s f -r -F -d 'The main file (default: build.ninja)'
 complete -c ninja-graph -n __ninja_graph_has_subcommand -l dyndep -d 'Join the discoveries of dyndep files'
-complete -c ninja-graph -n __ninja_graph_has_subcommand -l deps-log -d 'Join the headers of the deps log'
-complete -c ninja-graph -n __ninja_graph_has_subcommand -l deps-log-file -r -F -d 'Join this deps log'
+complete -c ninja-graph -n __ninja_graph_has_subcommand -l deps -d 'Join what builds discovered'
+complete -c ninja-graph -n __ninja_graph_has_subcommand -l deps-log-file -r -F -d 'The same, with this deps log'
 
 complete -c ninja-graph -n '__ninja_graph_is affected' -l source-dir -x \
     -d 'The directory of the changed paths' -a '(__fish_complete_directories)'
@@ -96,6 +96,8 @@ complete -c ninja-graph -n '__ninja_graph_is affected' -l rule -x -d 'Only edges
     -a '(__ninja_graph_ask rules)'
 complete -c ninja-graph -n '__ninja_graph_is affected' -l prefix -x -d 'Only paths that begin so'
 complete -c ninja-graph -n '__ninja_graph_is affected' -l no-phony -d 'No outputs of phony edges'
+complete -c ninja-graph -n '__ninja_graph_is affected' -l ignore-unknown \
+    -d 'Do not report paths that no edge names'
 complete -c ninja-graph -n '__ninja_graph_is affected' -l allow-empty -d 'Accept an input without a changed path'
 
 complete -c ninja-graph -n '__ninja_graph_is draw keys why' -a '(__ninja_graph_targets)'
