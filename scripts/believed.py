@@ -5,8 +5,8 @@
 
 NAME is `run_words` by default; `commands_law` for the headline, with the run that it is about;
 `run_words_and_keep`, which `main` of ninja-explain calls; `nj_c` for the exports of the library for
-C; or `ninja_graph` for its contracts and those of the keys and findings that it writes. `all` prints
-a line for each of these.
+C; or `ninja_graph` for its contracts, those of the calls that `nj_ask` exports, and those of the keys
+and findings that it writes. `all` prints a line for each of these.
 
 It starts at the contract and follows each name in it to its definition, each name in that
 definition, and so on. Definitions are those in crates/*/specs and, in crates/*/src, the value and
@@ -34,10 +34,16 @@ STARTS = {
     "commands_law": [(RUN, "run_words"), (LAWS, "commands_law")],
     "run_words_and_keep": [(RUN, "run_words_and_keep")],
     "nj_c": [],
-    "ninja_graph": [("nj_keys/src/pages.rt", "page_from"), ("nj_audit/src/auditing.rt", "audit")],
+    "ninja_graph": [
+        ("nj_keys/src/pages.rt", "page_from"),
+        ("nj_audit/src/auditing.rt", "audit"),
+        ("nj_ask/src/status.rt", "code"),
+    ],
 }
-# Which functions of a crate a walk of its name starts from too.
+# Which functions of a crate a walk of its name starts from too, and the libraries from whose exported
+# functions it starts: the parts of a program that were moved to a library count as before.
 OF_CRATE = {"nj_c": 'extern "C" fn', "ninja_graph": "fn"}
+OF_LIBRARIES = {"ninja_graph": ["nj_ask"]}
 FUNCTION = re.compile(r'^ *(?:pub(?:\(\w+\))? )?(?:extern "C" )?fn (\w+)', re.M)
 
 # A string; a name, with the fields after it; or a field of an expression in parentheses.
@@ -219,16 +225,34 @@ def contracts(file):
     for found in FUNCTION.finditer(text):
         end = re.compile(r"^ *\{|;$", re.M).search(text, found.start())
         head = text[found.start() : end.start()] if end else ""
-        if re.search(r"^\s*(?:requires|ensures)\b", head, re.M):
+        clause = re.search(r"^\s*(?:requires|ensures)\b", head, re.M)
+        # where there is none, the brace of the body ends the signature's last line
+        if clause and not re.search(r"\{$", head[: clause.start()], re.M):
             yield found[1], Definition(of, found[1], head)
+
+
+def contracts_of(crate):
+    """The contracts of all functions of a crate, each with the function's name."""
+    return (it for file in sorted((CRATES / crate / "src").rglob("*.rt")) for it in contracts(file))
+
+
+def exported(crate):
+    """The names that a library exports."""
+    text = (CRATES / crate / "src/lib.rt").read_text()
+    uses = re.findall(r"^pub use [\w:]+::(?:\{(.*?)\}|(\w+));", text, re.M | re.S)
+    names = re.split(r"[,\s]+", " ".join(several + " " + one for several, one in uses))
+    return set(filter(None, names))
 
 
 def starts(name):
     """The contracts from which the walk for a name starts."""
     found = [dict(contracts(CRATES / file))[function] for file, function in STARTS[name]]
-    files = sorted((CRATES / name / "src").rglob("*.rt")) if name in OF_CRATE else []
-    of_crate = (contract for file in files for _, contract in contracts(file))
-    return found + [it for it in of_crate if OF_CRATE[name] in it.text]
+    if name in OF_CRATE:
+        found += [it for _, it in contracts_of(name) if OF_CRATE[name] in it.text]
+    for library in OF_LIBRARIES.get(name, []):
+        public = exported(library)
+        found += [it for function, it in contracts_of(library) if function in public]
+    return found
 
 
 # ---- the walk

@@ -8,6 +8,7 @@ line.
 import shutil
 import subprocess
 import sys
+from unittest.mock import patch
 
 import believed
 from lib.checks import check, expect
@@ -106,6 +107,31 @@ def planted_lines(folder):
     for name, file, old, new, more in PLANTED:
         text = FILES[file] + new if old == "$" else FILES[file].replace(old, new)
         yield from expect(name, counted(folder, {**FILES, file: text}), USUAL + more)
+
+
+BODIES = """\
+/// The same.
+fn same(ended: bool) -> bool {
+    ended
+}
+
+/// Ends.
+fn ends(ended: bool) -> bool
+    ensures { Ends ended }
+{
+    ended
+}
+"""
+
+
+@check
+def functions_without_clauses(folder):
+    """A function without clauses has no contract, whatever the next one has."""
+    file = folder / "crates/low/src/bodies.rt"
+    file.parent.mkdir(parents=True)
+    file.write_text(BODIES)
+    with patch.object(believed, "CRATES", folder / "crates"):
+        yield from expect("contracts", [name for name, _ in believed.contracts(file)], ["ends"])
 
 
 @check

@@ -9,7 +9,7 @@ directory Inside. How fields represent a value (`view`) is plumbing.
 import re
 
 import believed
-from believed import CRATES, Definition, block_at, members, module, reached, rust
+from believed import CRATES, Definition, block_at, exported, members, module, reached, rust
 from lib.checks import check
 
 FUNCTION = re.compile(r'^( *)pub (?:extern "C" )?fn (\w+)', re.M)
@@ -20,14 +20,6 @@ def libraries():
     """The crates that are libraries and have definitions."""
     roots = (specs.parent / "src/lib.rt" for specs in CRATES.glob("*/specs"))
     return sorted(root.parent.parent.name for root in roots if root.is_file())
-
-
-def exported(crate):
-    """The names that a library exports."""
-    text = (CRATES / crate / "src/lib.rt").read_text()
-    uses = re.findall(r"^pub use [\w:]+::(?:\{(.*?)\}|(\w+));", text, re.M | re.S)
-    names = re.split(r"[,\s]+", " ".join(several + " " + one for several, one in uses))
-    return set(filter(None, names))
 
 
 def type_of(head):
