@@ -62,7 +62,7 @@ extern "C" {
 
 /* The version of the interface that this header declares; nx_version tells that of the library. */
 #define NX_VERSION_MAJOR 1
-#define NX_VERSION_MINOR 1
+#define NX_VERSION_MINOR 2
 
 /* The statuses of calls. Their numbers never change; later versions may add some. */
 enum nx_status {
@@ -86,8 +86,8 @@ enum nx_status {
     NX_NOT_UTF8 = 8,
     /* The session is not open. */
     NX_NOT_OPEN = 9,
-    /* An allocation failed, and nothing else happened, except as nx_load, nx_join_deps and nx_run
-       say below. The session can be used and closed as before. */
+    /* An allocation failed, and nothing else happened, except as nx_load, nx_join_deps,
+       nx_join_discovered and nx_run say below. The session can be used and closed as before. */
     NX_OUT_OF_MEMORY = 10,
     /* The bytes are not a deps log, or one of another version than 4. */
     NX_BAD_LOG = 11
@@ -195,6 +195,10 @@ typedef struct nx_session {
 /* The value of a session before its first call. */
 #define NX_SESSION_CLOSED { 0 }
 
+/* Times for nx_join_discovered: of a file that is not there, and one that is not known. */
+#define NX_TIME_ABSENT UINT64_C(0)
+#define NX_TIME_UNKNOWN UINT64_MAX
+
 /* ---- the version ---- */
 
 /*
@@ -217,7 +221,7 @@ int32_t nx_close(nx_session *session);
 
 /*
  * Supplies the bytes of the file at a path: as the main file is named in nx_load, and as other
- * files are named in `include`, `subninja` and dyndep bindings. They are copied. They replace the
+ * files are named in `include`, `subninja`, `dyndep` and `depfile`. They are copied. They replace the
  * bytes that were supplied for this path before. A graph that is loaded stays the same.
  * NX_DONE or NX_OUT_OF_MEMORY.
  */
@@ -242,10 +246,11 @@ int32_t nx_load(nx_session *session, const void *main, size_t main_length,
                 uint32_t joins_dyndeps);
 
 /*
- * The path at an index among the files that the last load or run wanted and that were not supplied,
- * in the order in which it came to them, dyndep files of a load in the order of the first edges
- * that are bound to them. More may be wanted once these are there. The list stays the same until
- * the next load or run, so files can be supplied while it is gone through.
+ * The path at an index among the files that the last load, run or nx_join_discovered wanted and that
+ * were not supplied, in the order in which it came to them, dyndep files of a load in the order of
+ * the first edges that are bound to them, and depfiles in the order of the edges. More may be wanted
+ * once these are there. The list stays the same until the next such call, so files can be supplied
+ * while it is gone through.
  * NX_DONE, NX_NOTHING past the end, NX_SHORT.
  */
 int32_t nx_wanted(nx_session *session, size_t index, void *buffer, size_t size, size_t *needed);
@@ -262,7 +267,30 @@ int32_t nx_wanted(nx_session *session, size_t index, void *buffer, size_t size, 
  */
 int32_t nx_join_deps(nx_session *session, const void *log, size_t log_length);
 
-/* ---- the last fault: of a load, of nx_join_deps, or of nx_pick_target ---- */
+/*
+ * Joins the inputs that builds discovered to the graph, as Ninja loads them before a build: those of
+ * an edge with a value of `deps` come from a deps log, and those of another edge with a value of
+ * `depfile` from that file, which is one of the supplied ones. They become implicit inputs as in
+ * nx_join_deps. `log` has the bytes of `.ninja_deps`, or none for a log without records. `times` has
+ * for each edge when its first output was last changed, in nanoseconds since 1970, NX_TIME_ABSENT or
+ * NX_TIME_UNKNOWN: a record that is older than its output does not count. Where no record counts, or
+ * the depfile is absent, empty or faulty, the inputs are unknown, which nx_is_unknown reports.
+ * NX_DONE; NX_WANTED for depfiles that were not supplied: supply them, or record that they are absent,
+ * and call again; NX_BAD_LOG; NX_BAD_NUMBER if `time_count` is not the number of edges; NX_FAULT for a
+ * dependency cycle; NX_OUT_OF_MEMORY. After the last two there is no graph, and after the three before
+ * them it is unchanged.
+ */
+int32_t nx_join_discovered(nx_session *session, const void *log, size_t log_length,
+                           const uint64_t *times, size_t time_count);
+
+/*
+ * How many bytes of the deps log were read that was joined to the graph last, and whether that is all
+ * of them: 1 or 0. Reading ends before the first record that is cut off or wrong, as in Ninja.
+ * NX_DONE, or NX_NOTHING if no log was joined.
+ */
+int32_t nx_log_read(nx_session *session, size_t *size, int32_t *is_whole);
+
+/* ---- the last fault: of a load, of a join, or of nx_pick_target ---- */
 
 /* The kind of the fault, one of `enum nx_fault`. NX_DONE, or NX_NOTHING if there is no fault. */
 int32_t nx_fault_kind(nx_session *session, int32_t *kind);
@@ -337,6 +365,15 @@ int32_t nx_validation_user(nx_session *session, size_t file, size_t index, size_
 int32_t nx_users(nx_session *session, size_t file, size_t from, size_t *edges, size_t room,
                  size_t *count);
 
+/* ---- the manifest ---- */
+
+/*
+ * The path at an index among the files that the load opened: that of the main file, and one more for
+ * each `include` and `subninja` statement, also where it opens a file again.
+ * NX_DONE, NX_NOTHING past the end, NX_SHORT.
+ */
+int32_t nx_opened(nx_session *session, size_t index, void *buffer, size_t size, size_t *needed);
+
 /* ---- edges ---- */
 
 /* The output of an edge at an index. NX_DONE, NX_NOTHING past the end, NX_BAD_NUMBER. */
@@ -370,6 +407,12 @@ int32_t nx_explicit_inputs(nx_session *session, size_t edge, size_t *count);
 
 /* Whether the rule of an edge is `phony`: 1 or 0. NX_DONE or NX_BAD_NUMBER. */
 int32_t nx_is_phony(nx_session *session, size_t edge, int32_t *phony);
+
+/*
+ * Whether the inputs that an edge discovers are unknown, by nx_join_discovered: 1 or 0. Ninja runs the
+ * edge again then. NX_DONE, NX_BAD_NUMBER, or NX_NOTHING before that call.
+ */
+int32_t nx_is_unknown(nx_session *session, size_t edge, int32_t *unknown);
 
 /* The name of the rule of an edge. NX_DONE, NX_BAD_NUMBER, NX_SHORT. */
 int32_t nx_rule_name(nx_session *session, size_t edge, void *buffer, size_t size,
@@ -416,6 +459,16 @@ int32_t nx_root(nx_session *session, size_t index, size_t *file);
  * NX_DONE, NX_BAD_NUMBER, NX_OUT_OF_MEMORY.
  */
 int32_t nx_affected(nx_session *session, const size_t *files, size_t file_count);
+
+/*
+ * Lists the edges that are to be built again where these files changed, phony edges among them,
+ * without duplicates, by number: those whose discovered inputs are unknown, those that have one of
+ * the files as an output or as an explicit or implicit input, and those that have as such an input
+ * an output of an edge that is to be built again. nx_found returns them. Call nx_join_discovered
+ * first: before it no edge counts as unknown, and discovered inputs are missing.
+ * NX_DONE, NX_BAD_NUMBER, NX_OUT_OF_MEMORY.
+ */
+int32_t nx_dirtied(nx_session *session, const size_t *files, size_t file_count);
 
 /*
  * Lists the edges that these files need through any chain of inputs, phony edges among them,

@@ -29,6 +29,7 @@ ARGUMENTS = {
     "&mut [u8]": ["void *", "size_t"],
     "&[usize]": ["const size_t *", "size_t"],
     "&mut [usize]": ["size_t *", "size_t"],
+    "&[u64]": ["const uint64_t *", "size_t"],
     "&mut [i32]": ["int32_t *", "size_t"],
     "&mut [PathStep]": ["nx_step *", "size_t"],
     "&mut [EdgeInput]": ["nx_edge_input *", "size_t"],

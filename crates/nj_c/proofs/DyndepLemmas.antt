@@ -63,7 +63,7 @@ module _ (h : Handed) where
       ∙ ap (each_once bytes_eq) (filter-append (is_lacking h) (filter_map (λ a. a.dyndep) assigned) (cons_option a.dyndep []))
       ∙ ap (λ b. each_once bytes_eq (filter (is_lacking h) (filter_map (λ a. a.dyndep) assigned) ++ filter (is_lacking h) (cons_option b []))) is
 
-  one-path : (paths : List (List ℕ)) (path : List ℕ) → cond (is_lacking h path) (with_name (each_once bytes_eq paths) path) (each_once bytes_eq paths)
+  pub one-path : (paths : List (List ℕ)) (path : List ℕ) → cond (is_lacking h path) (with_name (each_once bytes_eq paths) path) (each_once bytes_eq paths)
       ≡ each_once bytes_eq (paths ++ filter (is_lacking h) (path ∷ []))
   one-path paths path = by (is_lacking h path)
     where

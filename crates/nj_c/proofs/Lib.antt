@@ -1,6 +1,9 @@
 mod AsBox
 mod AskLemmas
 mod BufferLemmas
+mod DepfileLemmas
+mod DirtyLemmas
+mod DiscoveredLemmas
 mod DyndepLemmas
 mod HandedLemmas
 mod ItemLemmas

@@ -15,7 +15,7 @@ use Rattle.nj_c.specs.declared.session_state.Kept.{Kept}
 use Rattle.nj_c.specs.declared.status.Status.{Status}
 use Rattle.nj_c.specs.declared.status.Status.TheVariants.{Done, Nothing, Short, Fault, Wanted, NotLoaded, BadNumber, BadMark, NotUtf8, NotOpen, OutOfMemory, BadLog}
 use Rattle.nj_c.specs.HandedIn.{Handed, handed_in, handed_state, wanted_paths, ReadsAsHanded, SameFiles}
-use Rattle.nj_c.specs.Loading.{unread, graph_loaded, lacking_dyndeps, paths_or, paths_to_load, GivesGraph, KeepsNothing, ListsNothing, LoadsFiles, LoadsKept, SameRun}
+use Rattle.nj_c.specs.Loading.{unread, graph_loaded, lacking_dyndeps, paths_or, paths_to_load, GivesGraph, KeepsNothing, LeavesNothing, LoadsFiles, LoadsKept, SameRun}
 use Rattle.nj_c.specs.Inside.Results.{AreStatements, FinishesLoad, KeepsLoad, KeepsResult}
 use Rattle.nj_c.proofs.JoinLemmas.{is-nil, not-nil, none-wanted-after, found-joined, same-files}
 
@@ -88,7 +88,7 @@ no-items [] is = refl
 no-items (p ∷ ps) is = absurd (true≢false (sym (ap is-nil is)))
 
 module _ (before middle : Kept) (files : Handed) (main : List ℕ) (joins : Bool) (loaded : Result LoadedModel GraphFault)
-    (begun : middle.files ≡ unread before.files) (none : KeepsNothing middle) (nothing : ListsNothing middle) (run : SameRun before middle)
+    (begun : middle.files ≡ unread before.files) (none : KeepsNothing middle) (nothing : LeavesNothing middle) (run : SameRun before middle)
     (loads : Loads main (handed_state (unread before.files)) (handed_state files) loaded) where
   -- the session after the load, before anything of it is kept
   abbrev read : Kept
@@ -153,7 +153,7 @@ module _ (before middle : Kept) (files : Handed) (main : List ℕ) (joins : Bool
       finishes found wanted memory (are stated.0 stated.1) after status keeps
   loads_kept after status (inr (is, left)) = subst (LoadsKept before after main joins) (sym is) (out_of_memory after left)
 
-pub not_loaded : (before after : Kept) (main : List ℕ) (joins : Bool) → after.files ≡ unread before.files → KeepsNothing after → ListsNothing after
+pub not_loaded : (before after : Kept) (main : List ℕ) (joins : Bool) → after.files ≡ unread before.files → KeepsNothing after → LeavesNothing after
     → SameRun before after → is_utf8 main ≡ false → LoadsKept before after main joins NotUtf8
 not_loaded before after main joins files none nothing run text = ((λ path. ap (λ f. handed_in f path) files), nothing, run, (none, text))
 

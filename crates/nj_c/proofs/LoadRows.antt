@@ -20,7 +20,7 @@ use Rattle.nj_graph.proofs.ReadingRows.{on_files}
 use Rattle.nj_c.specs.declared.session_state.Kept.{Kept}
 use Rattle.nj_c.specs.declared.status.Status.TheVariants.{Done, Fault, Wanted, OutOfMemory}
 use Rattle.nj_c.specs.HandedIn.{Handed, handed_in, handed_state, reads_as, wanted_paths}
-use Rattle.nj_c.specs.Loading.{unread, lacking_dyndeps, paths_or, paths_to_load, KeepsNothing, ListsNothing, LoadsKept}
+use Rattle.nj_c.specs.Loading.{unread, lacking_dyndeps, paths_or, paths_to_load, KeepsNothing, LeavesNothing, LoadsKept}
 
 -- ---- after any other status than that files are wanted
 
@@ -30,7 +30,7 @@ none-after-done before after main joins (same, lists, run, (graph, is, sound, no
 none-after-a-fault : (before after : Kept) (main : List ℕ) (joins : Bool) → LoadsKept before after main joins Fault → after.wanted.items ≡ []
 none-after-a-fault before after main joins (same, lists, run, (fault, unloaded, is, none, other, whole)) = none
 
-nothing-without-memory : (before after : Kept) (main : List ℕ) (joins : Bool) → LoadsKept before after main joins OutOfMemory → KeepsNothing after × ListsNothing after
+nothing-without-memory : (before after : Kept) (main : List ℕ) (joins : Bool) → LoadsKept before after main joins OutOfMemory → KeepsNothing after × LeavesNothing after
 nothing-without-memory before after main joins (same, lists, run, nothing) = (nothing, lists)
 
 -- ---- `m` was supplied, which includes `a`, and nothing else was

@@ -10,19 +10,18 @@ use Rattle.nj_c.specs.declared.session_state.Kept.{Kept}
 use Rattle.nj_c.specs.declared.status.Status.{Status}
 use Rattle.nj_c.specs.declared.status.Status.TheVariants.{Done, Nothing, Short, Fault, Wanted, NotLoaded, BadNumber, BadMark, NotUtf8, NotOpen, OutOfMemory, BadLog}
 use Rattle.nj_c.specs.JoinedLogs.{JoinsDeps}
-use Rattle.nj_c.specs.Inside.LogsJoined.{JoinsKnown}
-use Rattle.nj_c.specs.Inside.Results.{KeepsResult}
+use Rattle.nj_c.specs.Inside.LogsJoined.{JoinsKnown, KeepsJoined}
 
-some-is-not-none : {A : Type 0} {x : Option A} {a : A} → x ≡ Some a → x ≢ None
+pub some-is-not-none : {A : Type 0} {x : Option A} {a : A} → x ≡ Some a → x ≢ None
 some-is-not-none was none = true≢false (sym (ap is_some was) ∙ ap is_some none)
 
 module _ (before after : Kept) (bytes : List ℕ) (log : LogModel) (is : IsLogOf bytes log) (g : GraphModel) (was : before.graph ≡ Some g) where
   keeps : (result : Result GraphModel GraphFault) (status : Status) → IfOk result (λ joined. length (edges_of joined) ≡ length (edges_of g))
       → IfOk result (λ joined. IsPrefix (files_of g) (files_of joined)) → ((stated : List ReadStatement) → IsGraphOf g stated → JoinsLog log stated result)
-      → KeepsResult (record before { graph = None }) after result status → JoinsDeps before after bytes status
+      → KeepsJoined (record before { graph = None }) after log result status → JoinsDeps before after bytes status
   keeps (Ok joined) status edges files joins (kept, done) =
-      subst (JoinsDeps before after bytes) (sym done) (g, was, (joined, kept, (edges, files), (log, is, joins)))
-  keeps (Err fault) Fault edges files joins (other, kept) = (g, was, (fault, kept, other, (log, is, joins)))
+      subst (JoinsDeps before after bytes) (sym done) (g, was, (joined, log, is, kept, (edges, files), joins))
+  keeps (Err fault) Fault edges files joins (other, kept) = (g, was, (fault, log, is, kept, other, joins))
   keeps (Err fault) OutOfMemory edges files joins kept = (some-is-not-none was, kept)
   keeps (Err fault) Done edges files joins kept = absurd kept
   keeps (Err fault) Nothing edges files joins kept = absurd kept

@@ -102,7 +102,7 @@ of-numbers g numbers targets text limit (Err BadLog) known are at = absurd at
 pub lists-page : (before : Kept) (g : GraphModel) (targets text : List ℕ) (limit : ℕ) (page : Page) → before.graph ≡ Some g → PageOf g targets text limit (Ok page)
     → ListsPage before (record before { found = page.edges; mark = page.mark }) targets text limit Done
 lists-page before g targets text limit page graph of =
-    (g, graph, record { files = refl; wanted = refl; graph = refl; fault = refl; run = record { output = refl; errors = refl } }, of.0, of.1)
+    (g, graph, record { files = refl; wanted = refl; graph = refl; fault = refl; log = refl; unknown = refl; run = record { output = refl; errors = refl } }, of.0, of.1)
 
 pub lists-no-page : (before : Kept) (g : GraphModel) (targets text : List ℕ) (limit : ℕ) (status : Status) → before.graph ≡ Some g
     → PageOf g targets text limit (Err status) → ListsPage before before targets text limit status

@@ -96,6 +96,8 @@ same-load before middle after one two = record {
   fault = two.fault ∙ one.fault;
   found = two.found ∙ one.found;
   mark = two.mark ∙ one.mark;
+  log = two.log ∙ one.log;
+  unknown = two.unknown ∙ one.unknown;
 }
 
 of-text : (before after : Kept) (text : List ℕ) (exit new : ℤ) (status : Status) → LeavesRun (unread before.files) after (given_words text) exit new status

@@ -1,3 +1,4 @@
+pub mod DiscoveredHeld
 pub mod HandedHeld
 pub mod Keeps
 pub mod LogsJoined

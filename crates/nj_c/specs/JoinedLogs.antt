@@ -9,6 +9,7 @@ use Rattle.nj_faults.specs.Faults.{no_memory}
 use Rattle.nj_graph.specs.Graph.{GraphModel, IsGraphOf, edges_of, files_of}
 use Rattle.nj_graph.specs.DepsLogs.{JoinsLog}
 use Rattle.nj_c.specs.declared.session_state.Kept.{Kept}
+use Rattle.nj_c.specs.declared.session_state.LogRead.{LogRead}
 use Rattle.nj_c.specs.declared.status.Status.{Status}
 use Rattle.nj_c.specs.declared.status.Status.TheVariants.{Done, Fault, NotLoaded, BadLog, OutOfMemory}
 
@@ -16,10 +17,13 @@ use Rattle.nj_c.specs.declared.status.Status.TheVariants.{Done, Fault, NotLoaded
 abbrev pub IsNoLog : (bytes : List ℕ) → Type 0
 IsNoLog bytes = IsLogFault bytes NoDepsLog ⊎ ((version : ℕ) × IsLogFault bytes (OtherVersion version))
 
--- the log of these bytes was joined to a graph: this is the graph of all, or the fault
-abbrev pub JoinsBytes : GraphModel → (bytes : List ℕ) → Result GraphModel GraphFault → Type 0
-JoinsBytes g bytes result =
-    (log : LogModel) × IsLogOf bytes log × ((stated : List ReadStatement) → IsGraphOf g stated → JoinsLog log stated result)
+-- how far a log was read
+abbrev pub read_of : LogModel → LogRead
+read_of log = record { size = log.size; is_whole = log.is_whole }
+
+-- a log was joined to a graph: this is the graph of all, or the fault
+abbrev pub JoinsToGraph : GraphModel → LogModel → Result GraphModel GraphFault → Type 0
+JoinsToGraph g log result = (stated : List ReadStatement) → IsGraphOf g stated → JoinsLog log stated result
 
 -- edges and files keep their numbers, and new files come after them
 abbrev pub KeepsNumbers : (before after : GraphModel) → Type 0
@@ -30,12 +34,14 @@ KeepsNumbers before after =
 abbrev pub JoinsDeps : (before after : Kept) → (bytes : List ℕ) → Status → Type 0
 JoinsDeps before after bytes Done =
     (g : GraphModel) × (before.graph ≡ Some g)
-    × ((joined : GraphModel) × (after ≡ record before { graph = Some joined }) × KeepsNumbers g joined
-    × JoinsBytes g bytes (Ok joined))
+    × ((joined : GraphModel) × (log : LogModel) × IsLogOf bytes log
+    × (after ≡ record before { graph = Some joined; log = Some (read_of log) }) × KeepsNumbers g joined
+    × JoinsToGraph g log (Ok joined))
 JoinsDeps before after bytes Fault =
     (g : GraphModel) × (before.graph ≡ Some g)
-    × ((fault : GraphFault) × (after ≡ record before { graph = None; fault = Some fault }) × (fault ≢ no_memory)
-    × JoinsBytes g bytes (Err fault))
+    × ((fault : GraphFault) × (log : LogModel) × IsLogOf bytes log
+    × (after ≡ record before { graph = None; fault = Some fault }) × (fault ≢ no_memory)
+    × JoinsToGraph g log (Err fault))
 JoinsDeps before after bytes NotLoaded = (before.graph ≡ None) × (after ≡ before)
 JoinsDeps before after bytes BadLog = (before.graph ≢ None) × (after ≡ before) × IsNoLog bytes
 JoinsDeps before after bytes OutOfMemory = (before.graph ≢ None) × (after ≡ record before { graph = None })

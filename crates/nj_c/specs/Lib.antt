@@ -9,6 +9,8 @@ pub mod Pages
 pub mod Runs
 pub mod Targets
 pub mod JoinedLogs
+pub mod DiscoveredInputs
+pub mod DirtyEdges
 pub mod Paths
 pub mod UndeclaredInputs
 -- how a session keeps its contents

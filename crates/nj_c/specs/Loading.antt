@@ -25,9 +25,9 @@ abbrev pub Changes : (before after : Option Kept) → ℤ → ((before after : K
 Changes before after result does = MatchOption before ((after ≡ None) × (result ≡ code_of NotOpen))
     (λ kept. (new : Kept) × (after ≡ Some new) × Returns result (does kept new))
 
--- no edges are listed, and there is no mark after them
-abbrev pub ListsNothing : Kept → Type 0
-ListsNothing kept = (kept.found.items ≡ []) × (kept.mark.items ≡ [])
+-- nothing is left of an earlier graph: no list of edges, no mark after it, and nothing that was joined
+abbrev pub LeavesNothing : Kept → Type 0
+LeavesNothing kept = (kept.found.items ≡ []) × (kept.mark.items ≡ []) × (kept.log ≡ None) × (kept.unknown.items ≡ [])
 
 -- the output of the last run is kept unchanged
 pub record SameRun (before after : Kept) : Type 0 where
@@ -40,7 +40,7 @@ pub record IsEmpty (kept : Kept) : Type 0 where
   pub wanted : kept.wanted.items ≡ []
   pub graph : kept.graph ≡ None
   pub fault : kept.fault ≡ None
-  pub lists : ListsNothing kept
+  pub lists : LeavesNothing kept
   pub output : kept.output.bytes ≡ []
   pub errors : kept.errors.bytes ≡ []
 
@@ -153,4 +153,4 @@ LoadsAs before after main joins other = ⊥
 -- The supplied files stay the same in a load, and lists of an earlier graph are gone.
 abbrev pub LoadsKept : (before after : Kept) → (main : List ℕ) → (joins : Bool) → Status → Type 0
 LoadsKept before after main joins status =
-    SameFiles before.files after.files × ListsNothing after × SameRun before after × LoadsAs before after main joins status
+    SameFiles before.files after.files × LeavesNothing after × SameRun before after × LoadsAs before after main joins status

@@ -43,6 +43,8 @@ pub record Lists (before after : Kept) : Type 0 where
   pub wanted : after.wanted ≡ before.wanted
   pub graph : after.graph ≡ before.graph
   pub fault : after.fault ≡ before.fault
+  pub log : after.log ≡ before.log
+  pub unknown : after.unknown ≡ before.unknown
   pub run : SameRun before after
 
 -- ---- affected edges

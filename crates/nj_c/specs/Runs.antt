@@ -63,12 +63,14 @@ pub record KeepsNoOutput (after : Kept) : Type 0 where
   pub output : after.output.bytes ≡ []
   pub errors : after.errors.bytes ≡ []
 
--- the load and the lists stay the same
+-- the load, the lists and what was joined stay the same
 pub record SameLoad (before after : Kept) : Type 0 where
   pub graph : after.graph ≡ before.graph
   pub fault : after.fault ≡ before.fault
   pub found : after.found ≡ before.found
   pub mark : after.mark ≡ before.mark
+  pub log : after.log ≡ before.log
+  pub unknown : after.unknown ≡ before.unknown
 
 -- The session after a run with these arguments, by its status. All files that it read were supplied, unless some are
 -- wanted.

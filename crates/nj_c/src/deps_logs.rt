@@ -1,17 +1,20 @@
 //! Deps logs.
 
-ghost use Rattle.std.specs.Prelude.{◌≢◌, None};
-ghost use Rattle.nj_c.specs.JoinedLogs.{JoinsDeps};
+ghost use Rattle.std.specs.Prelude.{◌≡◌, ◌≢◌, None};
+ghost use Rattle.nj_c.specs.Asking.{bool_code, GivesItem, IfLoaded, IfOpen};
+ghost use Rattle.nj_c.specs.JoinedLogs.{read_of, JoinsDeps};
 ghost use Rattle.nj_c.specs.Loading.{Changes};
-ghost use Rattle.nj_c.specs.Inside.LogsJoined.{JoinsKnown};
+ghost use Rattle.nj_c.specs.Statuses.{code_of};
+ghost use Rattle.nj_c.specs.Inside.LogsJoined.{JoinsKnown, KeepsJoined};
 
-use crate::asking::change;
-use crate::loads::keep_result;
+use crate::asking::{ask, change};
+use crate::loads::keep_fault;
 use crate::sealed_box::Seal;
 use crate::session::Session;
-use crate::session_state::Kept;
+use crate::session_state::{Kept, LogRead};
 use crate::status::Status;
 use nj_deps::{DepsLog, DepsLogFault};
+use nj_graph::{Graph, GraphFault};
 use nj_scope::FileSource;
 use std::alloc::Global;
 
@@ -26,6 +29,41 @@ pub extern "C" fn nx_join_deps(alloc: Global, session: &mut Session, log: &[u8])
         JoinsDeps kept after log.now) }
 {
     change!(session, alloc, seal => join_in(alloc, seal, log))
+}
+
+/// How far the deps log was read that was joined to the graph last: how many of its bytes, and
+/// whether that is the whole log. Reading ends before the first record that does not count, as in
+/// Ninja.
+#[unsafe(no_mangle)]
+pub extern "C" fn nx_log_read(
+    alloc: Global,
+    session: &mut Session,
+    size: &mut usize,
+    is_whole: &mut i32,
+) -> i32
+    ensures kept { session.new.kept ≡ session.old.kept }
+    ensures read { IfOpen session.old.kept result (λ kept.
+        IfLoaded kept.graph result (λ g. GivesItem kept.log result (λ log.
+        (size.new ≡ log.size) × (is_whole.new ≡ bool_code log.is_whole)))) }
+{
+    ask!(session, alloc, kept => match &kept.graph {
+        Some(_) => give_log(&kept.log, size, is_whole),
+        None => Status::NotLoaded,
+    })
+}
+
+fn give_log(log: &Option<LogRead>, size: &mut usize, is_whole: &mut i32) -> Status
+    ensures { GivesItem log.now (code_of result) (λ log.
+        (size.new ≡ log.size) × (is_whole.new ≡ bool_code log.is_whole)) }
+{
+    match log {
+        Some(log) => {
+            *size = log.size;
+            *is_whole = i32::from(log.is_whole);
+            Status::Done
+        }
+        None => Status::Nothing,
+    }
 }
 
 fn join_in(alloc: Global, seal: Seal, bytes: &[u8]) -> (Seal, Status)
@@ -59,7 +97,31 @@ fn join_log(alloc: Global, kept: &mut Kept, log: &DepsLog) -> Status
     ensures { JoinsKnown kept.old kept.new log.now result }
 {
     match kept.graph.take() {
-        Some(graph) => keep_result(kept, graph.join_deps(alloc, log)),
+        Some(graph) => keep_joined(kept, log, graph.join_deps(alloc, log)),
         None => Status::NotLoaded,
+    }
+}
+
+// Keeps the graph with a log and how far the log was read, or the fault.
+fn keep_joined(kept: &mut Kept, log: &DepsLog, joined: Result<Graph, GraphFault>) -> Status
+    ensures { KeepsJoined kept.old kept.new log.now joined result }
+{
+    match joined {
+        Ok(graph) => {
+            kept.graph = Some(graph);
+            kept.log = Some(log_read(log));
+            Status::Done
+        }
+        Err(fault) => keep_fault(kept, fault),
+    }
+}
+
+/// How far a log was read.
+pub(crate) fn log_read(log: &DepsLog) -> LogRead
+    ensures { result ≡ read_of log.now }
+{
+    LogRead {
+        size: log.size(),
+        is_whole: log.is_whole(),
     }
 }

@@ -9,13 +9,18 @@ mod buffers;
 mod bulk;
 mod counts;
 mod deps_logs;
+mod dirty_edges;
+mod discovered_inputs;
+mod edge_times;
 mod edges;
 mod fault_kinds;
 mod faults;
 mod files;
 mod items;
+mod lacking_depfiles;
 mod laws;
 mod loads;
+mod opened_files;
 mod pages;
 mod paths;
 mod picked_targets;
@@ -35,7 +40,9 @@ mod wanted_files;
 
 pub use bulk::{nx_inputs, nx_outputs, nx_users};
 pub use counts::{nx_edge_count, nx_file_count, nx_rule_count};
-pub use deps_logs::nx_join_deps;
+pub use deps_logs::{nx_join_deps, nx_log_read};
+pub use dirty_edges::nx_dirtied;
+pub use discovered_inputs::{nx_is_unknown, nx_join_discovered};
 pub use edges::{
     nx_edge_file, nx_edge_place, nx_explicit_inputs, nx_explicit_outputs, nx_input, nx_is_phony,
     nx_output, nx_rule_name, nx_validation,
@@ -44,6 +51,7 @@ pub use faults::{nx_fault_file, nx_fault_kind, nx_fault_line, nx_fault_place};
 pub use files::{nx_file_named, nx_maker, nx_path, nx_user, nx_validation_user};
 pub use laws::{all_words_can_be_given, outputs_never_fail};
 pub use loads::{nx_load, nx_wanted};
+pub use opened_files::nx_opened;
 pub use pages::{nx_affected, nx_found, nx_needed, nx_page, nx_page_mark};
 pub use paths::{PathStep, nx_path_between};
 pub use picked_targets::nx_pick_target;

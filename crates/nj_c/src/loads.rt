@@ -4,7 +4,7 @@ ghost use Rattle.std.specs.Prelude.{◌≡◌, ◌≢◌, false, map, not, nat_e
 ghost use Rattle.nj_faults.specs.Faults.{no_memory};
 ghost use Rattle.nj_c.specs.Asking.{GivesTextAt, IfOpen, KeptUnlessDone};
 ghost use Rattle.nj_c.specs.HandedIn.{handed_state};
-ghost use Rattle.nj_c.specs.Loading.{graph_loaded, unread, Changes, GivesGraph, KeepsNothing, ListsNothing, LoadsKept, SameRun};
+ghost use Rattle.nj_c.specs.Loading.{graph_loaded, unread, Changes, GivesGraph, KeepsNothing, LeavesNothing, LoadsKept, SameRun};
 ghost use Rattle.nj_c.specs.Inside.Results.{FinishesLoad, KeepsFault, KeepsLoad, KeepsResult};
 
 use crate::asking::{ask, change};
@@ -77,11 +77,11 @@ fn load_main(alloc: Global, kept: &mut Kept, main: &[u8], joins: bool) -> Status
     finish_load(alloc, kept, loaded, joins)
 }
 
-// Forgets the load, the readings and the lists.
+// Forgets the load, what was joined to it, the readings and the lists.
 fn forget_load(kept: &mut Kept)
     ensures files { kept.new.files ≡ unread kept.old.files }
     ensures nothing { KeepsNothing kept.new }
-    ensures lists { ListsNothing kept.new }
+    ensures lists { LeavesNothing kept.new }
     ensures run { SameRun kept.old kept.new }
 {
     drop(kept.graph.take());
@@ -90,6 +90,8 @@ fn forget_load(kept: &mut Kept)
     kept.wanted.clear();
     kept.found.clear();
     kept.mark.clear();
+    kept.log = None;
+    kept.unknown.clear();
 }
 
 // Keeps the paths that are wanted, or the result of the load.
@@ -166,8 +168,8 @@ fn graph_of(loaded: Result<Loaded, GraphFault>) -> Result<Graph, GraphFault>
     Ok(loaded?.into_graph())
 }
 
-/// Keeps the graph or the fault of a load or a join, unless an allocation failed.
-pub(crate) fn keep_result(kept: &mut Kept, loaded: Result<Graph, GraphFault>) -> Status
+/// Keeps the graph or the fault of a load, unless an allocation failed.
+fn keep_result(kept: &mut Kept, loaded: Result<Graph, GraphFault>) -> Status
     ensures { KeepsResult kept.old kept.new loaded result }
 {
     match loaded {
@@ -179,7 +181,8 @@ pub(crate) fn keep_result(kept: &mut Kept, loaded: Result<Graph, GraphFault>) ->
     }
 }
 
-fn keep_fault(kept: &mut Kept, fault: GraphFault) -> Status
+/// Keeps the fault of a load or a join, unless an allocation failed.
+pub(crate) fn keep_fault(kept: &mut Kept, fault: GraphFault) -> Status
     ensures { KeepsFault kept.old kept.new fault result }
 {
     if matches!(fault.cause, Cause::OutOfMemory) {

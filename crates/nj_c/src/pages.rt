@@ -125,8 +125,8 @@ fn list_needed(alloc: Global, seal: Seal, files: &[usize]) -> (Seal, Status)
     }
 }
 
-// Keeps a list of edges, and the mark after them.
-fn keep_edges(seal: Seal, edges: Vec<EdgeNo>, mark: Vec<u8>) -> Seal
+/// Keeps a list of edges, and the mark after them.
+pub(crate) fn keep_edges(seal: Seal, edges: Vec<EdgeNo>, mark: Vec<u8>) -> Seal
     ensures { result.kept ≡ record seal.kept { found = edges; mark = mark } }
 {
     let mut kept = seal.into_box();
@@ -169,8 +169,8 @@ fn needed(
     }
 }
 
-// The files of these numbers; `None` if one is not below the count.
-fn known_files(
+/// The files of these numbers; `None` if one is not below the count.
+pub(crate) fn known_files(
     alloc: Global,
     numbers: &[usize],
     count: usize,

@@ -23,10 +23,23 @@ pub struct Kept {
     pub(crate) found: Vec<EdgeNo>,
     /// The text of the mark at which the last page ends; empty if nothing is left after it.
     pub(crate) mark: Vec<u8>,
+    /// How far the deps log was read that was joined to the graph last.
+    pub(crate) log: Option<LogRead>,
+    /// Of each edge whether its discovered inputs are not known; empty if none were joined.
+    pub(crate) unknown: Vec<bool>,
     /// The standard output of the last run.
     pub(crate) output: MemorySink,
     /// The standard error of the last run.
     pub(crate) errors: MemorySink,
+}
+
+/// How far a deps log was read.
+#[derive(Clone, Copy)]
+pub struct LogRead {
+    /// How many of its bytes were read.
+    pub(crate) size: usize,
+    /// Whether that is the whole log.
+    pub(crate) is_whole: bool,
 }
 
 impl Kept {
@@ -41,6 +54,8 @@ impl Kept {
             fault: None,
             found: Vec::new(alloc),
             mark: Vec::new(alloc),
+            log: None,
+            unknown: Vec::new(alloc),
             output: MemorySink::new(alloc, None),
             errors: MemorySink::new(alloc, None),
         }

@@ -19,10 +19,10 @@ use std::alloc::{AllocError, Global};
 /// which it was written; with another major one it may not.
 #[unsafe(no_mangle)]
 pub extern "C" fn nx_version(major: &mut usize, minor: &mut usize) -> i32
-    ensures { (result ≡ code_of Done) × (major.new ≡ 1) × (minor.new ≡ 1) }
+    ensures { (result ≡ code_of Done) × (major.new ≡ 1) × (minor.new ≡ 2) }
 {
     *major = 1;
-    *minor = 1;
+    *minor = 2;
     Status::Done.code()
 }
 

@@ -102,8 +102,12 @@ fn lacking_dyndeps(alloc: Global, files: &HandedIn, graph: &Graph) -> Result<Fil
     Ok(lacking)
 }
 
-// Names a path that was not supplied.
-fn name_if_lacking(files: &HandedIn, path: &[u8], lacking: &mut Files) -> Result<(), AllocError>
+/// Names a path that was not supplied.
+pub(crate) fn name_if_lacking(
+    files: &HandedIn,
+    path: &[u8],
+    lacking: &mut Files,
+) -> Result<(), AllocError>
     ensures { OnOk result (lacking.new
         ≡ (if is_lacking files.now path.now then with_name lacking.old path.now
         else lacking.old)) }
@@ -124,8 +128,8 @@ fn is_lacking(files: &HandedIn, path: &[u8]) -> bool
     }
 }
 
-// The paths of a table, in its order.
-fn copied_paths(alloc: Global, files: &Files) -> Result<Vec<Vec<u8>>, AllocError>
+/// The paths of a table, in its order.
+pub(crate) fn copied_paths(alloc: Global, files: &Files) -> Result<Vec<Vec<u8>>, AllocError>
     ensures { IfOk result (λ paths. map (λ p. p.items) paths.items ≡ files.now) }
 {
     let mut paths = Vec::new(alloc);
