@@ -207,6 +207,47 @@ static inline int32_t nx_files_supply(nx_session *session, const struct nx_files
     return status;
 }
 
+/* When the file at a path was last changed, in nanoseconds since 1970, as Ninja counts them. */
+static inline uint64_t nx_files_changed(const struct nx_files *files, const char *path)
+{
+    struct stat found;
+    int folder = AT_FDCWD, problem = 0;
+    if (files->folder && *files->folder)
+        folder = open(files->folder, O_RDONLY | O_DIRECTORY | O_CLOEXEC);
+    if (folder == -1)
+        return NX_TIME_UNKNOWN;
+    if (fstatat(folder, path, &found, 0) != 0)
+        problem = errno;
+    if (folder != AT_FDCWD)
+        close(folder);
+    if (problem)
+        return problem == ENOENT || problem == ENOTDIR ? NX_TIME_ABSENT : NX_TIME_UNKNOWN;
+    /* (all of the first second is one nanosecond, and a time before it is no time) */
+    if (found.st_mtim.tv_sec <= 0)
+        return found.st_mtim.tv_sec == 0;
+    return (uint64_t)found.st_mtim.tv_sec * 1000000000u + (uint64_t)found.st_mtim.tv_nsec;
+}
+
+/* The path of a file, in memory that the caller frees. */
+static inline int32_t nx_files_path(nx_session *session, size_t file, char **path)
+{
+    size_t needed = 0;
+    int32_t status = nx_path(session, file, NULL, 0, &needed);
+    *path = NULL;
+    if (status != NX_DONE && status != NX_SHORT)
+        return status;
+    *path = (char *)malloc(needed + 1);
+    if (!*path)
+        return NX_OUT_OF_MEMORY;
+    (*path)[needed] = 0;
+    status = nx_path(session, file, *path, needed, &needed);
+    if (status != NX_DONE) {
+        free(*path);
+        *path = NULL;
+    }
+    return status;
+}
+
 /* The path at an index among the wanted ones, in memory that the caller frees. */
 static inline int32_t nx_files_wanted(nx_session *session, size_t index, char **path)
 {
@@ -222,7 +263,7 @@ static inline int32_t nx_files_wanted(nx_session *session, size_t index, char **
     return nx_wanted(session, index, *path, needed, &needed);
 }
 
-/* Supplies all files that the last load or run wanted. */
+/* Supplies all files that the last load, run or nx_join_discovered wanted. */
 static inline int32_t nx_files_supply_wanted(nx_session *session, struct nx_files *files)
 {
     size_t index;
@@ -295,6 +336,69 @@ static inline int32_t nx_files_join_deps(nx_session *session, const char *path, 
     int32_t status = nx_files_deps_log(path, &bytes, &length, files);
     if (status == NX_DONE)
         status = nx_join_deps(session, bytes, length);
+    free(bytes);
+    return status;
+}
+
+/*
+ * When the first output of an edge was last changed, for nx_join_discovered: NX_TIME_ABSENT if it is
+ * not there, and NX_TIME_UNKNOWN if it cannot be looked at or is not in the directory.
+ */
+static inline int32_t nx_files_time(nx_session *session, const struct nx_files *files, size_t edge,
+                                    uint64_t *time)
+{
+    size_t file = 0;
+    char *path;
+    int32_t status = nx_output(session, edge, 0, &file);
+    *time = NX_TIME_UNKNOWN;
+    if (status == NX_DONE)
+        status = nx_files_path(session, file, &path);
+    if (status != NX_DONE)
+        return status;
+    if (files->allow_outside || !nx_files_leads_out(path))
+        *time = nx_files_changed(files, path);
+    free(path);
+    return NX_DONE;
+}
+
+/* The times of all edges, in memory that the caller frees. */
+static inline int32_t nx_files_times(nx_session *session, const struct nx_files *files,
+                                     uint64_t **times, size_t *count)
+{
+    size_t edge;
+    int32_t status = nx_edge_count(session, count);
+    *times = NULL;
+    if (status != NX_DONE)
+        return status;
+    *times = (uint64_t *)malloc((*count + 1) * sizeof **times);
+    if (!*times)
+        return NX_OUT_OF_MEMORY;
+    for (edge = 0; status == NX_DONE && edge < *count; edge++)
+        status = nx_files_time(session, files, edge, *times + edge);
+    return status;
+}
+
+/*
+ * As nx_join_discovered, with the deps log at a path of the directory, the depfiles that it wants and the
+ * times of outputs. A missing log is one without records. Returns its status or one of
+ * `enum nx_files_status`.
+ */
+static inline int32_t nx_files_join_discovered(nx_session *session, const char *path,
+                                               struct nx_files *files)
+{
+    char *bytes;
+    uint64_t *times = NULL;
+    size_t length, count = 0;
+    int turn = 0;
+    int32_t status = nx_files_deps_log(path, &bytes, &length, files);
+    if (status == NX_DONE || status == NX_NOTHING)
+        status = nx_files_times(session, files, &times, &count);
+    if (status == NX_DONE) {
+        do
+            status = nx_join_discovered(session, bytes, length, times, count);
+        while (nx_files_again(session, files, &turn, &status));
+    }
+    free(times);
     free(bytes);
     return status;
 }
