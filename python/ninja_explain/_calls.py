@@ -16,11 +16,13 @@ from ninja_explain._errors import STATUS_ERRORS, Fault, FaultKind
 SONAME = "libninja_explain.so.1"
 VARIABLE = "NINJA_EXPLAIN_LIBRARY"
 # The version of the interface that is called here: a greater minor number serves too.
-MAJOR, MINOR = 1, 1
+MAJOR, MINOR = 1, 2
 
 DONE, NOTHING, SHORT, FAULT, WANTED = range(5)
 # The greatest number that a call takes.
 GREATEST = c_size_t(-1).value
+# Times of outputs: of one that is not there, and one that is not known.
+TIME_ABSENT, TIME_UNKNOWN = 0, c_uint64(-1).value
 # How many items of a list one call gives at most.
 ROOM = 4096
 # How many times a manifest is loaded at most. Each load names all files that it lacks, and only a
@@ -53,6 +55,8 @@ _CALLS: dict[str, Sequence[Any]] = {
     "nx_add_absent": _TEXT,
     "nx_load": [*_TEXT, c_uint32],
     "nx_join_deps": _TEXT,
+    "nx_join_discovered": [*_TEXT, POINTER(c_uint64), c_size_t],
+    "nx_log_read": [_NUMBER, _KIND],
     "nx_fault_kind": [_KIND],
     "nx_fault_place": [_NUMBER, _NUMBER],
     "nx_fault_file": _BUFFER,
@@ -79,8 +83,11 @@ _CALLS: dict[str, Sequence[Any]] = {
     "nx_inputs": [*_FROM, _KIND, c_size_t, _NUMBER],
     "nx_explicit_outputs": [c_size_t, _NUMBER],
     "nx_is_phony": [c_size_t, _KIND],
+    "nx_is_unknown": [c_size_t, _KIND],
     "nx_edge_place": [c_size_t, _NUMBER, _NUMBER],
     "nx_affected": _NUMBERS,
+    "nx_opened": [c_size_t, *_BUFFER],
+    "nx_dirtied": _NUMBERS,
     "nx_needed": _NUMBERS,
     "nx_path_between": [c_size_t, c_size_t, c_uint32, POINTER(_Step), c_size_t, _NUMBER],
     "nx_undeclared": [*_TEXT, POINTER(_EdgeInput), c_size_t, _NUMBER],
@@ -212,11 +219,13 @@ class Session:
     def _count(self, name: str, *arguments: Any) -> int:
         return self._number(name, *arguments) or 0
 
-    def _flag(self, name: str, *arguments: Any) -> int:
-        """The small number that a call gives."""
+    def _optional_flag(self, name: str, *arguments: Any) -> int | None:
+        """The small number that a call gives; None if there is none."""
         flag = c_int32()
-        self._call(name, *arguments, ctypes.byref(flag))
-        return flag.value
+        return flag.value if self._is_there(name, *arguments, ctypes.byref(flag)) else None
+
+    def _flag(self, name: str, *arguments: Any) -> int:
+        return self._optional_flag(name, *arguments) or 0
 
     def _place(self, name: str, *arguments: Any) -> tuple[int, int] | None:
         """The line and the column that a call gives; None if there is no place."""
@@ -349,6 +358,20 @@ class Session:
         return status.value, self._text("nx_run_output"), self._text("nx_run_errors")
 
     @in_turn
+    def join_discovered(self, files: Files, log: bytes, times: Sequence[int]) -> None:
+        """Joins what builds discovered, by a deps log, by these depfiles and by times of outputs."""
+        given = (c_uint64 * len(times))(*times)
+        self._call_with(files, "nx_join_discovered", log, len(log), given, len(times))
+
+    @in_turn
+    def log_read(self) -> tuple[int, bool] | None:
+        """How many bytes of the log that was joined last were read, and whether these are all."""
+        size, is_whole = c_size_t(), c_int32()
+        if not self._is_there("nx_log_read", ctypes.byref(size), ctypes.byref(is_whole)):
+            return None
+        return size.value, bool(is_whole.value)
+
+    @in_turn
     def close(self) -> None:
         self._call("nx_close")
 
@@ -357,6 +380,7 @@ class Session:
     add, call, call_with = in_turn(_add), in_turn(_call), in_turn(_call_with)
     number, count, flag, place = in_turn(_number), in_turn(_count), in_turn(_flag), in_turn(_place)
     text, numbers, texts = in_turn(_text), in_turn(_numbers), in_turn(_texts)
+    optional_flag = in_turn(_optional_flag)
 
     # ---- errors
 

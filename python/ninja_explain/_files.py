@@ -8,11 +8,13 @@ import stat
 from dataclasses import dataclass
 from io import BytesIO, FileIO
 
-from ninja_explain._calls import decoded
+from ninja_explain._calls import TIME_ABSENT, TIME_UNKNOWN, decoded
 
 # The size of the largest file that is read, in bytes, and how many are read at once.
 LARGEST = 1 << 30
 PIECE = 1 << 20
+# A second in nanoseconds.
+SECOND = 1_000_000_000
 
 
 class _Nowhere:
@@ -45,10 +47,27 @@ class Folder:
 
     def required(self, path: bytes) -> bytes:
         """The bytes of a file; raises FileNotFoundError if there is none."""
-        if not self.allow_outside and (path.startswith(b"/") or b".." in path.split(b"/")):
+        if self._is_refused(path):
             text = "a file outside of the folder needs allow_outside=True"
             raise PermissionError(errno.EACCES, text, decoded(path))
         return _regular_content(os.path.join(self.path, path))
+
+    def time(self, path: bytes) -> int:
+        """When a file was last changed, in nanoseconds since 1970, as Ninja counts them. The time of a
+        file outside of the directory is not known, and nor is one that cannot be read."""
+        if self._is_refused(path):
+            return TIME_UNKNOWN
+        try:
+            time = os.stat(os.path.join(self.path, path)).st_mtime_ns
+        except (FileNotFoundError, NotADirectoryError):
+            return TIME_ABSENT
+        except OSError:
+            return TIME_UNKNOWN
+        # (all of the first second is one nanosecond, and a time before it is no time)
+        return time if time >= SECOND else int(time >= 0)
+
+    def _is_refused(self, path: bytes) -> bool:
+        return not self.allow_outside and (path.startswith(b"/") or b".." in path.split(b"/"))
 
 
 def _regular_content(path: bytes) -> bytes:

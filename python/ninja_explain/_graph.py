@@ -4,7 +4,7 @@ from __future__ import annotations
 
 import operator
 import os
-from collections.abc import Iterable, Iterator, Mapping, Sequence
+from collections.abc import Callable, Iterable, Iterator, Mapping, Sequence
 from enum import IntEnum
 from typing import (
     TYPE_CHECKING,
@@ -19,6 +19,8 @@ from typing import (
 
 from ninja_explain._calls import (
     GREATEST,
+    TIME_ABSENT,
+    TIME_UNKNOWN,
     Files,
     Session,
     encoded,
@@ -42,6 +44,8 @@ class Kind(IntEnum):
 
 
 _KINDS = tuple(Kind)
+# Where Ninja keeps its deps log, in the build directory.
+_DEPS_LOG = b".ninja_deps"
 # The number that the library gives for a validation in place of a kind.
 _VALIDATION = 3
 
@@ -229,6 +233,14 @@ class Edge(_Numbered):
         return bool(self._session.flag("nx_is_phony", self._number))
 
     @property
+    def is_unknown(self) -> bool | None:
+        """Whether the inputs that it discovers are unknown, so that Ninja runs it again: it has no record
+        that counts in the deps log, or its depfile is missing, empty or faulty. None if the graph was
+        loaded without discovered inputs."""
+        flag = self._session.optional_flag("nx_is_unknown", self._number)
+        return None if flag is None else bool(flag)
+
+    @property
     def command(self) -> str:
         """Its command, as it is passed to a shell. No phony edge is run: its command is the value that its block
         binds to `command`, and mostly empty."""
@@ -263,6 +275,13 @@ class UndeclaredInput(NamedTuple):
 
     edge: Edge
     file: File
+
+
+class LogRead(NamedTuple):
+    """How many bytes of a deps log were read, and whether that is the whole log."""
+
+    size: int
+    is_whole: bool
 
 
 class Page(NamedTuple):
@@ -319,6 +338,7 @@ class Graph:
         folder: AnyPath = ".",
         *,
         joins_dyndeps: bool = False,
+        joins_discovered: bool = False,
         deps_log: AnyPath | None = None,
         allow_outside: bool = False,
     ) -> Graph:
@@ -326,9 +346,11 @@ class Graph:
 
         With `joins_dyndeps` its dyndep files are read and joined too. `deps_log` is the path of a deps
         log, which Ninja keeps as `.ninja_deps` in the build directory: the files that it names for the first output
-        of an edge with a value of `deps` becomes an implicit input of the edge. Only regular files of
-        at most 1 GiB are read, and only below the directory, unless `allow_outside` is true; symbolic
-        links are followed.
+        of an edge with a value of `deps` becomes an implicit input of the edge. With `joins_discovered`
+        the inputs that builds discovered are joined as Ninja loads them: by that log, or by
+        `.ninja_deps` if there is one, where a record that is older than its output does not count, and
+        by depfiles. Only regular files of at most 1 GiB are read, and only below the directory, unless
+        `allow_outside` is true; symbolic links are followed.
 
         Raises the first Fault of the manifest, or of joining the log: a dependency cycle, if the log
         is older than the manifest; BadDepsLog; PermissionError for a path outside of the directory;
@@ -338,8 +360,11 @@ class Graph:
         graph = cls()
         place = Folder(encoded(folder), allow_outside)
         graph._session.call_with(place, "nx_load", *text_arguments(path), bool(joins_dyndeps))
-        if deps_log is not None:
-            graph._join_deps(place.required(encoded(deps_log)))
+        log = None if deps_log is None else place.required(encoded(deps_log))
+        if joins_discovered:
+            graph._discover(place, place.content(_DEPS_LOG) if log is None else log, place.time)
+        elif log is not None:
+            graph._join_deps(log)
         return graph
 
     @classmethod
@@ -350,19 +375,31 @@ class Graph:
         *,
         joins_dyndeps: bool = False,
         deps_log: bytes | None = None,
+        times: Mapping[str, int] | None = None,
     ) -> Graph:
         """The graph of a manifest among these files, given by their paths; no other file is there.
-        `deps_log` has the bytes of a deps log."""
+        `deps_log` has the bytes of a deps log. With `times`, when outputs were last changed, in
+        nanoseconds since 1970, the inputs that builds discovered are joined as by `joins_discovered`
+        of `load`; an output without a time is not there."""
         graph = cls()
         for name, content in files.items():
             graph._session.add(name, encoded(content))
         graph._session.call_with(NOWHERE, "nx_load", *text_arguments(path), bool(joins_dyndeps))
-        if deps_log is not None:
+        if times is not None:
+            changed = {encoded(name): time for name, time in times.items()}
+            graph._discover(NOWHERE, deps_log, lambda name: changed.get(name, TIME_ABSENT))
+        elif deps_log is not None:
             graph._join_deps(deps_log)
         return graph
 
     def _join_deps(self, log: bytes) -> None:
         self._session.call("nx_join_deps", *_log_arguments(log))
+
+    def _discover(self, files: Files, log: bytes | None, time: Callable[[bytes], int]) -> None:
+        """Joins what builds discovered, by a log if there is one, by depfiles and by times of outputs."""
+        content, _ = _log_arguments(b"" if log is None else log)
+        times = [_checked_time(time(encoded(edge.outputs[0].path))) for edge in self.edges]
+        self._session.join_discovered(files, content, times)
 
     def close(self) -> None:
         """Frees its memory. A graph that is closed remains closed."""
@@ -430,6 +467,41 @@ class Graph:
         """The edges that a change of these files affects, by number: those that need one of them
         through any chain of inputs."""
         return self._listed("nx_affected", files)
+
+    def dirtied(self, files: Iterable[File]) -> list[Edge]:
+        """The edges that are to be built again where these files changed, by number: those whose
+        discovered inputs are unknown, those that have one of the files as an output or as an explicit
+        or implicit input, and those that have as such an input an output of another one of them. Ask a
+        graph that was loaded with discovered inputs; without, no edge counts as unknown."""
+        return self._listed("nx_dirtied", files)
+
+    @property
+    def log_read(self) -> LogRead | None:
+        """How far the deps log was read that was joined; None if none was."""
+        read = self._session.log_read()
+        return None if read is None else LogRead(*read)
+
+    def opened(self) -> list[str]:
+        """The paths of the files that were opened: the manifest, and one more for each `include` and
+        `subninja` statement."""
+        return self._session.texts("nx_opened")
+
+    def made_from(self, files: Iterable[File]) -> list[File]:
+        """Those of these files from which the manifest is made: they were opened, or are inputs of an
+        edge that makes such a file or has a value of `generator`, or of an edge that one of these
+        needs through any chain of inputs. If one of them changes, everything may."""
+        changed = list(files)
+        named = [self.file(os.path.normpath(path)) for path in self.opened()]
+        opened = {file for file in named if file is not None}
+        # (only an edge that one of the files affects can make the manifest from it)
+        makers = [
+            edge
+            for edge in self.affected(changed)
+            if not opened.isdisjoint(edge.outputs) or edge.variable("generator")
+        ]
+        needed = self.needed(each.file for maker in makers for each in maker.inputs)
+        sources = {each.file for edge in [*makers, *needed] for each in edge.inputs}
+        return [file for file in changed if file in opened or file in sources]
 
     def needed(self, files: Iterable[File]) -> list[Edge]:
         """The edges that these files need through any chain of inputs, phony edges among them, nearest
@@ -523,6 +595,14 @@ class Graph:
 
     def _files_at(self, name: str, *arguments: int) -> list[File]:
         return File._each_of(self, self._session.numbers(name, *arguments))
+
+
+def _checked_time(time: SupportsIndex) -> int:
+    """A time as a number. Raises ValueError for one that is out of range."""
+    number = operator.index(time)
+    if not 0 <= number <= TIME_UNKNOWN:
+        raise ValueError(f"a time is out of range: {time}")
+    return number
 
 
 def _log_arguments(log: object) -> tuple[bytes, int]:

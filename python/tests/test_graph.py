@@ -222,6 +222,122 @@ class DepsLogs(unittest.TestCase):
                 Graph.from_files({"build.ninja": DEPS}, deps_log=log)
 
 
+DISCOVERING = """\
+rule cc
+  command = cc -c $in -o $out
+  deps = gcc
+rule old
+  command = cc -c $in -o $out
+  depfile = $out.d
+rule mk
+  command = mk $in -o $out
+build a.o: cc a.c || b.h
+build c.o: old c.c
+build b.h: mk b.in
+build app: mk a.o c.o
+"""
+DEPFILE = {"build.ninja": DISCOVERING, "c.o.d": "c.o: c.c d.h\n"}
+
+
+class Discovered(unittest.TestCase):
+    # (made at one nanosecond after 1970, like each record of `deps_log`)
+    log = deps_log(4, "a.o", "b.h")
+
+    def dirtied(self, graph: Graph, *names: str) -> "list[int]":
+        return [edge.number for edge in graph.dirtied([graph.target(name) for name in names])]
+
+    def unknown(self, graph: Graph) -> "list[int]":
+        return [edge.number for edge in graph.edges if edge.is_unknown]
+
+    def test_joined(self) -> None:
+        with Graph.from_files(DEPFILE, deps_log=self.log, times={"a.o": 1}) as graph:
+            self.assertEqual(self.unknown(graph), [])
+            self.assertEqual(graph.log_read, (len(self.log), True))
+            self.assertEqual([each.path for each in graph.edges[1].inputs], ["c.c", "d.h"])
+            self.assertEqual(self.dirtied(graph), [])
+            self.assertEqual(self.dirtied(graph, "d.h"), [1, 3])
+            self.assertEqual(self.dirtied(graph, "b.h"), [0, 2, 3])
+            self.assertEqual(self.dirtied(graph, "b.in", "d.h"), [0, 1, 2, 3])
+
+    def test_unknown(self) -> None:
+        with Graph.from_files(DEPFILE, deps_log=self.log, times={"a.o": 2}) as graph:
+            self.assertEqual(self.unknown(graph), [0])
+            self.assertEqual(self.dirtied(graph), [0, 3])
+        with Graph.from_files(DEPFILE, times={}) as graph:
+            self.assertEqual(self.unknown(graph), [0])
+            self.assertEqual(graph.log_read, (0, True))
+        without = {"build.ninja": DISCOVERING}
+        for depfile in {}, {"c.o.d": ""}, {"c.o.d": "other: c.c\n"}, {"c.o.d": "c.o c.c\n"}:
+            with Graph.from_files({**without, **depfile}, deps_log=self.log, times={}) as graph:
+                self.assertEqual(self.unknown(graph), [1])
+                self.assertEqual(self.dirtied(graph), [1, 3])
+
+    def test_order_only(self) -> None:
+        with Graph.from_files(DEPFILE, times={}) as graph:
+            self.assertEqual(self.dirtied(graph, "b.in"), [0, 2, 3])
+            self.assertFalse(graph.edges[2].is_unknown)
+        with graph_of(DISCOVERING) as graph:
+            self.assertEqual(self.dirtied(graph, "b.in"), [2])
+
+    def test_without(self) -> None:
+        with graph_of(DISCOVERING) as graph:
+            self.assertIsNone(graph.edges[0].is_unknown)
+            self.assertIsNone(graph.log_read)
+
+    def test_cut_off(self) -> None:
+        for times in None, {"a.o": 1}:
+            with Graph.from_files(DEPFILE, deps_log=self.log + b"\0", times=times) as graph:
+                self.assertEqual(graph.log_read, (len(self.log), False))
+
+    def test_refused(self) -> None:
+        for time, error in (-1, ValueError), (1 << 64, ValueError), (1.5, TypeError):
+            with self.assertRaises(error):
+                Graph.from_files(DEPFILE, times={"a.o": time})  # type: ignore[dict-item]
+        with self.assertRaises(BadDepsLog):
+            Graph.from_files(DEPFILE, deps_log=b"#", times={})
+        with self.assertRaises(Fault) as caught:
+            Graph.from_files(DEPFILE, deps_log=deps_log(4, "a.o", "app"), times={})
+        self.assertEqual(caught.exception.kind, FaultKind.CYCLE)
+
+
+# A manifest that a generator makes again from its inputs, one of which is generated too.
+REGENERATED = """\
+rule again
+  command = again
+  generator = 1
+rule cp
+  command = cp $in $out
+include rules.ninja
+build build.ninja: again CMakeLists.txt | list.cmake || order
+build list.cmake: cp list.in
+build order: cp order.in
+build stamp: again stamp.in
+build app: cp main.c list.cmake
+"""
+
+
+class Manifests(unittest.TestCase):
+    def test_made_from(self) -> None:
+        files = {"build.ninja": REGENERATED, "rules.ninja": ""}
+        with Graph.from_files(files) as graph:
+            self.assertEqual(graph.opened(), ["build.ninja", "rules.ninja"])
+            self.assertIsNone(graph.file("rules.ninja"))
+            self.assertEqual(paths(graph.made_from(graph.files)), paths(self.sources(graph)))
+            self.assertEqual(graph.made_from([graph.target("main.c")]), [])
+            self.assertEqual(graph.made_from([]), [])
+            for file in self.sources(graph):
+                self.assertEqual(graph.made_from([graph.target("main.c"), file]), [file])
+
+    def sources(self, graph: Graph) -> "list[File]":
+        """By hand: all but what the edge of `app` alone has."""
+        return [file for file in graph.files if file.path not in ("app", "main.c", "stamp")]
+
+    def test_plain(self) -> None:
+        with Graph.from_files({"./build.ninja": "build a: phony build.ninja\n"}, "./build.ninja") as graph:
+            self.assertEqual(graph.opened(), ["./build.ninja"])
+            self.assertEqual(paths(graph.made_from(graph.files)), ["build.ninja"])
+
+
 class Faults(unittest.TestCase):
     def test_fault(self) -> None:
         with self.assertRaises(Fault) as caught:
@@ -378,6 +494,24 @@ class Disk(unittest.TestCase):
         with Graph.load(folder=self.folder) as graph:
             self.assertEqual(graph.edges[0].command, "cp b a")
         self.assertEqual(run(["-t", "rules"], self.folder), (0, "cp\nphony\n", ""))
+
+    def test_discovered(self) -> None:
+        for name, text in DEPFILE.items():
+            (self.folder / name).write_text(text)
+        (self.folder / ".ninja_deps").write_bytes(deps_log(4, "a.o", "b.h"))
+        object_file = self.folder / "a.o"
+        for change, unknown in (lambda: None, False), (object_file.touch, True):
+            change()
+            with Graph.load(folder=self.folder, joins_discovered=True) as graph:
+                self.assertEqual(graph.edges[0].is_unknown, unknown)
+                self.assertIs(graph.edges[1].is_unknown, False)
+        # (all of the first second of 1970 is its first nanosecond)
+        os.utime(object_file, (0, 0))
+        with Graph.load(folder=self.folder, joins_discovered=True) as graph:
+            self.assertIs(graph.edges[0].is_unknown, False)
+        (self.folder / ".ninja_deps").unlink()
+        with Graph.load(folder=self.folder, joins_discovered=True) as graph:
+            self.assertIs(graph.edges[0].is_unknown, True)
 
     def test_deps_log(self) -> None:
         (self.folder / "build.ninja").write_text(DEPS)
