@@ -6,7 +6,7 @@
    loaded, loaded again, opened again and closed twice: with numbers that no edge or file has,
    buffers that are too small, null pointers of length 0, and words and marks that mean nothing.
    A call that gives many items has to give what was given one at a time. What files need, chains of
-   inputs and undeclared inputs have to be those that searches of its own find.
+   inputs, undeclared inputs and dirty edges have to be those that searches of its own find.
    Each status has to be one that the header names for the call and the state of the session, a
    buffer may only be written where a text goes, and after the last close no block of memory may be
    left. With `refused` it does so again and again, and refuses one allocation after the other,
@@ -321,7 +321,8 @@ static void try_many(const char *name, listing *call, size_t number, size_t leng
 
 /* ---- edges and files ---- */
 
-static size_t edge_count, file_count;
+/* How many edges and files there are, and the length of the main file's path. */
+static size_t edge_count, file_count, main_length;
 
 /* Whether an edge is among those that use a file. */
 static int is_user(size_t file, size_t edge)
@@ -388,9 +389,12 @@ static void try_edge(size_t edge)
     };
     unsigned done = if_known(edge, edge_count, OF(DONE));
     size_t line = 0, column = 0;
-    int32_t phony = -1;
+    int32_t phony = -1, unknown = -1;
+    unsigned either = if_known(edge, edge_count, OF(DONE) | OF(NOTHING));
     if (IF_LOADED(done, nx_is_phony(&session, edge, &phony)) == NX_DONE)
         expect(phony == 0 || phony == 1, "nx_is_phony", "value", phony);
+    if (IF_LOADED(either, nx_is_unknown(&session, edge, &unknown)) == NX_DONE)
+        expect(unknown == 0 || unknown == 1, "nx_is_unknown", "value", unknown);
     if (IF_LOADED(done, nx_edge_place(&session, edge, &line, &column)) == NX_DONE)
         expect(line > 0 && column > 0, "nx_edge_place", "line", (long long)line);
     TEXT(if_loaded, nx_rule_name, edge, done);
@@ -521,6 +525,9 @@ static void try_lists(void)
         targets[count++] = file;
     for (size_t index = 0; IF_LOADED(each, nx_root(&session, index, &file)) == NX_DONE; index++)
         expect(file < file_count, "nx_root", "file", (long long)file);
+    for (size_t index = 0; TEXT(if_loaded, nx_opened, index, each) == NX_DONE; index++)
+        expect(index > 0 || given_length == main_length, "nx_opened", "length", (long long)given_length);
+    TEXT(if_loaded, nx_opened, SIZE_MAX, OF(NOTHING));
     IF_LOADED(OF(NOTHING), nx_default(&session, SIZE_MAX, &file));
     IF_LOADED(OF(NOTHING), nx_root(&session, SIZE_MAX, &file));
     IF_LOADED(OF(DONE) | OF(OUT_OF_MEMORY), nx_page(&session, targets, count, NULL, 0, 0));
@@ -540,7 +547,9 @@ static void try_lists(void)
             last = edge + 1;
         }
         IF_LOADED(known, nx_page(&session, &number, 1, NULL, 0, 5));
+        IF_LOADED(known, nx_dirtied(&session, &number, 1));
     }
+    IF_LOADED(OF(DONE) | OF(OUT_OF_MEMORY), nx_dirtied(&session, NULL, 0));
 }
 
 /* ---- what files need ---- */
@@ -737,6 +746,7 @@ static void try_rules(void)
 static void ask_all(void)
 {
     size_t edge = 0;
+    int32_t is_whole = 0;
     edge_count = file_count = 0;
     IF_LOADED(OF(DONE), nx_edge_count(&session, &edge_count));
     IF_LOADED(OF(DONE), nx_file_count(&session, &file_count));
@@ -750,6 +760,7 @@ static void ask_all(void)
     try_needs();
     try_words();
     IF_OPEN(OF(NOTHING), nx_found(&session, SIZE_MAX, &edge));
+    IF_LOADED(OF(DONE) | OF(NOTHING), nx_log_read(&session, &edge, &is_whole));
     TEXT(if_open, nx_wanted, SIZE_MAX, OF(NOTHING));
     TEXT(if_open, give_mark, 0, OF(DONE) | OF(NOTHING));
 }
@@ -797,7 +808,8 @@ static int32_t load_once(const char *main, uint32_t joins)
 {
     unsigned loaded = OF(DONE) | OF(FAULT) | OF(WANTED) | OF(OUT_OF_MEMORY);
     const uint8_t *path = (const uint8_t *)main;
-    int32_t status = IF_OPEN(loaded, nx_load(&session, path, main ? strlen(main) : 0, joins));
+    main_length = main ? strlen(main) : 0;
+    int32_t status = IF_OPEN(loaded, nx_load(&session, path, main_length, joins));
     if (state != CLOSED)
         state = status == NX_DONE ? LOADED : OPEN;
     try_wanted(status);
@@ -1024,6 +1036,171 @@ static void try_logs(void)
     join(OF(FAULT) | OF(OUT_OF_MEMORY));
 }
 
+/* ---- what builds discovered ---- */
+
+static uint64_t times[MOST_MANY];
+
+/* Joins by the log and the times, and hands in the depfiles that are wanted, all at once. */
+static int32_t discover(unsigned statuses)
+{
+    int32_t status = NX_WANTED;
+    for (int round = 0; round < 2 && status == NX_WANTED; round++) {
+        unsigned wanted = round == 0 && statuses & OF(DONE) ? OF(WANTED) : 0;
+        status = IF_LOADED(statuses | wanted, nx_join_discovered(&session, made_log, made_length, times,
+                                                                 edge_count));
+        try_wanted(status);
+        if (status == NX_WANTED && !hand_in_all())
+            return NX_OUT_OF_MEMORY;
+    }
+    if (state == LOADED && (status == NX_FAULT || status == NX_OUT_OF_MEMORY))
+        state = OPEN;
+    if (status == NX_FAULT)
+        try_fault(1);
+    return status;
+}
+
+/* The log that was joined was read up to a byte. */
+static void try_read(size_t wanted, int32_t all)
+{
+    size_t size = SIZE_MAX;
+    int32_t is_whole = -1;
+    if (IF_LOADED(OF(DONE), nx_log_read(&session, &size, &is_whole)) == NX_DONE) {
+        expect(size == wanted, "nx_log_read", "size", (long long)size);
+        expect(is_whole == all, "nx_log_read", "whole", is_whole);
+    }
+}
+
+/* Whether a variable of an edge has a value; -1 if that cannot be known. */
+static int has_value(size_t edge, const char *name)
+{
+    size_t length = 0;
+    variable = (struct text){ (const uint8_t *)name, strlen(name) };
+    int32_t status = give_variable(&session, edge, NULL, 0, &length);
+    return status == NX_SHORT ? 1 : status == NX_DONE ? 0 : -1;
+}
+
+static uint8_t is_dirty[MOST_MANY];
+
+/* Whether an edge has a file, or an output of a dirty edge, as an input that counts, or makes the file. */
+static int takes_dirty(size_t edge, size_t file)
+{
+    size_t other, maker;
+    int32_t kind;
+    for (size_t index = 0; nx_output(&session, edge, index, &other) == NX_DONE; index++) {
+        if (other == file)
+            return 1;
+    }
+    for (size_t index = 0; nx_input(&session, edge, index, &other, &kind) == NX_DONE; index++) {
+        int is_made = nx_maker(&session, other, &maker) == NX_DONE && is_dirty[maker];
+        if (kind != NX_ORDER_ONLY && (other == file || is_made))
+            return 1;
+    }
+    return 0;
+}
+
+/* Lists the edges that a file makes dirty, or none, which have to be those that a search of our own
+   finds. */
+static void try_dirtied(size_t file)
+{
+    unsigned known = file == NO_ITEM ? OF(DONE) : if_known(file, file_count, OF(DONE));
+    size_t edge = 0, next = 0;
+    int32_t unknown = 0;
+    int32_t status = IF_LOADED(known | OF(OUT_OF_MEMORY), nx_dirtied(&session, &file, file != NO_ITEM));
+    if (status != NX_DONE)
+        return;
+    for (edge = 0; edge < edge_count; edge++)
+        is_dirty[edge] = nx_is_unknown(&session, edge, &unknown) == NX_DONE && unknown;
+    for (int more = 1; more;) {
+        more = 0;
+        for (edge = 0; edge < edge_count; edge++) {
+            if (!is_dirty[edge] && takes_dirty(edge, file))
+                is_dirty[edge] = more = 1;
+        }
+    }
+    for (size_t index = 0; nx_found(&session, index, &edge) == NX_DONE; index++, next = edge + 1) {
+        for (; next < edge; next++)
+            expect(!is_dirty[next], "nx_dirtied", "left out", (long long)next);
+        expect(next == edge && is_dirty[edge], "nx_dirtied", "edge", (long long)edge);
+    }
+    for (; next < edge_count; next++)
+        expect(!is_dirty[next], "nx_dirtied", "left out", (long long)next);
+}
+
+/* Joins by a log without records: an edge with a value of `deps` is unknown, and one with neither that
+   nor a depfile is known. */
+static void try_no_records(void)
+{
+    for (size_t edge = 0; edge < edge_count; edge++)
+        times[edge] = edge % 2 ? NX_TIME_ABSENT : NX_TIME_UNKNOWN;
+    if (discover(OF(DONE) | OF(FAULT) | OF(OUT_OF_MEMORY)) != NX_DONE)
+        return;
+    try_read(made_length, 1);
+    IF_LOADED(OF(DONE), nx_file_count(&session, &file_count));
+    for (size_t edge = 0; edge < edge_count; edge++) {
+        int32_t unknown = -1;
+        int deps = has_value(edge, "deps"), depfile = has_value(edge, "depfile");
+        IF_LOADED(OF(DONE), nx_is_unknown(&session, edge, &unknown));
+        if (deps == 1 || (deps == 0 && depfile == 0))
+            expect(unknown == deps, "nx_is_unknown", "without records", (long long)edge);
+    }
+    try_dirtied(NO_ITEM);
+    for (size_t at = 0; at < numbers_of(file_count); at++)
+        try_dirtied(number_at(at, file_count));
+}
+
+/* Joins by a record of one nanosecond after 1970 for the first output of an edge, which was changed at a
+   time. The record counts or not, and it is followed by a part of another one. */
+static void try_record(uint64_t time, int counts)
+{
+    static const struct text header = { (const uint8_t *)"new/header.h", 12 };
+    size_t edge = 0, file = 0;
+    int32_t unknown = -1;
+    if (load("build.ninja", 0) != NX_DONE || !find_with_deps(&edge))
+        return;
+    begin_log(4);
+    put_path((struct text){ given, given_length }, 0);
+    put_path(header, 1);
+    put_dependency(0, 1);
+    put_word(1 << 20);
+    for (size_t other = 0; other < edge_count; other++)
+        times[other] = NX_TIME_ABSENT;
+    times[edge] = time;
+    if (discover(OF(DONE) | OF(FAULT) | OF(OUT_OF_MEMORY)) != NX_DONE)
+        return;
+    try_read(made_length - 4, 0);
+    IF_LOADED(OF(DONE), nx_is_unknown(&session, edge, &unknown));
+    expect(unknown == !counts, "nx_is_unknown", "by a record, at", (long long)time);
+    int32_t status = nx_file_named(&session, header.bytes, header.length, &file);
+    expect((status == NX_DONE && is_input(edge, file, NX_IMPLICIT)) == counts, "nx_join_discovered",
+           "the input of a record, at", (long long)time);
+    if (!counts)
+        return;
+    IF_LOADED(OF(DONE), nx_file_count(&session, &file_count));
+    try_dirtied(file);
+    made_length -= 4;
+    put_dependency(0, 0);
+    discover(OF(FAULT) | OF(OUT_OF_MEMORY));
+}
+
+static void try_discovered(void)
+{
+    unsigned bad = OF(BAD_LOG) | OF(OUT_OF_MEMORY);
+    made_length = 0;
+    if (edge_count >= MOST_MANY)
+        return;
+    IF_LOADED(OF(BAD_NUMBER), nx_join_discovered(&session, NULL, 0, times, edge_count + 1));
+    begin_log(3);
+    discover(bad);
+    made_length = 0;
+    try_no_records();
+    begin_log(4);
+    try_no_records();
+    try_record(1, 1);
+    try_record(2, 0);
+    try_record(NX_TIME_ABSENT, 1);
+    try_record(NX_TIME_UNKNOWN, 0);
+}
+
 /* ---- whole runs ---- */
 
 #define WORDS(text) { (const uint8_t *)(text), sizeof(text) - 1 }
@@ -1091,6 +1268,7 @@ static void live(void)
     IF_OPEN(0, nx_add_absent(&session, NULL, 0));
     load_once("build.ninja", 0);
     try_logs();
+    try_discovered();
     try_runs();
     ask_all();
     ALWAYS(OF(DONE), nx_close(&session));
@@ -1114,6 +1292,10 @@ static void live(void)
         try_logs();
         ask_all();
     }
+    load("build.ninja", 1);
+    ask_all();
+    try_discovered();
+    ask_all();
     IF_OPEN(OF(NOT_UTF8), nx_load(&session, not_utf8, 1, 0));
     if (state != CLOSED)
         state = OPEN;

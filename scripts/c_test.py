@@ -4,8 +4,8 @@
 The example examples/c and the Python package python/ have to give what the program gives: on examples/project, on what CMake writes for examples/cmake, and on a manifest of 2,000 included
 files; whole, in pages, and where there is a fault. So have runs of the program's arguments by the
 library, tool by tool. Names that collide under a known key may take at most four times as long as
-others. A deps log that Ninja wrote has to give the inputs that are known of it, and the undeclared ones
-that Ninja reports. c_calls.c makes every call on N manifests with changes (`lib/strangers.py` makes them), and while
+others. A deps log that Ninja wrote has to give the inputs that are known of it, the undeclared ones
+that Ninja reports, and the edges that Ninja would run. c_calls.c makes every call on N manifests with changes (`lib/strangers.py` makes them), and while
 allocations are refused, with 256 KB of stack. Where valgrind is installed, it may find nothing in
 the C example, nor in some of these cases.
 
@@ -354,7 +354,7 @@ def user_count(listed):
 # The output of examples/c/why.c there, by hand.
 WHY = {
     ("b c.o", "sub/b.h"): (DONE, b"b c.o\n  sub/b.h (implicit)\nof 1 needed edges\n"),
-    ("a.o", "gen/count.h"): (DONE, b"a.o\n  gen/count.h (order-only)\nof 2 needed edges\n"),
+    ("a.o", "gen/count.h"): (DONE, b"a.o\n  gen/count.h (implicit)\nof 2 needed edges\n"),
     ("alone.o", "a.h"): (FAULT, b""),
 }
 
@@ -392,6 +392,71 @@ def try_deps_log(tests):
         except ninja_explain.BadDepsLog:
             is_log = False
         tests.expect("deps logs", f"cut off at {size}", is_log, size >= 16)
+
+
+# ---- discovered inputs
+
+
+# The edges of the project of smoke/deps.py that are to be built again where a file changed, by hand.
+# The header that is generated is an order-only input, and the compiler found it.
+DIRTY = {
+    "a.h": ["a.o", "b c.o"],
+    "sub/b.h": ["b c.o"],
+    "gen/count.h": ["gen/count.h", "a.o"],
+    "alone.c": ["alone.o"],
+}
+
+
+def firsts(edges):
+    return [edge.outputs[0].path for edge in edges]
+
+
+def built(folder):
+    """The project of smoke/deps.py in a directory, after a build. Returns the deps log."""
+    write_files(folder, {MAIN: deps.MANIFEST.encode()})
+    write_files(folder, {path: as_bytes(text) for path, text in deps.SOURCES.items()})
+    return deps.log_after([], folder)
+
+
+def would_run(folder):
+    """The first outputs of the edges that Ninja would run, in the manifest's order."""
+    ran = Program("ninja").run(["-n", "-v"], folder).as_text().output
+    with Graph.load(folder=folder) as graph:
+        return firsts(edge for edge in graph.edges if f"] {edge.command}\n" in ran)
+
+
+def try_dirty(tests, folder, path, wanted):
+    """Compares the edges that a change makes dirty with what is known by hand, and with what Ninja would
+    run; it runs no edge because an output of it is newer."""
+    log = built(folder)
+    with Graph.load(folder=folder, joins_discovered=True) as graph:
+        tests.expect("discovered inputs", f"{path}, none", firsts(graph.dirtied([])), [])
+        tests.expect("discovered inputs", f"{path}, read", graph.log_read, (len(log), True))
+        tests.expect("discovered inputs", path, firsts(graph.dirtied([graph.target(path)])), wanted)
+    time = (folder / deps.LOG).stat().st_mtime_ns + 10**9
+    os.utime(folder / path, ns=(time, time))
+    wanted = [output for output in wanted if output != path]
+    tests.expect("discovered inputs", f"{path}, by ninja -n", would_run(folder), wanted)
+
+
+def try_unknown(tests, folder):
+    """A log that is cut off, and an output that is newer than its record."""
+    log = built(folder)
+    (folder / deps.LOG).write_bytes(log + b"\0")
+    time = (folder / deps.LOG).stat().st_mtime_ns + 10**9
+    os.utime(folder / "alone.o", ns=(time, time))
+    with Graph.load(folder=folder, joins_discovered=True) as graph:
+        tests.expect("discovered inputs", "cut off", graph.log_read, (len(log), False))
+        unknown = firsts(edge for edge in graph.edges if edge.is_unknown)
+        tests.expect("discovered inputs", "unknown", unknown, ["alone.o"])
+        tests.expect("discovered inputs", "unknown, dirty", firsts(graph.dirtied([])), ["alone.o"])
+    tests.expect("discovered inputs", "unknown, by ninja -n", would_run(folder), ["alone.o"])
+
+
+def try_discovered(tests):
+    for number, (path, wanted) in enumerate(DIRTY.items()):
+        try_dirty(tests, tests.folder / f"dirty{number}", path, wanted)
+    try_unknown(tests, tests.folder / "unknown")
 
 
 # ---- undeclared inputs
@@ -755,6 +820,7 @@ def main():
         try_flood(tests)
         if shutil.which("ninja"):
             try_deps_log(tests)
+            try_discovered(tests)
             try_undeclared(tests)
         else:
             print("c_test: ninja is not installed, so no deps log was joined or looked through")
