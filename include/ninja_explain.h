@@ -273,12 +273,13 @@ int32_t nx_join_deps(nx_session *session, const void *log, size_t log_length);
  * `depfile` from that file, which is one of the supplied ones. They become implicit inputs as in
  * nx_join_deps. `log` has the bytes of `.ninja_deps`, or none for a log without records. `times` has
  * for each edge when its first output was last changed, in nanoseconds since 1970, NX_TIME_ABSENT or
- * NX_TIME_UNKNOWN: a record that is older than its output does not count. Where no record counts, or
- * the depfile is absent, empty or faulty, the inputs are unknown, which nx_is_unknown reports.
+ * NX_TIME_UNKNOWN: a record that is older than its output does not count. The time of an output whose
+ * path is not UTF-8 is never known. Where no record counts, or the depfile is absent, empty or faulty,
+ * the inputs are unknown, which nx_is_unknown reports.
  * NX_DONE; NX_WANTED for depfiles that were not supplied: supply them, or record that they are absent,
  * and call again; NX_BAD_LOG; NX_BAD_NUMBER if `time_count` is not the number of edges; NX_FAULT for a
- * dependency cycle; NX_OUT_OF_MEMORY. After the last two there is no graph, and after the three before
- * them it is unchanged.
+ * dependency cycle; NX_OUT_OF_MEMORY. After the last two there is no graph. After NX_WANTED it is
+ * unchanged, and after NX_BAD_LOG and NX_BAD_NUMBER so is all else, with what nx_wanted returns.
  */
 int32_t nx_join_discovered(nx_session *session, const void *log, size_t log_length,
                            const uint64_t *times, size_t time_count);

@@ -1048,7 +1048,8 @@ static int32_t discover(unsigned statuses)
         unsigned wanted = round == 0 && statuses & OF(DONE) ? OF(WANTED) : 0;
         status = IF_LOADED(statuses | wanted, nx_join_discovered(&session, made_log, made_length, times,
                                                                  edge_count));
-        try_wanted(status);
+        if (status == NX_DONE || status == NX_FAULT || status == NX_OUT_OF_MEMORY)
+            try_wanted(status);
         if (status == NX_WANTED && !hand_in_all())
             return NX_OUT_OF_MEMORY;
     }
@@ -1157,6 +1158,11 @@ static void try_record(uint64_t time, int counts)
     int32_t unknown = -1;
     if (load("build.ninja", 0) != NX_DONE || !find_with_deps(&edge))
         return;
+    /* (the time at a path that is not UTF-8 is not known) */
+    for (size_t at = 0; at < given_length; at++) {
+        if (given[at] >= 128)
+            return;
+    }
     begin_log(4);
     put_path((struct text){ given, given_length }, 0);
     put_path(header, 1);

@@ -624,20 +624,42 @@ static void add_absent(struct text argument)
     IF_OPEN(ADDED, nx_add_absent(&session, argument.bytes, argument.length));
 }
 
-/* Joins the content of a file as a deps log, which may be cut off at a number; or the logs that
-   c_calls.c makes. */
+/* Takes the content of a file as a deps log, which may be cut off at a number. */
+static void take_log(struct text argument)
+{
+    struct text log = files[taken_number(&argument) % project_files].content;
+    size_t most = taken_number(&argument);
+    made_length = log.length < sizeof made_log ? log.length : sizeof made_log;
+    made_length = most > 0 && most < made_length ? most : made_length;
+    if (made_length > 0)
+        memcpy(made_log, log.bytes, made_length);
+}
+
+/* Joins such a log, or the logs that c_calls.c makes. */
 static void join_file(struct text argument)
 {
     if (argument.length == 0 || project_files == 0) {
         try_logs();
     } else {
-        struct text log = files[taken_number(&argument) % project_files].content;
-        size_t most = taken_number(&argument);
-        made_length = log.length < sizeof made_log ? log.length : sizeof made_log;
-        made_length = most > 0 && most < made_length ? most : made_length;
-        if (made_length > 0)
-            memcpy(made_log, log.bytes, made_length);
+        take_log(argument);
         join(OF(DONE) | OF(BAD_LOG) | OF(FAULT) | OF(OUT_OF_MEMORY));
+    }
+    count_all();
+}
+
+/* Joins what builds discovered, by such a log, or as c_calls.c does. */
+static void discover_file(struct text argument)
+{
+    if (edge_count >= MOST_MANY)
+        return;
+    wants = 0;
+    if (argument.length == 0 || project_files == 0) {
+        try_discovered();
+    } else {
+        take_log(argument);
+        for (size_t edge = 0; edge < edge_count; edge++)
+            times[edge] = edge % 3 == 2 ? NX_TIME_UNKNOWN : edge % 3;
+        discover(OF(DONE) | OF(BAD_LOG) | OF(FAULT) | OF(OUT_OF_MEMORY));
     }
     count_all();
 }
@@ -862,6 +884,7 @@ static const struct {
     { 'a', add_file },
     { 'x', add_absent },
     { 'j', join_file },
+    { 'D', discover_file },
     { 'p', pick },
     { 'n', name_file },
     { 'e', ask_edge },

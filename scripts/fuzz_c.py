@@ -116,7 +116,7 @@ CALLS = {
 LAST = [b"l1", b"G0", b"A", b"q"]
 EACH = [b"i", b"L0", b"w0", b"h", b"L1", b"h", b"l1", b"f0", b"e0", b"v1 out", b"t0", b"t1", b"g2"]
 EACH += [b"m0", b"g1 0.0", b"d", b"0", b"nout", b"pout^", b"k", b"a0 1", b"xd", b"R-t" + ZERO + b"rules"]
-EACH += [b"j", b"l1", b"j0"]
+EACH += [b"j", b"l1", b"j0", b"l1", b"D", b"l1", b"D0"]
 FAILING = [b"z5", b"l0", b"q", b"z9 1", b"l1", b"r-t" + ZERO + b"commands", b"o7", b"z", b"l0"]
 FAILING += [b"s2 0 5", b"s4 0 9", b"s7 0 2", b"c", b"l0", b"q", b"o"]
 # How many rows a seed takes, and of what a row repeats how many.
