@@ -1,126 +1,122 @@
 #!/usr/bin/env python3
-"""Measures the cost of deps logs:
+"""Compares `ninja-graph affected --deps` with `ninja -n`, on trees with a deps log:
 
     deps.py PROGRAM [--objects N] [--rounds N]
 
-PROGRAM is ninja-graph, which joins a log by `affected --deps-log-file`. The log of one edge has 200
-MB, 50,000 objects with 1,000 headers each; beside it runs a program in C that reads the file, copies
-it and adds up its numbers. Then N objects wait for N / 10 generated headers through one phony edge,
-and the log has 20 of these, or all, for each object. The programs run in turn, five times or N times;
-median CPU times count, and the greatest memory. The aims for reading: twice the time of C, and
-1.2 times the log beside its bytes.
+PROGRAM is ninja-graph. The first tree, of 10,000 objects or N, is up to date, and its log of 25 MB
+names 600 headers for each object. Both programs load the same. One header has changed, and few
+outputs are listed, so that loading dominates. The answer is compared with what Ninja makes again once
+the header is touched. The aims are 1.2 times the time of `ninja -n`, and three times its memory.
+
+The second tree has ten times as many objects, which are not on the disk, with 60 headers each. All
+headers have changed, without `CMakeLists.txt` and with it. The aim is 1.3 times the time without it.
+
+The runs are in turn, five times or N times. The least wall-clock and CPU times count, and the greatest
+memory.
 """
 
 import argparse
 import os
-import struct
-import subprocess
 import tempfile
+from collections import namedtuple
 from pathlib import Path
 
-from reports import print_missed
-from runs import MB, measure, middle
+from logged_trees import ARCHIVE, CMAKE, LOG, Tree, header, would_touch, write_built, write_log, write_manifest
+from reports import load_shown, print_missed
+from runs import MB, Run, best
 
-FLOOR = Path(__file__).resolve().parent / "log_floor.c"
-OPENING = b"# ninjadeps\n" + struct.pack("<I", 4)
-DEPENDENCIES = 1 << 31
 ROUNDS, OBJECTS = 5, 10_000
-TIME_AIM, MEMORY_AIM = 2, 1.2
-ONE_EDGE = "rule cc\n  command = cc\nbuild a: cc b\n"
+TIME_AIM, MEMORY_AIM, MANIFEST_AIM = 1.2, 3, 1.3
+DONE, LOOK = 0, 3
+# A header that is a source.
+CHANGED = header(1)
+
+# A program with its arguments, changed paths for its standard input, and the expected status.
+Question = namedtuple("Question", "words paths status")
 
 
-def path_record(number, path):
-    content = path.encode() + b"\0" * (-len(path) % 4) + struct.pack("<I", 0xFFFF_FFFF - number)
-    return struct.pack("<I", len(content)) + content
+def answers(questions, rounds, folder):
+    """Runs the programs in turn. Returns the times, the memory and the lines of each."""
+    runs = {name: [] for name in questions}
+    given = os.path.join(folder, "changed")
+    for _ in range(rounds):
+        for name, question in questions.items():
+            Path(given).write_text("".join(f"{path}\n" for path in question.paths))
+            runs[name].append(Run(question.words, folder, question.status, given=given))
+    return {name: (*best(of_one), of_one[0].output.decode().splitlines()) for name, of_one in runs.items()}
 
 
-def output_record(output, inputs):
-    content = struct.pack(f"<IQ{len(inputs)}I", output, 1_700_000_000_000_000_000, *inputs)
-    return struct.pack("<I", DEPENDENCIES | len(content)) + content
+def print_answers(found):
+    for name, (seconds, processor, memory, outputs) in found.items():
+        print(f"  {name:<24} {seconds:7.3f} s, CPU {processor:7.3f} s, {memory / MB:6.0f} MB, {len(outputs)} lines")
 
 
-def object_file(number):
-    return f"obj/source/part{number // 100}/object_{number}.o"
+def check_answer(outputs, folder):
+    """Fails unless the outputs are the archives that Ninja makes again once the header is touched."""
+    Path(folder, CHANGED).touch()
+    wanted = [path for path in would_touch(folder) if path.endswith(".a")]
+    if not wanted or sorted(outputs) != sorted(wanted):
+        raise SystemExit(f"{len(outputs)} archives are affected, and Ninja makes {len(wanted)}")
 
 
-def write_log(path, headers, objects, each):
-    """A log in which each object depends on so many of the headers, beginning at its own number."""
-    with open(path, "wb") as log:
-        log.write(OPENING)
-        for number, header in enumerate(headers):
-            log.write(path_record(number, header))
-        for number in range(objects):
-            output = len(headers) + number
-            log.write(path_record(output, object_file(number)))
-            inputs = [(7 * number + step) % len(headers) for step in range(each)]
-            log.write(output_record(output, inputs))
-
-
-def write_manifest(path, headers, objects):
-    """Objects that wait for generated headers through one phony edge."""
-    with open(path, "w", encoding="ascii") as manifest:
-        manifest.write("rule cc\n  command = cc -c $in -o $out\n  depfile = $out.d\n  deps = gcc\n")
-        manifest.write("rule generate\n  command = generate $in $out\n")
-        for header in headers:
-            manifest.write(f"build {header}: generate {header}.in\n")
-        manifest.write(f"build headers: phony {' '.join(headers)}\n")
-        for number in range(objects):
-            manifest.write(f"build {object_file(number)}: cc source/object_{number}.c || headers\n")
-
-
-def compiled(folder):
-    program = os.path.join(folder, "log_floor")
-    subprocess.run([os.environ.get("CC", "cc"), "-O2", "-o", program, FLOOR], check=True)
-    return program
-
-
-def reading(program, rounds):
-    """A large log, beside the program in C. Yields the aims that are missed."""
+def beside_ninja(program, tree, rounds):
+    """Compares an answer with `ninja -n` on a tree that is up to date. Yields the missed aims."""
+    affected = [program, "affected", "--rule", ARCHIVE]
+    questions = {
+        "ninja -n": Question(["ninja", "-n"], [], DONE),
+        "affected --deps": Question([*affected, "--deps"], [CHANGED], DONE),
+        "affected": Question([*affected, "--ignore-unknown"], [CHANGED], DONE),
+    }
     with tempfile.TemporaryDirectory() as folder:
-        log = os.path.join(folder, "log")
-        write_log(log, [f"/usr/include/library/header_{it}.h" for it in range(20_000)], 50_000, 1_000)
-        Path(folder, "build.ninja").write_text(ONE_EDGE)
-        programs = {
-            "floor": [compiled(folder), log],
-            "ours": [program, "affected", "--deps-log-file", log],
-            "none": [program, "affected"],
-        }
-        runs = {name: middle(of_one) for name, of_one in measure(programs, rounds, folder).items()}
-        size = os.path.getsize(log)
-    time = (runs["ours"][1] - runs["none"][1]) / runs["floor"][1]
-    memory = (runs["ours"][2] - size) / size
-    print(f"a log of {size / MB:.0f} MB: {runs['ours'][1]:.3f} s, {time:.2f} of C; memory {memory:.2f} of the log beside it")
+        write_built(folder, tree)
+        found = answers(questions, rounds, folder)
+        check_answer(found["affected --deps"][-1], folder)
+        size = os.path.getsize(os.path.join(folder, LOG))
+    print(f"{tree.objects} objects, {tree.each} headers each, a log of {size / MB:.1f} MB")
+    print_answers(found)
+    theirs, ours = found["ninja -n"], found["affected --deps"]
+    time, processor, memory = (ours[place] / theirs[place] for place in range(3))
+    print(f"  of ninja -n: {time:.2f} of its time, {processor:.2f} of its CPU time, {memory:.2f} of its memory")
     if time > TIME_AIM:
-        yield f"reading: {time:.2f} of the time of C, aim {TIME_AIM}"
+        yield f"affected --deps: {time:.2f} of the time of ninja -n, aim {TIME_AIM}"
     if memory > MEMORY_AIM:
-        yield f"reading: {memory:.2f} of the log beside its bytes, aim {MEMORY_AIM}"
+        yield f"affected --deps: {memory:.2f} of the memory of ninja -n, aim {MEMORY_AIM}"
 
 
-def joining(program, rounds, objects, each):
-    """A manifest with a log of so many headers for each object."""
-    headers = [f"gen/header_{number}.h" for number in range(objects // 10)]
+def with_manifest(program, tree, rounds):
+    """Compares a change of all headers with one of CMakeLists.txt as well. Yields a missed aim."""
+    words = [program, "affected", "--deps", "--rule", ARCHIVE]
+    paths = [*map(header, range(tree.headers))]
+    questions = {
+        "headers": Question(words, paths, DONE),
+        f"and {CMAKE}": Question(words, [*paths, CMAKE], LOOK),
+    }
     with tempfile.TemporaryDirectory() as folder:
-        log = os.path.join(folder, "log")
-        write_manifest(os.path.join(folder, "build.ninja"), headers, objects)
-        write_log(log, headers, objects, each)
-        programs = {"load": [program, "affected"], "join": [program, "affected", "--deps-log-file", log]}
-        runs = {name: middle(of_one) for name, of_one in measure(programs, rounds, folder).items()}
-        size = os.path.getsize(log)
-    load, join = runs["load"][1], runs["join"][1]
-    print(f"{objects} objects, {each} headers each, a log of {size / MB:.1f} MB: load {load:.3f} s, with the log {join:.3f} s")
+        write_manifest(folder, tree)
+        write_log(folder, tree)
+        found = answers(questions, rounds, folder)
+    print(f"{tree.objects} objects, {tree.each} headers each, {tree.headers} changed headers")
+    print_answers(found)
+    (time, *_, few), (with_it, *_, more) = found.values()
+    if few != more or not few:
+        raise SystemExit(f"{len(few)} archives are affected, and with {CMAKE} {len(more)}")
+    print(f"  with {CMAKE}: {with_it / time:.2f} of the time")
+    if with_it > MANIFEST_AIM * time:
+        yield f"{CMAKE}: {with_it / time:.2f} of the time without it, aim {MANIFEST_AIM}"
 
 
 def main():
     parser = argparse.ArgumentParser(description=__doc__.split("\n", maxsplit=1)[0])
-    parser.add_argument("program")
+    parser.add_argument("program", type=os.path.abspath)
     parser.add_argument("--objects", type=int, default=OBJECTS)
     parser.add_argument("--rounds", type=int, default=ROUNDS)
     options = parser.parse_args()
-    program = os.path.abspath(options.program)
-    missed = [*reading(program, options.rounds)]
-    for each in (20, options.objects // 10):
-        joining(program, options.rounds, options.objects, each)
-    print_missed(missed)
+    up_to_date = Tree(options.objects, options.objects // 2, 600)
+    many = Tree(10 * options.objects, options.objects, 60)
+    with load_shown():
+        missed = [*beside_ninja(options.program, up_to_date, options.rounds)]
+        missed += with_manifest(options.program, many, options.rounds)
+        print_missed(missed)
 
 
 if __name__ == "__main__":
