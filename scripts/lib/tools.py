@@ -381,7 +381,7 @@ GRAPH_CHAIN = (
 
 GRAPH_NESTED = (
     "affected --rule deep --prefix a --no-phony --source-dir . < d",
-    "affected --deps < h f7",
+    "affected --deps --ignore-unknown < h f7",
     "affected --allow-empty",
     "audit --deps-log-file log --only unused-output --except missing-source --json",
     "audit --list",
