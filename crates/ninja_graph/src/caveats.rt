@@ -27,8 +27,7 @@ pub fn with_caveats(
 
 /// Why a graph may not have all inputs that builds discovered, a line each; none if they were not
 /// requested.
-fn caveat_lines(alloc: Global, known: &DiscoveredGraph) -> Result<Vec<u8>, AllocError>
-{
+fn caveat_lines(alloc: Global, known: &DiscoveredGraph) -> Result<Vec<u8>, AllocError> {
     let mut lines = Vec::from_slice(alloc, &known.caveats)?;
     if known.has_discovered {
         lines.extend_from_slice(&shape_lines(alloc, known, &[], &[])?)?;

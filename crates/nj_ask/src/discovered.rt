@@ -89,11 +89,7 @@ fn findings_of<S: FileSource, T: FileTimes>(
 }
 
 /// The graph with the inputs that were found.
-fn with_findings(
-    alloc: Global,
-    graph: Graph,
-    findings: Findings,
-) -> Result<Discovered, GraphFault>
+fn with_findings(alloc: Global, graph: Graph, findings: Findings) -> Result<Discovered, GraphFault>
     requires { AreFindingsOf graph findings }
     ensures joins { (before after : SourceState) (times : DeclaredTimes) (log : LogModel)
         (stated : List ReadStatement) → IsGraphOf graph stated

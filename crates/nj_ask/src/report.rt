@@ -13,9 +13,9 @@ ghost use Rattle.nj_ask.specs.Inside.Reached.{AddsWarning, AreAffected, AreOpene
 
 use crate::changes::{find_file, known_files};
 use crate::discovered::DiscoveredGraph;
-use crate::shape::shape_lines;
 use crate::listing::{Listed, list_outputs, push_line};
 use crate::manifest::Manifest;
+use crate::shape::shape_lines;
 use crate::status::Status;
 use crate::writing::write_both;
 use nj_graph::{EdgeNo, FileNo, Graph};

@@ -87,7 +87,13 @@ fn dyndep_lines(
     let graph = &known.graph;
     let files = dyndep_files(alloc, graph)?;
     let marks = marks_of(alloc, graph, &files, changed, touched)?;
-    marked_lines(alloc, graph, b": a dyndep file, may change", known.has_dyndeps, &marks)
+    marked_lines(
+        alloc,
+        graph,
+        b": a dyndep file, may change",
+        known.has_dyndeps,
+        &marks,
+    )
 }
 
 /// A line for each file that was opened and that one of these edges makes, if it is known what

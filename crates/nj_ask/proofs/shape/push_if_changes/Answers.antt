@@ -11,7 +11,7 @@ returns-then-may_change c files changed edges marks =
     let g = c.args.graph.now in
     let file = c.args.file.0 in
     let one : is_one_of files file ≡ true =
-        sym (marks.are_some.are file c.requires) ∙ ap (λ fs. slice_index_or fs file false) (sym c.deref.ensures.value) ∙ sym c.is_set.ensures ∙ c.if-is_set.true
+    sym (marks.are_some.are file c.requires) ∙ ap (λ fs. slice_index_or fs file false) (sym c.deref.ensures.value) ∙ sym c.is_set.ensures ∙ c.if-is_set.true
     in
     let said : List ℕ → List ℕ = λ path. line (path ++ c.args.what.now) in
     let two : may_change g c.args.are_joined changed edges file ≡ true = sym (c.may_change.ensures files changed edges marks) ∙ c.if-may_change.true in
