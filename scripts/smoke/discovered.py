@@ -250,6 +250,27 @@ def missing_dyndep_files(graph, folder):
     yield from expect("--dyndep wants each", ran, (FAULT, "", fault))
 
 
+# ---- names are texts
+
+LINKED = {"build.ninja": MANIFEST.encode() + b"build listed: mk dir\n", LOG: deps_log({"a.o": ["a.c", "link.h", "/w/a.h"]})}
+
+
+@check
+def names_are_texts(graph, folder):
+    """The target of a link, an entry of a directory, and the same file under another path are not the files that
+    edges name. Ninja asks the time of what is at the name, so it may run more; that is outside the promise, and
+    each such path is reported as one that no edge names."""
+    write(folder, LINKED)
+    (folder / "real.h").write_bytes(b"")
+    os.symlink("real.h", folder / "link.h")
+    for path, outputs in {"link.h": ["a.o", "app"], "/w/a.h": ["a.o", "app"], "dir": ["listed"]}.items():
+        yield from expect(path, run(graph, folder, DEPS, [path]), (DONE, lines(outputs), ""))
+    for path in ["real.h", "a.h", "dir/entry", "w/a.h"]:
+        yield from expect(path, run(graph, folder, DEPS, [path]), (LOOK, "", f"{path}\n"))
+        found = run(graph, folder, [*DEPS, "--ignore-unknown"], [path])
+        yield from expect(f"{path}, ignored", found, (DONE, "", ""))
+
+
 # ---- what other subcommands join
 
 INPUTS = "inputs", "implicit_inputs", "order_only_inputs"
