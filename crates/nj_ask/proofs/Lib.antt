@@ -4,5 +4,6 @@ mod OpenedLemmas
 mod FlagLemmas
 mod NeedLemmas
 mod ManifestLemmas
+mod MadeLemmas
 mod ReportLaws
 mod WritingLemmas

@@ -3,6 +3,7 @@ pub mod Affected
 pub mod Chains
 pub mod DiscoveredGraphs
 pub mod Joined
+pub mod MadeFrom
 pub mod Manifest
 pub mod Pages
 pub mod Reports

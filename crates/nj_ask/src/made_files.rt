@@ -1,0 +1,34 @@
+//! From which of some files the manifest is made.
+
+ghost use Rattle.std.specs.Prelude.{◌<◌, length, map, All, IfOk};
+ghost use Rattle.nj_graph.specs.Graph.{files_of};
+ghost use Rattle.nj_ask.specs.MadeFrom.{TellMadeFrom};
+
+use crate::manifest::Manifest;
+use nj_graph::{FileNo, Graph, HashKeys};
+use std::alloc::{AllocError, Global};
+
+/// Of each of these files whether the manifest is made from it: whether it was opened, or is an
+/// input of an edge that makes such a file or has a value of `generator`, or that one of these needs
+/// through any chain of inputs. A change of the file may change everything. A table of paths has
+/// these keys.
+///
+/// Takes time in proportion to the graph. Fails only if an allocation fails.
+pub fn made_from(
+    alloc: Global,
+    graph: &Graph,
+    keys: HashKeys,
+    files: &[FileNo],
+) -> Result<Vec<bool>, AllocError>
+    requires { All (λ file. file.0 < length (files_of graph.now)) files.now }
+    ensures { IfOk result (λ made.
+        TellMadeFrom graph.now (map (λ file. file.0) files.now) made.items) }
+{
+    let affected = graph.affected_by(alloc, files)?;
+    let manifest = Manifest::new(alloc, graph, keys, &affected)?;
+    let mut made = Vec::new(alloc);
+    'files: for file in files {
+        made.push(manifest.is_made_from(graph, *file))?;
+    }
+    Ok(made)
+}
