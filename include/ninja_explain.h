@@ -375,6 +375,16 @@ int32_t nx_users(nx_session *session, size_t file, size_t from, size_t *edges, s
  */
 int32_t nx_opened(nx_session *session, size_t index, void *buffer, size_t size, size_t *needed);
 
+/*
+ * Of each of these files whether the manifest is made from it, 1 or 0: whether it was opened in the
+ * load, or is an input of an edge that makes such a file or has a value of `generator`, or of an edge
+ * that one of these needs through any chain of inputs. A change of the file may change everything.
+ * Stores as many as there is room for, and leaves the rest of the array unchanged.
+ * NX_DONE, NX_BAD_NUMBER, NX_OUT_OF_MEMORY.
+ */
+int32_t nx_made_from(nx_session *session, const size_t *files, size_t file_count, int32_t *flags,
+                     size_t room);
+
 /* ---- edges ---- */
 
 /* The output of an edge at an index. NX_DONE, NX_NOTHING past the end, NX_BAD_NUMBER. */

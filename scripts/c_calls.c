@@ -6,7 +6,8 @@
    loaded, loaded again, opened again and closed twice: with numbers that no edge or file has,
    buffers that are too small, null pointers of length 0, and words and marks that mean nothing.
    A call that gives many items has to give what was given one at a time. What files need, chains of
-   inputs, undeclared inputs and dirty edges have to be those that searches of its own find.
+   inputs, undeclared inputs, dirty edges and files from which the manifest is made have to be those
+   that searches of its own find.
    Each status has to be one that the header names for the call and the state of the session, a
    buffer may only be written where a text goes, and after the last close no block of memory may be
    left. With `refused` it does so again and again, and refuses one allocation after the other,
@@ -1207,6 +1208,100 @@ static void try_discovered(void)
     try_record(NX_TIME_UNKNOWN, 0);
 }
 
+/* ---- the manifest ---- */
+
+static uint8_t feeds[MOST_MANY];
+static size_t opened[MOST_ITEMS];
+
+/* The files that were opened, of those that edges name; FAR if that cannot be known. */
+static size_t find_opened(void)
+{
+    size_t count = 0;
+    for (size_t index = 0; TEXT(if_loaded, nx_opened, index, OF(DONE) | OF(NOTHING)) == NX_DONE; index++) {
+        size_t file = 0;
+        int32_t status = nx_pick_target(&session, given, given_length, &file);
+        if (count == MOST_ITEMS || status == NX_OUT_OF_MEMORY || given[given_length - 1] == '^')
+            return FAR;
+        if (status == NX_DONE)
+            opened[count++] = file;
+    }
+    return count;
+}
+
+/* Finds the edges that make the manifest, and those that they need. Returns whether that was possible. */
+static int find_feeding(size_t count)
+{
+    size_t edge, input, maker;
+    int32_t kind;
+    for (edge = 0; edge < edge_count; edge++) {
+        int has = has_value(edge, "generator");
+        if (has < 0)
+            return 0;
+        feeds[edge] = (uint8_t)has;
+    }
+    for (size_t at = 0; at < count; at++) {
+        if (nx_maker(&session, opened[at], &maker) == NX_DONE)
+            feeds[maker] = 1;
+    }
+    for (int more = 1; more;) {
+        more = 0;
+        for (edge = 0; edge < edge_count; edge++) {
+            for (size_t index = 0; feeds[edge] && nx_input(&session, edge, index, &input, &kind) == NX_DONE;
+                 index++) {
+                if (nx_maker(&session, input, &maker) == NX_DONE && !feeds[maker])
+                    feeds[maker] = more = 1;
+            }
+        }
+    }
+    return 1;
+}
+
+/* Whether the manifest is made from a file, by a search of our own. */
+static int32_t is_made_from(size_t file, size_t count)
+{
+    size_t edge;
+    for (size_t at = 0; at < count; at++) {
+        if (opened[at] == file)
+            return 1;
+    }
+    for (size_t index = 0; nx_user(&session, file, index, &edge) == NX_DONE; index++) {
+        if (feeds[edge])
+            return 1;
+    }
+    return 0;
+}
+
+/* Asks of which files the manifest is made, with room for too few flags and for too many. */
+static void try_made_from(void)
+{
+    size_t numbers[MOST_ITEMS], known = 0, unknown = 0;
+    unsigned made = OF(DONE) | OF(OUT_OF_MEMORY);
+    edge_count = file_count = 0;
+    IF_LOADED(OF(DONE), nx_edge_count(&session, &edge_count));
+    IF_LOADED(OF(DONE), nx_file_count(&session, &file_count));
+    unknown = file_count;
+    for (size_t at = 0; known < MOST_ITEMS && at < numbers_of(file_count); at++) {
+        if (number_at(at, file_count) < file_count)
+            numbers[known++] = number_at(at, file_count);
+    }
+    TEXT(if_loaded, nx_opened, SIZE_MAX, OF(NOTHING));
+    IF_LOADED(made, nx_made_from(&session, NULL, 0, NULL, 0));
+    IF_LOADED(OF(BAD_NUMBER) | OF(OUT_OF_MEMORY), nx_made_from(&session, &unknown, 1, many_kinds, 1));
+    size_t count = edge_count < MOST_MANY && state == LOADED ? find_opened() : FAR;
+    if (count == FAR || !find_feeding(count))
+        return;
+    for (size_t room = 0; room <= known + 1; room += known / 2 + 1) {
+        for (size_t at = 0; at < room + GUARD; at++)
+            many_kinds[at] = NO_KIND;
+        int32_t status = IF_LOADED(made, nx_made_from(&session, numbers, known, many_kinds, room));
+        for (size_t at = 0; at < room + GUARD; at++) {
+            int is_written = status == NX_DONE && at < known && at < room;
+            expect(many_kinds[at] == (is_written ? is_made_from(numbers[at], count) : NO_KIND),
+                   "nx_made_from", "file", (long long)at);
+        }
+    }
+}
+
 /* ---- whole runs ---- */
 
 #define WORDS(text) { (const uint8_t *)(text), sizeof(text) - 1 }
@@ -1275,6 +1370,7 @@ static void live(void)
     load_once("build.ninja", 0);
     try_logs();
     try_discovered();
+    try_made_from();
     try_runs();
     ask_all();
     ALWAYS(OF(DONE), nx_close(&session));
@@ -1300,7 +1396,9 @@ static void live(void)
     }
     load("build.ninja", 1);
     ask_all();
+    try_made_from();
     try_discovered();
+    try_made_from();
     ask_all();
     IF_OPEN(OF(NOT_UTF8), nx_load(&session, not_utf8, 1, 0));
     if (state != CLOSED)

@@ -655,6 +655,7 @@ static void discover_file(struct text argument)
     wants = 0;
     if (argument.length == 0 || project_files == 0) {
         try_discovered();
+        try_made_from();
     } else {
         take_log(argument);
         for (size_t edge = 0; edge < edge_count; edge++)

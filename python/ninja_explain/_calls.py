@@ -86,6 +86,7 @@ _CALLS: dict[str, Sequence[Any]] = {
     "nx_is_unknown": [c_size_t, _KIND],
     "nx_edge_place": [c_size_t, _NUMBER, _NUMBER],
     "nx_affected": _NUMBERS,
+    "nx_made_from": [*_NUMBERS, _KIND, c_size_t],
     "nx_opened": [c_size_t, *_BUFFER],
     "nx_dirtied": _NUMBERS,
     "nx_needed": _NUMBERS,
@@ -370,6 +371,13 @@ class Session:
         if not self._is_there("nx_log_read", ctypes.byref(size), ctypes.byref(is_whole)):
             return None
         return size.value, bool(is_whole.value)
+
+    @in_turn
+    def made_from(self, files: Sequence[int]) -> list[bool]:
+        """Of each of these files whether the manifest is made from it."""
+        flags = (c_int32 * len(files))()
+        self._call("nx_made_from", *number_arguments(files), flags, len(files))
+        return [bool(flag) for flag in flags]
 
     @in_turn
     def close(self) -> None:

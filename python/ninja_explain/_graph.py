@@ -490,18 +490,9 @@ class Graph:
         """Those of these files from which the manifest is made: they were opened, or are inputs of an
         edge that makes such a file or has a value of `generator`, or of an edge that one of these
         needs through any chain of inputs. If one of them changes, everything may."""
-        changed = list(files)
-        named = [self.file(os.path.normpath(path)) for path in self.opened()]
-        opened = {file for file in named if file is not None}
-        # (only an edge that one of the files affects can make the manifest from it)
-        makers = [
-            edge
-            for edge in self.affected(changed)
-            if not opened.isdisjoint(edge.outputs) or edge.variable("generator")
-        ]
-        needed = self.needed(each.file for maker in makers for each in maker.inputs)
-        sources = {each.file for edge in [*makers, *needed] for each in edge.inputs}
-        return [file for file in changed if file in opened or file in sources]
+        numbers = self._numbers(files)
+        flags = self._session.made_from(numbers)
+        return File._each_of(self, (number for number, is_set in zip(numbers, flags) if is_set))
 
     def needed(self, files: Iterable[File]) -> list[Edge]:
         """The edges that these files need through any chain of inputs, phony edges among them, nearest

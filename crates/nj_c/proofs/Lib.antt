@@ -12,6 +12,7 @@ mod LoadLemmas
 mod LoadRows
 mod LogLemmas
 mod MachineValues
+mod MadeLemmas
 mod PageLemmas
 mod RunLemmas
 mod SessionValues

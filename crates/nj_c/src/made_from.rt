@@ -1,0 +1,94 @@
+//! From which files the manifest is made.
+
+ghost use Rattle.std.specs.Prelude.{◌≡◌, map, IfOk, MatchOption};
+ghost use Rattle.nj_c.specs.Asking.{bool_code, OfGraph};
+ghost use Rattle.nj_c.specs.Buffers.{filled};
+ghost use Rattle.nj_ask.specs.MadeFrom.{TellMadeFrom};
+ghost use Rattle.nj_c.specs.MadeFrom.{FlagsKeptUnlessDone, GivesMadeFrom};
+ghost use Rattle.nj_c.specs.Pages.{AreKnown};
+ghost use Rattle.nj_c.specs.Statuses.{code_of};
+
+use crate::asking::ask;
+use crate::pages::known_files;
+use crate::session::Session;
+use crate::status::Status;
+use nj_ask::made_from;
+use nj_graph::Graph;
+use nj_scope::{FileSource, HashKeys};
+use std::alloc::{AllocError, Global};
+
+/// Of each of these files whether the manifest is made from it: whether it was opened in the load,
+/// or is an input of an edge that makes such a file or has a value of `generator`, or that one of
+/// these needs through any chain of inputs. A change of the file may change everything.
+///
+/// Gives 1 or 0 for as many files as there is room for.
+#[unsafe(no_mangle)]
+pub extern "C" fn nx_made_from(
+    alloc: Global,
+    session: &mut Session,
+    files: &[usize],
+    flags: &mut [i32],
+) -> i32
+    ensures kept { session.new.kept ≡ session.old.kept }
+    ensures flags { OfGraph session.old.kept result (λ g.
+        GivesMadeFrom g files.now flags.old flags.new result) }
+    ensures buffer { FlagsKeptUnlessDone flags.old flags.new result }
+{
+    ask!(session, alloc, kept => match &kept.graph {
+        Some(graph) => give_made_from(alloc, graph, kept.files.hash_keys(), files, flags),
+        None => Status::NotLoaded,
+    })
+}
+
+fn give_made_from(
+    alloc: Global,
+    graph: &Graph,
+    keys: HashKeys,
+    numbers: &[usize],
+    flags: &mut [i32],
+) -> Status
+    ensures flags { GivesMadeFrom graph.now numbers.now flags.old flags.new (code_of result) }
+    ensures buffer { FlagsKeptUnlessDone flags.old flags.new (code_of result) }
+{
+    match made_from_numbers(alloc, graph, keys, numbers) {
+        Ok(Some(made)) => {
+            write_flags(&made, flags);
+            Status::Done
+        }
+        Ok(None) => Status::BadNumber,
+        Err(_) => Status::OutOfMemory,
+    }
+}
+
+// Of each file of these numbers whether the manifest is made from it; `None` if a number is not
+// that of a file.
+fn made_from_numbers(
+    alloc: Global,
+    graph: &Graph,
+    keys: HashKeys,
+    numbers: &[usize],
+) -> Result<Option<Vec<bool>>, AllocError>
+    ensures { IfOk result (λ made. MatchOption made (AreKnown graph.now numbers.now → ⊥) (λ made.
+        AreKnown graph.now numbers.now × TellMadeFrom graph.now numbers.now made.items)) }
+{
+    match known_files(alloc, numbers, graph.file_count())? {
+        Some(files) => Ok(Some(made_from(alloc, graph, keys, &files)?)),
+        None => Ok(None),
+    }
+}
+
+// Writes as many flags as there is room for.
+fn write_flags(made: &[bool], flags: &mut [i32])
+    ensures { flags.new ≡ filled (map bool_code made.now) flags.old }
+{
+    let fitting = made.len().min(flags.len());
+    'flags: for at in 0..fitting {
+        flags[at] = flag_of(made[at]);
+    }
+}
+
+fn flag_of(is: bool) -> i32
+    ensures { result ≡ bool_code is }
+{
+    i32::from(is)
+}
