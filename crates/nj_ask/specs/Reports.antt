@@ -56,7 +56,8 @@ pub data IsWarning (g : GraphModel) (entries : List ReadStatement) (q : Question
       → IsWarning g entries q path []
 
 -- The text has the warnings about these paths, in their order.
-pub data HasWarnings (g : GraphModel) (entries : List ReadStatement) (q : Question) : (paths : List (List ℕ)) → (text : List ℕ) → Type 0 where
+pub data HasWarnings (g : GraphModel) (entries : List ReadStatement) (q : Question) :
+    (paths : List (List ℕ)) → (text : List ℕ) → Type 0 where
   none : HasWarnings g entries q [] []
   last : {paths : List (List ℕ)} {text path warning : List ℕ} → HasWarnings g entries q paths text
       → IsWarning g entries q path warning → HasWarnings g entries q (paths ++ path ∷ []) (text ++ warning)
@@ -115,8 +116,9 @@ pub record IsIgnored (g : GraphModel) (q : Question) (path : List ℕ) : Type 0 
   pub unopened : is_opened g (path_in q.folder path) ≡ false
   pub ignores : q.ignores_unknown ≡ true
 
--- No changed path changes the manifest; each names a file, unless paths without one are ignored; nothing is unclear about what builds
--- discovered; no dyndep file and no manifest may change; and standard output took exactly the requested outputs of the edges that the change touches.
+-- No changed path changes the manifest; each names a file, unless paths without one are ignored; nothing is unclear about what
+-- builds discovered; no dyndep file and no manifest may change; and standard output took exactly the requested outputs of the
+-- edges that the change touches.
 pub record MissesNothing (known : DiscoveredGraph) (entries : List ReadStatement) (q : Question) (asked : Asked)
     (out new_out : SinkState) : Type 0 where
   pub keeps : (path : List ℕ) → Contains q.paths path

@@ -11,7 +11,8 @@ use Rattle.nj_c.specs.Statuses.{code_of}
 -- as many of them as there is room for were written to a buffer; or a file is not known; or an allocation failed
 abbrev pub GivesMadeFrom : GraphModel → (files : List ℕ) → (before after : List ℤ) → ℤ → Type 0
 GivesMadeFrom g files before after result =
-    ((made : List Bool) × AreKnown g files × TellMadeFrom g files made × (result ≡ code_of Done) × (after ≡ filled (map bool_code made) before))
+    ((made : List Bool) × AreKnown g files × TellMadeFrom g files made × (result ≡ code_of Done)
+    × (after ≡ filled (map bool_code made) before))
     ⊎ ((result ≡ code_of BadNumber) × (AreKnown g files → ⊥))
     ⊎ (result ≡ code_of OutOfMemory)
 
