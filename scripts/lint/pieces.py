@@ -2,6 +2,7 @@
 
 from pathlib import Path
 
+import lay_out_proofs
 import try_folder
 from lib.checks import check, expect
 
@@ -13,6 +14,24 @@ WORDS = {
     "-t rules ; -t query 'a b'": [["-t", "rules"], ["-t", "query", "a b"]],
     " ; -t rules ; ; -t targets a;b ; ": [["-t", "rules"], ["-t", "targets", "a;b"]],
 }
+
+# Lines of proofs, and the lines into which each is broken.
+LONG = "x" * 45
+LINES = {
+    "f x = y": ["f x = y"],
+    f"f : {LONG} → ({LONG} → {LONG})": [f"f : {LONG}", f"    → ({LONG} → {LONG})"],
+    f"  f = g ({LONG} ∙ {LONG}) {LONG}": [f"  f = g ({LONG} ∙ {LONG})", f"      {LONG}"],
+    f"    → {LONG} → {LONG} → {LONG}": [f"    → {LONG} → {LONG}", f"    → {LONG}"],
+    f"-- {LONG} {LONG} {LONG}": [f"-- {LONG} {LONG}", f"-- {LONG}"],
+    f"use a.{{{LONG}, {LONG}, {LONG}}}": [f"use a.{{{LONG}, {LONG}}}", f"use a.{{{LONG}}}"],
+    f"use a.{{{LONG}{LONG}{LONG}}}": [f"use a.{{{LONG}{LONG}{LONG}}}"],
+}
+
+
+@check
+def wide_lines_are_broken():
+    for line, wanted in LINES.items():
+        yield from expect(repr(line), lay_out_proofs.laid_out(line), wanted)
 
 
 @check

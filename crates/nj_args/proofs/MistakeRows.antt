@@ -5,7 +5,8 @@ use Rattle.clap.proofs.OnLiterals.{clap_on_literals}
 use Rattle.nj_args.specs.CommandLine.{command}
 use Rattle.clap.specs.Words.{Row, matches_of}
 use Rattle.nj_args.specs.Fields.{given_rows, words_in}
-use Rattle.nj_args.specs.FirstFaults.{HasMistake, unknown_tool, bad_take, bad_depth, unknown, no_number, no_depth, TakesWords, levels}
+use Rattle.nj_args.specs.FirstFaults.{HasMistake, unknown_tool, bad_take, bad_depth, unknown, no_number}
+use Rattle.nj_args.specs.FirstFaults.{no_depth, TakesWords, levels}
 use Rattle.nj_args.specs.declared.usage_fault.UsageFault.TheVariants.{UnknownTool, BadNumber}
 use Rattle.nj_args.specs.declared.tools.Tool.TheVariants.{Targets}
 

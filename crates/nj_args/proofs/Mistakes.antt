@@ -1,10 +1,14 @@
 -- Mistakes in the rows of the arguments, and computations that end with the fault of the first.
-use Rattle.std.proofs.Common.{◌≡◌, ◌≢◌, ℕ, Bool, true, false, cond, List, [], ◌∷◌, ◌++◌, map, take, drop, Option, Some, None, Result, Ok, Err, refl, sym, ap, subst, ◌∙◌}
+use Rattle.std.proofs.Common.{◌≡◌, ◌≢◌, ℕ, Bool, true, false, cond, List, [], ◌∷◌, ◌++◌, map, take, drop}
+use Rattle.std.proofs.Common.{Option, Some, None, Result, Ok, Err, refl, sym, ap, subst, ◌∙◌}
 use Rattle.std.specs.Prelude.{⊤, codes, not, ◌&&◌, is_some, find}
 use Rattle.nj_manifest.specs.LineSteps.{◌>>=◌}
 use Rattle.clap.specs.Words.{Row, first_of}
 use Rattle.nj_args.specs.Fields.{words_in}
-use Rattle.nj_args.specs.FirstFaults.{Mistake, foreign_option, bad_take, bad_mark, bad_words, bad_depth, TakesWords, NamesTool, HasMistake, toolless, unknown, foreign, no_number, no_mark, wrong_words, no_depth, Lacks, IsFirstOf, first, later}
+use Rattle.nj_args.specs.FirstFaults.{Mistake, foreign_option, bad_take, bad_mark, bad_words, bad_depth}
+use Rattle.nj_args.specs.FirstFaults.{TakesWords, NamesTool, HasMistake, toolless, unknown, foreign}
+use Rattle.nj_args.specs.FirstFaults.{no_number, no_mark, wrong_words, no_depth, Lacks, IsFirstOf, first}
+use Rattle.nj_args.specs.FirstFaults.{later}
 use Rattle.nj_args.specs.Inside.Held.{first_foreign}
 use Rattle.nj_args.specs.Tools.{tool_named, is_foreign, all_options}
 use Rattle.nj_args.specs.declared.usage_fault.ToolOption.{ToolOption}
@@ -17,7 +21,8 @@ use Rattle.nj_args.specs.declared.tools.Tool.TheVariants.{Targets}
 -- ---- one fault for a mistake, one first fault
 
 -- one tool is named
-same_tool : {rows : List Row} {name other : List ℕ} {tool another : Tool} → NamesTool rows name tool → NamesTool rows other another
+same_tool : {rows : List Row} {name other : List ℕ} {tool another : Tool} → NamesTool rows name tool
+    → NamesTool rows other another
     → (name ≡ other) × (tool ≡ another)
 same_tool {rows} {name} {other} {tool} {another} one two =
     let names : Some name ≡ Some other = sym one.asked ∙ two.asked in
@@ -30,7 +35,8 @@ one_fault : {rows : List Row} {mistake : Mistake} {fault other : UsageFault} →
     → HasMistake rows mistake other → fault ≡ other
 one_fault (toolless e) (toolless f) = refl
 one_fault (unknown name e k) (unknown other f l) = let same : Some name ≡ Some other = sym e ∙ f in cc
-one_fault (foreign name tool option one e) (foreign other another option' two f) = ap (λ n. ForeignOption option n) (same_tool one two).0
+one_fault (foreign name tool option one e) (foreign other another option' two f) =
+    ap (λ n. ForeignOption option n) (same_tool one two).0
 one_fault (no_number text e k) (no_number other f l) = let same : Some text ≡ Some other = sym e ∙ f in cc
 one_fault (no_mark text e k) (no_mark other f l) = let same : Some text ≡ Some other = sym e ∙ f in cc
 one_fault (wrong_words name tool one e) (wrong_words other another two f) = ap BadWords (same_tool one two).0
@@ -39,7 +45,8 @@ one_fault (no_depth name text one e k) (no_depth other text' two f l) =
     cc
 
 -- of some mistakes one is the first
-one_first : {rows : List Row} {mistakes : List Mistake} {fault other : UsageFault} → IsFirstOf rows mistakes fault
+one_first : {rows : List Row} {mistakes : List Mistake} {fault other : UsageFault}
+    → IsFirstOf rows mistakes fault
     → IsFirstOf rows mistakes other → fault ≡ other
 one_first (first h) (first k) = one_fault h k
 one_first (first h) (later lacks k) = absurd (lacks _ h)
@@ -58,19 +65,22 @@ pub data Ends {A : Type 0} (rows : List Row) (mistakes : List Mistake) : Result 
   in_fault : {fault : UsageFault} → IsFirstOf rows mistakes fault → Ends rows mistakes (Err fault)
 
 -- one more mistake is not there
-pub skip : {A : Type 0} {rows : List Row} {mistake : Mistake} {mistakes : List Mistake} {result : Result A UsageFault}
+pub skip : {A : Type 0} {rows : List Row} {mistake : Mistake} {mistakes : List Mistake}
+    {result : Result A UsageFault}
     → Lacks rows mistake → Ends rows mistakes result → Ends rows (mistake ∷ mistakes) result
 skip lacks (in_value none) = in_value (lacks, none)
 skip lacks (in_fault h) = in_fault (later lacks h)
 
 -- the value is made into another
-pub mapped : {A B : Type 0} {rows : List Row} {mistakes : List Mistake} {result : Result A UsageFault} (f : A → B)
+pub mapped : {A B : Type 0} {rows : List Row} {mistakes : List Mistake} {result : Result A UsageFault}
+    (f : A → B)
     → Ends rows mistakes result → Ends rows mistakes (result >>= (λ x. Ok (f x)))
 mapped f (in_value none) = in_value none
 mapped f (in_fault h) = in_fault h
 
 -- one mistake is looked for, then others
-pub bound : {A B : Type 0} {rows : List Row} {mistake : Mistake} {mistakes : List Mistake} {result : Result A UsageFault}
+pub bound : {A B : Type 0} {rows : List Row} {mistake : Mistake} {mistakes : List Mistake}
+    {result : Result A UsageFault}
     (f : A → Result B UsageFault) → Ends rows (mistake ∷ []) result → ((x : A) → Ends rows mistakes (f x))
     → Ends rows (mistake ∷ mistakes) (result >>= f)
 bound f (in_value {x} none) next = skip none.0 (next x)
@@ -83,7 +93,8 @@ no_first none (first h) = none.0 _ h
 no_first none (later lacks h) = no_first none.1 h
 
 -- a computation that ends so has a fault exactly where it is the first
-pub reported : {A : Type 0} {rows : List Row} {mistakes : List Mistake} {fault : UsageFault} {result : Result A UsageFault}
+pub reported : {A : Type 0} {rows : List Row} {mistakes : List Mistake} {fault : UsageFault}
+    {result : Result A UsageFault}
     → Ends rows mistakes result → IsFirstOf rows mistakes fault → result ≡ Err fault
 reported (in_value none) h = absurd (no_first none h)
 reported (in_fault k) h = ap Err (one_first k h)
@@ -98,26 +109,35 @@ module _ (rows : List Row) (name : List ℕ) (tool : Tool) (names : NamesTool ro
       absurd (cc)
 
   -- a first one is found
-  pub found : (options : List ToolOption) (rest : List Mistake) (option : ToolOption) → find (is_foreign tool rows) options ≡ Some option
+  pub found : (options : List ToolOption) (rest : List Mistake) (option : ToolOption)
+      → find (is_foreign tool rows) options ≡ Some option
       → IsFirstOf rows (map foreign_option options ++ rest) (ForeignOption option name)
   found [] rest option e = absurd (cc)
   found (x ∷ options) rest option e = by_test (is_foreign tool rows x) refl e (found options rest option)
     where
-      by_test : (b : Bool) → is_foreign tool rows x ≡ b → cond b (Some x) (find (is_foreign tool rows) options) ≡ Some option
+      by_test : (b : Bool) → is_foreign tool rows x ≡ b
+          → cond b (Some x) (find (is_foreign tool rows) options) ≡ Some option
           → (find (is_foreign tool rows) options ≡ Some option
           → IsFirstOf rows (map foreign_option options ++ rest) (ForeignOption option name))
-          → IsFirstOf rows (foreign_option x ∷ (map foreign_option options ++ rest)) (ForeignOption option name)
-      by_test true b e others = let same : x ≡ option = cc in rw (← same) (first (foreign name tool x names b))
+          → IsFirstOf rows (foreign_option x ∷ (map foreign_option options ++ rest))
+          (ForeignOption option name)
+      by_test true b e others = let same : x ≡ option = cc
+          in rw (← same) (first (foreign name tool x names b))
       by_test false b e others = later (goes x b) (others e)
 
   -- none is found
-  pub none_found : {A : Type 0} (options : List ToolOption) (rest : List Mistake) (result : Result A UsageFault)
-      → find (is_foreign tool rows) options ≡ None → Ends rows rest result → Ends rows (map foreign_option options ++ rest) result
+  pub none_found : {A : Type 0} (options : List ToolOption) (rest : List Mistake)
+      (result : Result A UsageFault)
+      → find (is_foreign tool rows) options ≡ None → Ends rows rest result
+      → Ends rows (map foreign_option options ++ rest) result
   none_found [] rest result e ends = ends
-  none_found (x ∷ options) rest result e ends = by_test (is_foreign tool rows x) refl e (λ e. none_found options rest result e ends)
+  none_found (x ∷ options) rest result e ends =
+      by_test (is_foreign tool rows x) refl e (λ e. none_found options rest result e ends)
     where
-      by_test : (b : Bool) → is_foreign tool rows x ≡ b → cond b (Some x) (find (is_foreign tool rows) options) ≡ None
-          → (find (is_foreign tool rows) options ≡ None → Ends rows (map foreign_option options ++ rest) result)
+      by_test : (b : Bool) → is_foreign tool rows x ≡ b
+          → cond b (Some x) (find (is_foreign tool rows) options) ≡ None
+          → (find (is_foreign tool rows) options ≡ None
+          → Ends rows (map foreign_option options ++ rest) result)
           → Ends rows (foreign_option x ∷ (map foreign_option options ++ rest)) result
       by_test true b e others = absurd (cc)
       by_test false b e others = skip (goes x b) (others e)
@@ -148,7 +168,8 @@ not_foreign tool rows e = record {
 }
 
 -- an option that does not go with the tool, and is not foreign, is not given
-pub not_given : {A : Type 0} (given : Option A) (goes : Bool) → (is_some given && not goes) ≡ false → goes ≡ false → given ≡ None
+pub not_given : {A : Type 0} (given : Option A) (goes : Bool) → (is_some given && not goes) ≡ false
+    → goes ≡ false → given ≡ None
 not_given None goes e f = refl
 not_given (Some x) true e f = absurd (cc)
 not_given (Some x) false e f = absurd (cc)
@@ -170,8 +191,10 @@ module _ (rows : List Row) (name : List ℕ) (tool : Tool) (names : NamesTool ro
   lacks_bad_depth e fault (no_depth other text two f k) = absurd (e (same_tool names two).1)
 
   -- a tool that takes the arguments, and is not `targets`
-  pub takes_all : {A : Type 0} (x : A) → tool ≢ Targets → TakesWords tool (words_in rows) → Ends rows (bad_words ∷ bad_depth ∷ []) (Ok x)
+  pub takes_all : {A : Type 0} (x : A) → tool ≢ Targets → TakesWords tool (words_in rows)
+      → Ends rows (bad_words ∷ bad_depth ∷ []) (Ok x)
   takes_all x other takes = in_value (lacks_bad_words takes, (lacks_bad_depth other, tt))
 
-  pub refuses : (A : Type 0) → ¬ TakesWords tool (words_in rows) → Ends {A = A} rows (bad_words ∷ bad_depth ∷ []) (Err (BadWords name))
+  pub refuses : (A : Type 0) → ¬ TakesWords tool (words_in rows)
+      → Ends {A = A} rows (bad_words ∷ bad_depth ∷ []) (Err (BadWords name))
   refuses A wrong = in_fault (first (wrong_words name tool names wrong))

@@ -6,11 +6,15 @@ use Rattle.nj_needs.specs.MarkTexts.{given_mark}
 use Rattle.nj_requests.specs.declared.style.InputsStyle.{InputsStyle}
 use Rattle.nj_args.specs.CommandLine.{command}
 use Rattle.nj_args.specs.FaultLines.{fault_line}
-use Rattle.nj_requests.specs.Actions.{ActionModel, RequestModel, commands, compdb, inputs, query, rules, single_commands, targets}
+use Rattle.nj_requests.specs.Actions.{ActionModel, RequestModel, commands, compdb, inputs, query, rules}
+use Rattle.nj_requests.specs.Actions.{single_commands, targets}
 use Rattle.nj_args.specs.Requests.{request_of}
 use Rattle.nj_args.specs.declared.usage_fault.UsageFault.{UsageFault}
-use Rattle.nj_args.specs.declared.usage_fault.UsageFault.TheVariants.{Unparsed, UnknownTool, ForeignOption, BadNumber, BadMark, BadWords}
-use Rattle.nj_args.specs.declared.usage_fault.ToolOption.TheVariants.{Single, Descriptions, Expand, Directory, Take, Resume, Validations, DependencyOrder, NoShellEscape, Print0}
+use Rattle.nj_args.specs.declared.usage_fault.UsageFault.TheVariants.{Unparsed, UnknownTool, ForeignOption}
+use Rattle.nj_args.specs.declared.usage_fault.UsageFault.TheVariants.{BadNumber, BadMark, BadWords}
+use Rattle.nj_args.specs.declared.usage_fault.ToolOption.TheVariants.{Single, Descriptions, Expand, Directory}
+use Rattle.nj_args.specs.declared.usage_fault.ToolOption.TheVariants.{Take, Resume, Validations}
+use Rattle.nj_args.specs.declared.usage_fault.ToolOption.TheVariants.{DependencyOrder, NoShellEscape, Print0}
 use Rattle.nj_requests.specs.declared.view.TargetsView.TheVariants.{OfRule, Sources, Depth, All}
 
 abbrev asks : ActionModel → Result RequestModel UsageFault
@@ -23,12 +27,24 @@ plain = record { dependency_order = false; shell_escape = true; zero = false }
 -- ---- the file
 
 wordless_row : request_of []
-    ≡ Ok (record { file = codes "build.ninja"; from_stdin = true; dyndep = false; action = commands [] false None [] })
+    ≡ Ok (record {
+      file = codes "build.ninja";
+      from_stdin = true;
+      dyndep = false;
+      action =
+          commands [] false None [];
+    })
 unfolding request_of
 wordless_row = refl
 
 file_row : request_of (codes "-f" ∷ codes "a.ninja" ∷ codes "-t" ∷ codes "commands" ∷ [])
-    ≡ Ok (record { file = codes "a.ninja"; from_stdin = false; dyndep = false; action = commands [] false None [] })
+    ≡ Ok (record {
+      file = codes "a.ninja";
+      from_stdin = false;
+      dyndep = false;
+      action =
+          commands [] false None [];
+    })
 unfolding request_of command clap_on_literals
 file_row = refl
 
@@ -38,7 +54,13 @@ unfolding request_of command clap_on_literals
 input_row = refl
 
 dyndep_row : request_of (codes "-t" ∷ codes "commands" ∷ codes "--dyndep" ∷ [])
-    ≡ Ok (record { file = codes "build.ninja"; from_stdin = false; dyndep = true; action = commands [] false None [] })
+    ≡ Ok (record {
+      file = codes "build.ninja";
+      from_stdin = false;
+      dyndep = true;
+      action =
+          commands [] false None [];
+    })
 unfolding request_of command clap_on_literals
 dyndep_row = refl
 
@@ -59,16 +81,19 @@ resume_row : request_of (codes "-t" ∷ codes "commands" ∷ codes "--resume" �
 unfolding request_of command clap_on_literals given_mark
 resume_row = refl
 
-start_row : request_of (codes "-t" ∷ codes "commands" ∷ codes "--resume=start" ∷ []) ≡ asks (commands ([]) false None [])
+start_row : request_of (codes "-t" ∷ codes "commands" ∷ codes "--resume=start" ∷ [])
+    ≡ asks (commands ([]) false None [])
 unfolding request_of command clap_on_literals given_mark
 start_row = refl
 
-validated_row : request_of (codes "-t" ∷ codes "commands" ∷ codes "--validations" ∷ codes "--resume" ∷ codes "v0.1" ∷ codes "d" ∷ [])
+validated_row : request_of (codes "-t" ∷ codes "commands" ∷ codes "--validations" ∷ codes "--resume" ∷ codes
+    "v0.1" ∷ codes "d" ∷ [])
     ≡ asks (commands (codes "d" ∷ []) true None (0 ∷ 1 ∷ []))
 unfolding request_of command clap_on_literals given_mark
 validated_row = refl
 
-validated_start_row : request_of (codes "-t" ∷ codes "commands" ∷ codes "--validations" ∷ codes "--resume=vstart" ∷ []) ≡ asks (commands ([]) true None [])
+validated_start_row : request_of (codes "-t" ∷ codes "commands" ∷ codes "--validations" ∷ codes
+    "--resume=vstart" ∷ []) ≡ asks (commands ([]) true None [])
 unfolding request_of command clap_on_literals given_mark
 validated_start_row = refl
 
@@ -77,7 +102,8 @@ single_row : request_of (codes "-t" ∷ codes "commands" ∷ codes "-s" ∷ code
 unfolding request_of command clap_on_literals
 single_row = refl
 
-zeros_row : request_of (codes "-t" ∷ codes "commands" ∷ codes "--take=007" ∷ []) ≡ asks (commands ([]) false (Some 7) [])
+zeros_row : request_of (codes "-t" ∷ codes "commands" ∷ codes "--take=007" ∷ [])
+    ≡ asks (commands ([]) false (Some 7) [])
 unfolding request_of command clap_on_literals
 zeros_row = refl
 
@@ -86,11 +112,13 @@ greatest_row : request_of (codes "-t" ∷ codes "commands" ∷ codes "--take" �
 unfolding request_of command clap_on_literals
 greatest_row = refl
 
-empty_target_row : request_of (codes "-t" ∷ codes "commands" ∷ [] ∷ []) ≡ asks (commands ([] ∷ []) false None [])
+empty_target_row : request_of (codes "-t" ∷ codes "commands" ∷ [] ∷ [])
+    ≡ asks (commands ([] ∷ []) false None [])
 unfolding request_of command clap_on_literals
 empty_target_row = refl
 
-mixed_row : request_of (codes "d" ∷ codes "-t" ∷ codes "commands" ∷ codes "e" ∷ []) ≡ asks (commands (codes "d" ∷ codes "e" ∷ []) false None [])
+mixed_row : request_of (codes "d" ∷ codes "-t" ∷ codes "commands" ∷ codes "e" ∷ [])
+    ≡ asks (commands (codes "d" ∷ codes "e" ∷ []) false None [])
 unfolding request_of command clap_on_literals
 mixed_row = refl
 
@@ -99,7 +127,8 @@ ended_row : request_of (codes "-t" ∷ codes "commands" ∷ codes "--" ∷ codes
 unfolding request_of command clap_on_literals
 ended_row = refl
 
-dash_row : request_of (codes "-t" ∷ codes "commands" ∷ codes "-" ∷ []) ≡ asks (commands (codes "-" ∷ []) false None [])
+dash_row : request_of (codes "-t" ∷ codes "commands" ∷ codes "-" ∷ [])
+    ≡ asks (commands (codes "-" ∷ []) false None [])
 unfolding request_of command clap_on_literals
 dash_row = refl
 
@@ -117,7 +146,8 @@ bundle_row = refl
 
 -- ---- the other tools
 
-inputs_row : request_of (codes "-t" ∷ codes "inputs" ∷ codes "a" ∷ codes "b" ∷ []) ≡ asks (inputs (codes "a" ∷ codes "b" ∷ []) false plain)
+inputs_row : request_of (codes "-t" ∷ codes "inputs" ∷ codes "a" ∷ codes "b" ∷ [])
+    ≡ asks (inputs (codes "a" ∷ codes "b" ∷ []) false plain)
 unfolding request_of command clap_on_literals
 inputs_row = refl
 
@@ -125,12 +155,15 @@ no_inputs_row : request_of (codes "-t" ∷ codes "inputs" ∷ []) ≡ asks (inpu
 unfolding request_of command clap_on_literals
 no_inputs_row = refl
 
-styles_row : request_of (codes "-t" ∷ codes "inputs" ∷ codes "--dependency-order" ∷ codes "--no-shell-escape" ∷ codes "--print0" ∷ codes "a" ∷ [])
-    ≡ asks (inputs (codes "a" ∷ []) false (record { dependency_order = true; shell_escape = false; zero = true }))
+styles_row : request_of (codes "-t" ∷ codes "inputs" ∷ codes "--dependency-order" ∷ codes "--no-shell-escape"
+    ∷ codes "--print0" ∷ codes "a" ∷ [])
+    ≡ asks (inputs (codes "a" ∷ []) false (record
+    { dependency_order = true; shell_escape = false; zero = true }))
 unfolding request_of command clap_on_literals
 styles_row = refl
 
-validated_inputs_row : request_of (codes "-t" ∷ codes "inputs" ∷ codes "--validations" ∷ []) ≡ asks (inputs [] true plain)
+validated_inputs_row : request_of (codes "-t" ∷ codes "inputs" ∷ codes "--validations" ∷ [])
+    ≡ asks (inputs [] true plain)
 unfolding request_of command clap_on_literals
 validated_inputs_row = refl
 
@@ -150,11 +183,13 @@ compdb_row : request_of (codes "-t" ∷ codes "compdb" ∷ []) ≡ asks (compdb 
 unfolding request_of command clap_on_literals
 compdb_row = refl
 
-compdb_rules_row : request_of (codes "-t" ∷ codes "compdb" ∷ codes "-x" ∷ codes "--directory" ∷ codes "/w" ∷ codes "cc" ∷ []) ≡ asks (compdb (codes "cc" ∷ []) (codes "/w") true)
+compdb_rules_row : request_of (codes "-t" ∷ codes "compdb" ∷ codes "-x" ∷ codes "--directory" ∷ codes "/w" ∷
+    codes "cc" ∷ []) ≡ asks (compdb (codes "cc" ∷ []) (codes "/w") true)
 unfolding request_of command clap_on_literals
 compdb_rules_row = refl
 
-empty_directory_row : request_of (codes "-t" ∷ codes "compdb" ∷ codes "--directory=" ∷ []) ≡ asks (compdb [] [] false)
+empty_directory_row : request_of (codes "-t" ∷ codes "compdb" ∷ codes "--directory=" ∷ [])
+    ≡ asks (compdb [] [] false)
 unfolding request_of command clap_on_literals
 empty_directory_row = refl
 
@@ -168,15 +203,18 @@ depth_row : request_of (codes "-t" ∷ codes "targets" ∷ codes "depth" ∷ [])
 unfolding request_of command clap_on_literals
 depth_row = refl
 
-all_levels_row : request_of (codes "-t" ∷ codes "targets" ∷ codes "depth" ∷ codes "0" ∷ []) ≡ asks (targets (Depth 0))
+all_levels_row : request_of (codes "-t" ∷ codes "targets" ∷ codes "depth" ∷ codes "0" ∷ [])
+    ≡ asks (targets (Depth 0))
 unfolding request_of command clap_on_literals
 all_levels_row = refl
 
-depth_zeros_row : request_of (codes "-t" ∷ codes "targets" ∷ codes "depth" ∷ codes "007" ∷ []) ≡ asks (targets (Depth 7))
+depth_zeros_row : request_of (codes "-t" ∷ codes "targets" ∷ codes "depth" ∷ codes "007" ∷ [])
+    ≡ asks (targets (Depth 7))
 unfolding request_of command clap_on_literals
 depth_zeros_row = refl
 
-greatest_depth_row : request_of (codes "-t" ∷ codes "targets" ∷ codes "depth" ∷ codes "2147483647" ∷ []) ≡ asks (targets (Depth 2147483647))
+greatest_depth_row : request_of (codes "-t" ∷ codes "targets" ∷ codes "depth" ∷ codes "2147483647" ∷ [])
+    ≡ asks (targets (Depth 2147483647))
 unfolding request_of command clap_on_literals
 greatest_depth_row = refl
 
@@ -188,30 +226,36 @@ sources_row : request_of (codes "-t" ∷ codes "targets" ∷ codes "rule" ∷ []
 unfolding request_of command clap_on_literals
 sources_row = refl
 
-rule_row : request_of (codes "-t" ∷ codes "targets" ∷ codes "rule" ∷ codes "cc" ∷ []) ≡ asks (targets (OfRule (codes "cc")))
+rule_row : request_of (codes "-t" ∷ codes "targets" ∷ codes "rule" ∷ codes "cc" ∷ [])
+    ≡ asks (targets (OfRule (codes "cc")))
 unfolding request_of command clap_on_literals
 rule_row = refl
 
-empty_rule_row : request_of (codes "-t" ∷ codes "targets" ∷ codes "rule" ∷ [] ∷ []) ≡ asks (targets (OfRule []))
+empty_rule_row : request_of (codes "-t" ∷ codes "targets" ∷ codes "rule" ∷ [] ∷ [])
+    ≡ asks (targets (OfRule []))
 unfolding request_of command clap_on_literals
 empty_rule_row = refl
 
 -- ---- faults
 
-number_row : request_of (codes "-t" ∷ codes "commands" ∷ codes "--take" ∷ codes "x" ∷ []) ≡ Err (BadNumber (codes "x"))
+number_row : request_of (codes "-t" ∷ codes "commands" ∷ codes "--take" ∷ codes "x" ∷ [])
+    ≡ Err (BadNumber (codes "x"))
 unfolding request_of command clap_on_literals
 number_row = refl
 
-too_great_row : request_of (codes "-t" ∷ codes "commands" ∷ codes "--take" ∷ codes "18446744073709551616" ∷ [])
+too_great_row : request_of (codes "-t" ∷ codes "commands" ∷ codes "--take" ∷ codes "18446744073709551616" ∷
+    [])
     ≡ Err (BadNumber (codes "18446744073709551616"))
 unfolding request_of command clap_on_literals
 too_great_row = refl
 
-signed_row : request_of (codes "-t" ∷ codes "commands" ∷ codes "--take" ∷ codes "+1" ∷ []) ≡ Err (BadNumber (codes "+1"))
+signed_row : request_of (codes "-t" ∷ codes "commands" ∷ codes "--take" ∷ codes "+1" ∷ [])
+    ≡ Err (BadNumber (codes "+1"))
 unfolding request_of command clap_on_literals
 signed_row = refl
 
-attached_negative_row : request_of (codes "-t" ∷ codes "commands" ∷ codes "--take=-5" ∷ []) ≡ Err (BadNumber (codes "-5"))
+attached_negative_row : request_of (codes "-t" ∷ codes "commands" ∷ codes "--take=-5" ∷ [])
+    ≡ Err (BadNumber (codes "-5"))
 unfolding request_of command clap_on_literals
 attached_negative_row = refl
 
@@ -219,7 +263,8 @@ empty_number_row : request_of (codes "-t" ∷ codes "commands" ∷ codes "--take
 unfolding request_of command clap_on_literals
 empty_number_row = refl
 
-mark_row : request_of (codes "-t" ∷ codes "commands" ∷ codes "--resume" ∷ codes "00" ∷ codes "d" ∷ []) ≡ Err (BadMark (codes "00"))
+mark_row : request_of (codes "-t" ∷ codes "commands" ∷ codes "--resume" ∷ codes "00" ∷ codes "d" ∷ [])
+    ≡ Err (BadMark (codes "00"))
 unfolding request_of command clap_on_literals given_mark
 mark_row = refl
 
@@ -227,27 +272,33 @@ empty_mark_row : request_of (codes "-t" ∷ codes "commands" ∷ codes "--resume
 unfolding request_of command clap_on_literals given_mark
 empty_mark_row = refl
 
-validated_mark_row : request_of (codes "-t" ∷ codes "commands" ∷ codes "--resume" ∷ codes "v0" ∷ []) ≡ Err (BadMark (codes "v0"))
+validated_mark_row : request_of (codes "-t" ∷ codes "commands" ∷ codes "--resume" ∷ codes "v0" ∷ [])
+    ≡ Err (BadMark (codes "v0"))
 unfolding request_of command clap_on_literals given_mark
 validated_mark_row = refl
 
-mark_without_letter_row : request_of (codes "-t" ∷ codes "commands" ∷ codes "--validations" ∷ codes "--resume" ∷ codes "0" ∷ []) ≡ Err (BadMark (codes "0"))
+mark_without_letter_row : request_of (codes "-t" ∷ codes "commands" ∷ codes "--validations" ∷ codes "--resume"
+    ∷ codes "0" ∷ []) ≡ Err (BadMark (codes "0"))
 unfolding request_of command clap_on_literals given_mark
 mark_without_letter_row = refl
 
-letter_alone_row : request_of (codes "-t" ∷ codes "commands" ∷ codes "--validations" ∷ codes "--resume=v" ∷ []) ≡ Err (BadMark (codes "v"))
+letter_alone_row : request_of (codes "-t" ∷ codes "commands" ∷ codes "--validations" ∷ codes "--resume=v" ∷
+    []) ≡ Err (BadMark (codes "v"))
 unfolding request_of command clap_on_literals given_mark
 letter_alone_row = refl
 
-two_letters_row : request_of (codes "-t" ∷ codes "commands" ∷ codes "--validations" ∷ codes "--resume=vv0" ∷ []) ≡ Err (BadMark (codes "vv0"))
+two_letters_row : request_of (codes "-t" ∷ codes "commands" ∷ codes "--validations" ∷ codes "--resume=vv0" ∷
+    []) ≡ Err (BadMark (codes "vv0"))
 unfolding request_of command clap_on_literals given_mark
 two_letters_row = refl
 
-letter_and_zero_row : request_of (codes "-t" ∷ codes "commands" ∷ codes "--validations" ∷ codes "--resume=v01" ∷ []) ≡ Err (BadMark (codes "v01"))
+letter_and_zero_row : request_of (codes "-t" ∷ codes "commands" ∷ codes "--validations" ∷ codes "--resume=v01"
+    ∷ []) ≡ Err (BadMark (codes "v01"))
 unfolding request_of command clap_on_literals given_mark
 letter_and_zero_row = refl
 
-number_before_mark_row : request_of (codes "-t" ∷ codes "commands" ∷ codes "--resume=x" ∷ codes "--take=y" ∷ [])
+number_before_mark_row : request_of (codes "-t" ∷ codes "commands" ∷ codes "--resume=x" ∷ codes "--take=y" ∷
+    [])
     ≡ Err (BadNumber (codes "y"))
 unfolding request_of command clap_on_literals given_mark
 number_before_mark_row = refl
@@ -264,7 +315,8 @@ dash_tool_row : request_of (codes "-t" ∷ codes "-" ∷ []) ≡ Err (UnknownToo
 unfolding request_of command clap_on_literals
 dash_tool_row = refl
 
-tool_before_number_row : request_of (codes "-t" ∷ codes "graph" ∷ codes "--take" ∷ codes "x" ∷ []) ≡ Err (UnknownTool (codes "graph"))
+tool_before_number_row : request_of (codes "-t" ∷ codes "graph" ∷ codes "--take" ∷ codes "x" ∷ [])
+    ≡ Err (UnknownTool (codes "graph"))
 unfolding request_of command clap_on_literals
 tool_before_number_row = refl
 
@@ -278,59 +330,72 @@ foreign_mark_row : request_of (codes "-t" ∷ codes "commands" ∷ codes "-s" �
 unfolding request_of command clap_on_literals given_mark
 foreign_mark_row = refl
 
-take_named_first_row : request_of (codes "-t" ∷ codes "commands" ∷ codes "--resume" ∷ codes "x" ∷ codes "--take" ∷ codes "x" ∷ codes "-s" ∷ [])
+take_named_first_row : request_of (codes "-t" ∷ codes "commands" ∷ codes "--resume" ∷ codes "x" ∷ codes
+    "--take" ∷ codes "x" ∷ codes "-s" ∷ [])
     ≡ Err (ForeignOption Take (codes "commands"))
 unfolding request_of command clap_on_literals given_mark
 take_named_first_row = refl
 
-foreign_validations_row : request_of (codes "-t" ∷ codes "commands" ∷ codes "-s" ∷ codes "--validations" ∷ codes "t" ∷ [])
+foreign_validations_row : request_of (codes "-t" ∷ codes "commands" ∷ codes "-s" ∷ codes "--validations" ∷
+    codes "t" ∷ [])
     ≡ Err (ForeignOption Validations (codes "commands"))
 unfolding request_of command clap_on_literals
 foreign_validations_row = refl
 
-take_before_validations_row : request_of (codes "-t" ∷ codes "commands" ∷ codes "-s" ∷ codes "--validations" ∷ codes "--take" ∷ codes "1" ∷ [])
+take_before_validations_row : request_of
+    (codes "-t" ∷ codes "commands" ∷ codes "-s" ∷ codes "--validations" ∷ codes "--take" ∷ codes "1" ∷ [])
     ≡ Err (ForeignOption Take (codes "commands"))
 unfolding request_of command clap_on_literals
 take_before_validations_row = refl
 
-foreign_order_row : request_of (codes "-t" ∷ codes "commands" ∷ codes "--dependency-order" ∷ []) ≡ Err (ForeignOption DependencyOrder (codes "commands"))
+foreign_order_row : request_of (codes "-t" ∷ codes "commands" ∷ codes "--dependency-order" ∷ [])
+    ≡ Err (ForeignOption DependencyOrder (codes "commands"))
 unfolding request_of command clap_on_literals
 foreign_order_row = refl
 
-print0_query_row : request_of (codes "-t" ∷ codes "query" ∷ codes "--print0" ∷ codes "t" ∷ []) ≡ Err (ForeignOption Print0 (codes "query"))
+print0_query_row : request_of (codes "-t" ∷ codes "query" ∷ codes "--print0" ∷ codes "t" ∷ [])
+    ≡ Err (ForeignOption Print0 (codes "query"))
 unfolding request_of command clap_on_literals
 print0_query_row = refl
 
-escape_named_first_row : request_of (codes "-t" ∷ codes "query" ∷ codes "--print0" ∷ codes "--no-shell-escape" ∷ codes "t" ∷ [])
+escape_named_first_row : request_of (codes "-t" ∷ codes "query" ∷ codes "--print0" ∷ codes "--no-shell-escape"
+    ∷ codes "t" ∷ [])
     ≡ Err (ForeignOption NoShellEscape (codes "query"))
 unfolding request_of command clap_on_literals
 escape_named_first_row = refl
 
-single_rules_row : request_of (codes "-t" ∷ codes "rules" ∷ codes "-s" ∷ []) ≡ Err (ForeignOption Single (codes "rules"))
+single_rules_row : request_of (codes "-t" ∷ codes "rules" ∷ codes "-s" ∷ [])
+    ≡ Err (ForeignOption Single (codes "rules"))
 unfolding request_of command clap_on_literals
 single_rules_row = refl
 
-descriptions_compdb_row : request_of (codes "-t" ∷ codes "compdb" ∷ codes "-d" ∷ []) ≡ Err (ForeignOption Descriptions (codes "compdb"))
+descriptions_compdb_row : request_of (codes "-t" ∷ codes "compdb" ∷ codes "-d" ∷ [])
+    ≡ Err (ForeignOption Descriptions (codes "compdb"))
 unfolding request_of command clap_on_literals
 descriptions_compdb_row = refl
 
-directory_commands_row : request_of (codes "-t" ∷ codes "commands" ∷ codes "--directory=" ∷ []) ≡ Err (ForeignOption Directory (codes "commands"))
+directory_commands_row : request_of (codes "-t" ∷ codes "commands" ∷ codes "--directory=" ∷ [])
+    ≡ Err (ForeignOption Directory (codes "commands"))
 unfolding request_of command clap_on_literals
 directory_commands_row = refl
 
-expand_named_first_row : request_of (codes "-t" ∷ codes "rules" ∷ codes "--take" ∷ codes "1" ∷ codes "-x" ∷ []) ≡ Err (ForeignOption Expand (codes "rules"))
+expand_named_first_row : request_of (codes "-t" ∷ codes "rules" ∷ codes "--take" ∷ codes "1" ∷ codes "-x" ∷
+    []) ≡ Err (ForeignOption Expand (codes "rules"))
 unfolding request_of command clap_on_literals
 expand_named_first_row = refl
 
-foreign_before_words_row : request_of (codes "-t" ∷ codes "query" ∷ codes "-d" ∷ []) ≡ Err (ForeignOption Descriptions (codes "query"))
+foreign_before_words_row : request_of (codes "-t" ∷ codes "query" ∷ codes "-d" ∷ [])
+    ≡ Err (ForeignOption Descriptions (codes "query"))
 unfolding request_of command clap_on_literals
 foreign_before_words_row = refl
 
-foreign_before_number_row : request_of (codes "-t" ∷ codes "inputs" ∷ codes "--take" ∷ codes "x" ∷ []) ≡ Err (ForeignOption Take (codes "inputs"))
+foreign_before_number_row : request_of (codes "-t" ∷ codes "inputs" ∷ codes "--take" ∷ codes "x" ∷ [])
+    ≡ Err (ForeignOption Take (codes "inputs"))
 unfolding request_of command clap_on_literals
 foreign_before_number_row = refl
 
-foreign_with_target_row : request_of (codes "-t" ∷ codes "commands" ∷ codes "-s" ∷ codes "--take" ∷ codes "1" ∷ codes "d" ∷ []) ≡ Err (ForeignOption Take (codes "commands"))
+foreign_with_target_row : request_of (codes "-t" ∷ codes "commands" ∷ codes "-s" ∷ codes "--take" ∷ codes "1"
+    ∷ codes "d" ∷ []) ≡ Err (ForeignOption Take (codes "commands"))
 unfolding request_of command clap_on_literals
 foreign_with_target_row = refl
 
@@ -352,19 +417,23 @@ empty_view_row : request_of (codes "-t" ∷ codes "targets" ∷ [] ∷ []) ≡ E
 unfolding request_of command clap_on_literals
 empty_view_row = refl
 
-all_word_row : request_of (codes "-t" ∷ codes "targets" ∷ codes "all" ∷ codes "x" ∷ []) ≡ Err (BadWords (codes "targets"))
+all_word_row : request_of (codes "-t" ∷ codes "targets" ∷ codes "all" ∷ codes "x" ∷ [])
+    ≡ Err (BadWords (codes "targets"))
 unfolding request_of command clap_on_literals
 all_word_row = refl
 
-depth_words_row : request_of (codes "-t" ∷ codes "targets" ∷ codes "depth" ∷ codes "1" ∷ codes "2" ∷ []) ≡ Err (BadWords (codes "targets"))
+depth_words_row : request_of (codes "-t" ∷ codes "targets" ∷ codes "depth" ∷ codes "1" ∷ codes "2" ∷ [])
+    ≡ Err (BadWords (codes "targets"))
 unfolding request_of command clap_on_literals
 depth_words_row = refl
 
-depth_number_row : request_of (codes "-t" ∷ codes "targets" ∷ codes "depth" ∷ codes "x" ∷ []) ≡ Err (BadNumber (codes "x"))
+depth_number_row : request_of (codes "-t" ∷ codes "targets" ∷ codes "depth" ∷ codes "x" ∷ [])
+    ≡ Err (BadNumber (codes "x"))
 unfolding request_of command clap_on_literals
 depth_number_row = refl
 
-depth_too_great_row : request_of (codes "-t" ∷ codes "targets" ∷ codes "depth" ∷ codes "2147483648" ∷ []) ≡ Err (BadNumber (codes "2147483648"))
+depth_too_great_row : request_of (codes "-t" ∷ codes "targets" ∷ codes "depth" ∷ codes "2147483648" ∷ [])
+    ≡ Err (BadNumber (codes "2147483648"))
 unfolding request_of command clap_on_literals
 depth_too_great_row = refl
 
@@ -394,7 +463,8 @@ negative_row : request_of (codes "-t" ∷ codes "commands" ∷ codes "--take" �
 unfolding request_of command clap_on_literals
 negative_row = refl
 
-tool_twice_row : request_of (codes "-t" ∷ codes "commands" ∷ codes "-t" ∷ codes "commands" ∷ []) ≡ Err Unparsed
+tool_twice_row : request_of (codes "-t" ∷ codes "commands" ∷ codes "-t" ∷ codes "commands" ∷ [])
+    ≡ Err Unparsed
 unfolding request_of command clap_on_literals
 tool_twice_row = refl
 
@@ -402,11 +472,13 @@ flag_twice_row : request_of (codes "-t" ∷ codes "commands" ∷ codes "-ss" ∷
 unfolding request_of command clap_on_literals
 flag_twice_row = refl
 
-dyndep_twice_row : request_of (codes "-t" ∷ codes "commands" ∷ codes "--dyndep" ∷ codes "--dyndep" ∷ []) ≡ Err Unparsed
+dyndep_twice_row : request_of (codes "-t" ∷ codes "commands" ∷ codes "--dyndep" ∷ codes "--dyndep" ∷ [])
+    ≡ Err Unparsed
 unfolding request_of command clap_on_literals
 dyndep_twice_row = refl
 
-take_twice_row : request_of (codes "-t" ∷ codes "commands" ∷ codes "--take=1" ∷ codes "--take=1" ∷ []) ≡ Err Unparsed
+take_twice_row : request_of (codes "-t" ∷ codes "commands" ∷ codes "--take=1" ∷ codes "--take=1" ∷ [])
+    ≡ Err Unparsed
 unfolding request_of command clap_on_literals
 take_twice_row = refl
 
@@ -442,10 +514,12 @@ unparsed_line = refl
 tool_line : fault_line (UnknownTool (codes "graph")) ≡ codes "ninja-explain: unknown tool 'graph'"
 tool_line = refl
 
-foreign_line : fault_line (ForeignOption Take (codes "commands")) ≡ codes "ninja-explain: option --take does not go with tool 'commands'"
+foreign_line : fault_line (ForeignOption Take (codes "commands"))
+    ≡ codes "ninja-explain: option --take does not go with tool 'commands'"
 foreign_line = refl
 
-foreign_mark_line : fault_line (ForeignOption Resume (codes "commands")) ≡ codes "ninja-explain: option --resume does not go with tool 'commands'"
+foreign_mark_line : fault_line (ForeignOption Resume (codes "commands"))
+    ≡ codes "ninja-explain: option --resume does not go with tool 'commands'"
 foreign_mark_line = refl
 
 number_line : fault_line (BadNumber (codes "x")) ≡ codes "ninja-explain: not a number: 'x'"
@@ -454,10 +528,12 @@ number_line = refl
 mark_line : fault_line (BadMark (codes "00")) ≡ codes "ninja-explain: bad mark '00'"
 mark_line = refl
 
-single_line : fault_line (ForeignOption Single (codes "rules")) ≡ codes "ninja-explain: option -s does not go with tool 'rules'"
+single_line : fault_line (ForeignOption Single (codes "rules"))
+    ≡ codes "ninja-explain: option -s does not go with tool 'rules'"
 single_line = refl
 
-expand_line : fault_line (ForeignOption Expand (codes "rules")) ≡ codes "ninja-explain: option -x does not go with tool 'rules'"
+expand_line : fault_line (ForeignOption Expand (codes "rules"))
+    ≡ codes "ninja-explain: option -x does not go with tool 'rules'"
 expand_line = refl
 
 words_line : fault_line (BadWords (codes "query")) ≡ codes "ninja-explain: wrong words for tool 'query'"

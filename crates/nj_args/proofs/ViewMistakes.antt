@@ -1,11 +1,13 @@
 -- Mistakes in the arguments of `targets`.
-use Rattle.std.proofs.Common.{◌≡◌, ◌≢◌, ℕ, Bool, true, false, List, [], ◌∷◌, Option, Some, None, Ok, Err, refl, sym, ap, ◌∙◌}
+use Rattle.std.proofs.Common.{◌≡◌, ◌≢◌, ℕ, Bool, true, false, List, [], ◌∷◌, Option, Some, None, Ok, Err}
+use Rattle.std.proofs.Common.{refl, sym, ap, ◌∙◌}
 use Rattle.std.specs.Prelude.{codes, ok_or, option_map, if◌then◌else◌}
 use Rattle.std.specs.Str.{bytes_eq}
 use Rattle.std.proofs.lemmas.Slice.Eq.{bytes_eq-Decides}
 use Rattle.clap.specs.Words.{Row}
 use Rattle.nj_args.specs.Fields.{words_in}
-use Rattle.nj_args.specs.FirstFaults.{bad_words, bad_depth, IsView, roots, one_level, levels, all_outputs, sources, of_rule, NamesTool, no_depth, Lacks, first, later}
+use Rattle.nj_args.specs.FirstFaults.{bad_words, bad_depth, IsView, roots, one_level, levels, all_outputs}
+use Rattle.nj_args.specs.FirstFaults.{sources, of_rule, NamesTool, no_depth, Lacks, first, later}
 use Rattle.nj_args.specs.Numbers.{given_depth}
 use Rattle.nj_args.specs.Inside.Held.{depth_of}
 use Rattle.nj_args.specs.Requests.{view_of}
@@ -22,18 +24,22 @@ other_text : (text other : List ℕ) → bytes_eq text other ≡ false → text 
 other_text text other e = λ same. let d = (bytes_eq-Decides text other).1 same in cc
 
 module _ (rows : List Row) (name : List ℕ) (names : NamesTool rows name Targets) where
-  viewed : (view : TargetsView) → IsView (words_in rows) → ((depth : List ℕ) → words_in rows ≢ codes "depth" ∷ depth ∷ [])
+  viewed : (view : TargetsView) → IsView (words_in rows)
+      → ((depth : List ℕ) → words_in rows ≢ codes "depth" ∷ depth ∷ [])
       → Ends rows (bad_words ∷ bad_depth ∷ []) (Ok view)
   viewed view is no_levels = in_value (lacks_bad_words rows name Targets names is, (without, tt))
     where
       without : Lacks rows bad_depth
       without fault (no_depth other text two f k) = absurd (no_levels text f)
 
-  no_view : ¬ IsView (words_in rows) → Ends {A = TargetsView} rows (bad_words ∷ bad_depth ∷ []) (Err (BadWords name))
+  no_view : ¬ IsView (words_in rows) → Ends {A = TargetsView} rows (bad_words ∷ bad_depth ∷ [])
+      (Err (BadWords name))
   no_view wrong = refuses rows name Targets names TargetsView wrong
 
-  word_ends : (word : List ℕ) → words_in rows ≡ word ∷ [] → Ends rows (bad_words ∷ bad_depth ∷ []) (view_of name (word ∷ []))
-  word_ends word e = by_tests (bytes_eq word (codes "depth")) (bytes_eq word (codes "all")) (bytes_eq word (codes "rule")) refl refl refl
+  word_ends : (word : List ℕ) → words_in rows ≡ word ∷ []
+      → Ends rows (bad_words ∷ bad_depth ∷ []) (view_of name (word ∷ []))
+  word_ends word e = by_tests (bytes_eq word (codes "depth")) (bytes_eq word (codes "all"))
+      (bytes_eq word (codes "rule")) refl refl refl
     where
       is : (other : List ℕ) → bytes_eq word other ≡ true → words_in rows ≡ other ∷ []
       is other t = e ∙ ap (λ w. w ∷ []) (same_text word other t)
@@ -47,7 +53,8 @@ module _ (rows : List Row) (name : List ℕ) (names : NamesTool rows name Target
           let same : word ≡ other = cc in
           absurd (other_text word other t same)
 
-      wrong : bytes_eq word (codes "depth") ≡ false → bytes_eq word (codes "all") ≡ false → bytes_eq word (codes "rule") ≡ false
+      wrong : bytes_eq word (codes "depth") ≡ false → bytes_eq word (codes "all") ≡ false
+          → bytes_eq word (codes "rule") ≡ false
           → ¬ IsView (words_in rows)
       wrong a b c (roots f) = let both : word ∷ [] ≡ [] = sym e ∙ f in cc
       wrong a b c (one_level f) = is_not (codes "depth") a f
@@ -56,7 +63,8 @@ module _ (rows : List Row) (name : List ℕ) (names : NamesTool rows name Target
       wrong a b c (sources f) = is_not (codes "rule") c f
       wrong a b c (of_rule rule f) = let both : word ∷ [] ≡ codes "rule" ∷ rule ∷ [] = sym e ∙ f in cc
 
-      by_tests : (s t u : Bool) → bytes_eq word (codes "depth") ≡ s → bytes_eq word (codes "all") ≡ t → bytes_eq word (codes "rule") ≡ u
+      by_tests : (s t u : Bool) → bytes_eq word (codes "depth") ≡ s → bytes_eq word (codes "all") ≡ t
+          → bytes_eq word (codes "rule") ≡ u
           → Ends rows (bad_words ∷ bad_depth ∷ [])
           (if s then Ok (Depth 1) else if t then Ok All else if u then Ok Sources else Err (BadWords name))
       by_tests true t u a b c = viewed (Depth 1) (one_level (is (codes "depth") a)) one
@@ -64,7 +72,8 @@ module _ (rows : List Row) (name : List ℕ) (names : NamesTool rows name Target
       by_tests false false true a b c = viewed Sources (sources (is (codes "rule") c)) one
       by_tests false false false a b c = no_view (wrong a b c)
 
-  depth_ends : (text : List ℕ) → words_in rows ≡ codes "depth" ∷ text ∷ [] → Ends rows (bad_words ∷ bad_depth ∷ []) (depth_of text)
+  depth_ends : (text : List ℕ) → words_in rows ≡ codes "depth" ∷ text ∷ []
+      → Ends rows (bad_words ∷ bad_depth ∷ []) (depth_of text)
   depth_ends text e = by_number (given_depth text) refl
     where
       right : Lacks rows bad_words
@@ -89,13 +98,15 @@ module _ (rows : List Row) (name : List ℕ) (names : NamesTool rows name Target
       is : (other : List ℕ) → bytes_eq word other ≡ true → words_in rows ≡ other ∷ value ∷ []
       is other t = e ∙ ap (λ w. w ∷ value ∷ []) (same_text word other t)
 
-      is_not : (other : List ℕ) → bytes_eq word other ≡ false → (next : List ℕ) → words_in rows ≢ other ∷ next ∷ []
+      is_not : (other : List ℕ) → bytes_eq word other ≡ false → (next : List ℕ)
+          → words_in rows ≢ other ∷ next ∷ []
       is_not other t next f =
           let both : word ∷ value ∷ [] ≡ other ∷ next ∷ [] = sym e ∙ f in
           let same : word ≡ other = cc in
           absurd (other_text word other t same)
 
-      wrong : bytes_eq word (codes "depth") ≡ false → bytes_eq word (codes "rule") ≡ false → ¬ IsView (words_in rows)
+      wrong : bytes_eq word (codes "depth") ≡ false → bytes_eq word (codes "rule") ≡ false
+          → ¬ IsView (words_in rows)
       wrong a b (roots f) = let both : word ∷ value ∷ [] ≡ [] = sym e ∙ f in cc
       wrong a b (one_level f) = let both : word ∷ value ∷ [] ≡ codes "depth" ∷ [] = sym e ∙ f in cc
       wrong a b (levels depth f) = is_not (codes "depth") a depth f
@@ -104,13 +115,17 @@ module _ (rows : List Row) (name : List ℕ) (names : NamesTool rows name Target
       wrong a b (of_rule rule f) = is_not (codes "rule") b rule f
 
       by_tests : (s t : Bool) → bytes_eq word (codes "depth") ≡ s → bytes_eq word (codes "rule") ≡ t
-          → Ends rows (bad_words ∷ bad_depth ∷ []) (if s then depth_of value else if t then Ok (OfRule value) else Err (BadWords name))
+          → Ends rows (bad_words ∷ bad_depth ∷ [])
+          (if s then depth_of value else if t then Ok (OfRule value) else Err (BadWords name))
       by_tests true t a b = depth_ends value (is (codes "depth") a)
-      by_tests false true a b = viewed (OfRule value) (of_rule value (is (codes "rule") b)) (is_not (codes "depth") a)
+      by_tests false true a b = viewed (OfRule value) (of_rule value (is (codes "rule") b))
+          (is_not (codes "depth") a)
       by_tests false false a b = no_view (wrong a b)
 
-  pub view_ends : (words : List (List ℕ)) → words_in rows ≡ words → Ends rows (bad_words ∷ bad_depth ∷ []) (view_of name words)
-  view_ends [] e = viewed (Depth 1) (roots e) (λ depth f. let both : [] ≡ codes "depth" ∷ depth ∷ [] = sym e ∙ f in cc)
+  pub view_ends : (words : List (List ℕ)) → words_in rows ≡ words
+      → Ends rows (bad_words ∷ bad_depth ∷ []) (view_of name words)
+  view_ends [] e = viewed (Depth 1) (roots e)
+      (λ depth f. let both : [] ≡ codes "depth" ∷ depth ∷ [] = sym e ∙ f in cc)
   view_ends (word ∷ []) e = word_ends word e
   view_ends (word ∷ value ∷ []) e = pair_ends word value e
   view_ends (word ∷ value ∷ more ∷ words) e = no_view wrong

@@ -1,5 +1,7 @@
 -- Flags of numbers.
-use Rattle.std.proofs.Common.{◌≡◌, ◌≢◌, ◌<◌, ℕ, ◌==◌, ◌||◌, ◌&&◌, ◌⊎◌, inl, inr, Bool, true, false, cond, Option, Some, None, option_map, List, [], ◌∷◌, ◌++◌, map, length, get_or, set, refl, sym, ap, ◌∙◌, arith, eq-eqb}
+use Rattle.std.proofs.Common.{◌≡◌, ◌≢◌, ◌<◌, ℕ, ◌==◌, ◌||◌, ◌&&◌, ◌⊎◌, inl, inr, Bool, true, false, cond}
+use Rattle.std.proofs.Common.{Option, Some, None, option_map, List, [], ◌∷◌, ◌++◌, map, length, get_or, set}
+use Rattle.std.proofs.Common.{refl, sym, ap, ◌∙◌, arith, eq-eqb}
 use Rattle.std.specs.Prelude.{Contains, find}
 use Rattle.std.specs.List.{filter, list_any}
 use Rattle.std.proofs.lemmas.Bool.{eqb-true}
@@ -12,62 +14,76 @@ use Rattle.nj_ask.specs.Manifest.{is_one_of}
 use Rattle.nj_ask.specs.Inside.Flags.{AreFlags}
 
 -- a flag after one was set
-set-one : (flags : List Bool) (b : Bool) (m n : ℕ) → m < length flags → get_or flags n false ≡ b → get_or (set flags m true) n false ≡ (b || (n == m || false))
+set-one : (flags : List Bool) (b : Bool) (m n : ℕ) → m < length flags → get_or flags n false ≡ b
+    → get_or (set flags m true) n false ≡ (b || (n == m || false))
 set-one flags b m n below is = grind (arith, common_steps, is)
 
 -- one more number
-pub flags-more : (count : ℕ) (numbers : List ℕ) (flags : List Bool) (m : ℕ) → m < count → AreFlags count numbers flags → AreFlags count (numbers ++ m ∷ []) (set flags m true)
+pub flags-more : (count : ℕ) (numbers : List ℕ) (flags : List Bool) (m : ℕ) → m < count
+    → AreFlags count numbers flags → AreFlags count (numbers ++ m ∷ []) (set flags m true)
 flags-more count numbers flags m below held = record {
   count_is = length-set flags m true ∙ held.count_is;
   are = λ n within.
       let counted = held.count_is in
-      set-one flags (is_one_of numbers n) m n (omega (arith, counted)) (held.are n within) ∙ sym (list_any-append (λ other. n == other) numbers (m ∷ []));
+      set-one flags (is_one_of numbers n) m n (omega (arith, counted)) (held.are n within)
+      ∙ sym (list_any-append (λ other. n == other) numbers (m ∷ []));
 }
 
 -- a test of the values of items
-pub any-map : {X Y : Type 0} (p : Y → Bool) (f : X → Y) (xs : List X) → list_any (λ x. p (f x)) xs ≡ list_any p (map f xs)
+pub any-map : {X Y : Type 0} (p : Y → Bool) (f : X → Y) (xs : List X)
+    → list_any (λ x. p (f x)) xs ≡ list_any p (map f xs)
 any-map p f [] = refl
 any-map p f (x ∷ xs) = ap (λ b. p (f x) || b) (any-map p f xs)
 
-found-here : {X Y : Type 0} (f : X → Y) (b : Bool) (x : X) (o : Option X) (rest : Option Y) → option_map f o ≡ rest
+found-here : {X Y : Type 0} (f : X → Y) (b : Bool) (x : X) (o : Option X) (rest : Option Y)
+    → option_map f o ≡ rest
     → option_map f (cond b (Some x) o) ≡ cond b (Some (f x)) rest
 found-here f true x o rest is = refl
 found-here f false x o rest is = is
 
-find-map : {X Y : Type 0} (f : X → Y) (p : Y → Bool) (xs : List X) → option_map f (find (λ x. p (f x)) xs) ≡ find p (map f xs)
+find-map : {X Y : Type 0} (f : X → Y) (p : Y → Bool) (xs : List X)
+    → option_map f (find (λ x. p (f x)) xs) ≡ find p (map f xs)
 find-map f p [] = refl
-find-map f p (x ∷ xs) = found-here f (p (f x)) x (find (λ x. p (f x)) xs) (find p (map f xs)) (find-map f p xs)
+find-map f p (x ∷ xs) = found-here f (p (f x)) x (find (λ x. p (f x)) xs) (find p (map f xs))
+    (find-map f p xs)
 
 plain-option : {X : Type 0} (o : Option X) → option_map (λ x. x) o ≡ o
 plain-option None = refl
 plain-option (Some x) = refl
 
 -- the first item whose value passes a test
-pub found-map : {X Y : Type 0} (f : X → Y) (p : Y → Bool) (o : Option X) (xs : List X) → option_map (λ x. x) o ≡ find (λ x. p (f x)) xs
+pub found-map : {X Y : Type 0} (f : X → Y) (p : Y → Bool) (o : Option X) (xs : List X)
+    → option_map (λ x. x) o ≡ find (λ x. p (f x)) xs
     → option_map f o ≡ find p (map f xs)
 found-map f p o xs is = ap (option_map f) (sym (plain-option o) ∙ is) ∙ find-map f p xs
 
 -- a number that is there is one of them
 pub is-there : (numbers : List ℕ) (n : ℕ) → Contains numbers n → is_one_of numbers n ≡ true
-is-there numbers n has = list_any-from_Any (λ other. n == other) numbers (has.0, n, has.1, has.2, eq-eqb n n refl)
+is-there numbers n has = list_any-from_Any (λ other. n == other) numbers
+    (has.0, n, has.1, has.2, eq-eqb n n refl)
 
 and-none : (b : Bool) → (b && false) ≡ false
 and-none true = refl
 and-none false = refl
 
 -- the numbers that pass a test
-among-filter : (p : ℕ → Bool) (numbers : List ℕ) (n : ℕ) → is_one_of (filter p numbers) n ≡ (is_one_of numbers n && p n)
+among-filter : (p : ℕ → Bool) (numbers : List ℕ) (n : ℕ)
+    → is_one_of (filter p numbers) n ≡ (is_one_of numbers n && p n)
 among-filter p [] n = refl
 among-filter p (m ∷ ms) n = by (p m) refl (eqb_tells n m) (among-filter p ms n)
   where
-    by : (b : Bool) → p m ≡ b → ((n == m) ≡ true × (n ≡ m)) ⊎ ((n == m) ≡ false × (n ≢ m)) → is_one_of (filter p ms) n ≡ (is_one_of ms n && p n)
+    by : (b : Bool) → p m ≡ b → ((n == m) ≡ true × (n ≡ m)) ⊎ ((n == m) ≡ false × (n ≢ m))
+        → is_one_of (filter p ms) n ≡ (is_one_of ms n && p n)
         → is_one_of (cond b (m ∷ filter p ms) (filter p ms)) n ≡ ((n == m || is_one_of ms n) && p n)
     by true passes (inl same) rest =
-        ap (λ b. b || is_one_of (filter p ms) n) same.0 ∙ sym (ap (λ b. (b || is_one_of ms n) && p n) same.0 ∙ ap p same.1 ∙ passes)
-    by true passes (inr other) rest = ap (λ b. b || is_one_of (filter p ms) n) other.0 ∙ rest ∙ sym (ap (λ b. (b || is_one_of ms n) && p n) other.0)
+        ap (λ b. b || is_one_of (filter p ms) n) same.0
+        ∙ sym (ap (λ b. (b || is_one_of ms n) && p n) same.0 ∙ ap p same.1 ∙ passes)
+    by true passes (inr other) rest = ap (λ b. b || is_one_of (filter p ms) n) other.0 ∙ rest
+        ∙ sym (ap (λ b. (b || is_one_of ms n) && p n) other.0)
     by false fails (inl same) rest =
         let none : p n ≡ false = ap p same.1 ∙ fails in
-        rest ∙ ap (λ b. is_one_of ms n && b) none ∙ and-none (is_one_of ms n) ∙ sym (ap (λ b. (n == m || is_one_of ms n) && b) none ∙ and-none (n == m || is_one_of ms n))
+        rest ∙ ap (λ b. is_one_of ms n && b) none ∙ and-none (is_one_of ms n)
+        ∙ sym (ap (λ b. (n == m || is_one_of ms n) && b) none ∙ and-none (n == m || is_one_of ms n))
     by false fails (inr other) rest = rest ∙ sym (ap (λ b. (b || is_one_of ms n) && p n) other.0)
 
 -- a number that is one of them is there
@@ -75,6 +91,8 @@ pub one-there : (numbers : List ℕ) (n : ℕ) → is_one_of numbers n ≡ true 
 one-there numbers n is = Contains-from_any eqb-true n numbers is
 
 -- a number that is there and passes a test is among those that pass it
-pub passes-there : (p : ℕ → Bool) (numbers : List ℕ) (n : ℕ) → Contains numbers n → p n ≡ true → Contains (filter p numbers) n
+pub passes-there : (p : ℕ → Bool) (numbers : List ℕ) (n : ℕ) → Contains numbers n → p n ≡ true
+    → Contains (filter p numbers) n
 passes-there p numbers n has passes =
-    one-there (filter p numbers) n (among-filter p numbers n ∙ ap (λ b. b && p n) (is-there numbers n has) ∙ passes)
+    one-there (filter p numbers) n (among-filter p numbers n ∙ ap (λ b. b && p n) (is-there numbers n has)
+    ∙ passes)

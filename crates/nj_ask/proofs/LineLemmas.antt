@@ -1,5 +1,6 @@
 -- Lists that a loop makes longer, item by item.
-use Rattle.std.proofs.Common.{◌≡◌, ◌<◌, ◌≤◌, ◌+◌, ℕ, Option, Some, None, List, [], ◌∷◌, ◌++◌, map, length, take, get_or, unwrap_or, refl, sym, ap, ◌∙◌, append-nil, arith}
+use Rattle.std.proofs.Common.{◌≡◌, ◌<◌, ◌≤◌, ◌+◌, ℕ, Option, Some, None, List, [], ◌∷◌, ◌++◌, map, length}
+use Rattle.std.proofs.Common.{take, get_or, unwrap_or, refl, sym, ap, ◌∙◌, append-nil, arith}
 use Rattle.std.specs.List.{cons_option, filter_map, flat_map, range_with_len}
 use Rattle.std.proofs.lemmas.List.{flat_map_more, map_push, take_all, take_more}
 use Rattle.std.proofs.lemmas.List.Elements.{filter_map-append}
@@ -8,32 +9,39 @@ use Rattle.nj_graph.specs.declared.FileNo.{FileNo}
 use Rattle.nj_ask.specs.Affected.{changed_file}
 
 -- the text of one more item
-pub flat-more : {X : Type 0} (f : X → List ℕ) (before text after : List ℕ) (items : List X) (i : ℕ) (d : X) → i < length items
-    → text ≡ before ++ flat_map f (take i items) → after ≡ text ++ f (get_or items i d) → after ≡ before ++ flat_map f (take (i + 1) items)
+pub flat-more : {X : Type 0} (f : X → List ℕ) (before text after : List ℕ) (items : List X) (i : ℕ) (d : X)
+    → i < length items
+    → text ≡ before ++ flat_map f (take i items) → after ≡ text ++ f (get_or items i d)
+    → after ≡ before ++ flat_map f (take (i + 1) items)
 flat-more f before text after items i d below is more =
     more ∙ ap (λ t. t ++ f (get_or items i d)) is ∙ flat_map_more f before (take i items) (get_or items i d)
     ∙ ap (λ xs. before ++ flat_map f xs) (sym (take_more items i d below))
 
 -- the byte strings of all items
-pub flat-all : {X : Type 0} (f : X → List ℕ) (before text : List ℕ) (items : List X) (i : ℕ) → length items ≤ i
+pub flat-all : {X : Type 0} (f : X → List ℕ) (before text : List ℕ) (items : List X) (i : ℕ)
+    → length items ≤ i
     → text ≡ before ++ flat_map f (take i items) → text ≡ before ++ flat_map f items
 flat-all f before text items i past is = is ∙ ap (λ xs. before ++ flat_map f xs) (take_all i items past)
 
 -- the values found of one more item
 pub filter-more : {X Y : Type 0} (h : X → Option Y) (items : List X) (i : ℕ) (d : X) → i < length items
     → filter_map h (take (i + 1) items) ≡ filter_map h (take i items) ++ cons_option (h (get_or items i d)) []
-filter-more h items i d below = ap (filter_map h) (take_more items i d below) ∙ filter_map-append h (take i items) (get_or items i d ∷ [])
+filter-more h items i d below = ap (filter_map h) (take_more items i d below)
+    ∙ filter_map-append h (take i items) (get_or items i d ∷ [])
 
 -- the values of one more item
 pub mapped-more : {X Y : Type 0} (f : X → Y) (items : List X) (i : ℕ) (d : X) → i < length items
     → map f (take i items) ++ f (get_or items i d) ∷ [] ≡ map f (take (i + 1) items)
-mapped-more f items i d below = sym (ap (map f) (take_more items i d below) ∙ map_push f (take i items) (get_or items i d))
+mapped-more f items i d below = sym (ap (map f) (take_more items i d below)
+    ∙ map_push f (take i items) (get_or items i d))
 
-pub filter-map-map : {X Y Z : Type 0} (h : Y → Option Z) (f : X → Y) (xs : List X) → filter_map h (map f xs) ≡ filter_map (λ x. h (f x)) xs
+pub filter-map-map : {X Y Z : Type 0} (h : Y → Option Z) (f : X → Y) (xs : List X)
+    → filter_map h (map f xs) ≡ filter_map (λ x. h (f x)) xs
 filter-map-map h f [] = refl
 filter-map-map h f (x ∷ xs) = ap (cons_option (h (f x))) (filter-map-map h f xs)
 
-pub map-map : {X Y Z : Type 0} (g : Y → Z) (f : X → Y) (xs : List X) → map g (map f xs) ≡ map (λ x. g (f x)) xs
+pub map-map : {X Y Z : Type 0} (g : Y → Z) (f : X → Y) (xs : List X)
+    → map g (map f xs) ≡ map (λ x. g (f x)) xs
 map-map g f [] = refl
 map-map g f (x ∷ xs) = ap (λ zs. g (f x) ∷ zs) (map-map g f xs)
 
@@ -50,53 +58,70 @@ map-same (n ∷ ns) = ap (λ ms. n ∷ ms) (map-same ns)
 -- one more number
 pub numbers-more : (n : ℕ) → range_with_len 0 (n + 1) ≡ range_with_len 0 n ++ n ∷ []
 numbers-more n =
-    sym (map-same (range_with_len 0 (n + 1))) ∙ map-range_with_len_more (λ m. m) 0 n n (omega arith) ∙ ap (λ ns. ns ++ n ∷ []) (map-same (range_with_len 0 n))
+    sym (map-same (range_with_len 0 (n + 1))) ∙ map-range_with_len_more (λ m. m) 0 n n (omega arith)
+    ∙ ap (λ ns. ns ++ n ∷ []) (map-same (range_with_len 0 n))
 
 -- the text of one more number
-pub flat-number : (f : ℕ → List ℕ) (text after : List ℕ) (n : ℕ) → text ≡ flat_map f (range_with_len 0 n) → after ≡ text ++ f n
+pub flat-number : (f : ℕ → List ℕ) (text after : List ℕ) (n : ℕ) → text ≡ flat_map f (range_with_len 0 n)
+    → after ≡ text ++ f n
     → after ≡ flat_map f (range_with_len 0 (n + 1))
 flat-number f text after n is more =
-    more ∙ ap (λ t. t ++ f n) is ∙ flat_map_more f [] (range_with_len 0 n) n ∙ ap (flat_map f) (sym (numbers-more n))
+    more ∙ ap (λ t. t ++ f n) is ∙ flat_map_more f [] (range_with_len 0 n) n
+    ∙ ap (flat_map f) (sym (numbers-more n))
 
 -- the value found of one more number
-pub found-number : {Y : Type 0} (h : ℕ → Option Y) (n : ℕ) → filter_map h (range_with_len 0 (n + 1)) ≡ filter_map h (range_with_len 0 n) ++ cons_option (h n) []
+pub found-number : {Y : Type 0} (h : ℕ → Option Y) (n : ℕ)
+    → filter_map h (range_with_len 0 (n + 1)) ≡ filter_map h (range_with_len 0 n) ++ cons_option (h n) []
 found-number h n = ap (filter_map h) (numbers-more n) ∙ filter_map-append h (range_with_len 0 n) (n ∷ [])
 
 -- files that are found by numbers, one more
-module _ (h : ℕ → Option ℕ) (n : ℕ) (found : List FileNo) (held : map (λ (f : FileNo). f.0) found ≡ filter_map h (range_with_len 0 n)) where
-  pub number-found : (new : List FileNo) (file : FileNo) → h n ≡ Some file.0 → new ≡ found ++ file ∷ [] → map (λ (f : FileNo). f.0) new ≡ filter_map h (range_with_len 0 (n + 1))
+module _ (h : ℕ → Option ℕ) (n : ℕ) (found : List FileNo)
+    (held : map (λ (f : FileNo). f.0) found ≡ filter_map h (range_with_len 0 n)) where
+  pub number-found : (new : List FileNo) (file : FileNo) → h n ≡ Some file.0 → new ≡ found ++ file ∷ []
+      → map (λ (f : FileNo). f.0) new ≡ filter_map h (range_with_len 0 (n + 1))
   number-found new file is more =
-      ap (map (λ (f : FileNo). f.0)) more ∙ map_push (λ (f : FileNo). f.0) found file ∙ ap (λ ns. ns ++ file.0 ∷ []) held
+      ap (map (λ (f : FileNo). f.0)) more ∙ map_push (λ (f : FileNo). f.0) found file
+      ∙ ap (λ ns. ns ++ file.0 ∷ []) held
       ∙ sym (found-number h n ∙ ap (λ o. filter_map h (range_with_len 0 n) ++ cons_option o []) is)
 
   pub number-none : h n ≡ None → map (λ (f : FileNo). f.0) found ≡ filter_map h (range_with_len 0 (n + 1))
   number-none is =
-      held ∙ sym (found-number h n ∙ ap (λ o. filter_map h (range_with_len 0 n) ++ cons_option o []) is ∙ append-nil (filter_map h (range_with_len 0 n)))
+      held ∙ sym (found-number h n ∙ ap (λ o. filter_map h (range_with_len 0 n) ++ cons_option o []) is
+      ∙ append-nil (filter_map h (range_with_len 0 n)))
 
 -- ---- files at paths
 
 -- one more of some things with paths
-module _ {X : Type 0} (files : List (List ℕ)) (folder : Option (List ℕ)) (bytes : X → List ℕ) (paths : List X) (i : ℕ) (d : X) (below : i < length paths) where
+module _ {X : Type 0} (files : List (List ℕ)) (folder : Option (List ℕ)) (bytes : X → List ℕ) (paths : List X)
+    (i : ℕ) (d : X) (below : i < length paths) where
   abbrev number : X → Option ℕ
   number path = changed_file files folder (bytes path)
 
   abbrev next : X
   next = get_or paths i d
 
-  pub files-more : (found new : List FileNo) (file : FileNo) → number next ≡ Some file.0 → new ≡ found ++ file ∷ []
-      → map (λ (f : FileNo). f.0) found ≡ filter_map number (take i paths) → map (λ (f : FileNo). f.0) new ≡ filter_map number (take (i + 1) paths)
+  pub files-more : (found new : List FileNo) (file : FileNo) → number next ≡ Some file.0
+      → new ≡ found ++ file ∷ []
+      → map (λ (f : FileNo). f.0) found ≡ filter_map number (take i paths)
+      → map (λ (f : FileNo). f.0) new ≡ filter_map number (take (i + 1) paths)
   files-more found new file is more held =
-      ap (map (λ (f : FileNo). f.0)) more ∙ map_push (λ (f : FileNo). f.0) found file ∙ ap (λ ns. ns ++ file.0 ∷ []) held
-      ∙ sym (filter-more number paths i d below ∙ ap (λ o. filter_map number (take i paths) ++ cons_option o []) is)
+      ap (map (λ (f : FileNo). f.0)) more ∙ map_push (λ (f : FileNo). f.0) found file
+      ∙ ap (λ ns. ns ++ file.0 ∷ []) held
+      ∙ sym (filter-more number paths i d below
+      ∙ ap (λ o. filter_map number (take i paths) ++ cons_option o []) is)
 
   pub files-same : (found : List FileNo) → number next ≡ None
-      → map (λ (f : FileNo). f.0) found ≡ filter_map number (take i paths) → map (λ (f : FileNo). f.0) found ≡ filter_map number (take (i + 1) paths)
+      → map (λ (f : FileNo). f.0) found ≡ filter_map number (take i paths)
+      → map (λ (f : FileNo). f.0) found ≡ filter_map number (take (i + 1) paths)
   files-same found is held =
-      held ∙ sym (filter-more number paths i d below ∙ ap (λ o. filter_map number (take i paths) ++ cons_option o []) is ∙ append-nil (filter_map number (take i paths)))
+      held ∙ sym (filter-more number paths i d below
+      ∙ ap (λ o. filter_map number (take i paths) ++ cons_option o []) is
+      ∙ append-nil (filter_map number (take i paths)))
 
 -- ---- the paths of files
 
-paths-of : {X : Type 0} (at : X → Option (List ℕ)) (ns : List X) → map (λ o. unwrap_or o []) (map at ns) ≡ map (λ n. unwrap_or (at n) []) ns
+paths-of : {X : Type 0} (at : X → Option (List ℕ)) (ns : List X)
+    → map (λ o. unwrap_or o []) (map at ns) ≡ map (λ n. unwrap_or (at n) []) ns
 paths-of at [] = refl
 paths-of at (n ∷ ns) = ap (λ ps. unwrap_or (at n) [] ∷ ps) (paths-of at ns)
 
@@ -104,5 +129,6 @@ paths-some : (paths : List (List ℕ)) → map (λ o. unwrap_or o []) (map Some 
 paths-some [] = refl
 paths-some (path ∷ paths) = ap (λ ps. path ∷ ps) (paths-some paths)
 
-pub files-paths : {X : Type 0} (at : X → Option (List ℕ)) (ns : List X) (paths : List (List ℕ)) → map at ns ≡ map Some paths → map (λ n. unwrap_or (at n) []) ns ≡ paths
+pub files-paths : {X : Type 0} (at : X → Option (List ℕ)) (ns : List X) (paths : List (List ℕ))
+    → map at ns ≡ map Some paths → map (λ n. unwrap_or (at n) []) ns ≡ paths
 files-paths at ns paths are = sym (paths-of at ns) ∙ ap (map (λ o. unwrap_or o [])) are ∙ paths-some paths

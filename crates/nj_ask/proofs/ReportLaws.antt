@@ -1,5 +1,7 @@
 -- The meaning of no warning; paths have one text of warnings; and which files are at paths.
-use Rattle.std.proofs.Common.{◌≡◌, ◌<◌, ℕ, ◌⊎◌, inl, inr, Bool, true, false, cond, Option, Some, None, Result, Ok, List, [], ◌∷◌, ◌++◌, map, length, get_or, zero, suc, reverse, refl, sym, ap, subst, ◌∙◌, arith}
+use Rattle.std.proofs.Common.{◌≡◌, ◌<◌, ℕ, ◌⊎◌, inl, inr, Bool, true, false, cond, Option, Some, None, Result}
+use Rattle.std.proofs.Common.{Ok, List, [], ◌∷◌, ◌++◌, map, length, get_or, zero, suc, reverse, refl, sym, ap}
+use Rattle.std.proofs.Common.{subst, ◌∙◌, arith}
 use Rattle.std.specs.Prelude.{Contains, codes, bytes_eq}
 use Rattle.std.specs.List.{All, cons_option, filter_map}
 use Rattle.std.proofs.lemmas.Bool.{both_ways, false_from_ne_true}
@@ -14,10 +16,13 @@ use Rattle.nj_graph.specs.Graph.{GraphModel, files_of}
 use Rattle.nj_ask.specs.declared.discovered.DiscoveredGraph.{DiscoveredGraph}
 use Rattle.nj_ask.specs.Affected.{Asked, changed_file, clean_name, line, number_at, path_in}
 use Rattle.nj_ask.specs.Shape.{shape_text}
-use Rattle.nj_ask.specs.Manifest.{is_named_in, is_opened, makes_manifest, opened_files, opened_paths, is_one_of, path_of, IsMadeFrom}
+use Rattle.nj_ask.specs.Manifest.{is_named_in, is_opened, makes_manifest, opened_files, opened_paths}
+use Rattle.nj_ask.specs.Manifest.{is_one_of, path_of, IsMadeFrom}
 use Rattle.nj_ask.specs.Inside.Reached.{unnamed_warning, AreOpened}
 use Rattle.nj_ask.specs.Manifest.IsMadeFrom.{by_itself, by_maker}
-use Rattle.nj_ask.specs.Reports.{changed_files, changed_numbers, made_from_line, Question, DoneMissesNothing, HasWarnings, IsIgnored, IsReport, IsUnnamed, IsWarning, KeepsManifest, MissesNothing, Reports, WarningsAreUnique}
+use Rattle.nj_ask.specs.Reports.{changed_files, changed_numbers, made_from_line, Question, DoneMissesNothing}
+use Rattle.nj_ask.specs.Reports.{HasWarnings, IsIgnored, IsReport, IsUnnamed, IsWarning, KeepsManifest}
+use Rattle.nj_ask.specs.Reports.{MissesNothing, Reports, WarningsAreUnique}
 use Rattle.nj_ask.proofs.LineLemmas.{filter-map-map, map-map}
 use Rattle.nj_ask.specs.Reports.HasWarnings.{none, last}
 use Rattle.nj_ask.specs.Reports.IsWarning.{ignored, made_from, nothing, opened, unknown}
@@ -32,7 +37,8 @@ last-apart xs x is = absurd (omega (arith, ap length is, length_push xs x))
 
 last-same : {X : Type 0} (xs ys : List X) (x y : X) → xs ++ x ∷ [] ≡ ys ++ y ∷ [] → (xs ≡ ys) × (x ≡ y)
 last-same xs ys x y is =
-    let turned : x ∷ reverse xs ≡ y ∷ reverse ys = sym (reverse-append xs (x ∷ [])) ∙ ap reverse is ∙ reverse-append ys (y ∷ []) in
+    let turned : x ∷ reverse xs ≡ y ∷ reverse ys =
+    sym (reverse-append xs (x ∷ [])) ∙ ap reverse is ∙ reverse-append ys (y ∷ []) in
     let front : reverse xs ≡ reverse ys = cc in
     (sym (reverse-reverse xs) ∙ ap reverse front ∙ reverse-reverse ys, cc)
 
@@ -69,17 +75,20 @@ module _ (g : GraphModel) (entries : List ReadStatement) (q : Question) where
   not-warned : (path text : List ℕ) → [] ≡ text → IsWarning g entries q path text → Harmless path
   not-warned path _ is (opened missing was) = absurd (made-from-apart path is)
   not-warned path _ is (unknown missing not asks) = absurd (line-apart path is)
-  not-warned path _ is (ignored missing not ignores) = inr (record { unnamed = missing; unopened = not; ignores = ignores })
+  not-warned path _ is (ignored missing not ignores) =
+      inr (record { unnamed = missing; unopened = not; ignores = ignores })
   not-warned path _ is (made_from {file = file} named made) = absurd (made-from-apart path is)
   not-warned path _ is (nothing {file = file} named not) = inl (record {
     file = file;
     named = named;
     unopened = false_from_ne_true (is_one_of (opened_files g) file) (λ holds. not (by_itself holds));
-    unmade = λ maker edge needs input. false_from_ne_true (makes_manifest g entries maker) (λ holds. not (by_maker holds needs input));
+    unmade = λ maker edge needs input. false_from_ne_true (makes_manifest g entries maker)
+        (λ holds. not (by_maker holds needs input));
   })
 
   -- where a list has one more path, each of its paths is that one or was there before
-  was-at : (paths : List (List ℕ)) (next path : List ℕ) (k : ℕ) → k < length (paths ++ next ∷ []) → get_or (paths ++ next ∷ []) k path ≡ path → (path ≡ next) ⊎ Contains paths path
+  was-at : (paths : List (List ℕ)) (next path : List ℕ) (k : ℕ) → k < length (paths ++ next ∷ [])
+      → get_or (paths ++ next ∷ []) k path ≡ path → (path ≡ next) ⊎ Contains paths path
   was-at [] next path zero below is = inl (sym is)
   was-at [] next path (suc k) below is = absurd (omega arith)
   was-at (p ∷ paths) next path zero below is = inr (0, omega arith, is)
@@ -89,49 +98,75 @@ module _ (g : GraphModel) (entries : List ReadStatement) (q : Question) where
       by (inl same) = inl same
       by (inr has) = let under = has.1 in inr (suc has.0, omega arith, has.2)
 
-  none-warned : (paths : List (List ℕ)) (text : List ℕ) → [] ≡ text → HasWarnings g entries q paths text → (path : List ℕ) → Contains paths path → Harmless path
+  none-warned : (paths : List (List ℕ)) (text : List ℕ) → [] ≡ text → HasWarnings g entries q paths text
+      → (path : List ℕ) → Contains paths path → Harmless path
   none-warned _ _ is none path has = absurd (omega (arith, has.1))
   none-warned _ _ is (last {paths = paths} {text = text} {path = next} {warning = warning} are one) path has =
       let both = both-empty text warning is in
-      by (was-at paths next path has.0 has.1 has.2) (none-warned paths text both.0 are path) (not-warned next warning both.1 one)
+      by (was-at paths next path has.0 has.1 has.2) (none-warned paths text both.0 are path)
+      (not-warned next warning both.1 one)
     where
-      by : (path ≡ next) ⊎ Contains paths path → (Contains paths path → Harmless path) → Harmless next → Harmless path
+      by : (path ≡ next) ⊎ Contains paths path → (Contains paths path → Harmless path) → Harmless next
+          → Harmless path
       by (inl same) before here = subst Harmless (sym same) here
       by (inr there) before here = before there
 
   -- a path has one warning
-  one-warning : (path text other : List ℕ) → IsWarning g entries q path text → IsWarning g entries q path other → text ≡ other
+  one-warning : (path text other : List ℕ) → IsWarning g entries q path text
+      → IsWarning g entries q path other → text ≡ other
   one-warning path _ _ (opened missing was) (opened also more) = refl
-  one-warning path _ _ (opened missing was) (unknown also not asks) = absurd (both_ways (was_opened path) not was)
-  one-warning path _ _ (opened missing was) (ignored also not ignores) = absurd (both_ways (was_opened path) not was)
-  one-warning path _ _ (opened missing was) (made_from {file = n} named made) = absurd (some-apart n (found path) missing named)
-  one-warning path _ _ (opened missing was) (nothing {file = n} named not) = absurd (some-apart n (found path) missing named)
-  one-warning path _ _ (unknown missing not asks) (opened also was) = absurd (both_ways (was_opened path) not was)
+  one-warning path _ _ (opened missing was) (unknown also not asks) =
+      absurd (both_ways (was_opened path) not was)
+  one-warning path _ _ (opened missing was) (ignored also not ignores) =
+      absurd (both_ways (was_opened path) not was)
+  one-warning path _ _ (opened missing was) (made_from {file = n} named made) =
+      absurd (some-apart n (found path) missing named)
+  one-warning path _ _ (opened missing was) (nothing {file = n} named not) =
+      absurd (some-apart n (found path) missing named)
+  one-warning path _ _ (unknown missing not asks) (opened also was) =
+      absurd (both_ways (was_opened path) not was)
   one-warning path _ _ (unknown missing not asks) (unknown also more again) = refl
-  one-warning path _ _ (unknown missing not asks) (ignored also more ignores) = absurd (both_ways q.ignores_unknown asks ignores)
-  one-warning path _ _ (unknown missing not asks) (made_from {file = n} named made) = absurd (some-apart n (found path) missing named)
-  one-warning path _ _ (unknown missing not asks) (nothing {file = n} named lacks) = absurd (some-apart n (found path) missing named)
-  one-warning path _ _ (ignored missing not ignores) (opened also was) = absurd (both_ways (was_opened path) not was)
-  one-warning path _ _ (ignored missing not ignores) (unknown also more asks) = absurd (both_ways q.ignores_unknown asks ignores)
+  one-warning path _ _ (unknown missing not asks) (ignored also more ignores) =
+      absurd (both_ways q.ignores_unknown asks ignores)
+  one-warning path _ _ (unknown missing not asks) (made_from {file = n} named made) =
+      absurd (some-apart n (found path) missing named)
+  one-warning path _ _ (unknown missing not asks) (nothing {file = n} named lacks) =
+      absurd (some-apart n (found path) missing named)
+  one-warning path _ _ (ignored missing not ignores) (opened also was) =
+      absurd (both_ways (was_opened path) not was)
+  one-warning path _ _ (ignored missing not ignores) (unknown also more asks) =
+      absurd (both_ways q.ignores_unknown asks ignores)
   one-warning path _ _ (ignored missing not ignores) (ignored also more again) = refl
-  one-warning path _ _ (ignored missing not ignores) (made_from {file = n} named made) = absurd (some-apart n (found path) missing named)
-  one-warning path _ _ (ignored missing not ignores) (nothing {file = n} named lacks) = absurd (some-apart n (found path) missing named)
-  one-warning path _ _ (made_from {file = n} named made) (opened missing was) = absurd (some-apart n (found path) missing named)
-  one-warning path _ _ (made_from {file = n} named made) (unknown missing not asks) = absurd (some-apart n (found path) missing named)
-  one-warning path _ _ (made_from {file = n} named made) (ignored missing not ignores) = absurd (some-apart n (found path) missing named)
+  one-warning path _ _ (ignored missing not ignores) (made_from {file = n} named made) =
+      absurd (some-apart n (found path) missing named)
+  one-warning path _ _ (ignored missing not ignores) (nothing {file = n} named lacks) =
+      absurd (some-apart n (found path) missing named)
+  one-warning path _ _ (made_from {file = n} named made) (opened missing was) =
+      absurd (some-apart n (found path) missing named)
+  one-warning path _ _ (made_from {file = n} named made) (unknown missing not asks) =
+      absurd (some-apart n (found path) missing named)
+  one-warning path _ _ (made_from {file = n} named made) (ignored missing not ignores) =
+      absurd (some-apart n (found path) missing named)
   one-warning path _ _ (made_from named made) (made_from also more) = refl
-  one-warning path _ _ (made_from {file = n} named made) (nothing {file = m} also not) = absurd (not (subst (IsMadeFrom g entries) (one-value n m (found path) named also) made))
-  one-warning path _ _ (nothing {file = n} named not) (opened missing was) = absurd (some-apart n (found path) missing named)
-  one-warning path _ _ (nothing {file = n} named not) (unknown missing lacks asks) = absurd (some-apart n (found path) missing named)
-  one-warning path _ _ (nothing {file = n} named not) (ignored missing lacks ignores) = absurd (some-apart n (found path) missing named)
-  one-warning path _ _ (nothing {file = n} named not) (made_from {file = m} also made) = absurd (not (subst (IsMadeFrom g entries) (one-value m n (found path) also named) made))
+  one-warning path _ _ (made_from {file = n} named made) (nothing {file = m} also not) =
+      absurd (not (subst (IsMadeFrom g entries) (one-value n m (found path) named also) made))
+  one-warning path _ _ (nothing {file = n} named not) (opened missing was) =
+      absurd (some-apart n (found path) missing named)
+  one-warning path _ _ (nothing {file = n} named not) (unknown missing lacks asks) =
+      absurd (some-apart n (found path) missing named)
+  one-warning path _ _ (nothing {file = n} named not) (ignored missing lacks ignores) =
+      absurd (some-apart n (found path) missing named)
+  one-warning path _ _ (nothing {file = n} named not) (made_from {file = m} also made) =
+      absurd (not (subst (IsMadeFrom g entries) (one-value m n (found path) also named) made))
   one-warning path _ _ (nothing named not) (nothing also more) = refl
 
-  one-text : (paths others : List (List ℕ)) (text other : List ℕ) → paths ≡ others → HasWarnings g entries q paths text → HasWarnings g entries q others other → text ≡ other
+  one-text : (paths others : List (List ℕ)) (text other : List ℕ) → paths ≡ others
+      → HasWarnings g entries q paths text → HasWarnings g entries q others other → text ≡ other
   one-text _ _ _ _ same none none = refl
   one-text _ _ _ _ same none (last {paths = ps} {path = p} are one) = absurd (last-apart ps p same)
   one-text _ _ _ _ same (last {paths = ps} {path = p} are one) none = absurd (last-apart ps p (sym same))
-  one-text _ _ _ _ same (last {paths = ps} {text = text} {path = p} {warning = w} are one) (last {paths = qs} {text = other} {path = o} {warning = v} also two) =
+  one-text _ _ _ _ same (last {paths = ps} {text = text} {path = p} {warning = w} are one)
+      (last {paths = qs} {text = other} {path = o} {warning = v} also two) =
       let both = last-same ps qs p o same in
       ap (λ t. t ++ w) (one-text ps qs text other both.0 are also)
       ∙ ap (λ t. other ++ t) (one-warning o w v (subst (λ path. IsWarning g entries q path w) both.1 one) two)
@@ -145,26 +180,34 @@ module _ (g : GraphModel) (entries : List ReadStatement) (q : Question) where
     pub unnamed : IsUnnamed g q path → IsWarning g entries q path (unnamed_warning names q path)
     unnamed missing = by (is_named_in names (clean_name (path_in q.folder path))) q.ignores_unknown refl refl
       where
-        by : (is asks : Bool) → is_named_in names (clean_name (path_in q.folder path)) ≡ is → q.ignores_unknown ≡ asks
+        by : (is asks : Bool) → is_named_in names (clean_name (path_in q.folder path)) ≡ is
+            → q.ignores_unknown ≡ asks
             → IsWarning g entries q path (cond is (made_from_line path) (cond asks [] (line path)))
         by true asks is also = opened missing (sym (same-opened (clean_name (path_in q.folder path))) ∙ is)
-        by false true is also = ignored missing (sym (same-opened (clean_name (path_in q.folder path))) ∙ is) also
-        by false false is also = unknown missing (sym (same-opened (clean_name (path_in q.folder path))) ∙ is) also
+        by false true is also = ignored missing (sym (same-opened (clean_name (path_in q.folder path))) ∙ is)
+            also
+        by false false is also = unknown missing (sym (same-opened (clean_name (path_in q.folder path))) ∙ is)
+            also
 
 -- three texts that make none
-three-empty : (first second third : List ℕ) → [] ≡ first ++ second ++ third → ([] ≡ first) × ([] ≡ second) × ([] ≡ third)
+three-empty : (first second third : List ℕ) → [] ≡ first ++ second ++ third
+    → ([] ≡ first) × ([] ≡ second) × ([] ≡ third)
 three-empty first second third is =
     let one = both-empty (first ++ second) third is in
     let two = both-empty first second one.0 in
     (two.0, two.1, one.1)
 
-module _ (known : DiscoveredGraph) (entries : List ReadStatement) (q : Question) (asked : Asked) (out new_out err new_err : SinkState) where
-  done-misses : (ended : Result Status Error) → ended ≡ Ok Done → Reports (IsReport known entries q asked) out new_out err new_err ended
+module _ (known : DiscoveredGraph) (entries : List ReadStatement) (q : Question) (asked : Asked)
+    (out new_out err new_err : SinkState) where
+  done-misses : (ended : Result Status Error) → ended ≡ Ok Done
+      → Reports (IsReport known entries q asked) out new_out err new_err ended
       → MissesNothing known entries q asked out new_out
   done-misses _ is (quiet {outputs = outputs} report took same) =
-      let texts = three-empty known.caveats.items report.about (shape_text known entries (changed_numbers known.graph q) report.lists.edges) report.all in
+      let texts = three-empty known.caveats.items report.about
+      (shape_text known entries (changed_numbers known.graph q) report.lists.edges) report.all in
       record {
-        keeps = λ path has. none-warned known.graph entries q q.paths report.about texts.1 report.warns path has;
+        keeps = λ path has. none-warned known.graph entries q q.paths report.about texts.1 report.warns path
+            has;
         clear = sym texts.0;
         outputs = outputs;
         lists = report.lists;
@@ -177,7 +220,8 @@ module _ (known : DiscoveredGraph) (entries : List ReadStatement) (q : Question)
   done-misses _ is (refused same same_too) = absurd cc
 
 pub complete : DoneMissesNothing
-complete known entries q asked out new_out err new_err reports = done-misses known entries q asked out new_out err new_err (Ok Done) refl reports
+complete known entries q asked out new_out err new_err reports =
+    done-misses known entries q asked out new_out err new_err (Ok Done) refl reports
 
 pub unique : WarningsAreUnique
 unique g entries q paths text other are also = one-text g entries q paths paths text other refl are also
@@ -185,34 +229,42 @@ unique g entries q paths text other are also = one-text g entries q paths paths 
 -- ---- the files at changed paths
 
 -- a path that is found has its file among those that are found
-pub found-there : {X : Type 0} (h : X → Option ℕ) (xs : List X) (i : ℕ) (d : X) (n : ℕ) → i < length xs → h (get_or xs i d) ≡ Some n → Contains (filter_map h xs) n
+pub found-there : {X : Type 0} (h : X → Option ℕ) (xs : List X) (i : ℕ) (d : X) (n : ℕ) → i < length xs
+    → h (get_or xs i d) ≡ Some n → Contains (filter_map h xs) n
 found-there h [] i d n below is = absurd (omega arith)
-found-there h (x ∷ xs) zero d n below is = subst (λ o. Contains (cons_option o (filter_map h xs)) n) (sym is) (0, omega arith, refl)
+found-there h (x ∷ xs) zero d n below is =
+    subst (λ o. Contains (cons_option o (filter_map h xs)) n) (sym is) (0, omega arith, refl)
 found-there h (x ∷ xs) (suc i) d n below is = later (h x) (found-there h xs i d n (omega arith) is)
   where
     later : (o : Option ℕ) → Contains (filter_map h xs) n → Contains (cons_option o (filter_map h xs)) n
     later None has = has
     later (Some m) has = let under = has.1 in (suc has.0, omega arith, has.2)
 
-number-below : (files : List (List ℕ)) (path : List ℕ) (n : ℕ) → number_at files path ≡ Some n → n < length files
+number-below : (files : List (List ℕ)) (path : List ℕ) (n : ℕ) → number_at files path ≡ Some n
+    → n < length files
 number-below files [] n is = absurd cc
 number-below files (b ∷ path) n is = (position-Some (bytes_eq (clean_path_of (b ∷ path))) files n [] is).0
 
 -- a number that is found is that of a file
-pub changed-below : (files : List (List ℕ)) (folder : Option (List ℕ)) (paths : List (List ℕ)) → All (λ n. n < length files) (filter_map (changed_file files folder) paths)
+pub changed-below : (files : List (List ℕ)) (folder : Option (List ℕ)) (paths : List (List ℕ))
+    → All (λ n. n < length files) (filter_map (changed_file files folder) paths)
 changed-below files folder [] = All-nil (λ n. n < length files)
 changed-below files folder (p ∷ ps) = by (changed_file files folder p) refl (changed-below files folder ps)
   where
     others : List ℕ
     others = filter_map (changed_file files folder) ps
 
-    by : (o : Option ℕ) → changed_file files folder p ≡ o → All (λ n. n < length files) others → All (λ n. n < length files) (cons_option o others)
+    by : (o : Option ℕ) → changed_file files folder p ≡ o → All (λ n. n < length files) others
+        → All (λ n. n < length files) (cons_option o others)
     by None is all = all
-    by (Some n) is all = All-cons (λ n. n < length files) n others (number-below files (path_in folder p) n is) all
+    by (Some n) is all = All-cons (λ n. n < length files) n others
+        (number-below files (path_in folder p) n is) all
 
 -- the paths of the files that are found
-pub changed-paths : {X : Type 0} (g : GraphModel) (folder : Option (List ℕ)) (bytes : X → List ℕ) (paths : List X) (files : List FileNo)
+pub changed-paths : {X : Type 0} (g : GraphModel) (folder : Option (List ℕ)) (bytes : X → List ℕ)
+    (paths : List X) (files : List FileNo)
     → map (λ file. file.0) files ≡ filter_map (λ path. changed_file (files_of g) folder (bytes path)) paths
     → map (path_at (files_of g)) files ≡ map (path_of g) (changed_files g folder (map bytes paths))
 changed-paths g folder bytes paths files are =
-    sym (map-map (path_of g) (λ (file : FileNo). file.0) files) ∙ ap (map (path_of g)) (are ∙ sym (filter-map-map (changed_file (files_of g) folder) bytes paths))
+    sym (map-map (path_of g) (λ (file : FileNo). file.0) files)
+    ∙ ap (map (path_of g)) (are ∙ sym (filter-map-map (changed_file (files_of g) folder) bytes paths))

@@ -3,7 +3,9 @@ use Rattle.std.proofs.Common.{◌≡◌, ℕ, true, false, Some, None, List, [],
 use Rattle.std.specs.List.{filter}
 use Rattle.nj_faults.specs.declared.fault.Place.{Place}
 use Rattle.nj_audit.specs.declared.kinds.Kind.{Kind}
-use Rattle.nj_audit.specs.declared.kinds.Kind.TheVariants.{UnusedOutput, MissingSource, UnusedRule, UnusedPool, RepeatedCommand, DepfileWithoutDeps, RepeatedInput, UndeclaredInput}
+use Rattle.nj_audit.specs.declared.kinds.Kind.TheVariants.{UnusedOutput, MissingSource, UnusedRule}
+use Rattle.nj_audit.specs.declared.kinds.Kind.TheVariants.{UnusedPool, RepeatedCommand, DepfileWithoutDeps}
+use Rattle.nj_audit.specs.declared.kinds.Kind.TheVariants.{RepeatedInput, UndeclaredInput}
 use Rattle.nj_audit.specs.declared.kinds.Kinds.{Kinds}
 use Rattle.nj_audit.specs.Audit.{findings_asked_for}
 use Rattle.nj_audit.specs.Findings.{FindingModel}
@@ -20,29 +22,34 @@ only_one : asked (codes "unused-rule" ∷ []) [] ≡ UnusedRule ∷ []
 only_one = refl
 
 -- in the order of the kinds, and once each
-only_three : asked (codes "repeated-input" ∷ codes "missing-source" ∷ codes "repeated-input" ∷ codes "unused-output" ∷ []) []
+only_three : asked (codes "repeated-input" ∷ codes "missing-source" ∷ codes "repeated-input" ∷ codes
+    "unused-output" ∷ []) []
     ≡ UnusedOutput ∷ MissingSource ∷ RepeatedInput ∷ []
 only_three = refl
 
 only_except_itself : asked (codes "unused-rule" ∷ []) (codes "unused-rule" ∷ []) ≡ []
 only_except_itself = refl
 
-except_one : asked [] (codes "repeated-command" ∷ []) ≡ MissingSource ∷ DepfileWithoutDeps ∷ UndeclaredInput ∷ []
+except_one : asked [] (codes "repeated-command" ∷ [])
+    ≡ MissingSource ∷ DepfileWithoutDeps ∷ UndeclaredInput ∷ []
 except_one = refl
 
 -- a kind that is not taken need not be excepted
 except_others : asked [] (codes "unused-pool" ∷ codes "unused-variable" ∷ []) ≡ asked [] []
 except_others = refl
 
-only_and_except : asked (codes "unused-pool" ∷ codes "unused-rule" ∷ []) (codes "unused-pool" ∷ codes "missing-source" ∷ []) ≡ UnusedRule ∷ []
+only_and_except : asked (codes "unused-pool" ∷ codes "unused-rule" ∷ [])
+    (codes "unused-pool" ∷ codes "missing-source" ∷ []) ≡ UnusedRule ∷ []
 only_and_except = refl
 
 -- ---- words that name no kind
 
-known : first_unknown (codes "unused-output" ∷ codes "unused-variable" ∷ []) (codes "depfile-without-deps" ∷ []) ≡ None
+known : first_unknown (codes "unused-output" ∷ codes "unused-variable" ∷ [])
+    (codes "depfile-without-deps" ∷ []) ≡ None
 known = refl
 
-first_of_two : first_unknown (codes "unused-rule" ∷ []) (codes "unused rule" ∷ codes "unused" ∷ []) ≡ Some (codes "unused rule")
+first_of_two : first_unknown (codes "unused-rule" ∷ []) (codes "unused rule" ∷ codes "unused" ∷ [])
+    ≡ Some (codes "unused rule")
 first_of_two = refl
 
 only_before_except : first_unknown ([] ∷ []) (codes "unused" ∷ []) ≡ Some []
@@ -66,6 +73,7 @@ only_rules = record {
 abbrev finding : Place → Kind → FindingModel
 finding place kind = record { place = place; kind = kind; name = codes "a" }
 
-filtered : (p q : Place) → findings_asked_for only_rules (finding p UnusedOutput ∷ finding p UnusedRule ∷ finding q UnusedPool ∷ finding q UnusedRule ∷ [])
+filtered : (p q : Place) → findings_asked_for only_rules
+    (finding p UnusedOutput ∷ finding p UnusedRule ∷ finding q UnusedPool ∷ finding q UnusedRule ∷ [])
     ≡ finding p UnusedRule ∷ finding q UnusedRule ∷ []
 filtered p q = refl

@@ -1,5 +1,6 @@
 -- Inputs that a deps log names, one by one.
-use Rattle.std.proofs.Common.{◌≡◌, ◌++◌, ◌∷◌, ◌↔◌, Bool, true, false, cond, ℕ, List, [], map, refl, sym, ap, subst, ◌∙◌, append-nil, append_assoc, true≢false}
+use Rattle.std.proofs.Common.{◌≡◌, ◌++◌, ◌∷◌, ◌↔◌, Bool, true, false, cond, ℕ, List, [], map, refl, sym, ap}
+use Rattle.std.proofs.Common.{subst, ◌∙◌, append-nil, append_assoc, true≢false}
 use Rattle.std.proofs.lemmas.List.{map_push}
 use Rattle.nj_scope.specs.ReadingList.{ReadStatement}
 use Rattle.nj_names.specs.declared.files.FileNo.{FileNo}
@@ -22,8 +23,10 @@ module _ (g : GraphModel) (entries : List ReadStatement) (folder : List ℕ) whe
   pub logged-begins : (base : List FindingModel) → AddsLogged g entries folder [] base base
   logged-begins base = record { others = []; are_others = none; found = sym (append-nil base) }
 
-  module _ (logged : List InputOfEdge) (input : InputOfEdge) (base old new : List FindingModel) (adds : AddsLogged g entries folder logged base old) where
-    pub logged-step : (b : Bool) → (b ≡ true) ↔ IsNamedUnordered g entries folder input → new ≡ old ++ cond b [] (finding_of_input g input ∷ [])
+  module _ (logged : List InputOfEdge) (input : InputOfEdge) (base old new : List FindingModel)
+      (adds : AddsLogged g entries folder logged base old) where
+    pub logged-step : (b : Bool) → (b ≡ true) ↔ IsNamedUnordered g entries folder input
+        → new ≡ old ++ cond b [] (finding_of_input g input ∷ [])
         → AddsLogged g entries folder (logged ++ input ∷ []) base new
     logged-step true named is = record {
       others = adds.others;
@@ -32,7 +35,8 @@ module _ (g : GraphModel) (entries : List ReadStatement) (folder : List ℕ) whe
     }
     logged-step false named is = record {
       others = adds.others ++ input ∷ [];
-      are_others = those-more IsNew input logged adds.others adds.are_others (λ was. true≢false (sym (named.1 was)));
+      are_others = those-more IsNew input logged adds.others adds.are_others
+          (λ was. true≢false (sym (named.1 was)));
       found = is ∙ ap (λ (t : List FindingModel). t ++ finding_of_input g input ∷ []) adds.found
           ∙ append_assoc base (map (finding_of_input g) adds.others) (finding_of_input g input ∷ [])
           ∙ ap (λ (t : List FindingModel). base ++ t) (sym (map_push (finding_of_input g) adds.others input));
@@ -40,13 +44,16 @@ module _ (g : GraphModel) (entries : List ReadStatement) (folder : List ℕ) whe
 
 -- ---- paths by numbers
 
-pub paths-by-number : (g : GraphModel) (files : List FileNo) → map (path_of g) (map (λ file. file.0) files) ≡ map (path_at (files_of g)) files
+pub paths-by-number : (g : GraphModel) (files : List FileNo)
+    → map (path_of g) (map (λ file. file.0) files) ≡ map (path_at (files_of g)) files
 paths-by-number g [] = refl
-paths-by-number g (file ∷ files) = ap (λ (paths : List (List ℕ)). path_of g file.0 ∷ paths) (paths-by-number g files)
+paths-by-number g (file ∷ files) = ap (λ (paths : List (List ℕ)). path_of g file.0 ∷ paths)
+    (paths-by-number g files)
 
 -- ---- those that are looked for
 
-pub of-undeclared-if : (asked : Bool) (g : GraphModel) (entries : List ReadStatement) (folder : List ℕ) (logged : List InputOfEdge)
+pub of-undeclared-if : (asked : Bool) (g : GraphModel) (entries : List ReadStatement) (folder : List ℕ)
+    (logged : List InputOfEdge)
     (found : List FindingModel) → AreFoundIf asked g entries folder logged found → AreOf UndeclaredInput found
 of-undeclared-if true g entries folder logged found are = of-undeclared g entries folder logged found are
 of-undeclared-if false g entries folder logged found are = subst (AreOf UndeclaredInput) (sym are) of-none

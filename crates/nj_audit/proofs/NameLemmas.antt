@@ -1,5 +1,6 @@
 -- Names in a set.
-use Rattle.std.proofs.Common.{◌≡◌, ℕ, ◌||◌, Bool, true, false, List, [], ◌∷◌, ◌++◌, map, refl, sym, ap, subst, ◌∙◌, bytes_eq}
+use Rattle.std.proofs.Common.{◌≡◌, ℕ, ◌||◌, Bool, true, false, List, [], ◌∷◌, ◌++◌, map, refl, sym, ap, subst}
+use Rattle.std.proofs.Common.{◌∙◌, bytes_eq}
 use Rattle.std.specs.List.{list_any}
 use Rattle.std.specs.BTreeSet.{insert_key}
 use Rattle.std.specs.Cmp.Lexicographic.{slice_cmp}
@@ -24,10 +25,12 @@ or-assoc true b r = refl
 or-assoc false b r = refl
 
 module _ {X : Type 0} (bytes : X → List ℕ) where
-  pub found-is : (keys : List X) (name : List ℕ) → list_any (λ k. is_eq (slice_cmp nat_cmp name (bytes k))) keys ≡ is_among (map bytes keys) name
+  pub found-is : (keys : List X) (name : List ℕ)
+      → list_any (λ k. is_eq (slice_cmp nat_cmp name (bytes k))) keys ≡ is_among (map bytes keys) name
   found-is [] name = refl
   found-is (k ∷ ks) name =
-      ap (λ b. b || list_any (λ k. is_eq (slice_cmp nat_cmp name (bytes k))) ks) (is_eq-slice_cmp name (bytes k))
+      ap (λ b. b || list_any (λ k. is_eq (slice_cmp nat_cmp name (bytes k))) ks)
+      (is_eq-slice_cmp name (bytes k))
       ∙ ap (λ b. bytes_eq name (bytes k) || b) (found-is ks name)
 
   abbrev order : X → X → Ordering
@@ -39,13 +42,17 @@ module _ {X : Type 0} (bytes : X → List ℕ) where
       ≡ (bytes_eq other (bytes k) || (bytes_eq other (bytes x) || is_among (map bytes xs) other))
   put-one Less k x xs rest other is more = refl
   put-one Equal k x xs rest other is more =
-      subst (λ name. (bytes_eq other (bytes x) || is_among (map bytes xs) other) ≡ (bytes_eq other name || (bytes_eq other (bytes x) || is_among (map bytes xs) other)))
-      (sym (exact_bytes (bytes k) (bytes x) is)) (or-again (bytes_eq other (bytes x)) (is_among (map bytes xs) other))
+      subst (λ name. (bytes_eq other (bytes x) || is_among (map bytes xs) other)
+      ≡ (bytes_eq other name || (bytes_eq other (bytes x) || is_among (map bytes xs) other)))
+      (sym (exact_bytes (bytes k) (bytes x) is))
+      (or-again (bytes_eq other (bytes x)) (is_among (map bytes xs) other))
   put-one Greater k x xs rest other is more =
       ap (λ b. bytes_eq other (bytes x) || b) more
       ∙ or-swap (bytes_eq other (bytes x)) (bytes_eq other (bytes k)) (is_among (map bytes xs) other)
 
-  pub put-is : (keys : List X) (k : X) (other : List ℕ) → is_among (map bytes (insert_key order keys k)) other ≡ (bytes_eq other (bytes k) || is_among (map bytes keys) other)
+  pub put-is : (keys : List X) (k : X) (other : List ℕ)
+      → is_among (map bytes (insert_key order keys k)) other
+      ≡ (bytes_eq other (bytes k) || is_among (map bytes keys) other)
   put-is [] k other = refl
   put-is (x ∷ xs) k other = put-one (order k x) k x xs (insert_key order xs k) other refl (put-is xs k other)
 
@@ -55,9 +62,11 @@ module _ {X : Type 0} (bytes : X → List ℕ) where
 abbrev pub AreNames : (names list : List (List ℕ)) → Type 0
 AreNames names list = (name : List ℕ) → is_among names name ≡ is_among list name
 
-among-append : (xs ys : List (List ℕ)) (name : List ℕ) → is_among (xs ++ ys) name ≡ (is_among xs name || is_among ys name)
+among-append : (xs ys : List (List ℕ)) (name : List ℕ)
+    → is_among (xs ++ ys) name ≡ (is_among xs name || is_among ys name)
 among-append [] ys name = refl
-among-append (x ∷ xs) ys name = ap (λ b. bytes_eq name x || b) (among-append xs ys name) ∙ or-assoc (bytes_eq name x) (is_among xs name) (is_among ys name)
+among-append (x ∷ xs) ys name = ap (λ b. bytes_eq name x || b) (among-append xs ys name)
+    ∙ or-assoc (bytes_eq name x) (is_among xs name) (is_among ys name)
 
 or-turned : (b r : Bool) → (b || r) ≡ (r || (b || false))
 or-turned true true = refl
@@ -67,13 +76,17 @@ or-turned false false = refl
 
 -- one more name
 pub one-more : (old new list : List (List ℕ)) (name : List ℕ)
-    → ((other : List ℕ) → is_among new other ≡ (bytes_eq other name || is_among old other)) → AreNames old list → AreNames new (list ++ name ∷ [])
+    → ((other : List ℕ) → is_among new other ≡ (bytes_eq other name || is_among old other))
+    → AreNames old list → AreNames new (list ++ name ∷ [])
 one-more old new list name adds are other =
-    adds other ∙ ap (λ b. bytes_eq other name || b) (are other) ∙ or-turned (bytes_eq other name) (is_among list other)
+    adds other ∙ ap (λ b. bytes_eq other name || b) (are other)
+    ∙ or-turned (bytes_eq other name) (is_among list other)
     ∙ sym (among-append list (name ∷ []) other)
 
 -- several names more
 pub all-more : (old new list names : List (List ℕ))
-    → ((other : List ℕ) → is_among new other ≡ is_among (old ++ names) other) → AreNames old list → AreNames new (list ++ names)
+    → ((other : List ℕ) → is_among new other ≡ is_among (old ++ names) other) → AreNames old list
+    → AreNames new (list ++ names)
 all-more old new list names adds are other =
-    adds other ∙ among-append old names other ∙ ap (λ b. b || is_among names other) (are other) ∙ sym (among-append list names other)
+    adds other ∙ among-append old names other ∙ ap (λ b. b || is_among names other) (are other)
+    ∙ sym (among-append list names other)

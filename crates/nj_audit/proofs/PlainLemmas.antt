@@ -1,5 +1,7 @@
 -- The bytes of a word that are taken at once.
-use Rattle.std.proofs.Common.{◌≡◌, ◌||◌, ◌==◌, arith, not, ℕ, suc, ◌+◌, ◌-◌, ◌≤◌, Bool, true, false, cond, true≢false, Some, None, List, [], ◌∷◌, ◌++◌, take, drop, length, refl, sym, ap, subst, ◌∙◌, append-nil, append_assoc}
+use Rattle.std.proofs.Common.{◌≡◌, ◌||◌, ◌==◌, arith, not, ℕ, suc, ◌+◌, ◌-◌, ◌≤◌, Bool, true, false, cond}
+use Rattle.std.proofs.Common.{true≢false, Some, None, List, [], ◌∷◌, ◌++◌, take, drop, length, refl, sym, ap}
+use Rattle.std.proofs.Common.{subst, ◌∙◌, append-nil, append_assoc}
 use Rattle.std.specs.Prelude.{position, nat_lt}
 use Rattle.std.proofs.lemmas.Bool.{ltb-false}
 use Rattle.std.proofs.lemmas.List.{length-drop, take_all}
@@ -13,7 +15,8 @@ neither : (x y : Bool) → (x || y) ≡ false → (x ≡ false) × (y ≡ false)
 neither false y none = (refl, none)
 neither true y none = absurd (true≢false none)
 
-stays-bare : (x y z : Bool) → (x || y || z) ≡ false → cond x Escaped (cond y Single (cond z Double Bare)) ≡ Bare
+stays-bare : (x y z : Bool) → (x || y || z) ≡ false
+    → cond x Escaped (cond y Single (cond z Double Bare)) ≡ Bare
 stays-bare true y z none = absurd (true≢false none)
 stays-bare false true z none = absurd (true≢false none)
 stays-bare false false true none = absurd (true≢false none)
@@ -29,20 +32,25 @@ module _ (b : ℕ) (plain : is_special b ≡ false) where
   stays : next_quoting Bare b ≡ Bare
   stays = stays-bare (b == 92) (b == 39) (b == 34) both.1
 
-  plain-byte : (word text : List ℕ) → words_after word (read_text Bare (b ∷ text)) ≡ words_after (word ++ b ∷ []) (read_text Bare text)
+  plain-byte : (word text : List ℕ) → words_after word (read_text Bare (b ∷ text))
+      ≡ words_after (word ++ b ∷ []) (read_text Bare text)
   plain-byte word text =
-      words-inside Bare word b text both.0 ∙ ap (λ bytes. words_after (word ++ bytes) (read_text (next_quoting Bare b) text)) keeps
+      words-inside Bare word b text both.0 ∙ ap
+      (λ bytes. words_after (word ++ bytes) (read_text (next_quoting Bare b) text)) keeps
       ∙ ap (λ q. words_after (word ++ b ∷ []) (read_text q text)) stays
 
 pub plain-bytes : (word text : List ℕ)
-    → words_after (word ++ take (position_or_len is_special text) text) (read_text Bare (drop (position_or_len is_special text) text)) ≡ words_after word (read_text Bare text)
+    → words_after (word ++ take (position_or_len is_special text) text)
+    (read_text Bare (drop (position_or_len is_special text) text)) ≡ words_after word (read_text Bare text)
 plain-bytes word [] = ap (λ w. words_after w (read_text Bare [])) (append-nil word)
 plain-bytes word (b ∷ text) = by (is_special b) refl (plain-bytes (word ++ b ∷ []) text) where
   Next : ℕ → Type 0
-  Next n = words_after ((word ++ b ∷ []) ++ take n text) (read_text Bare (drop n text)) ≡ words_after (word ++ b ∷ []) (read_text Bare text)
+  Next n = words_after ((word ++ b ∷ []) ++ take n text) (read_text Bare (drop n text))
+      ≡ words_after (word ++ b ∷ []) (read_text Bare text)
 
   Plain : ℕ → Type 0
-  Plain n = words_after (word ++ take n (b ∷ text)) (read_text Bare (drop n (b ∷ text))) ≡ words_after word (read_text Bare (b ∷ text))
+  Plain n = words_after (word ++ take n (b ∷ text)) (read_text Bare (drop n (b ∷ text)))
+      ≡ words_after word (read_text Bare (b ∷ text))
 
   one-more : suc (position_or_len is_special text) ≡ 1 + position_or_len is_special text
   one-more = omega arith
@@ -52,31 +60,38 @@ plain-bytes word (b ∷ text) = by (is_special b) refl (plain-bytes (word ++ b �
   by true is next = ap (λ w. words_after w (read_text Bare (b ∷ text))) (append-nil word)
   by false is next =
       subst Plain one-more
-      (ap (λ w. words_after w (read_text Bare (drop (position_or_len is_special text) text))) (sym (append_assoc word (b ∷ []) (take (position_or_len is_special text) text)))
+      (ap (λ w. words_after w (read_text Bare (drop (position_or_len is_special text) text)))
+      (sym (append_assoc word (b ∷ []) (take (position_or_len is_special text) text)))
       ∙ next ∙ sym (plain-byte b is word text))
 
 -- what is left of a text after some bytes
 pub rest-is : (n : ℕ) (text : List ℕ) → take (length text - n) (drop n text) ≡ drop n text
-rest-is n text = take_all (length text - n) (drop n text) (subst (λ k. length (drop n text) ≤ k) (length-drop n text) (omega arith))
+rest-is n text = take_all (length text - n) (drop n text)
+    (subst (λ k. length (drop n text) ≤ k) (length-drop n text) (omega arith))
 
 -- ---- the first byte that is not plain
 
 within : (text : List ℕ) → position_or_len is_special text ≤ length text
 within [] = omega arith
 within (b ∷ text) = by (not (is_special b)) (within text) where
-  by : (plain : Bool) → position_or_len is_special text ≤ length text → cond plain (1 + position_or_len is_special text) 0 ≤ length (b ∷ text)
+  by : (plain : Bool) → position_or_len is_special text ≤ length text
+      → cond plain (1 + position_or_len is_special text) 0 ≤ length (b ∷ text)
   by true more = omega (arith, more)
   by false more = omega arith
 
-pub at-special : (text : List ℕ) (i : ℕ) → position is_special text ≡ Some i → i ≡ position_or_len is_special text
+pub at-special : (text : List ℕ) (i : ℕ) → position is_special text ≡ Some i
+    → i ≡ position_or_len is_special text
 at-special text i = by (nat_lt (position_or_len is_special text) (length text)) where
-  by : (there : Bool) → cond there (Some (position_or_len is_special text)) None ≡ Some i → i ≡ position_or_len is_special text
+  by : (there : Bool) → cond there (Some (position_or_len is_special text)) None ≡ Some i
+      → i ≡ position_or_len is_special text
   by true is = cc
   by false is = cc
 
-pub all-plain : (text : List ℕ) → position is_special text ≡ None → length text ≡ position_or_len is_special text
+pub all-plain : (text : List ℕ) → position is_special text ≡ None
+    → length text ≡ position_or_len is_special text
 all-plain text = by (nat_lt (position_or_len is_special text) (length text)) refl where
-  by : (there : Bool) → nat_lt (position_or_len is_special text) (length text) ≡ there → cond there (Some (position_or_len is_special text)) None ≡ None
+  by : (there : Bool) → nat_lt (position_or_len is_special text) (length text) ≡ there
+      → cond there (Some (position_or_len is_special text)) None ≡ None
       → length text ≡ position_or_len is_special text
   by true test is = cc
   by false test is =

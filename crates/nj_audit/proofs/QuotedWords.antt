@@ -1,5 +1,6 @@
 -- Words of quoted paths.
-use Rattle.std.proofs.Common.{◌≡◌, ◌≢◌, ℕ, ◌==◌, Bool, true, false, cond, List, [], ◌∷◌, ◌++◌, map, refl, sym, ap, ◌∙◌, append-nil, append_assoc, true≢false, inl, inr}
+use Rattle.std.proofs.Common.{◌≡◌, ◌≢◌, ℕ, ◌==◌, Bool, true, false, cond, List, [], ◌∷◌, ◌++◌, map, refl, sym}
+use Rattle.std.proofs.Common.{ap, ◌∙◌, append-nil, append_assoc, true≢false, inl, inr}
 use Rattle.std.specs.Prelude.{◌&&◌, ◌||◌}
 use Rattle.std.specs.List.{AllByRecursion, flat_map, join_with_byte, list_all}
 use Rattle.std.proofs.lemmas.Bool.Decides.{eqb_tells}
@@ -31,16 +32,20 @@ or-false a b first second = ap (λ c. c || b) first ∙ second
 
 plain-stays : (b : ℕ) → is_plain_byte b ≡ true → is_cut b ≡ false
 plain-stays b plain =
-    let other : (n : ℕ) → is_plain_byte n ≡ false → (b == n) ≡ false = λ n lacks. differs is_plain_byte b n lacks plain in
-    or-false (b == 32 || b == 9 || b == 10 || b == 38 || b == 40 || b == 41 || b == 59 || b == 60 || b == 62) (b == 124)
+    let other : (n : ℕ) → is_plain_byte n ≡ false → (b == n) ≡ false =
+    λ n lacks. differs is_plain_byte b n lacks plain in
+    or-false (b == 32 || b == 9 || b == 10 || b == 38 || b == 40 || b == 41 || b == 59 || b == 60 || b == 62)
+    (b == 124)
     (or-false (b == 32 || b == 9 || b == 10 || b == 38 || b == 40 || b == 41 || b == 59 || b == 60) (b == 62)
     (or-false (b == 32 || b == 9 || b == 10 || b == 38 || b == 40 || b == 41 || b == 59) (b == 60)
     (or-false (b == 32 || b == 9 || b == 10 || b == 38 || b == 40 || b == 41) (b == 59)
     (or-false (b == 32 || b == 9 || b == 10 || b == 38 || b == 40) (b == 41)
     (or-false (b == 32 || b == 9 || b == 10 || b == 38) (b == 40)
     (or-false (b == 32 || b == 9 || b == 10) (b == 38)
-    (or-false (b == 32 || b == 9) (b == 10) (or-false (b == 32) (b == 9) (other 32 refl) (other 9 refl)) (other 10 refl))
-    (other 38 refl)) (other 40 refl)) (other 41 refl)) (other 59 refl)) (other 60 refl)) (other 62 refl)) (other 124 refl)
+    (or-false (b == 32 || b == 9) (b == 10) (or-false (b == 32) (b == 9) (other 32 refl) (other 9 refl))
+    (other 10 refl))
+    (other 38 refl)) (other 40 refl)) (other 41 refl)) (other 59 refl)) (other 60 refl)) (other 62 refl))
+    (other 124 refl)
 
 module _ (b : ℕ) (plain : is_plain_byte b ≡ true) where
   abbrev other : (n : ℕ) → is_plain_byte n ≡ false → (b == n) ≡ false
@@ -48,7 +53,8 @@ module _ (b : ℕ) (plain : is_plain_byte b ≡ true) where
 
   plain-kept : kept Bare b ≡ b ∷ []
   plain-kept =
-      ap (λ d. cond d [] (b ∷ [])) (or-false (b == 92 || b == 39) (b == 34) (or-false (b == 92) (b == 39) (other 92 refl) (other 39 refl)) (other 34 refl))
+      ap (λ d. cond d [] (b ∷ [])) (or-false (b == 92 || b == 39) (b == 34)
+      (or-false (b == 92) (b == 39) (other 92 refl) (other 39 refl)) (other 34 refl))
 
   plain-next : next_quoting Bare b ≡ Bare
   plain-next =
@@ -56,17 +62,20 @@ module _ (b : ℕ) (plain : is_plain_byte b ≡ true) where
       ∙ ap (λ e. cond e Single (cond (b == 34) Double Bare)) (other 39 refl)
       ∙ ap (λ e. cond e Double Bare) (other 34 refl)
 
-plain-byte : (word : List ℕ) (b : ℕ) (text : List ℕ) → is_plain_byte b ≡ true → read word Bare (b ∷ text) ≡ read (word ++ b ∷ []) Bare text
+plain-byte : (word : List ℕ) (b : ℕ) (text : List ℕ) → is_plain_byte b ≡ true
+    → read word Bare (b ∷ text) ≡ read (word ++ b ∷ []) Bare text
 plain-byte word b text plain =
     words-inside Bare word b text (plain-stays b plain)
     ∙ ap (λ k. read (word ++ k) (next_quoting Bare b) text) (plain-kept b plain)
     ∙ ap (λ q. read (word ++ b ∷ []) q text) (plain-next b plain)
 
-plain-path : (path word text : List ℕ) → list_all is_plain_byte path ≡ true → read word Bare (path ++ text) ≡ read (word ++ path) Bare text
+plain-path : (path word text : List ℕ) → list_all is_plain_byte path ≡ true
+    → read word Bare (path ++ text) ≡ read (word ++ path) Bare text
 plain-path [] word text plain = ap (λ w. read w Bare text) (sym (append-nil word))
 plain-path (b ∷ path) word text plain =
     let all = both-true (is_plain_byte b) (list_all is_plain_byte path) plain in
-    plain-byte word b (path ++ text) all.0 ∙ plain-path path (word ++ b ∷ []) text all.1 ∙ ap (λ w. read w Bare text) (append_assoc word (b ∷ []) path)
+    plain-byte word b (path ++ text) all.0 ∙ plain-path path (word ++ b ∷ []) text all.1
+    ∙ ap (λ w. read w Bare text) (append_assoc word (b ∷ []) path)
 
 -- ---- bytes in quotes
 
@@ -83,16 +92,19 @@ module _ (word text : List ℕ) where
   escaped-quote : read word Escaped (39 ∷ text) ≡ read (word ++ 39 ∷ []) Bare text
   escaped-quote = words-inside Escaped word 39 text refl
 
-other-in-quotes : (word : List ℕ) (b : ℕ) (text : List ℕ) → is_quote b ≡ false → read word Single (b ∷ text) ≡ read (word ++ b ∷ []) Single text
+other-in-quotes : (word : List ℕ) (b : ℕ) (text : List ℕ) → is_quote b ≡ false
+    → read word Single (b ∷ text) ≡ read (word ++ b ∷ []) Single text
 other-in-quotes word b text other =
     words-inside Single word b text refl
     ∙ ap (λ d. read (word ++ cond d [] (b ∷ [])) (next_quoting Single b) text) other
     ∙ ap (λ e. read (word ++ b ∷ []) (cond e Bare Single) text) other
 
-byte-in-quotes : (word : List ℕ) (b : ℕ) (text : List ℕ) (is : Bool) → is_quote b ≡ is → read word Single (within_quotes b ++ text) ≡ read (word ++ b ∷ []) Single text
+byte-in-quotes : (word : List ℕ) (b : ℕ) (text : List ℕ) (is : Bool) → is_quote b ≡ is
+    → read word Single (within_quotes b ++ text) ≡ read (word ++ b ∷ []) Single text
 byte-in-quotes word b text true quote =
     ap (λ e. read word Single (cond e (39 ∷ 92 ∷ 39 ∷ 39 ∷ []) (b ∷ []) ++ text)) quote
-    ∙ closes word (92 ∷ 39 ∷ 39 ∷ text) ∙ escapes word (39 ∷ 39 ∷ text) ∙ escaped-quote word (39 ∷ text) ∙ opens (word ++ 39 ∷ []) text
+    ∙ closes word (92 ∷ 39 ∷ 39 ∷ text) ∙ escapes word (39 ∷ 39 ∷ text) ∙ escaped-quote word (39 ∷ text)
+    ∙ opens (word ++ 39 ∷ []) text
     ∙ ap (λ n. read (word ++ n ∷ []) Single text) (sym (quote-is b quote))
   where
     quote-is : (b : ℕ) → is_quote b ≡ true → b ≡ 39
@@ -101,20 +113,25 @@ byte-in-quotes word b text true quote =
       | inr differs ↦ absurd (true≢false (sym is ∙ differs.0))
     ]
 byte-in-quotes word b text false other =
-    ap (λ e. read word Single (cond e (39 ∷ 92 ∷ 39 ∷ 39 ∷ []) (b ∷ []) ++ text)) other ∙ other-in-quotes word b text other
+    ap (λ e. read word Single (cond e (39 ∷ 92 ∷ 39 ∷ 39 ∷ []) (b ∷ []) ++ text)) other
+    ∙ other-in-quotes word b text other
 
-path-in-quotes : (path word text : List ℕ) → read word Single (flat_map within_quotes path ++ text) ≡ read (word ++ path) Single text
+path-in-quotes : (path word text : List ℕ)
+    → read word Single (flat_map within_quotes path ++ text) ≡ read (word ++ path) Single text
 path-in-quotes [] word text = ap (λ w. read w Single text) (sym (append-nil word))
 path-in-quotes (b ∷ path) word text =
     ap (read word Single) (append_assoc (within_quotes b) (flat_map within_quotes path) text)
     ∙ byte-in-quotes word b (flat_map within_quotes path ++ text) (is_quote b) refl
-    ∙ path-in-quotes path (word ++ b ∷ []) text ∙ ap (λ w. read w Single text) (append_assoc word (b ∷ []) path)
+    ∙ path-in-quotes path (word ++ b ∷ []) text
+    ∙ ap (λ w. read w Single text) (append_assoc word (b ∷ []) path)
 
 -- ---- quoted paths
 
-quoted-path : (path word text : List ℕ) (plain : Bool) → list_all is_plain_byte path ≡ plain → read word Bare (quoted path ++ text) ≡ read (word ++ path) Bare text
+quoted-path : (path word text : List ℕ) (plain : Bool) → list_all is_plain_byte path ≡ plain
+    → read word Bare (quoted path ++ text) ≡ read (word ++ path) Bare text
 unfolding quoted
-quoted-path path word text true plain = ap (λ p. read word Bare (cond p path (in_quotes path) ++ text)) plain ∙ plain-path path word text plain
+quoted-path path word text true plain =
+    ap (λ p. read word Bare (cond p path (in_quotes path) ++ text)) plain ∙ plain-path path word text plain
 quoted-path path word text false other =
     ap (λ p. read word Bare (cond p path (in_quotes path) ++ text)) other
     ∙ opens word ((flat_map within_quotes path ++ 39 ∷ []) ++ text)
@@ -125,16 +142,20 @@ with-path : (path : List ℕ) (words : List (List ℕ)) → path ≢ [] → with
 with-path [] words some = absurd (some refl)
 with-path (b ∷ path) words some = refl
 
-words-of-all : (paths : List (List ℕ)) → AllByRecursion (λ path. path ≢ []) paths → read [] Bare (join_with_byte 32 (map quoted paths)) ≡ paths
+words-of-all : (paths : List (List ℕ)) → AllByRecursion (λ path. path ≢ []) paths
+    → read [] Bare (join_with_byte 32 (map quoted paths)) ≡ paths
 words-of-all [] all = words-last Bare []
 words-of-all (path ∷ []) all =
     ap (read [] Bare) (sym (append-nil (quoted path)))
-    ∙ quoted-path path [] [] (list_all is_plain_byte path) refl ∙ words-last Bare path ∙ with-path path [] all.0
+    ∙ quoted-path path [] [] (list_all is_plain_byte path) refl ∙ words-last Bare path
+    ∙ with-path path [] all.0
 words-of-all (path ∷ next ∷ paths) all =
     let rest = join_with_byte 32 (map quoted (next ∷ paths)) in
     quoted-path path [] (32 ∷ rest) (list_all is_plain_byte path) refl
-    ∙ words-end Bare path 32 rest refl ∙ ap (with_word path) (sym (words-begin rest) ∙ words-of-all (next ∷ paths) all.1)
+    ∙ words-end Bare path 32 rest refl ∙ ap (with_word path)
+    (sym (words-begin rest) ∙ words-of-all (next ∷ paths) all.1)
     ∙ with-path path (next ∷ paths) all.0
 
 pub quoted-paths-are-words : QuotedPathsAreWords
-quoted-paths-are-words paths all = sym (words-begin (join_with_byte 32 (map quoted paths))) ∙ words-of-all paths all
+quoted-paths-are-words paths all = sym (words-begin (join_with_byte 32 (map quoted paths)))
+    ∙ words-of-all paths all

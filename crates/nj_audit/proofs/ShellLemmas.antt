@@ -1,9 +1,13 @@
 -- Words of a command, byte by byte.
-use Rattle.std.proofs.Common.{◌≡◌, ℕ, ◌==◌, length, inl, inr, arith, true≢false, true, false, cond, Option, Some, None, List, [], ◌∷◌, ◌++◌, map, refl, sym, ap, ◌∙◌, append-nil, append_assoc}
+use Rattle.std.proofs.Common.{◌≡◌, ℕ, ◌==◌, length, inl, inr, arith, true≢false, true, false, cond, Option}
+use Rattle.std.proofs.Common.{Some, None, List, [], ◌∷◌, ◌++◌, map, refl, sym, ap, ◌∙◌, append-nil}
+use Rattle.std.proofs.Common.{append_assoc}
 use Rattle.std.proofs.lemmas.Bool.Decides.{eqb_tells}
 use Rattle.nj_audit.specs.declared.shell_words.Quoting.{Quoting}
-use Rattle.nj_audit.specs.declared.shell_words.Quoting.TheVariants.{Bare, Escaped, Single, Double, DoubleEscaped}
-use Rattle.nj_audit.specs.ShellWords.{ends_at, is_cut, kept, next_quoting, read_text, with_word, words_after, words_of}
+use Rattle.nj_audit.specs.declared.shell_words.Quoting.TheVariants.{Bare, Escaped, Single, Double}
+use Rattle.nj_audit.specs.declared.shell_words.Quoting.TheVariants.{DoubleEscaped}
+use Rattle.nj_audit.specs.ShellWords.{ends_at, is_cut, kept, next_quoting, read_text, with_word, words_after}
+use Rattle.nj_audit.specs.ShellWords.{words_of}
 
 is-nothing : (text : List ℕ) → (length text == 0) ≡ true → text ≡ []
 is-nothing [] is = refl
@@ -24,16 +28,20 @@ words-begin text = refl
 
 -- ---- a byte of a word
 
-words-kept : (word bytes : List ℕ) (read : List (Option ℕ)) → words_after word (map Some bytes ++ read) ≡ words_after (word ++ bytes) read
+words-kept : (word bytes : List ℕ) (read : List (Option ℕ))
+    → words_after word (map Some bytes ++ read) ≡ words_after (word ++ bytes) read
 unfolding words_after
 words-kept word [] read = ap (λ w. words_after w read) (sym (append-nil word))
-words-kept word (b ∷ bytes) read = words-kept (word ++ b ∷ []) bytes read ∙ ap (λ w. words_after w read) (append_assoc word (b ∷ []) bytes)
+words-kept word (b ∷ bytes) read = words-kept (word ++ b ∷ []) bytes read
+    ∙ ap (λ w. words_after w read) (append_assoc word (b ∷ []) bytes)
 
 pub words-inside : (quoting : Quoting) (word : List ℕ) (b : ℕ) (text : List ℕ) → ends_at quoting b ≡ false
-    → words_after word (read_text quoting (b ∷ text)) ≡ words_after (word ++ kept quoting b) (read_text (next_quoting quoting b) text)
+    → words_after word (read_text quoting (b ∷ text))
+    ≡ words_after (word ++ kept quoting b) (read_text (next_quoting quoting b) text)
 unfolding read_text
 words-inside quoting word b text inside =
-    ap (λ e. words_after word (cond e (None ∷ []) (map Some (kept quoting b)) ++ read_text (next_quoting quoting b) text)) inside
+    ap (λ e. words_after word (cond e (None ∷ []) (map Some (kept quoting b))
+    ++ read_text (next_quoting quoting b) text)) inside
     ∙ words-kept word (kept quoting b) (read_text (next_quoting quoting b) text)
 
 -- ---- the end of a word
@@ -61,7 +69,8 @@ pub words-end : (quoting : Quoting) (word : List ℕ) (b : ℕ) (text : List ℕ
     → words_after word (read_text quoting (b ∷ text)) ≡ with_word word (words_of text)
 unfolding read_text words_after words_of
 words-end Bare word b text ends =
-    ap (λ e. words_after word (cond e (None ∷ []) (map Some (kept Bare b)) ++ read_text (next_quoting Bare b) text)) ends
+    ap (λ e. words_after word (cond e (None ∷ []) (map Some (kept Bare b))
+    ++ read_text (next_quoting Bare b) text)) ends
     ∙ ap (λ q. with_word word (words_after [] (read_text q text))) (bare-after b ends)
 words-end Escaped word b text ends = cc
 words-end Single word b text ends = cc
@@ -69,7 +78,8 @@ words-end Double word b text ends = cc
 words-end DoubleEscaped word b text ends = cc
 
 -- no bytes are left
-pub words-last : (quoting : Quoting) (word : List ℕ) → words_after word (read_text quoting []) ≡ with_word word []
+pub words-last : (quoting : Quoting) (word : List ℕ)
+    → words_after word (read_text quoting []) ≡ with_word word []
 unfolding read_text words_after
 words-last quoting word = refl
 
@@ -79,14 +89,17 @@ no-words = refl
 
 -- ---- a word that is empty, or is not
 
-pub with-some : (word : List ℕ) (words : List (List ℕ)) → (length word == 0) ≡ false → with_word word words ≡ word ∷ words
+pub with-some : (word : List ℕ) (words : List (List ℕ)) → (length word == 0) ≡ false
+    → with_word word words ≡ word ∷ words
 with-some [] words some = absurd (true≢false some)
 with-some (b ∷ word) words some = refl
 
-pub with-none : (word : List ℕ) (words : List (List ℕ)) → (length word == 0) ≡ true → with_word word words ≡ words
+pub with-none : (word : List ℕ) (words : List (List ℕ)) → (length word == 0) ≡ true
+    → with_word word words ≡ words
 with-none word words none = ap (λ w. with_word w words) (is-nothing word none)
 
-pub words-empty : (quoting : Quoting) (word : List ℕ) (b : ℕ) (text : List ℕ) → ends_at quoting b ≡ true → (length word == 0) ≡ true
+pub words-empty : (quoting : Quoting) (word : List ℕ) (b : ℕ) (text : List ℕ) → ends_at quoting b ≡ true
+    → (length word == 0) ≡ true
     → words_after word (read_text quoting text) ≡ words_after word (read_text quoting (b ∷ text))
 words-empty quoting word b text ends none =
     ap (λ w. words_after w (read_text quoting text)) (is-nothing word none)

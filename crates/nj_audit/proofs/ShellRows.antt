@@ -4,11 +4,14 @@ use Rattle.nj_text.specs.Paths.{clean_path_of, without_leftmost_pair}
 use Rattle.nj_audit.specs.NamedPaths.{path_named, paths_in}
 use Rattle.nj_audit.specs.ShellWords.{read_text, words_after, words_of}
 
-blanks : words_of (codes "  cc -c  a.c  -o a.o ") ≡ codes "cc" ∷ codes "-c" ∷ codes "a.c" ∷ codes "-o" ∷ codes "a.o" ∷ []
+blanks : words_of (codes "  cc -c  a.c  -o a.o ")
+    ≡ codes "cc" ∷ codes "-c" ∷ codes "a.c" ∷ codes "-o" ∷ codes "a.o" ∷ []
 unfolding words_of read_text words_after
 blanks = refl
 
-operators : words_of (codes "(./gen<in>out)&&mv out a;:|tee") ≡ codes "./gen" ∷ codes "in" ∷ codes "out" ∷ codes "mv" ∷ codes "out" ∷ codes "a" ∷ codes ":" ∷ codes "tee" ∷ []
+operators : words_of (codes "(./gen<in>out)&&mv out a;:|tee")
+    ≡ codes "./gen" ∷ codes "in" ∷ codes "out" ∷ codes "mv" ∷ codes "out" ∷ codes "a" ∷ codes ":" ∷ codes
+    "tee" ∷ []
 unfolding words_of read_text words_after
 operators = refl
 
@@ -17,7 +20,8 @@ quotes : words_of (codes "'a b'c \"d;e\"'f' '' \"\"") ≡ codes "a bc" ∷ codes
 unfolding words_of read_text words_after
 quotes = refl
 
-backslashes : words_of (codes "a\\ b 'c\\' \"d\\$\\e\\\\\"") ≡ codes "a b" ∷ codes "c\\" ∷ codes "d$\\e\\" ∷ []
+backslashes : words_of (codes "a\\ b 'c\\' \"d\\$\\e\\\\\"")
+    ≡ codes "a b" ∷ codes "c\\" ∷ codes "d$\\e\\" ∷ []
 unfolding words_of read_text words_after
 backslashes = refl
 

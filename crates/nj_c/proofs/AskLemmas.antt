@@ -5,7 +5,8 @@ use Rattle.nj_c.specs.declared.status.Status.{Status}
 use Rattle.nj_c.specs.Loading.{Changes}
 use Rattle.nj_c.specs.Statuses.{code_of}
 
-pub changes : (session : Option Kept) (kept new : Kept) (after : Option Kept) (result : ℤ) (status : Status) (does : Kept → Kept → Status → Type 0)
+pub changes : (session : Option Kept) (kept new : Kept) (after : Option Kept) (result : ℤ) (status : Status)
+    (does : Kept → Kept → Status → Type 0)
     → Some kept ≡ session → after ≡ Some new → result ≡ code_of status → does kept new status
     → Changes session after result does
 changes session kept new after result status does was put is done =

@@ -1,5 +1,6 @@
 -- Edges with flags, and the edges that are to be built again.
-use Rattle.std.proofs.Common.{◌≡◌, ℕ, ◌+◌, Bool, true, false, cond, List, [], ◌∷◌, ◌++◌, map, sym, ap, subst, ◌∙◌, append-nil}
+use Rattle.std.proofs.Common.{◌≡◌, ℕ, ◌+◌, Bool, true, false, cond, List, [], ◌∷◌, ◌++◌, map, sym, ap, subst}
+use Rattle.std.proofs.Common.{◌∙◌, append-nil}
 use Rattle.std.specs.Prelude.{◌↔◌, filter, slice_index_or, Contains}
 use Rattle.std.specs.List.{range_with_len}
 use Rattle.std.specs.List.Sorted.{IsStrictlyIncreasing}
@@ -18,30 +19,38 @@ use Rattle.nj_c.proofs.DepfileLemmas.{range-more}
 
 -- ---- flags
 
-flagged-more : (flags : List Bool) (n : ℕ) → flagged flags (n + 1) ≡ flagged flags n ++ cond (slice_index_or flags n false) (n ∷ []) []
+flagged-more : (flags : List Bool) (n : ℕ)
+    → flagged flags (n + 1) ≡ flagged flags n ++ cond (slice_index_or flags n false) (n ∷ []) []
 flagged-more flags n =
     let test : ℕ → Bool = λ edge. slice_index_or flags edge false in
     ap (filter test) (range-more n) ∙ filter-append test (range_with_len 0 n) (n ∷ [])
 
 module _ (flags : List Bool) (n : ℕ) (old : List EdgeNo) (held : numbers_of old ≡ flagged flags n) where
-  pub set-more : (new : List EdgeNo) (e : EdgeNo) → e.0 ≡ n → slice_index_or flags n false ≡ true → new ≡ old ++ e ∷ [] → numbers_of new ≡ flagged flags (n + 1)
+  pub set-more : (new : List EdgeNo) (e : EdgeNo) → e.0 ≡ n → slice_index_or flags n false ≡ true
+      → new ≡ old ++ e ∷ [] → numbers_of new ≡ flagged flags (n + 1)
   set-more new e same is more =
-      ap numbers_of more ∙ map_push (λ (x : EdgeNo). x.0) old e ∙ ap (λ xs. xs ++ e.0 ∷ []) held ∙ ap (λ m. flagged flags n ++ m ∷ []) same
+      ap numbers_of more ∙ map_push (λ (x : EdgeNo). x.0) old e ∙ ap (λ xs. xs ++ e.0 ∷ []) held
+      ∙ ap (λ m. flagged flags n ++ m ∷ []) same
       ∙ ap (λ b. flagged flags n ++ cond b (n ∷ []) []) (sym is) ∙ sym (flagged-more flags n)
 
   pub set-same : slice_index_or flags n false ≡ false → numbers_of old ≡ flagged flags (n + 1)
   set-same is =
-      held ∙ sym (append-nil (flagged flags n)) ∙ ap (λ b. flagged flags n ++ cond b (n ∷ []) []) (sym is) ∙ sym (flagged-more flags n)
+      held ∙ sym (append-nil (flagged flags n)) ∙ ap (λ b. flagged flags n ++ cond b (n ∷ []) []) (sym is)
+      ∙ sym (flagged-more flags n)
 
 -- ---- dirty edges
 
-pub dirty_list : (g : GraphModel) (graph : EdgeGraph) (numbers : List ℕ) (files : List FileNo) (given unknown found : List ℕ)
+pub dirty_list : (g : GraphModel) (graph : EdgeGraph) (numbers : List ℕ) (files : List FileNo)
+    (given unknown found : List ℕ)
     → graph ≡ g.built.graph → files ≡ numbered numbers → given ≡ unknown → IsStrictlyIncreasing found
-    → ((edge : ℕ) → Contains found edge ↔ IsDirty graph.edges (map (path_at graph.files) files) given edge) → AreDirty g numbers unknown found
+    → ((edge : ℕ) → Contains found edge ↔ IsDirty graph.edges (map (path_at graph.files) files) given edge)
+    → AreDirty g numbers unknown found
 dirty_list g graph numbers files given unknown found is are same rises dirty = (
   rises,
   λ edge.
-      subst (λ us. Contains found edge ↔ IsDirty (edges_of g) (map (path_at (files_of g)) (numbered numbers)) us edge) same
+      subst (λ us. Contains found edge ↔ IsDirty (edges_of g) (map (path_at (files_of g)) (numbered numbers))
+      us edge) same
       (subst (λ fs. Contains found edge ↔ IsDirty (edges_of g) (map (path_at (files_of g)) fs) given edge) are
-      (subst (λ (e : EdgeGraph). Contains found edge ↔ IsDirty e.edges (map (path_at e.files) files) given edge) is (dirty edge))),
+      (subst (λ (e : EdgeGraph). Contains found edge
+      ↔ IsDirty e.edges (map (path_at e.files) files) given edge) is (dirty edge))),
 )

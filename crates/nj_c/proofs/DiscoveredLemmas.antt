@@ -1,6 +1,7 @@
 -- The session after joining what builds discovered.
 use Rattle.std.specs.Global.{Vec}
-use Rattle.std.proofs.Common.{◌≡◌, inl, inr, ℕ, List, [], length, Some, None, Result, Ok, Err, refl, sym, subst}
+use Rattle.std.proofs.Common.{◌≡◌, inl, inr, ℕ, List, [], length, Some, None, Result, Ok, Err, refl, sym}
+use Rattle.std.proofs.Common.{subst}
 use Rattle.nj_deps.specs.Logs.{LogModel, IsLogOf}
 use Rattle.nj_scope.specs.ReadingList.{ReadStatement}
 use Rattle.nj_discovered.specs.Discoveries.{DiscoveriesModel}
@@ -11,8 +12,11 @@ use Rattle.nj_c.specs.declared.discovered_inputs.Joined.{Joined}
 use Rattle.nj_c.specs.declared.session_state.Kept.{Kept}
 use Rattle.nj_c.specs.declared.session_state.LogRead.{LogRead}
 use Rattle.nj_c.specs.declared.status.Status.{Status}
-use Rattle.nj_c.specs.declared.status.Status.TheVariants.{Done, Nothing, Short, Fault, Wanted, NotLoaded, BadNumber, BadMark, NotUtf8, NotOpen, OutOfMemory, BadLog}
-use Rattle.nj_c.specs.DiscoveredInputs.{given_read, lacking_depfiles, log_bytes, times_of, JoinsDiscovered, JoinsFound, KeepsOthers}
+use Rattle.nj_c.specs.declared.status.Status.TheVariants.{Done, Nothing, Short, Fault, Wanted, NotLoaded}
+use Rattle.nj_c.specs.declared.status.Status.TheVariants.{BadNumber, BadMark, NotUtf8, NotOpen, OutOfMemory}
+use Rattle.nj_c.specs.declared.status.Status.TheVariants.{BadLog}
+use Rattle.nj_c.specs.DiscoveredInputs.{given_read, lacking_depfiles, log_bytes, times_of, JoinsDiscovered}
+use Rattle.nj_c.specs.DiscoveredInputs.{JoinsFound, KeepsOthers}
 use Rattle.nj_c.specs.HandedIn.{Handed, handed_state, SameFiles}
 use Rattle.nj_c.specs.Loading.{unread}
 use Rattle.nj_c.specs.Inside.DiscoveredHeld.{FindsOr, JoinsTo, KeepsFound}
@@ -20,50 +24,76 @@ use Rattle.nj_c.proofs.LogLemmas.{some-is-not-none}
 
 -- ---- what was discovered
 
-pub finds-or : (g : GraphModel) (before middle after : Handed) (log : LogModel) (times : List ℕ) (found : DiscoveriesModel) (result : Result Joined GraphFault)
+pub finds-or : (g : GraphModel) (before middle after : Handed) (log : LogModel) (times : List ℕ)
+    (found : DiscoveriesModel) (result : Result Joined GraphFault)
     → middle ≡ unread before
-    → ((stated : List ReadStatement) → IsGraphOf g stated → AreDiscovered (handed_state middle) (handed_state after) (times_of g times) log stated found)
+    → ((stated : List ReadStatement) → IsGraphOf g stated
+    → AreDiscovered (handed_state middle) (handed_state after) (times_of g times) log stated found)
     → JoinsTo g found result → FindsOr g before after log times result
 finds-or g before middle after log times found (Ok joined) begun are (unknown, numbers, joins) = (
   found,
   unknown,
   numbers,
   λ stated graph. record {
-    discovered = subst (λ h. AreDiscovered (handed_state h) (handed_state after) (times_of g times) log stated found) begun (are stated graph);
+    discovered = subst (λ h. AreDiscovered (handed_state h) (handed_state after) (times_of g times) log stated
+        found) begun (are stated graph);
     joins = joins stated graph;
   },
 )
 finds-or g before middle after log times found (Err fault) begun are joins = inr (
   found,
   λ stated graph. record {
-    discovered = subst (λ h. AreDiscovered (handed_state h) (handed_state after) (times_of g times) log stated found) begun (are stated graph);
+    discovered = subst (λ h. AreDiscovered (handed_state h) (handed_state after) (times_of g times) log stated
+        found) begun (are stated graph);
     joins = joins stated graph;
   },
 )
 
 -- ---- after the join
 
-module _ (g : GraphModel) (before : Kept) (files : Handed) (wanted : Vec (Vec ℕ)) (log : LogModel) (read : LogRead) (times : List ℕ)
-    (empty : wanted.items ≡ []) (lacking : (stated : List ReadStatement) → IsGraphOf g stated → lacking_depfiles before.files stated (length (edges_of g)) ≡ [])
+module _ (g : GraphModel) (before : Kept) (files : Handed) (wanted : Vec (Vec ℕ)) (log : LogModel)
+    (read : LogRead) (times : List ℕ)
+    (empty : wanted.items ≡ []) (lacking : (stated : List ReadStatement) → IsGraphOf g stated
+    → lacking_depfiles before.files stated (length (edges_of g)) ≡ [])
     (same : SameFiles before.files files) where
   -- the session before the result is kept
   abbrev middle : Kept
   middle = record before { files = files; wanted = wanted }
 
-  finds-fault : (after : Kept) (fault : GraphFault) (status : Status) → FindsOr g before.files files log times (Err fault) → KeepsFound middle after read (Err fault) status
+  finds-fault : (after : Kept) (fault : GraphFault) (status : Status)
+      → FindsOr g before.files files log times (Err fault) → KeepsFound middle after read (Err fault) status
       → JoinsFound g before after log read times status
   finds-fault after fault Fault (inl none) (other, is) = absurd (other none)
-  finds-fault after fault Fault (inr (found, finds)) (other, is) = subst (λ k. JoinsFound g before k log read times Fault) (sym is) (
-    fault,
-    found,
-    record { files = same; wanted = empty; found = refl; mark = refl; run = record { output = refl; errors = refl } },
-    refl,
-    refl,
-    other,
-    (λ stated graph. (lacking stated graph, finds stated graph)),
-  )
-  finds-fault after fault OutOfMemory finds is = subst (λ k. JoinsFound g before k log read times OutOfMemory) (sym is)
-      (record { files = same; wanted = empty; found = refl; mark = refl; run = record { output = refl; errors = refl } }, refl, refl)
+  finds-fault after fault Fault (inr (found, finds)) (other, is) =
+      subst (λ k. JoinsFound g before k log read times Fault) (sym is) (
+        fault,
+        found,
+        record {
+          files = same;
+          wanted = empty;
+          found = refl;
+          mark = refl;
+          run =
+              record { output = refl; errors = refl };
+        },
+        refl,
+        refl,
+        other,
+        (λ stated graph. (lacking stated graph, finds stated graph)),
+      )
+  finds-fault after fault OutOfMemory finds is =
+      subst (λ k. JoinsFound g before k log read times OutOfMemory) (sym is) (
+        record {
+          files = same;
+          wanted = empty;
+          found = refl;
+          mark = refl;
+          run =
+              record { output = refl; errors = refl };
+        },
+        refl,
+        refl,
+      )
   finds-fault after fault Done finds kept = absurd kept
   finds-fault after fault Nothing finds kept = absurd kept
   finds-fault after fault Short finds kept = absurd kept
@@ -75,13 +105,22 @@ module _ (g : GraphModel) (before : Kept) (files : Handed) (wanted : Vec (Vec �
   finds-fault after fault NotOpen finds kept = absurd kept
   finds-fault after fault BadLog finds kept = absurd kept
 
-  pub finds-result : (after : Kept) (joined : Result Joined GraphFault) (status : Status) → FindsOr g before.files files log times joined → KeepsFound middle after read joined status
+  pub finds-result : (after : Kept) (joined : Result Joined GraphFault) (status : Status)
+      → FindsOr g before.files files log times joined → KeepsFound middle after read joined status
       → JoinsFound g before after log read times status
-  finds-result after (Ok joined) status (found, unknown, numbers, finds) (is, done) = subst (JoinsFound g before after log read times) (sym done)
+  finds-result after (Ok joined) status (found, unknown, numbers, finds) (is, done) =
+      subst (JoinsFound g before after log read times) (sym done)
       (subst (λ k. JoinsFound g before k log read times Done) (sym is) (
         joined.graph,
         found,
-        record { files = same; wanted = empty; found = refl; mark = refl; run = record { output = refl; errors = refl } },
+        record {
+          files = same;
+          wanted = empty;
+          found = refl;
+          mark = refl;
+          run =
+              record { output = refl; errors = refl };
+        },
         refl,
         refl,
         refl,
@@ -97,15 +136,26 @@ abbrev taken : Kept → Kept
 taken before = record before { graph = None }
 
 same-others : (before after : Kept) → KeepsOthers (taken before) after → KeepsOthers before after
-same-others before after k = record { files = k.files; wanted = k.wanted; found = k.found; mark = k.mark; run = record { output = k.run.output; errors = k.run.errors } }
+same-others before after k = record {
+  files = k.files;
+  wanted = k.wanted;
+  found = k.found;
+  mark = k.mark;
+  run = record { output = k.run.output; errors = k.run.errors };
+}
 
-pub found-taken : (g : GraphModel) (before after : Kept) (log : LogModel) (read : LogRead) (times : List ℕ) (status : Status)
-    → JoinsFound g (taken before) after log read times status → JoinsFound g before after log read times status
-found-taken g before after log read times Done (joined, found, k, graph, fault, how_far, unknown, numbers, finds) =
+pub found-taken : (g : GraphModel) (before after : Kept) (log : LogModel) (read : LogRead) (times : List ℕ)
+    (status : Status)
+    → JoinsFound g (taken before) after log read times status
+    → JoinsFound g before after log read times status
+found-taken g before after log read times Done
+    (joined, found, k, graph, fault, how_far, unknown, numbers, finds) =
     (joined, found, same-others before after k, graph, fault, how_far, unknown, numbers, finds)
-found-taken g before after log read times Fault (fault, found, k, graph, is, other, finds) = (fault, found, same-others before after k, graph, is, other, finds)
+found-taken g before after log read times Fault (fault, found, k, graph, is, other, finds) =
+    (fault, found, same-others before after k, graph, is, other, finds)
 found-taken g before after log read times Wanted wants = wants
-found-taken g before after log read times OutOfMemory (k, graph, fault) = (same-others before after k, graph, fault)
+found-taken g before after log read times OutOfMemory (k, graph, fault) =
+    (same-others before after k, graph, fault)
 found-taken g before after log read times Nothing none = absurd none
 found-taken g before after log read times Short none = absurd none
 found-taken g before after log read times NotLoaded none = absurd none
@@ -117,9 +167,11 @@ found-taken g before after log read times BadLog none = absurd none
 
 -- ---- by the bytes of a log
 
-module _ (before after : Kept) (bytes times : List ℕ) (g : GraphModel) (log : LogModel) (was : before.graph ≡ Some g) (count : length times ≡ length (edges_of g))
+module _ (before after : Kept) (bytes times : List ℕ) (g : GraphModel) (log : LogModel)
+    (was : before.graph ≡ Some g) (count : length times ≡ length (edges_of g))
     (is : IsLogOf (log_bytes bytes) log) where
-  known : (status : Status) → JoinsFound g before after log (given_read bytes log) times status → JoinsDiscovered before after bytes times status
+  known : (status : Status) → JoinsFound g before after log (given_read bytes log) times status
+      → JoinsDiscovered before after bytes times status
   known Done found = (g, log, was, count, is, found)
   known Fault found = (g, log, was, count, is, found)
   known Wanted found = (g, log, was, count, is, found)
@@ -133,6 +185,8 @@ module _ (before after : Kept) (bytes times : List ℕ) (g : GraphModel) (log : 
   known NotOpen none = absurd none
   known BadLog none = absurd none
 
-  pub discovered : (read : LogRead) (status : Status) → read ≡ given_read bytes log → JoinsFound g before after log read times status
+  pub discovered : (read : LogRead) (status : Status) → read ≡ given_read bytes log
+      → JoinsFound g before after log read times status
       → JoinsDiscovered before after bytes times status
-  discovered read status same found = known status (subst (λ r. JoinsFound g before after log r times status) same found)
+  discovered read status same found = known status
+      (subst (λ r. JoinsFound g before after log r times status) same found)

@@ -1,10 +1,13 @@
 -- A joining reads the dyndep files of edges, and nothing else.
-use Rattle.std.proofs.Common.{◌≡◌, inl, inr, ℕ, Bool, true, false, cond, not, ◌&&◌, Option, Some, None, is_some, unwrap_or, Result, Ok, Err, List, [], ◌∷◌, ◌++◌, length, bytes_eq, refl, sym, ap, subst, ◌∙◌, append-nil, arith, true≢false, IfSome}
+use Rattle.std.proofs.Common.{◌≡◌, inl, inr, ℕ, Bool, true, false, cond, not, ◌&&◌, Option, Some, None}
+use Rattle.std.proofs.Common.{is_some, unwrap_or, Result, Ok, Err, List, [], ◌∷◌, ◌++◌, length, bytes_eq}
+use Rattle.std.proofs.Common.{refl, sym, ap, subst, ◌∙◌, append-nil, arith, true≢false, IfSome}
 use Rattle.std.specs.Prelude.{filter, ⊤}
 use Rattle.std.specs.Str.{is_utf8}
 use Rattle.std.specs.List.{AllByRecursion, cons_option, filter_map}
 use Rattle.std.proofs.lemmas.List.{append_cancel_left, append_assoc, map-append}
-use Rattle.nj_manifest.specs.Statements.{StatementModel, BindingModel, RuleModel, PoolModel, BuildModel, DefaultModel, IncludeModel, SubninjaModel}
+use Rattle.nj_manifest.specs.Statements.{StatementModel, BindingModel, RuleModel, PoolModel, BuildModel}
+use Rattle.nj_manifest.specs.Statements.{DefaultModel, IncludeModel, SubninjaModel}
 use Rattle.nj_scope.specs.Readings.{Reading, paths_of, IsPrefix}
 use Rattle.nj_scope.specs.Sources.{IsAsGiven}
 use Rattle.nj_scope.specs.ReadingList.{ReadStatement}
@@ -12,13 +15,15 @@ use Rattle.nj_edges.specs.Edges.{is_among}
 use Rattle.nj_edges.specs.Repeats.{each_once}
 use Rattle.nj_edges.proofs.EdgeLemmas.{all-append}
 use Rattle.nj_faults.specs.declared.fault.GraphFault.{GraphFault}
-use Rattle.nj_statements.specs.EdgeList.{AssignedModel, EdgeModel, Pending, assigned_of, assigned_read, dyndep_of, edge_of_build, edges_read, pending_at, pending_read}
+use Rattle.nj_statements.specs.EdgeList.{AssignedModel, EdgeModel, Pending, assigned_of, assigned_read}
+use Rattle.nj_statements.specs.EdgeList.{dyndep_of, edge_of_build, edges_read, pending_at, pending_read}
 use Rattle.nj_statements.specs.Joining.{dyndep_files}
 use Rattle.nj_graph.specs.Graph.{IsGraphOf}
 use Rattle.nj_graph.specs.Reading.{End, Whole, Refused, Lacking}
 use Rattle.nj_graph.specs.Runs.{IsEnd, IsLacking, EndsSo, ReachedModel, paths_with}
 use Rattle.nj_graph.specs.Loads.{LoadedModel, LoadedOr}
-use Rattle.nj_graph.specs.Joining.{all_joined, continued, file_joined, files_joined, joined_after, path_asked, Joins}
+use Rattle.nj_graph.specs.Joining.{all_joined, continued, file_joined, files_joined, joined_after, path_asked}
+use Rattle.nj_graph.specs.Joining.{Joins}
 use Rattle.nj_c.specs.HandedIn.{Handed, handed_in, handed_state, wanted_paths, ReadsAsHanded}
 use Rattle.nj_c.specs.Loading.{dyndeps_of, is_lacking}
 
@@ -39,17 +44,24 @@ all-right : {X : Type 0} (P : X → Type 0) (xs ys : List X) → AllByRecursion 
 all-right P [] ys all = all
 all-right P (x ∷ xs) ys all = all-right P xs ys all.1
 
-all-filter : {X : Type 0} (P : X → Type 0) (test : X → Bool) (xs : List X) → AllByRecursion P xs → AllByRecursion P (filter test xs)
+all-filter : {X : Type 0} (P : X → Type 0) (test : X → Bool) (xs : List X) → AllByRecursion P xs
+    → AllByRecursion P (filter test xs)
 all-filter P test [] all = tt
 all-filter {X} P test (x ∷ xs) all = by (test x) (all-filter P test xs all.1)
   where
-    by : (b : Bool) → AllByRecursion P (filter test xs) → AllByRecursion P (cond b (x ∷ filter test xs) (filter test xs))
+    by : (b : Bool) → AllByRecursion P (filter test xs)
+        → AllByRecursion P (cond b (x ∷ filter test xs) (filter test xs))
     by true others = (all.0, others)
     by false others = others
 
-all-once : {X : Type 0} (P : X → Type 0) (same : X → X → Bool) (xs : List X) → AllByRecursion P xs → AllByRecursion P (each_once same xs)
+all-once : {X : Type 0} (P : X → Type 0) (same : X → X → Bool) (xs : List X) → AllByRecursion P xs
+    → AllByRecursion P (each_once same xs)
 all-once P same [] all = tt
-all-once P same (x ∷ xs) all = (all.0, all-filter P (λ y. not (same y x)) (each_once same xs) (all-once P same xs all.1))
+all-once P same (x ∷ xs) all = (
+  all.0,
+  all-filter P (λ y. not (same y x)) (each_once same xs)
+      (all-once P same xs all.1),
+)
 
 once-nil : (xs : List (List ℕ)) → each_once bytes_eq xs ≡ [] → xs ≡ []
 once-nil [] is = refl
@@ -77,32 +89,41 @@ module _ (h : Handed) where
   asked-one : (p : Pending) → IsGiven p.file → AllByRecursion Has (path_asked p)
   asked-one p given = by (is_utf8 p.file) given
     where
-      by : (text : Bool) → (text && not (is_some (handed_in h p.file))) ≡ false → AllByRecursion Has (cond text (p.file ∷ []) [])
+      by : (text : Bool) → (text && not (is_some (handed_in h p.file))) ≡ false
+          → AllByRecursion Has (cond text (p.file ∷ []) [])
       by true is = (has-given (is_some (handed_in h p.file)) is, tt)
       by false is = tt
 
-  asked-files : (files : List Reading) (stated : List ReadStatement) (ps : List Pending) (joined : List ReadStatement) → AllByRecursion (λ p. IsGiven p.file) ps
+  asked-files : (files : List Reading) (stated : List ReadStatement) (ps : List Pending)
+      (joined : List ReadStatement) → AllByRecursion (λ p. IsGiven p.file) ps
       → AllByRecursion Has (files_joined files stated ps joined).paths
   unfolding files_joined
   asked-files files stated [] joined given = tt
-  asked-files files stated (p ∷ others) joined given = by (file_joined files stated p joined).end (asked-files files stated others next given.1)
+  asked-files files stated (p ∷ others) joined given =
+      by (file_joined files stated p joined).end (asked-files files stated others next given.1)
     where
       next : List ReadStatement
       next = (file_joined files stated p joined).entries
 
-      by : (end : End) → AllByRecursion Has (files_joined files stated others next).paths → AllByRecursion Has (continued end p next (files_joined files stated others)).paths
-      by Whole more = all-append Has (path_asked p) (files_joined files stated others next).paths (asked-one p given.0) more
+      by : (end : End) → AllByRecursion Has (files_joined files stated others next).paths
+          → AllByRecursion Has (continued end p next (files_joined files stated others)).paths
+      by Whole more = all-append Has (path_asked p) (files_joined files stated others next).paths
+          (asked-one p given.0) more
       by (Refused fault) more = asked-one p given.0
       by (Lacking path place) more = asked-one p given.0
 
-  asked-all : (files : List Reading) (stated : List ReadStatement) → AllByRecursion (λ p. IsGiven p.file) (pending_read stated) → AllByRecursion Has (all_joined files stated).paths
+  asked-all : (files : List Reading) (stated : List ReadStatement)
+      → AllByRecursion (λ p. IsGiven p.file) (pending_read stated)
+      → AllByRecursion Has (all_joined files stated).paths
   unfolding all_joined
   asked-all files stated given =
-      asked-files files stated (dyndep_files (pending_read stated)) stated (all-once (λ p. IsGiven p.file) (λ q p. bytes_eq q.file p.file) (pending_read stated) given)
+      asked-files files stated (dyndep_files (pending_read stated)) stated
+      (all-once (λ p. IsGiven p.file) (λ q p. bytes_eq q.file p.file) (pending_read stated) given)
 
   -- ---- by the files to which edges are bound
 
-  given-at : (edge : ℕ) (was_joined : Bool) (file : Option (List ℕ)) → GivenIfBound file → AllByRecursion (λ p. IsGiven p.file) (pending_at edge was_joined file)
+  given-at : (edge : ℕ) (was_joined : Bool) (file : Option (List ℕ)) → GivenIfBound file
+      → AllByRecursion (λ p. IsGiven p.file) (pending_at edge was_joined file)
   given-at edge true file given = tt
   given-at edge false (Some file) given = (given, tt)
   given-at edge false None given = tt
@@ -110,15 +131,19 @@ module _ (h : Handed) where
   abbrev AreGiven : List AssignedModel → Type 0
   AreGiven assigned = AllByRecursion (λ a. GivenIfBound a.dyndep) assigned
 
-  given-item : (e : ReadStatement) (before : List ReadStatement) (item : StatementModel) → (AreGiven (assigned_read before) → AllByRecursion (λ p. IsGiven p.file) (pending_read before))
-      → AreGiven (assigned_read (record e { item = item } ∷ before)) → AllByRecursion (λ p. IsGiven p.file) (pending_read (record e { item = item } ∷ before))
+  given-item : (e : ReadStatement) (before : List ReadStatement) (item : StatementModel)
+      → (AreGiven (assigned_read before) → AllByRecursion (λ p. IsGiven p.file) (pending_read before))
+      → AreGiven (assigned_read (record e { item = item } ∷ before))
+      → AllByRecursion (λ p. IsGiven p.file) (pending_read (record e { item = item } ∷ before))
   unfolding assigned_read pending_read
   given-item e before (BuildModel outputs rule inputs lines) others given =
       let own : EdgeModel = edge_of_build e before outputs rule inputs lines in
       let P : AssignedModel → Type 0 = λ a. GivenIfBound a.dyndep in
-      all-append (λ p. IsGiven p.file) (pending_read before) (pending_at (length (edges_read before)) e.was_joined (dyndep_of before own))
+      all-append (λ p. IsGiven p.file) (pending_read before)
+      (pending_at (length (edges_read before)) e.was_joined (dyndep_of before own))
       (others (all-left P (assigned_read before) (assigned_of before own ∷ []) given))
-      (given-at (length (edges_read before)) e.was_joined (dyndep_of before own) (all-right P (assigned_read before) (assigned_of before own ∷ []) given).0)
+      (given-at (length (edges_read before)) e.was_joined (dyndep_of before own)
+      (all-right P (assigned_read before) (assigned_of before own ∷ []) given).0)
   given-item e before (BindingModel bound word) others given = others given
   given-item e before (RuleModel name lines) others given = others given
   given-item e before (PoolModel name lines) others given = others given
@@ -126,65 +151,84 @@ module _ (h : Handed) where
   given-item e before (IncludeModel word) others given = others given
   given-item e before (SubninjaModel word) others given = others given
 
-  given-pending : (stated : List ReadStatement) → AreGiven (assigned_read stated) → AllByRecursion (λ p. IsGiven p.file) (pending_read stated)
+  given-pending : (stated : List ReadStatement) → AreGiven (assigned_read stated)
+      → AllByRecursion (λ p. IsGiven p.file) (pending_read stated)
   unfolding assigned_read pending_read
   given-pending [] given = tt
   given-pending (e ∷ before) given = given-item e before e.item (given-pending before) given
 
-  none-lacking : (assigned : List AssignedModel) → filter (is_lacking h) (filter_map (λ a. a.dyndep) assigned) ≡ [] → AreGiven assigned
+  none-lacking : (assigned : List AssignedModel)
+      → filter (is_lacking h) (filter_map (λ a. a.dyndep) assigned) ≡ [] → AreGiven assigned
   none-lacking [] none = tt
   none-lacking (a ∷ assigned) none = by a.dyndep none (none-lacking assigned)
     where
       others : List (List ℕ)
       others = filter_map (λ (b : AssignedModel). b.dyndep) assigned
 
-      by_test : (path : List ℕ) (b : Bool) → is_lacking h path ≡ b → cond b (path ∷ filter (is_lacking h) others) (filter (is_lacking h) others) ≡ []
+      by_test : (path : List ℕ) (b : Bool) → is_lacking h path ≡ b
+          → cond b (path ∷ filter (is_lacking h) others) (filter (is_lacking h) others) ≡ []
           → (filter (is_lacking h) others ≡ [] → AreGiven assigned) → IsGiven path × AreGiven assigned
       by_test path true is nothing rest = absurd (not-nil path (filter (is_lacking h) others) nothing)
       by_test path false is nothing rest = (is, rest nothing)
 
-      by : (bound : Option (List ℕ)) → filter (is_lacking h) (cons_option bound others) ≡ [] → (filter (is_lacking h) others ≡ [] → AreGiven assigned)
+      by : (bound : Option (List ℕ)) → filter (is_lacking h) (cons_option bound others) ≡ []
+          → (filter (is_lacking h) others ≡ [] → AreGiven assigned)
           → GivenIfBound bound × AreGiven assigned
       by None nothing rest = (tt, rest nothing)
       by (Some path) nothing rest = by_test path (is_lacking h path) refl nothing rest
 
   -- ---- so the files that a joining reads were supplied
 
-  module _ (old : List Reading) (stated : List ReadStatement) (given : AllByRecursion (λ p. IsGiven p.file) (pending_read stated)) where
+  module _ (old : List Reading) (stated : List ReadStatement)
+      (given : AllByRecursion (λ p. IsGiven p.file) (pending_read stated)) where
     abbrev news : (files : List Reading) → List (List ℕ)
-    news files = filter (λ path. not (is_among (paths_of old) path)) (each_once bytes_eq (all_joined files stated).paths)
+    news files = filter (λ path. not (is_among (paths_of old) path))
+        (each_once bytes_eq (all_joined files stated).paths)
 
     news-given : (files : List Reading) → AllByRecursion Has (news files)
     news-given files =
-        all-filter Has (λ path. not (is_among (paths_of old) path)) (each_once bytes_eq (all_joined files stated).paths)
+        all-filter Has (λ path. not (is_among (paths_of old) path))
+        (each_once bytes_eq (all_joined files stated).paths)
         (all-once Has bytes_eq (all_joined files stated).paths (asked-all files stated given))
 
-    from-prefix : (rs : List Reading) → IsPrefix (paths_of (old ++ rs)) (joined_after old stated (old ++ rs)).paths → AllByRecursion Has (paths_of rs)
+    from-prefix : (rs : List Reading) → IsPrefix (paths_of (old ++ rs))
+        (joined_after old stated (old ++ rs)).paths → AllByRecursion Has (paths_of rs)
     from-prefix rs (others, is) =
         let split : paths_of old ++ news (old ++ rs) ≡ paths_of old ++ (paths_of rs ++ others) =
-        is ∙ ap (λ ps. ps ++ others) (map-append (λ (r : Reading). r.path) old rs) ∙ append_assoc (paths_of old) (paths_of rs) others in
-        let same : news (old ++ rs) ≡ paths_of rs ++ others = append_cancel_left (paths_of old) (news (old ++ rs)) (paths_of rs ++ others) split in
+        is ∙ ap (λ ps. ps ++ others) (map-append (λ (r : Reading). r.path) old rs)
+        ∙ append_assoc (paths_of old) (paths_of rs) others in
+        let same : news (old ++ rs) ≡ paths_of rs ++ others =
+        append_cancel_left (paths_of old) (news (old ++ rs)) (paths_of rs ++ others) split in
         all-left Has (paths_of rs) others (subst (AllByRecursion Has) same (news-given (old ++ rs)))
 
-    from-same : (rs : List Reading) → (joined_after old stated (old ++ rs)).paths ≡ paths_of (old ++ rs) → AllByRecursion Has (paths_of rs)
+    from-same : (rs : List Reading) → (joined_after old stated (old ++ rs)).paths ≡ paths_of (old ++ rs)
+        → AllByRecursion Has (paths_of rs)
     from-same rs is = from-prefix rs ([], is ∙ sym (append-nil (paths_of (old ++ rs))))
 
-    from-end : (rs : List Reading) (before after : Handed) (fault : GraphFault) (reached : ReachedModel) (end : End) → reached.read.end ≡ end
-        → IsEnd (handed_state before) (handed_state after) end fault → (IsLacking end (old ++ rs) → joined_after old stated (old ++ rs) ≡ reached)
+    from-end : (rs : List Reading) (before after : Handed) (fault : GraphFault) (reached : ReachedModel)
+        (end : End) → reached.read.end ≡ end
+        → IsEnd (handed_state before) (handed_state after) end fault
+        → (IsLacking end (old ++ rs) → joined_after old stated (old ++ rs) ≡ reached)
         → reached.paths ≡ paths_with end (old ++ rs) → AllByRecursion Has (paths_of rs)
     from-end rs before after fault reached Whole is answered read came = absurd answered
-    from-end rs before after fault reached (Refused f) is answered read came = from-same rs (ap (λ (r : ReachedModel). r.paths) (read tt) ∙ came)
-    from-end rs before after fault reached (Lacking path place) is answered read came = let below = answered.1.above (omega arith) in absurd (omega (arith, below))
+    from-end rs before after fault reached (Refused f) is answered read came =
+        from-same rs (ap (λ (r : ReachedModel). r.paths) (read tt) ∙ came)
+    from-end rs before after fault reached (Lacking path place) is answered read came = let below =
+        answered.1.above (omega arith) in absurd (omega (arith, below))
 
-    ends-given : (rs : List Reading) (before after : Handed) (fault : GraphFault) → EndsSo (handed_state before) (handed_state after) (old ++ rs) (joined_after old stated) fault
+    ends-given : (rs : List Reading) (before after : Handed) (fault : GraphFault)
+        → EndsSo (handed_state before) (handed_state after) (old ++ rs) (joined_after old stated) fault
         → AllByRecursion Has (paths_of rs)
     ends-given rs before after fault ends =
-        from-end rs before after fault ends.reached ends.reached.read.end refl ends.answered (ends.read (old ++ rs) ([], sym (append-nil (old ++ rs)))) ends.came_to
+        from-end rs before after fault ends.reached ends.reached.read.end refl ends.answered
+        (ends.read (old ++ rs) ([], sym (append-nil (old ++ rs)))) ends.came_to
 
     reads-given : (rs : List Reading) (before after : Handed) (result : Result LoadedModel GraphFault)
-        → LoadedOr (handed_state before) (handed_state after) (old ++ rs) (joined_after old stated) result → AllByRecursion Has (paths_of rs)
+        → LoadedOr (handed_state before) (handed_state after) (old ++ rs) (joined_after old stated) result
+        → AllByRecursion Has (paths_of rs)
     reads-given rs before after (Ok loaded) ok = from-same rs ok.whole.came_to
-    reads-given rs before after (Err fault) (inl (inl lacks)) = from-prefix rs (lacks.came_to (old ++ rs) ([], sym (append-nil (old ++ rs))))
+    reads-given rs before after (Err fault) (inl (inl lacks)) =
+        from-prefix rs (lacks.came_to (old ++ rs) ([], sym (append-nil (old ++ rs))))
     reads-given rs before after (Err fault) (inl (inr ends)) = ends-given rs before after fault ends
     reads-given rs before after (Err fault) (inr cycle) = from-same rs cycle.whole.came_to
 
@@ -194,51 +238,66 @@ module _ (h : Handed) where
 abbrev AreHandedIn : Handed → List Reading → Type 0
 AreHandedIn h read = AllByRecursion (λ r. is_some (handed_in h r.path) ≡ true) read
 
-none-wanted : (h : Handed) (read : List Reading) → AreHandedIn h read → filter_map (λ r. cond (is_some (handed_in h r.path)) None (Some r.path)) read ≡ []
+none-wanted : (h : Handed) (read : List Reading) → AreHandedIn h read
+    → filter_map (λ r. cond (is_some (handed_in h r.path)) None (Some r.path)) read ≡ []
 none-wanted h [] are = refl
 none-wanted h (r ∷ rs) are =
     let others = filter_map (λ (r : Reading). cond (is_some (handed_in h r.path)) None (Some r.path)) rs in
     ap (λ b. cons_option (cond b None (Some r.path)) others) are.0 ∙ none-wanted h rs are.1
 
-all-handed : (h : Handed) (read : List Reading) → filter_map (λ r. cond (is_some (handed_in h r.path)) None (Some r.path)) read ≡ [] → AreHandedIn h read
+all-handed : (h : Handed) (read : List Reading)
+    → filter_map (λ r. cond (is_some (handed_in h r.path)) None (Some r.path)) read ≡ [] → AreHandedIn h read
 all-handed h [] none = tt
 all-handed h (r ∷ rs) none = by (is_some (handed_in h r.path)) refl none (all-handed h rs)
   where
     others : List (List ℕ)
     others = filter_map (λ (r : Reading). cond (is_some (handed_in h r.path)) None (Some r.path)) rs
 
-    by : (b : Bool) → is_some (handed_in h r.path) ≡ b → cons_option (cond b None (Some r.path)) others ≡ [] → (others ≡ [] → AreHandedIn h rs)
+    by : (b : Bool) → is_some (handed_in h r.path) ≡ b → cons_option (cond b None (Some r.path)) others ≡ []
+        → (others ≡ [] → AreHandedIn h rs)
         → (is_some (handed_in h r.path) ≡ true) × AreHandedIn h rs
     by true is nothing rest = (is, rest nothing)
     by false is nothing rest = absurd (not-nil r.path others nothing)
 
-of-paths : (h : Handed) (read : List Reading) → AllByRecursion (λ path. is_some (handed_in h path) ≡ true) (paths_of read) → AreHandedIn h read
+of-paths : (h : Handed) (read : List Reading)
+    → AllByRecursion (λ path. is_some (handed_in h path) ≡ true) (paths_of read) → AreHandedIn h read
 of-paths h [] are = tt
 of-paths h (r ∷ rs) are = (are.0, of-paths h rs are.1)
 
-module _ (between after : Handed) (same : (path : List ℕ) → handed_in after path ≡ handed_in between path) where
-  handed-after : (read : List Reading) → AreHandedIn between read → AreHandedIn after read
-  handed-after [] are = tt
-  handed-after (r ∷ rs) are = (ap is_some (same r.path) ∙ are.0, handed-after rs are.1)
+module _ (between after : Handed) (same : (path : List ℕ) → handed_in after path ≡ handed_in between path)
+  where
+    handed-after : (read : List Reading) → AreHandedIn between read → AreHandedIn after read
+    handed-after [] are = tt
+    handed-after (r ∷ rs) are = (ap is_some (same r.path) ∙ are.0, handed-after rs are.1)
 
-  found-after : (read : List Reading) → AllByRecursion (λ r. r.bytes ≡ unwrap_or (handed_in between r.path) (Some [])) read
-      → AllByRecursion (λ r. r.bytes ≡ unwrap_or (handed_in after r.path) (Some [])) read
-  found-after [] found = tt
-  found-after (r ∷ rs) found = (found.0 ∙ ap (λ f. unwrap_or f (Some [])) (sym (same r.path)), found-after rs found.1)
+    found-after : (read : List Reading) → AllByRecursion
+        (λ r. r.bytes ≡ unwrap_or (handed_in between r.path) (Some [])) read
+        → AllByRecursion (λ r. r.bytes ≡ unwrap_or (handed_in after r.path) (Some [])) read
+    found-after [] found = tt
+    found-after (r ∷ rs) found = (
+      found.0 ∙ ap (λ f. unwrap_or f (Some [])) (sym (same r.path)),
+      found-after rs found.1,
+    )
 
-  as-given : (read : List Reading) → AreHandedIn between read → AllByRecursion (IsAsGiven (handed_state between)) read
-      → AllByRecursion (λ r. r.bytes ≡ unwrap_or (handed_in between r.path) (Some [])) read
-  as-given [] are found = tt
-  as-given (r ∷ rs) are found = (by (handed_in between r.path) are.0 found.0, as-given rs are.1 found.1)
-    where
-      by : (f : Option (Option (List ℕ))) → is_some f ≡ true → IfSome f (λ meant. r.bytes ≡ meant) → r.bytes ≡ unwrap_or f (Some [])
-      by None some is = absurd (true≢false (sym some))
-      by (Some meant) some is = is
+    as-given : (read : List Reading) → AreHandedIn between read
+        → AllByRecursion (IsAsGiven (handed_state between)) read
+        → AllByRecursion (λ r. r.bytes ≡ unwrap_or (handed_in between r.path) (Some [])) read
+    as-given [] are found = tt
+    as-given (r ∷ rs) are found = (by (handed_in between r.path) are.0 found.0, as-given rs are.1 found.1)
+      where
+        by : (f : Option (Option (List ℕ))) → is_some f ≡ true → IfSome f (λ meant. r.bytes ≡ meant)
+            → r.bytes ≡ unwrap_or f (Some [])
+        by None some is = absurd (true≢false (sym some))
+        by (Some meant) some is = is
 
 -- After a joining of files without lacking ones, as before it, all files read were supplied.
-module _ (between after : Handed) (loaded : LoadedModel) (stated : List ReadStatement) (is : IsGraphOf loaded.graph stated) where
-  module _ (none : wanted_paths between ≡ []) (lacking : each_once bytes_eq (filter (is_lacking between) (dyndeps_of loaded.graph)) ≡ []) (found : ReadsAsHanded between)
-      (joined : Result LoadedModel GraphFault) (joins : Joins stated loaded.files (handed_state between) (handed_state after) joined) where
+module _ (between after : Handed) (loaded : LoadedModel) (stated : List ReadStatement)
+    (is : IsGraphOf loaded.graph stated) where
+  module _ (none : wanted_paths between ≡ [])
+      (lacking : each_once bytes_eq (filter (is_lacking between) (dyndeps_of loaded.graph)) ≡ [])
+      (found : ReadsAsHanded between)
+      (joined : Result LoadedModel GraphFault)
+      (joins : Joins stated loaded.files (handed_state between) (handed_state after) joined) where
     pub same-files : (path : List ℕ) → handed_in after path ≡ handed_in between path
     same-files path = joins.1.read.files path
 
@@ -246,13 +305,17 @@ module _ (between after : Handed) (loaded : LoadedModel) (stated : List ReadStat
     rs = joins.1.readings
 
     given-bound : AreGiven between (assigned_read stated)
-    given-bound = subst (AreGiven between) is.built.assigned (none-lacking between loaded.graph.built.assigned (once-nil (filter (is_lacking between) (dyndeps_of loaded.graph)) lacking))
+    given-bound = subst (AreGiven between) is.built.assigned
+        (none-lacking between loaded.graph.built.assigned
+        (once-nil (filter (is_lacking between) (dyndeps_of loaded.graph)) lacking))
 
     new-handed : AreHandedIn between rs
     new-handed =
         of-paths between rs
-        (reads-given between loaded.files stated (given-pending between stated given-bound) rs between after joined
-        (subst (λ files. LoadedOr (handed_state between) (handed_state after) files (joined_after loaded.files stated) joined) joins.1.added joins.2))
+        (reads-given between loaded.files stated (given-pending between stated given-bound) rs between after
+        joined
+        (subst (λ files. LoadedOr (handed_state between) (handed_state after) files
+        (joined_after loaded.files stated) joined) joins.1.added joins.2))
 
     read-after : after.read ≡ between.read ++ rs
     read-after = ap (λ o. unwrap_or o []) joins.1.read.reported
@@ -262,10 +325,12 @@ module _ (between after : Handed) (loaded : LoadedModel) (stated : List ReadStat
         none-wanted after after.read
         (subst (AreHandedIn after) (sym read-after)
         (handed-after between after same-files (between.read ++ rs)
-        (all-append (λ r. is_some (handed_in between r.path) ≡ true) between.read rs (all-handed between between.read none) new-handed)))
+        (all-append (λ r. is_some (handed_in between r.path) ≡ true) between.read rs
+        (all-handed between between.read none) new-handed)))
 
     pub found-joined : ReadsAsHanded after
     found-joined =
         subst (AllByRecursion (λ r. r.bytes ≡ unwrap_or (handed_in after r.path) (Some []))) (sym read-after)
         (found-after between after same-files (between.read ++ rs)
-        (all-append (λ r. r.bytes ≡ unwrap_or (handed_in between r.path) (Some [])) between.read rs found (as-given between after same-files rs new-handed joins.1.read.as_given)))
+        (all-append (λ r. r.bytes ≡ unwrap_or (handed_in between r.path) (Some [])) between.read rs found
+        (as-given between after same-files rs new-handed joins.1.read.as_given)))

@@ -1,5 +1,6 @@
 -- The session after joining a deps log.
-use Rattle.std.proofs.Common.{◌≡◌, ◌≢◌, ℕ, List, length, IfOk, Some, None, is_some, Result, Ok, Err, sym, ap, subst, ◌∙◌, true≢false, Option}
+use Rattle.std.proofs.Common.{◌≡◌, ◌≢◌, ℕ, List, length, IfOk, Some, None, is_some, Result, Ok, Err, sym, ap}
+use Rattle.std.proofs.Common.{subst, ◌∙◌, true≢false, Option}
 use Rattle.nj_deps.specs.Logs.{LogModel, IsLogOf}
 use Rattle.nj_scope.specs.ReadingList.{ReadStatement}
 use Rattle.nj_scope.specs.Readings.{IsPrefix}
@@ -8,17 +9,23 @@ use Rattle.nj_graph.specs.Graph.{GraphModel, IsGraphOf, edges_of, files_of}
 use Rattle.nj_graph.specs.DepsLogs.{JoinsLog}
 use Rattle.nj_c.specs.declared.session_state.Kept.{Kept}
 use Rattle.nj_c.specs.declared.status.Status.{Status}
-use Rattle.nj_c.specs.declared.status.Status.TheVariants.{Done, Nothing, Short, Fault, Wanted, NotLoaded, BadNumber, BadMark, NotUtf8, NotOpen, OutOfMemory, BadLog}
+use Rattle.nj_c.specs.declared.status.Status.TheVariants.{Done, Nothing, Short, Fault, Wanted, NotLoaded}
+use Rattle.nj_c.specs.declared.status.Status.TheVariants.{BadNumber, BadMark, NotUtf8, NotOpen, OutOfMemory}
+use Rattle.nj_c.specs.declared.status.Status.TheVariants.{BadLog}
 use Rattle.nj_c.specs.JoinedLogs.{JoinsDeps}
 use Rattle.nj_c.specs.Inside.LogsJoined.{JoinsKnown, KeepsJoined}
 
 pub some-is-not-none : {A : Type 0} {x : Option A} {a : A} → x ≡ Some a → x ≢ None
 some-is-not-none was none = true≢false (sym (ap is_some was) ∙ ap is_some none)
 
-module _ (before after : Kept) (bytes : List ℕ) (log : LogModel) (is : IsLogOf bytes log) (g : GraphModel) (was : before.graph ≡ Some g) where
-  keeps : (result : Result GraphModel GraphFault) (status : Status) → IfOk result (λ joined. length (edges_of joined) ≡ length (edges_of g))
-      → IfOk result (λ joined. IsPrefix (files_of g) (files_of joined)) → ((stated : List ReadStatement) → IsGraphOf g stated → JoinsLog log stated result)
-      → KeepsJoined (record before { graph = None }) after log result status → JoinsDeps before after bytes status
+module _ (before after : Kept) (bytes : List ℕ) (log : LogModel) (is : IsLogOf bytes log) (g : GraphModel)
+    (was : before.graph ≡ Some g) where
+  keeps : (result : Result GraphModel GraphFault) (status : Status)
+      → IfOk result (λ joined. length (edges_of joined) ≡ length (edges_of g))
+      → IfOk result (λ joined. IsPrefix (files_of g) (files_of joined))
+      → ((stated : List ReadStatement) → IsGraphOf g stated → JoinsLog log stated result)
+      → KeepsJoined (record before { graph = None }) after log result status
+      → JoinsDeps before after bytes status
   keeps (Ok joined) status edges files joins (kept, done) =
       subst (JoinsDeps before after bytes) (sym done) (g, was, (joined, log, is, kept, (edges, files), joins))
   keeps (Err fault) Fault edges files joins (other, kept) = (g, was, (fault, log, is, kept, other, joins))
@@ -35,6 +42,8 @@ module _ (before after : Kept) (bytes : List ℕ) (log : LogModel) (is : IsLogOf
   keeps (Err fault) BadLog edges files joins kept = absurd kept
 
 -- the log of these bytes was joined
-pub joined : (before after : Kept) (bytes : List ℕ) (log : LogModel) (status : Status) → IsLogOf bytes log → JoinsKnown before after log status
+pub joined : (before after : Kept) (bytes : List ℕ) (log : LogModel) (status : Status) → IsLogOf bytes log
+    → JoinsKnown before after log status
     → JoinsDeps before after bytes status
-joined before after bytes log status is (g, result, was, edges, files, joins, kept) = keeps before after bytes log is g was result status edges files joins kept
+joined before after bytes log status is (g, result, was, edges, files, joins, kept) =
+    keeps before after bytes log is g was result status edges files joins kept

@@ -13,7 +13,8 @@ use Rattle.nj_cli.specs.Runs.{ReadsMore, AreStatements, HaveFault}
 use Rattle.nj_cli.specs.Targets.{edges_by_path, NoEdgeNeedsItself}
 
 module _ (main : List ℕ) (before after : SourceState) (files : List Reading) (stated : List ReadStatement)
-    (read : main_read files main ≡ record { entries = stated; end = Whole }) (cyclic : ¬ NoEdgeNeedsItself (edges_by_path stated)) where
+    (read : main_read files main ≡ record { entries = stated; end = Whole })
+    (cyclic : ¬ NoEdgeNeedsItself (edges_by_path stated)) where
   -- the statements read first are these: further files make no difference
   stated-are : (more : ReadsMore main before after files) → more.stated ≡ stated
   stated-are more =
@@ -22,11 +23,14 @@ module _ (main : List ℕ) (before after : SourceState) (files : List Reading) (
       ap (λ (r : ReadingModel). r.entries) (sym more.whole.read ∙ sym same ∙ read)
 
   pub no_more_is_read : ¬ ReadsMore main before after files
-  no_more_is_read more = cyclic (subst (λ (es : List ReadStatement). NoEdgeNeedsItself (edges_by_path es)) (stated-are more) more.acyclic)
+  no_more_is_read more = cyclic (subst (λ (es : List ReadStatement). NoEdgeNeedsItself (edges_by_path es))
+      (stated-are more) more.acyclic)
 
-  pub nothing_is_joined : (entries : List ReadStatement) → ¬ AreStatements main true before after files entries
+  pub nothing_is_joined : (entries : List ReadStatement)
+      → ¬ AreStatements main true before after files entries
   nothing_is_joined entries (more, joined) = no_more_is_read more
 
-  pub fault_of_loading : (fault : GraphFault) → HaveFault main true before after files fault → LoadedOr before after files (main_reached main) (Err fault)
+  pub fault_of_loading : (fault : GraphFault) → HaveFault main true before after files fault
+      → LoadedOr before after files (main_reached main) (Err fault)
   fault_of_loading fault (inl loading) = loading
   fault_of_loading fault (inr (more, joining)) = absurd (no_more_is_read more)

@@ -1,4 +1,5 @@
--- Of a run that was answered its graph is kept: where it was not refused, nothing or the graph of other edges does not keep the contract.
+-- Of a run that was answered its graph is kept: where it was not refused, nothing or the graph of other edges
+-- does not keep the contract.
 use Rattle.std.proofs.Common.{◌≡◌, inl, inr, Some, None, List}
 use Rattle.nj_scope.specs.Readings.{Reading}
 use Rattle.nj_graph.specs.Graph.{edges_of}
@@ -18,4 +19,5 @@ module _ (request : RequestModel) (old new : Around) (status : Status)
       → (files : List Reading) × (answered : IsAnswered request files old new status) × (loaded.files ≡ files)
       × (edges_of loaded.graph ≡ edges_by_path answered.entries)
   its_edges loaded (files, read, inl (refused, none)) = absurd (unrefused files refused)
-  its_edges loaded (files, read, inr (answered, (files_are, graph_is))) = (files, answered, files_are, graph_is.built.paths)
+  its_edges loaded (files, read, inr (answered, (files_are, graph_is))) =
+      (files, answered, files_are, graph_is.built.paths)

@@ -1,5 +1,7 @@
 -- The outcome of a run, by the graph of its files.
-use Rattle.std.proofs.Common.{◌≡◌, ◌≢◌, ◌⊎◌, inl, inr, ℕ, Bool, true, false, if◌then◌else◌, Option, Some, None, Result, Ok, Err, IsErrAnd, List, [], length, map, filter, not, refl, sym, ap, subst, ◌∙◌}
+use Rattle.std.proofs.Common.{◌≡◌, ◌≢◌, ◌⊎◌, inl, inr, ℕ, Bool, true, false, if◌then◌else◌, Option, Some}
+use Rattle.std.proofs.Common.{None, Result, Ok, Err, IsErrAnd, List, [], length, map, filter, not, refl, sym}
+use Rattle.std.proofs.Common.{ap, subst, ◌∙◌}
 use Rattle.std.specs.Prelude.{nat_eq}
 use Rattle.std.specs.List.{flat_map}
 use Rattle.std.specs.Option.{option_map_or}
@@ -45,29 +47,36 @@ use Rattle.nj_tools.specs.declared.tool_fault.ToolFault.TheVariants as tool
 use Rattle.nj_tools.proofs.SinkLemmas.{Takes-nil}
 use Rattle.nj_graph.specs.Targets.{targets_named, targets_or}
 use Rattle.nj_cli.specs.Targets.{edges_by_path, NoEdgeNeedsItself, targets_of}
-use Rattle.nj_cli.specs.Answers.{leads, commands_left, IsMarkOf, output_for, output_of, Ending, finished, stopped, faulty, PageEnds, text_fault, EndsWith}
-use Rattle.nj_cli.specs.Inside.RunSteps.{with_validations, for_targets, EndsOr, Finishes, out_of_range, ReturnsFor, fault_of_mark, fault_of_tool}
+use Rattle.nj_cli.specs.Answers.{leads, commands_left, IsMarkOf, output_for, output_of, Ending, finished}
+use Rattle.nj_cli.specs.Answers.{stopped, faulty, PageEnds, text_fault, EndsWith}
+use Rattle.nj_cli.specs.Inside.RunSteps.{with_validations, for_targets, EndsOr, Finishes, out_of_range}
+use Rattle.nj_cli.specs.Inside.RunSteps.{ReturnsFor, fault_of_mark, fault_of_tool}
 use Rattle.nj_cli.specs.declared.run_fault.RunFault.{RunFault}
 use Rattle.nj_cli.specs.declared.run_fault.RunFault.TheVariants as fault
 
 -- the targets of a run, by those that its arguments name
-abbrev targets_from : List ReadStatement → (validations : Bool) → Result (List (List ℕ)) GraphFault → Result (List (List ℕ)) GraphFault
+abbrev targets_from : List ReadStatement → (validations : Bool) → Result (List (List ℕ)) GraphFault
+    → Result (List (List ℕ)) GraphFault
 targets_from entries validations named =
     named >>= (λ targets. Ok (with_validations validations (edges_by_path entries) targets))
 
 -- how `compdb` ends, by the first edge that JSON cannot contain
 abbrev compdb_ending : List ReadStatement → (unheld : Option ℕ) → Ending
-compdb_ending entries unheld = option_map_or (λ edge. faulty (fault_line (text_fault (slice_get (edges_read entries) edge)))) unheld finished
+compdb_ending entries unheld = option_map_or
+    (λ edge. faulty (fault_line (text_fault (slice_get (edges_read entries) edge)))) unheld finished
 
 -- nothing was taken yet
 pub TakesFront-none : (s : SinkState) (text : List ℕ) → TakesFront s s text
 TakesFront-none s text = ([], (text, refl), Takes-nil s)
 
 -- the outcome is a fault
-pub ReturnsFor-err : (entries : List ReadStatement) (action : ActionModel) (old new : SinkState) (result : Result (Option (List ℕ)) RunFault) (f : RunFault)
-    → IsErrAnd result (λ e. e ≡ f) → ReturnsFor entries action old new (Err f) → ReturnsFor entries action old new result
+pub ReturnsFor-err : (entries : List ReadStatement) (action : ActionModel) (old new : SinkState)
+    (result : Result (Option (List ℕ)) RunFault) (f : RunFault)
+    → IsErrAnd result (λ e. e ≡ f) → ReturnsFor entries action old new (Err f)
+    → ReturnsFor entries action old new result
 ReturnsFor-err entries action old new (Ok mark) f is outcomes = absurd is
-ReturnsFor-err entries action old new (Err e) f is outcomes = subst (λ (r : RunFault). ReturnsFor entries action old new (Err r)) (sym is) outcomes
+ReturnsFor-err entries action old new (Err e) f is outcomes =
+    subst (λ (r : RunFault). ReturnsFor entries action old new (Err r)) (sym is) outcomes
 
 module _ (entries : List ReadStatement) (g : GraphModel) (is : IsGraphOf g entries) where
   edges-are : edges_of g ≡ edges_by_path entries
@@ -80,7 +89,8 @@ module _ (entries : List ReadStatement) (g : GraphModel) (is : IsGraphOf g entri
   -- ---- targets
 
   -- the defaults of the graph are the defaults of the statements
-  defaults-are : defaults_in_force g.built.defaults (edges_of g) ≡ defaults_in_force (defaults_read entries) (edges_by_path entries)
+  defaults-are : defaults_in_force g.built.defaults (edges_of g)
+      ≡ defaults_in_force (defaults_read entries) (edges_by_path entries)
   defaults-are =
       ap (λ (ds : List (List ℕ)). defaults_in_force ds (edges_of g)) is.built.defaults
       ∙ ap (λ (es : List EdgePaths). defaults_in_force (defaults_read entries) es) edges-are
@@ -89,76 +99,106 @@ module _ (entries : List ReadStatement) (g : GraphModel) (is : IsGraphOf g entri
   abbrev targets_of_graph : (words : List (List ℕ)) → Result (List (List ℕ)) GraphFault
   targets_of_graph words = targets_or (defaults_in_force g.built.defaults (edges_of g)) (edges_of g) words
 
-  targets-are : (validations : Bool) (words : List (List ℕ)) (outcome : Result (List (List ℕ)) GraphFault) → targets_of_graph words ≡ outcome
+  targets-are : (validations : Bool) (words : List (List ℕ)) (outcome : Result (List (List ℕ)) GraphFault)
+      → targets_of_graph words ≡ outcome
       → targets_of entries validations words ≡ targets_from entries validations outcome
   targets-are validations words outcome named =
       ap (targets_from entries validations)
       (ap (λ (ds : List (List ℕ)). targets_or ds (edges_by_path entries) words) (sym defaults-are)
-      ∙ ap (λ (es : List EdgePaths). targets_or (defaults_in_force g.built.defaults (edges_of g)) es words) (sym edges-are) ∙ named)
+      ∙ ap (λ (es : List EdgePaths). targets_or (defaults_in_force g.built.defaults (edges_of g)) es words)
+      (sym edges-are) ∙ named)
 
   -- an argument that names no target
-  pub targets-refused : (validations : Bool) (words : List (List ℕ)) (f : GraphFault) → (f ≡ no_memory) ⊎ (targets_of_graph words ≡ Err f)
+  pub targets-refused : (validations : Bool) (words : List (List ℕ)) (f : GraphFault)
+      → (f ≡ no_memory) ⊎ (targets_of_graph words ≡ Err f)
       → (f ≡ no_memory) ⊎ (targets_of entries validations words ≡ Err f)
   targets-refused validations words f (inl none) = inl none
   targets-refused validations words f (inr named) = inr (targets-are validations words (Err f) named)
 
   -- all arguments name targets
-  pub targets-picked : (validations : Bool) (words paths : List (List ℕ)) (numbers : List FileNo) → targets_of_graph words ≡ Ok paths
+  pub targets-picked : (validations : Bool) (words paths : List (List ℕ)) (numbers : List FileNo)
+      → targets_of_graph words ≡ Ok paths
       → AreFiles (files_of g) numbers (with_validations validations (edges_by_path entries) paths)
-      → (targets : List (List ℕ)) × (targets_of entries validations words ≡ Ok targets) × AreFiles (files_of g) numbers targets
-  targets-picked validations words paths numbers named are =
-      (with_validations validations (edges_by_path entries) paths, targets-are validations words (Ok paths) named, are)
+      → (targets : List (List ℕ)) × (targets_of entries validations words ≡ Ok targets)
+      × AreFiles (files_of g) numbers targets
+  targets-picked validations words paths numbers named are = (
+    with_validations validations (edges_by_path entries) paths,
+    targets-are validations words (Ok paths) named,
+    are,
+  )
 
   -- validations come after them
-  pub grown-are : (targets : List (List ℕ)) (numbers grown : List FileNo) → AreFiles (files_of g) numbers targets
+  pub grown-are : (targets : List (List ℕ)) (numbers grown : List FileNo)
+      → AreFiles (files_of g) numbers targets
       → AreFiles (files_of g) grown (grown_targets (edges_of g) (map (path_at (files_of g)) numbers))
       → AreFiles (files_of g) grown (with_validations true (edges_by_path entries) targets)
   grown-are targets numbers grown are is_grown =
-      let paths : grown_targets (edges_of g) (map (path_at (files_of g)) numbers) ≡ grown_targets (edges_by_path entries) targets =
-      ap (grown_targets (edges_of g)) (paths-at (files_of g) numbers targets are) ∙ ap (λ (es : List EdgePaths). grown_targets es targets) edges-are in
+      let paths : grown_targets (edges_of g) (map (path_at (files_of g)) numbers)
+      ≡ grown_targets (edges_by_path entries) targets =
+      ap (grown_targets (edges_of g)) (paths-at (files_of g) numbers targets are)
+      ∙ ap (λ (es : List EdgePaths). grown_targets es targets) edges-are in
       subst (AreFiles (files_of g) grown) paths is_grown
 
   -- no target: the outcome is the fault
-  pub commands-refused : (words : List (List ℕ)) (validations : Bool) (take : Option ℕ) (start : List ℕ) (f : GraphFault) (s : SinkState)
-      → (f ≡ no_memory) ⊎ (targets_of entries validations words ≡ Err f) → ReturnsFor entries (commands words validations take start) s s (Err (fault.Graph f))
+  pub commands-refused : (words : List (List ℕ)) (validations : Bool) (take : Option ℕ) (start : List ℕ)
+      (f : GraphFault) (s : SinkState)
+      → (f ≡ no_memory) ⊎ (targets_of entries validations words ≡ Err f)
+      → ReturnsFor entries (commands words validations take start) s s (Err (fault.Graph f))
   commands-refused words validations take start f s (inl none) = inl (none, refl)
   commands-refused words validations take start f s (inr named) =
-      inr (subst (λ (ts : Result (List (List ℕ)) GraphFault). EndsOr (PageEnds entries validations take start) ts (faulty (fault_line f)) × Takes s s (for_targets (output_for entries (commands words validations take start)) ts))
+      inr (subst (λ (ts : Result (List (List ℕ)) GraphFault). EndsOr (PageEnds entries validations take start)
+      ts (faulty (fault_line f)) × Takes s s
+      (for_targets (output_for entries (commands words validations take start)) ts))
       (sym named) (refl, Takes-nil s))
 
-  for_targets-refused : (text : List (List ℕ) → List ℕ) (ts : Result (List (List ℕ)) GraphFault) (f : GraphFault) (s : SinkState) → ts ≡ Err f
+  for_targets-refused : (text : List (List ℕ) → List ℕ) (ts : Result (List (List ℕ)) GraphFault)
+      (f : GraphFault) (s : SinkState) → ts ≡ Err f
       → EndsOr Finishes ts (faulty (fault_line f)) × Takes s s (for_targets text ts)
   for_targets-refused text ts f s is =
-      subst (λ (t : Result (List (List ℕ)) GraphFault). EndsOr Finishes t (faulty (fault_line f)) × Takes s s (for_targets text t)) (sym is) (refl, Takes-nil s)
+      subst (λ (t : Result (List (List ℕ)) GraphFault). EndsOr Finishes t (faulty (fault_line f))
+      × Takes s s (for_targets text t)) (sym is) (refl, Takes-nil s)
 
   pub singles-refused : (words : List (List ℕ)) (f : GraphFault) (s : SinkState)
-      → (f ≡ no_memory) ⊎ (targets_of entries false words ≡ Err f) → ReturnsFor entries (single_commands words) s s (Err (fault.Graph f))
+      → (f ≡ no_memory) ⊎ (targets_of entries false words ≡ Err f)
+      → ReturnsFor entries (single_commands words) s s (Err (fault.Graph f))
   singles-refused words f s (inl none) = inl (none, refl)
-  singles-refused words f s (inr named) = inr (for_targets-refused (output_for entries (single_commands words)) (targets_of entries false words) f s named)
+  singles-refused words f s (inr named) =
+      inr (for_targets-refused (output_for entries (single_commands words)) (targets_of entries false words) f
+      s named)
 
-  pub inputs-refused : (words : List (List ℕ)) (validations : Bool) (style : InputsStyle) (f : GraphFault) (s : SinkState)
-      → (f ≡ no_memory) ⊎ (targets_of entries validations words ≡ Err f) → ReturnsFor entries (ask.inputs words validations style) s s (Err (fault.Graph f))
+  pub inputs-refused : (words : List (List ℕ)) (validations : Bool) (style : InputsStyle) (f : GraphFault)
+      (s : SinkState)
+      → (f ≡ no_memory) ⊎ (targets_of entries validations words ≡ Err f)
+      → ReturnsFor entries (ask.inputs words validations style) s s (Err (fault.Graph f))
   inputs-refused words validations style f s (inl none) = inl (none, refl)
-  inputs-refused words validations style f s (inr named) = inr (for_targets-refused (output_for entries (ask.inputs words validations style)) (targets_of entries validations words) f s named)
+  inputs-refused words validations style f s (inr named) =
+      inr (for_targets-refused (output_for entries (ask.inputs words validations style))
+      (targets_of entries validations words) f s named)
 
-  files-are : (words : List (List ℕ)) (outcome : Result (List (List ℕ)) GraphFault) → targets_named (edges_of g) words ≡ outcome
+  files-are : (words : List (List ℕ)) (outcome : Result (List (List ℕ)) GraphFault)
+      → targets_named (edges_of g) words ≡ outcome
       → targets_named (edges_by_path entries) words ≡ outcome
   files-are words outcome named = ap (λ (es : List EdgePaths). targets_named es words) (sym edges-are) ∙ named
 
   pub query-refused : (words : List (List ℕ)) (f : GraphFault) (s : SinkState)
-      → (f ≡ no_memory) ⊎ (targets_named (edges_of g) words ≡ Err f) → ReturnsFor entries (ask.query words) s s (Err (fault.Graph f))
+      → (f ≡ no_memory) ⊎ (targets_named (edges_of g) words ≡ Err f)
+      → ReturnsFor entries (ask.query words) s s (Err (fault.Graph f))
   query-refused words f s (inl none) = inl (none, refl)
-  query-refused words f s (inr named) = inr (for_targets-refused (output_for entries (ask.query words)) (targets_named (edges_by_path entries) words) f s (files-are words (Err f) named))
+  query-refused words f s (inr named) = inr
+      (for_targets-refused (output_for entries (ask.query words))
+      (targets_named (edges_by_path entries) words) f s (files-are words (Err f) named))
 
   -- ---- tools without targets
 
   -- a tool and its sink
-  finishes : (action : ActionModel) (old new : SinkState) → EndsWith entries action finished → Takes old new (output_of entries action)
+  finishes : (action : ActionModel) (old new : SinkState) → EndsWith entries action finished
+      → Takes old new (output_of entries action)
       → ReturnsFor entries action old new (Ok None)
   finishes action old new ends took = (ends, took)
 
   -- a tool that does not finish
-  pub stops : (action : ActionModel) (old new : SinkState) (f : ToolFault) → StopsWithin old new (output_of entries action) f
+  pub stops : (action : ActionModel) (old new : SinkState) (f : ToolFault)
+      → StopsWithin old new (output_of entries action) f
       → ReturnsFor entries action old new (Err (fault_of_tool f))
   stops action old new tool.Write stopped_so = stopped_so
   stops action old new tool.OutOfMemory stopped_so = stopped_so
@@ -166,30 +206,41 @@ module _ (entries : List ReadStatement) (g : GraphModel) (is : IsGraphOf g entri
 
   -- ---- queried files
 
-  module _ (words paths : List (List ℕ)) (named : targets_named (edges_of g) words ≡ Ok paths) (numbers : List FileNo) (are : AreFiles (files_of g) numbers paths) where
+  module _ (words paths : List (List ℕ)) (named : targets_named (edges_of g) words ≡ Ok paths)
+      (numbers : List FileNo) (are : AreFiles (files_of g) numbers paths) where
     query-text : query_text entries (map (path_at (files_of g)) numbers) ≡ output_of entries (ask.query words)
     query-text =
         ap (query_text entries) (paths-at (files_of g) numbers paths are)
         ∙ ap (for_targets (output_for entries (ask.query words))) (sym (files-are words (Ok paths) named))
 
-    pub query-answered : (old new : SinkState) → Takes old new (query_text entries (map (path_at (files_of g)) numbers))
+    pub query-answered : (old new : SinkState)
+        → Takes old new (query_text entries (map (path_at (files_of g)) numbers))
         → ReturnsFor entries (ask.query words) old new (Ok None)
     query-answered old new took = (
-      subst (λ (ts : Result (List (List ℕ)) GraphFault). EndsOr Finishes ts finished) (sym (files-are words (Ok paths) named)) refl,
+      subst (λ (ts : Result (List (List ℕ)) GraphFault). EndsOr Finishes ts finished)
+          (sym (files-are words (Ok paths) named)) refl,
       subst (Takes old new) query-text took,
     )
 
-    pub query-failed : (old new : SinkState) (f : ToolFault) → StopsWithin old new (query_text entries (map (path_at (files_of g)) numbers)) f
+    pub query-failed : (old new : SinkState) (f : ToolFault)
+        → StopsWithin old new (query_text entries (map (path_at (files_of g)) numbers)) f
         → ReturnsFor entries (ask.query words) old new (Err (fault_of_tool f))
-    query-failed old new f stopped_so = stops (ask.query words) old new f (subst (λ t. StopsWithin old new t f) query-text stopped_so)
+    query-failed old new f stopped_so = stops (ask.query words) old new f
+        (subst (λ t. StopsWithin old new t f) query-text stopped_so)
 
   -- ---- a string that JSON cannot contain
 
-  pub compdb-unheld : (names : List (List ℕ)) (directory : List ℕ) (expand : Bool) (edge : ℕ) (f : GraphFault) (old new : SinkState)
+  pub compdb-unheld : (names : List (List ℕ)) (directory : List ℕ) (expand : Bool) (edge : ℕ) (f : GraphFault)
+      (old new : SinkState)
       → unheld_edge entries names expand ≡ Some edge → f ≡ text_fault (slice_get (edges_read entries) edge)
-      → Takes old new (compdb_text entries directory names expand) → ReturnsFor entries (ask.compdb names directory expand) old new (Err (fault.Graph f))
+      → Takes old new (compdb_text entries directory names expand)
+      → ReturnsFor entries (ask.compdb names directory expand) old new (Err (fault.Graph f))
   compdb-unheld names directory expand edge f old new unheld is took =
-      inr (subst (λ (u : Option ℕ). faulty (fault_line f) ≡ compdb_ending entries u) (sym unheld) (ap (λ (h : GraphFault). faulty (fault_line h)) is), took)
+      inr (
+        subst (λ (u : Option ℕ). faulty (fault_line f) ≡ compdb_ending entries u) (sym unheld)
+            (ap (λ (h : GraphFault). faulty (fault_line h)) is),
+        took,
+      )
 
   pub compdb-answered : (names : List (List ℕ)) (directory : List ℕ) (expand : Bool) (old new : SinkState)
       → unheld_edge entries names expand ≡ None → Takes old new (compdb_text entries directory names expand)
@@ -197,132 +248,179 @@ module _ (entries : List ReadStatement) (g : GraphModel) (is : IsGraphOf g entri
   compdb-answered names directory expand old new unheld took =
       (subst (λ (u : Option ℕ). finished ≡ compdb_ending entries u) (sym unheld) refl, took)
 
-  module _ (targets : List (List ℕ)) (numbers : List FileNo) (are : AreFiles (files_of g) numbers targets) where
-    row-is : row_of g.built.graph numbers ≡ row_of_paths (edges_by_path entries) targets
-    row-is = row-paths g.built.graph numbers targets are ∙ ap (λ (es : List EdgePaths). row_of_paths es targets) edges-are
+  module _ (targets : List (List ℕ)) (numbers : List FileNo) (are : AreFiles (files_of g) numbers targets)
+    where
+      row-is : row_of g.built.graph numbers ≡ row_of_paths (edges_by_path entries) targets
+      row-is = row-paths g.built.graph numbers targets are
+          ∙ ap (λ (es : List EdgePaths). row_of_paths es targets) edges-are
 
-    -- ---- the targets' own makers
+      -- ---- the targets' own makers
 
-    own-are : own_commands g.built.graph numbers ≡ own_commands_in (edges_by_path entries) targets
-    own-are =
-        ap (λ (row : List (Option ℕ)). filter (λ e. not (is_phony_in (edges_of g) e)) (each_once nat_eq (flat_map (made_by single) row))) row-is
-        ∙ ap (λ (es : List EdgePaths). filter (λ e. not (is_phony_in es e)) (each_once nat_eq (flat_map (made_by single) (row_of_paths (edges_by_path entries) targets)))) edges-are
+      own-are : own_commands g.built.graph numbers ≡ own_commands_in (edges_by_path entries) targets
+      own-are =
+          ap (λ (row : List (Option ℕ)). filter (λ e. not (is_phony_in (edges_of g) e))
+          (each_once nat_eq (flat_map (made_by single) row))) row-is
+          ∙ ap (λ (es : List EdgePaths). filter (λ e. not (is_phony_in es e))
+          (each_once nat_eq (flat_map (made_by single) (row_of_paths (edges_by_path entries) targets))))
+          edges-are
 
-    module _ (words : List (List ℕ)) (named : targets_of entries false words ≡ Ok targets) where
-      singles-text : command_lines entries (own_commands g.built.graph numbers) ≡ output_of entries (single_commands words)
-      singles-text = ap (command_lines entries) own-are ∙ ap (for_targets (output_for entries (single_commands words))) (sym named)
+      module _ (words : List (List ℕ)) (named : targets_of entries false words ≡ Ok targets) where
+        singles-text : command_lines entries (own_commands g.built.graph numbers)
+            ≡ output_of entries (single_commands words)
+        singles-text = ap (command_lines entries) own-are
+            ∙ ap (for_targets (output_for entries (single_commands words))) (sym named)
 
-      pub singles-answered : (old new : SinkState) → Takes old new (command_lines entries (own_commands g.built.graph numbers))
-          → ReturnsFor entries (single_commands words) old new (Ok None)
-      singles-answered old new took =
-          (subst (λ (ts : Result (List (List ℕ)) GraphFault). EndsOr Finishes ts finished) (sym named) refl, subst (Takes old new) singles-text took)
+        pub singles-answered : (old new : SinkState)
+            → Takes old new (command_lines entries (own_commands g.built.graph numbers))
+            → ReturnsFor entries (single_commands words) old new (Ok None)
+        singles-answered old new took = (
+          subst (λ (ts : Result (List (List ℕ)) GraphFault). EndsOr Finishes ts finished) (sym named) refl,
+          subst (Takes old new) singles-text took,
+        )
 
-      pub singles-failed : (old new : SinkState) (f : ToolFault) → StopsWithin old new (command_lines entries (own_commands g.built.graph numbers)) f
-          → ReturnsFor entries (single_commands words) old new (Err (fault_of_tool f))
-      singles-failed old new f stopped_so = stops (single_commands words) old new f (subst (λ t. StopsWithin old new t f) singles-text stopped_so)
+        pub singles-failed : (old new : SinkState) (f : ToolFault)
+            → StopsWithin old new (command_lines entries (own_commands g.built.graph numbers)) f
+            → ReturnsFor entries (single_commands words) old new (Err (fault_of_tool f))
+        singles-failed old new f stopped_so =
+            stops (single_commands words) old new f
+            (subst (λ t. StopsWithin old new t f) singles-text stopped_so)
 
-    module _ (words : List (List ℕ)) (validations : Bool) (named : targets_of entries validations words ≡ Ok targets) where
-      -- ---- the inputs that they need
+      module _ (words : List (List ℕ)) (validations : Bool)
+          (named : targets_of entries validations words ≡ Ok targets) where
+        -- ---- the inputs that they need
 
-      module _ (style : InputsStyle) where
-        inputs-are : inputs_text style (edges_of g) (map (path_at (files_of g)) numbers) ≡ output_of entries (ask.inputs words validations style)
-        inputs-are =
-            ap (inputs_text style (edges_of g)) (paths-at (files_of g) numbers targets are)
-            ∙ ap (λ (es : List EdgePaths). inputs_text style es targets) edges-are
-            ∙ ap (for_targets (output_for entries (ask.inputs words validations style))) (sym named)
+        module _ (style : InputsStyle) where
+          inputs-are : inputs_text style (edges_of g) (map (path_at (files_of g)) numbers)
+              ≡ output_of entries (ask.inputs words validations style)
+          inputs-are =
+              ap (inputs_text style (edges_of g)) (paths-at (files_of g) numbers targets are)
+              ∙ ap (λ (es : List EdgePaths). inputs_text style es targets) edges-are
+              ∙ ap (for_targets (output_for entries (ask.inputs words validations style))) (sym named)
 
-        pub inputs-answered : (old new : SinkState) → Takes old new (inputs_text style (edges_of g) (map (path_at (files_of g)) numbers))
-            → ReturnsFor entries (ask.inputs words validations style) old new (Ok None)
-        inputs-answered old new took =
-            (subst (λ (ts : Result (List (List ℕ)) GraphFault). EndsOr Finishes ts finished) (sym named) refl, subst (Takes old new) inputs-are took)
+          pub inputs-answered : (old new : SinkState)
+              → Takes old new (inputs_text style (edges_of g) (map (path_at (files_of g)) numbers))
+              → ReturnsFor entries (ask.inputs words validations style) old new (Ok None)
+          inputs-answered old new took = (
+            subst (λ (ts : Result (List (List ℕ)) GraphFault). EndsOr Finishes ts finished) (sym named) refl,
+            subst (Takes old new) inputs-are took,
+          )
 
-        pub inputs-failed : (old new : SinkState) (f : ToolFault) → StopsWithin old new (inputs_text style (edges_of g) (map (path_at (files_of g)) numbers)) f
-            → ReturnsFor entries (ask.inputs words validations style) old new (Err (fault_of_tool f))
-        inputs-failed old new f stopped_so =
-            stops (ask.inputs words validations style) old new f (subst (λ t. StopsWithin old new t f) inputs-are stopped_so)
+          pub inputs-failed : (old new : SinkState) (f : ToolFault)
+              → StopsWithin old new (inputs_text style (edges_of g) (map (path_at (files_of g)) numbers)) f
+              → ReturnsFor entries (ask.inputs words validations style) old new (Err (fault_of_tool f))
+          inputs-failed old new f stopped_so =
+              stops (ask.inputs words validations style) old new f
+              (subst (λ t. StopsWithin old new t f) inputs-are stopped_so)
 
-      -- ---- the needed commands, from a mark
+        -- ---- the needed commands, from a mark
 
-      module _ (take : Option ℕ) (start : List ℕ) where
-        leads-is : is_valid (makers_of g.built.graph) (row_of g.built.graph numbers) start ≡ leads entries targets start
-        leads-is =
-            ap (λ (row : List (Option ℕ)). is_valid (makers_of_inputs (edges_of g)) row start) row-is
-            ∙ ap (λ (es : List EdgePaths). is_valid (makers_of_inputs es) (row_of_paths (edges_by_path entries) targets) start) edges-are
+        module _ (take : Option ℕ) (start : List ℕ) where
+          leads-is : is_valid (makers_of g.built.graph) (row_of g.built.graph numbers) start
+              ≡ leads entries targets start
+          leads-is =
+              ap (λ (row : List (Option ℕ)). is_valid (makers_of_inputs (edges_of g)) row start) row-is
+              ∙ ap (λ (es : List EdgePaths). is_valid (makers_of_inputs es)
+              (row_of_paths (edges_by_path entries) targets) start) edges-are
 
-        left-is : rest_of g.built.graph numbers start ≡ commands_left entries targets start
-        left-is =
-            ap (λ (row : List (Option ℕ)). rest (makers_of_inputs (edges_of g)) (length (edges_of g)) (is_phony_in (edges_of g)) row start) row-is
-            ∙ ap (λ (es : List EdgePaths). rest (makers_of_inputs es) (length es) (is_phony_in es) (row_of_paths (edges_by_path entries) targets) start) edges-are
+          left-is : rest_of g.built.graph numbers start ≡ commands_left entries targets start
+          left-is =
+              ap (λ (row : List (Option ℕ)). rest (makers_of_inputs (edges_of g)) (length (edges_of g))
+              (is_phony_in (edges_of g)) row start) row-is
+              ∙ ap (λ (es : List EdgePaths). rest (makers_of_inputs es) (length es) (is_phony_in es)
+              (row_of_paths (edges_by_path entries) targets) start) edges-are
 
-        mark-is : (edges mark : List ℕ) → IsMarkAfter (makers_of g.built.graph) (count_of g.built.graph) (row_of g.built.graph numbers) start edges mark → IsMarkOf entries targets start edges mark
-        mark-is edges mark after =
-            subst (λ (es : List EdgePaths). IsMarkAfter (makers_of_inputs es) (length es) (row_of_paths (edges_by_path entries) targets) start edges mark) edges-are
-            (subst (λ (row : List (Option ℕ)). IsMarkAfter (makers_of_inputs (edges_of g)) (length (edges_of g)) row start edges mark) row-is after)
+          mark-is : (edges mark : List ℕ) → IsMarkAfter (makers_of g.built.graph) (count_of g.built.graph)
+              (row_of g.built.graph numbers) start edges mark → IsMarkOf entries targets start edges mark
+          mark-is edges mark after =
+              subst (λ (es : List EdgePaths). IsMarkAfter (makers_of_inputs es) (length es)
+              (row_of_paths (edges_by_path entries) targets) start edges mark) edges-are
+              (subst (λ (row : List (Option ℕ)). IsMarkAfter (makers_of_inputs (edges_of g))
+              (length (edges_of g)) row start edges mark) row-is after)
 
-        ends-so : (ending : Ending) → PageEnds entries validations take start targets ending → EndsWith entries (commands words validations take start) ending
-        ends-so ending ends = subst (λ (ts : Result (List (List ℕ)) GraphFault). EndsOr (PageEnds entries validations take start) ts ending) (sym named) ends
+          ends-so : (ending : Ending) → PageEnds entries validations take start targets ending
+              → EndsWith entries (commands words validations take start) ending
+          ends-so ending ends = subst (λ (ts : Result (List (List ℕ)) GraphFault). EndsOr
+              (PageEnds entries validations take start) ts ending) (sym named) ends
 
-        -- the mark leads to no edge
-        commands-out_of_range : (s : SinkState) → is_valid (makers_of g.built.graph) (row_of g.built.graph numbers) start ≡ false
-            → ReturnsFor entries (commands words validations take start) s s (Err fault.MarkOutOfRange)
-        commands-out_of_range s invalid =
-            let misled : leads entries targets start ≡ false = sym leads-is ∙ invalid in (
-              ends-so (faulty out_of_range) (misled, refl),
-              subst (Takes s s)
-                  (ap (λ (b : Bool). if b then command_lines entries (written take (commands_left entries targets start)) else []) (sym misled) ∙ ap (for_targets (output_for entries (commands words validations take start))) (sym named))
-                  (Takes-nil s),
+          -- the mark leads to no edge
+          commands-out_of_range : (s : SinkState)
+              → is_valid (makers_of g.built.graph) (row_of g.built.graph numbers) start ≡ false
+              → ReturnsFor entries (commands words validations take start) s s (Err fault.MarkOutOfRange)
+          commands-out_of_range s invalid =
+              let misled : leads entries targets start ≡ false = sym leads-is ∙ invalid in (
+                ends-so (faulty out_of_range) (misled, refl),
+                subst (Takes s s)
+                    (ap (λ (b : Bool). if b then command_lines entries
+                    (written take (commands_left entries targets start)) else []) (sym misled)
+                    ∙ ap (for_targets (output_for entries (commands words validations take start)))
+                    (sym named))
+                    (Takes-nil s),
+              )
+
+          pub commands-not_resumed : (s : SinkState) (f : MarkFault)
+              → ResumeIs g.built.graph numbers start (Err f)
+              → ReturnsFor entries (commands words validations take start) s s (Err (fault_of_mark f))
+          commands-not_resumed s mark.BadMark never = absurd never
+          commands-not_resumed s mark.MarkOutOfRange invalid = commands-out_of_range s invalid
+          commands-not_resumed s mark.OutOfMemory valid =
+              TakesFront-none s (output_of entries (commands words validations take start))
+
+          module _ (valid : is_valid (makers_of g.built.graph) (row_of g.built.graph numbers) start ≡ true)
+              (w : WalkState) (begins : BeginsAt g.built.graph numbers start w) where
+            walk-left : w.left ≡ commands_left entries targets start
+            walk-left =
+                begins.sound.left
+                ∙ ap (λ (h : EdgeGraph). rest_of h w.targets w.mark) begins.graph
+                ∙ ap (λ (ns : List FileNo). rest_of g.built.graph ns w.mark) begins.targets
+                ∙ ap (λ (m : List ℕ). rest_of g.built.graph numbers m) begins.mark
+                ∙ left-is
+
+            text-is : command_lines entries (written take w.left)
+                ≡ output_of entries (commands words validations take start)
+            text-is =
+                ap (λ (es : List ℕ). command_lines entries (written take es)) walk-left
+                ∙ ap (λ (b : Bool). if b then command_lines entries
+                (written take (commands_left entries targets start)) else []) (sym valid ∙ leads-is)
+                ∙ ap (for_targets (output_for entries (commands words validations take start))) (sym named)
+
+            leads-so : leads entries targets start ≡ true
+            leads-so = sym leads-is ∙ valid
+
+            walk-mark : (edges mark : List ℕ) → IsMarkAfter (makers_of w.graph) (count_of w.graph)
+                (row_of w.graph w.targets) w.mark edges mark → IsMarkOf entries targets start edges mark
+            walk-mark edges mark after =
+                mark-is edges mark
+                (subst (λ (m : List ℕ). IsMarkAfter (makers_of g.built.graph) (count_of g.built.graph)
+                (row_of g.built.graph numbers) m edges mark) begins.mark
+                (subst (λ (ns : List FileNo). IsMarkAfter (makers_of g.built.graph) (count_of g.built.graph)
+                (row_of g.built.graph ns) w.mark edges mark) begins.targets
+                (subst (λ (h : EdgeGraph). IsMarkAfter (makers_of h) (count_of h) (row_of h w.targets) w.mark
+                edges mark) begins.graph after)))
+
+            -- the rest was written, or so much as may be
+            pub commands-answered : (old new : SinkState) (mark : Option (List ℕ))
+                → Takes old new (command_lines entries (written take w.left)) → StopsAt w take mark
+                → ReturnsFor entries (commands words validations take start) old new (Ok mark)
+            commands-answered old new None took stops = (
+              ends-so finished (leads-so, subst (λ (es : List ℕ). left_after take es ≡ []) walk-left stops),
+              subst (Takes old new) text-is took,
+            )
+            commands-answered old new (Some mark) took stops = (
+              ends-so (stopped (run_mark_text validations mark)) (
+                leads-so,
+                subst (λ (es : List ℕ). left_after take es ≢ []) walk-left stops.0,
+                mark,
+                subst (λ (es : List ℕ). IsMarkOf entries targets start (written take es) mark) walk-left
+                    (walk-mark (written take w.left) mark stops.1),
+                stops.2,
+                refl,
+              ),
+              subst (Takes old new) text-is took,
             )
 
-        pub commands-not_resumed : (s : SinkState) (f : MarkFault) → ResumeIs g.built.graph numbers start (Err f)
-            → ReturnsFor entries (commands words validations take start) s s (Err (fault_of_mark f))
-        commands-not_resumed s mark.BadMark never = absurd never
-        commands-not_resumed s mark.MarkOutOfRange invalid = commands-out_of_range s invalid
-        commands-not_resumed s mark.OutOfMemory valid = TakesFront-none s (output_of entries (commands words validations take start))
-
-        module _ (valid : is_valid (makers_of g.built.graph) (row_of g.built.graph numbers) start ≡ true) (w : WalkState) (begins : BeginsAt g.built.graph numbers start w) where
-          walk-left : w.left ≡ commands_left entries targets start
-          walk-left =
-              begins.sound.left
-              ∙ ap (λ (h : EdgeGraph). rest_of h w.targets w.mark) begins.graph
-              ∙ ap (λ (ns : List FileNo). rest_of g.built.graph ns w.mark) begins.targets
-              ∙ ap (λ (m : List ℕ). rest_of g.built.graph numbers m) begins.mark
-              ∙ left-is
-
-          text-is : command_lines entries (written take w.left) ≡ output_of entries (commands words validations take start)
-          text-is =
-              ap (λ (es : List ℕ). command_lines entries (written take es)) walk-left
-              ∙ ap (λ (b : Bool). if b then command_lines entries (written take (commands_left entries targets start)) else []) (sym valid ∙ leads-is)
-              ∙ ap (for_targets (output_for entries (commands words validations take start))) (sym named)
-
-          leads-so : leads entries targets start ≡ true
-          leads-so = sym leads-is ∙ valid
-
-          walk-mark : (edges mark : List ℕ) → IsMarkAfter (makers_of w.graph) (count_of w.graph) (row_of w.graph w.targets) w.mark edges mark → IsMarkOf entries targets start edges mark
-          walk-mark edges mark after =
-              mark-is edges mark
-              (subst (λ (m : List ℕ). IsMarkAfter (makers_of g.built.graph) (count_of g.built.graph) (row_of g.built.graph numbers) m edges mark) begins.mark
-              (subst (λ (ns : List FileNo). IsMarkAfter (makers_of g.built.graph) (count_of g.built.graph) (row_of g.built.graph ns) w.mark edges mark) begins.targets
-              (subst (λ (h : EdgeGraph). IsMarkAfter (makers_of h) (count_of h) (row_of h w.targets) w.mark edges mark) begins.graph after)))
-
-          -- the rest was written, or so much as may be
-          pub commands-answered : (old new : SinkState) (mark : Option (List ℕ)) → Takes old new (command_lines entries (written take w.left)) → StopsAt w take mark
-              → ReturnsFor entries (commands words validations take start) old new (Ok mark)
-          commands-answered old new None took stops = (
-            ends-so finished (leads-so, subst (λ (es : List ℕ). left_after take es ≡ []) walk-left stops),
-            subst (Takes old new) text-is took,
-          )
-          commands-answered old new (Some mark) took stops = (
-            ends-so (stopped (run_mark_text validations mark)) (
-              leads-so,
-              subst (λ (es : List ℕ). left_after take es ≢ []) walk-left stops.0,
-              mark,
-              subst (λ (es : List ℕ). IsMarkOf entries targets start (written take es) mark) walk-left (walk-mark (written take w.left) mark stops.1),
-              stops.2,
-              refl,
-            ),
-            subst (Takes old new) text-is took,
-          )
-
-          pub commands-failed : (old new : SinkState) (f : ToolFault) → StopsWithin old new (command_lines entries (written take w.left)) f
-              → ReturnsFor entries (commands words validations take start) old new (Err (fault_of_tool f))
-          commands-failed old new f stopped_so = stops (commands words validations take start) old new f (subst (λ t. StopsWithin old new t f) text-is stopped_so)
+            pub commands-failed : (old new : SinkState) (f : ToolFault)
+                → StopsWithin old new (command_lines entries (written take w.left)) f
+                → ReturnsFor entries (commands words validations take start) old new (Err (fault_of_tool f))
+            commands-failed old new f stopped_so =
+                stops (commands words validations take start) old new f
+                (subst (λ t. StopsWithin old new t f) text-is stopped_so)

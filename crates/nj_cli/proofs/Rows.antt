@@ -1,5 +1,6 @@
 -- Worked rows, computed on the definitions: the outcomes of runs over one small file.
-use Rattle.std.proofs.Common.{◌≡◌, inl, inr, ℕ, Bool, true, false, true≢false, Some, None, List, [], ◌∷◌, refl, ap}
+use Rattle.std.proofs.Common.{◌≡◌, inl, inr, ℕ, Bool, true, false, true≢false, Some, None, List, [], ◌∷◌}
+use Rattle.std.proofs.Common.{refl, ap}
 use Rattle.std.specs.Fmt.{digits}
 use Rattle.std.specs.Prelude.{⊤, ◌≢◌, codes}
 use Rattle.nj_text.specs.Words.{WordModel, Text, Name}
@@ -26,7 +27,16 @@ abbrev text : List ℕ
 text = codes "rule mk\n  command = mk $out\nbuild a: mk\nbuild b1: mk a\nbuild b2: mk a\nbuild d: mk b1 b2\n"
 
 abbrev entry : (line : ℕ) → StatementModel → ReadStatement
-entry line item = record { file = main_file; spot = at line 1; depth = 0; scope = 0; around = []; item = item; was_joined = false; discovered = None }
+entry line item = record {
+  file = main_file;
+  spot = at line 1;
+  depth = 0;
+  scope = 0;
+  around = [];
+  item = item;
+  was_joined = false;
+  discovered = None;
+}
 
 abbrev word : (line column : ℕ) → List ℕ → WordModel
 word line column bytes = record { spot = at line column; parts = Text bytes ∷ [] }
@@ -200,7 +210,8 @@ from_0_2 : outputs (commands d false None (0 ∷ 2 ∷ [])) []
 unfolding on_entries
 from_0_2 = refl
 
-from_0_2_ends : ends_so (commands d false None (0 ∷ 2 ∷ [])) (faulty (codes "ninja-explain: mark out of range"))
+from_0_2_ends : ends_so (commands d false None (0 ∷ 2 ∷ []))
+    (faulty (codes "ninja-explain: mark out of range"))
 unfolding on_entries
 from_0_2_ends = (refl, refl)
 
@@ -210,7 +221,8 @@ unknown : outputs (commands (codes "x" ∷ []) false None []) []
 unfolding on_entries
 unknown = refl
 
-unknown_ends : ends_so (commands (codes "x" ∷ []) false None []) (faulty (codes "ninja-explain: unknown target 'x'"))
+unknown_ends : ends_so (commands (codes "x" ∷ []) false None [])
+    (faulty (codes "ninja-explain: unknown target 'x'"))
 unfolding on_entries
 unknown_ends = refl
 
@@ -246,13 +258,15 @@ rest_from_text : IsRun d false None (Some (codes "0.0")) (commands d false None 
 unfolding digits given_mark
 rest_from_text = (0 ∷ 0 ∷ [], refl, refl)
 
-two_and_five : ArePageStrings entries d false None (2 ∷ 5 ∷ []) (codes "mk a\nmk b1\n" ∷ codes "mk b2\nmk d\n" ∷ []) []
+two_and_five : ArePageStrings entries d false None (2 ∷ 5 ∷ [])
+    (codes "mk a\nmk b1\n" ∷ codes "mk b2\nmk d\n" ∷ []) []
 two_and_five =
     stops (commands d false (Some 2) []) (codes "0.0") from_start two_stops two
     (finishes (commands d false (Some 5) (0 ∷ 0 ∷ [])) five_from_text five_from_0_0_ends five_from_0_0)
 
 -- and one run of two edges, before all that is left
-two_and_rest : ArePageStrings entries d false None (2 ∷ []) (codes "mk a\nmk b1\n" ∷ []) (codes "mk b2\nmk d\n")
+two_and_rest : ArePageStrings entries d false None (2 ∷ []) (codes "mk a\nmk b1\n" ∷ [])
+    (codes "mk b2\nmk d\n")
 two_and_rest =
     stops (commands d false (Some 2) []) (codes "0.0") from_start two_stops two
     (no_runs (commands d false None (0 ∷ 0 ∷ [])) rest_from_text from_0_0)
@@ -266,13 +280,16 @@ module _ (old new : SinkState) where
   mark_reported : Takes old new (codes "mark 0.0\n") → Reports (stopped (codes "0.0")) old new Stopped
   mark_reported took = inl (took, refl)
 
-  mark_unreported : FailsWithin old new (codes "mark 0.0\n") → Reports (stopped (codes "0.0")) old new OutputFailed
+  mark_unreported : FailsWithin old new (codes "mark 0.0\n")
+      → Reports (stopped (codes "0.0")) old new OutputFailed
   mark_unreported failed = inr (failed, refl)
 
-  fault_reported : Takes old new (codes "ninja-explain: unknown target 'x'\n") → Reports (faulty (codes "ninja-explain: unknown target 'x'")) old new Fault
+  fault_reported : Takes old new (codes "ninja-explain: unknown target 'x'\n")
+      → Reports (faulty (codes "ninja-explain: unknown target 'x'")) old new Fault
   fault_reported took = (inl took, refl)
 
-  fault_unreported : FailsWithin old new (codes "ninja-explain: unknown target 'x'\n") → Reports (faulty (codes "ninja-explain: unknown target 'x'")) old new Fault
+  fault_unreported : FailsWithin old new (codes "ninja-explain: unknown target 'x'\n")
+      → Reports (faulty (codes "ninja-explain: unknown target 'x'")) old new Fault
   fault_unreported failed = (inr failed, refl)
 
 -- ---- validations
@@ -312,6 +329,7 @@ from_1_0 : output_of checked (commands t true None (1 ∷ 0 ∷ [])) ≡ codes "
 unfolding on_entries
 from_1_0 = refl
 
-from_2_ends : EndsWith checked (commands t true None (2 ∷ [])) (faulty (codes "ninja-explain: mark out of range"))
+from_2_ends : EndsWith checked (commands t true None (2 ∷ []))
+    (faulty (codes "ninja-explain: mark out of range"))
 unfolding on_entries
 from_2_ends = (refl, refl)

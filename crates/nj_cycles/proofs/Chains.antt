@@ -10,7 +10,8 @@ chain_append step e g f (more {g = h} s c) d = more s (chain_append step h g f c
 pub chain_push : (step : ℕ → ℕ → Type 0) (e g f : ℕ) → Chain step e g → step g f → Chain step e f
 chain_push step e g f c s = chain_append step e g f c (one s)
 
-pub chain_map : (step other : ℕ → ℕ → Type 0) → ((e f : ℕ) → step e f → other e f) → (e f : ℕ) → Chain step e f → Chain other e f
+pub chain_map : (step other : ℕ → ℕ → Type 0) → ((e f : ℕ) → step e f → other e f) → (e f : ℕ)
+    → Chain step e f → Chain other e f
 chain_map step other h e f (one s) = one (h e f s)
 chain_map step other h e f (more {g = g} s c) = more (h e g s) (chain_map step other h g f c)
 

@@ -1,14 +1,17 @@
 -- Lists by index.
-use Rattle.std.proofs.Common.{◌≡◌, ◌≢◌, ℕ, ◌<◌, ◌≤◌, Option, Some, List, [], ◌∷◌, ◌++◌, length, get_or, set, take, sym, ap, ◌∙◌, ◌⊎◌, inl, inr, arith}
+use Rattle.std.proofs.Common.{◌≡◌, ◌≢◌, ℕ, ◌<◌, ◌≤◌, Option, Some, List, [], ◌∷◌, ◌++◌, length, get_or, set}
+use Rattle.std.proofs.Common.{take, sym, ap, ◌∙◌, ◌⊎◌, inl, inr, arith}
 use Rattle.std.specs.Prelude.{Contains, slice_get, slice_index}
 use Rattle.std.proofs.lemmas.Bool.{cases_lt, cases_eq}
-use Rattle.std.proofs.lemmas.List.{get_or_append_left, get_or_push, get_or_default, length_push, length-take-le, get_or-take, get_or-set_same, get_or-set_other}
+use Rattle.std.proofs.lemmas.List.{get_or_append_left, get_or_push, get_or_default, length_push}
+use Rattle.std.proofs.lemmas.List.{length-take-le, get_or-take, get_or-set_same, get_or-set_other}
 use Rattle.std.proofs.lemmas.Option.{slice_get_within, slice_get-get_or, get_or_from_slice_get}
 use Rattle.nj_cycles.specs.Cycles.{Needs}
 
 -- an element of a list with one more at its end
 pub at_push : (xs : List ℕ) (y i : ℕ) → i < length (xs ++ y ∷ [])
-    → ((i < length xs) × (slice_index (xs ++ y ∷ []) i ≡ slice_index xs i)) ⊎ ((length xs ≡ i) × (slice_index (xs ++ y ∷ []) i ≡ y))
+    → ((i < length xs) × (slice_index (xs ++ y ∷ []) i ≡ slice_index xs i))
+    ⊎ ((length xs ≡ i) × (slice_index (xs ++ y ∷ []) i ≡ y))
 at_push xs y i lt = elim (cases_lt i (length xs)) [
   | inl h ↦ inl (h, get_or_append_left xs (y ∷ []) 0 i h)
   | inr h ↦ let e : length xs ≡ i = omega (arith, length_push xs y) in inr (e, get_or_push xs y 0 i e)
@@ -36,18 +39,27 @@ pub contains_at : (xs : List ℕ) (i x : ℕ) → i < length xs → slice_index 
 contains_at xs i x lt is = (i, lt, get_or_default xs i x 0 lt ∙ is)
 
 -- membership in a front
-pub index_before : (xs : List ℕ) (n x : ℕ) → n ≤ length xs → Contains (take n xs) x → (i : ℕ) × (i < n) × (slice_index xs i ≡ x)
+pub index_before : (xs : List ℕ) (n x : ℕ) → n ≤ length xs → Contains (take n xs) x
+    → (i : ℕ) × (i < n) × (slice_index xs i ≡ x)
 index_before xs n x le h =
     let k = index_of (take n xs) x h in
     let short : k.0 < n = omega (arith, k.1, length-take-le n xs le) in
     (k.0, short, sym (get_or-take n xs k.0 0 short) ∙ k.2)
 
-pub contains_before : (xs : List ℕ) (n i x : ℕ) → n ≤ length xs → i < n → slice_index xs i ≡ x → Contains (take n xs) x
-contains_before xs n i x le lt is = contains_at (take n xs) i x (omega (arith, length-take-le n xs le)) (get_or-take n xs i 0 lt ∙ is)
+pub contains_before : (xs : List ℕ) (n i x : ℕ) → n ≤ length xs → i < n → slice_index xs i ≡ x
+    → Contains (take n xs) x
+contains_before xs n i x le lt is = contains_at (take n xs) i x (omega (arith, length-take-le n xs le))
+    (get_or-take n xs i 0 lt ∙ is)
 
 -- the edge that an edge needs, by the index of an input
-pub maker_got : (makers : ℕ → List (Option ℕ)) (e f : ℕ) (needs : Needs makers e f) → slice_get (makers e) needs.0 ≡ Some (Some f)
+pub maker_got : (makers : ℕ → List (Option ℕ)) (e f : ℕ) (needs : Needs makers e f)
+    → slice_get (makers e) needs.0 ≡ Some (Some f)
 maker_got makers e f needs = slice_get-get_or (makers e) needs.0 (Some f) needs.1 ∙ ap Some needs.2
 
-pub needs_got : (makers : ℕ → List (Option ℕ)) (e i f : ℕ) → slice_get (makers e) i ≡ Some (Some f) → Needs makers e f
-needs_got makers e i f made = (i, slice_get_within (makers e) i (Some f) made, get_or_from_slice_get (makers e) i (Some f) (Some f) made)
+pub needs_got : (makers : ℕ → List (Option ℕ)) (e i f : ℕ) → slice_get (makers e) i ≡ Some (Some f)
+    → Needs makers e f
+needs_got makers e i f made = (
+  i,
+  slice_get_within (makers e) i (Some f) made,
+  get_or_from_slice_get (makers e) i (Some f) (Some f) made,
+)

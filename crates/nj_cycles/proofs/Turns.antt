@@ -1,5 +1,6 @@
 -- The turns of the walk, as the code takes them.
-use Rattle.std.proofs.Common.{◌≡◌, ◌≢◌, ℕ, ◌+◌, ◌-◌, ◌<◌, ◌≤◌, Bool, false, Option, Some, None, Result, Ok, Err, List, [], ◌∷◌, ◌++◌, length, set, sym, ap, subst, ◌∙◌, inl, inr, arith}
+use Rattle.std.proofs.Common.{◌≡◌, ◌≢◌, ℕ, ◌+◌, ◌-◌, ◌<◌, ◌≤◌, Bool, false, Option, Some, None, Result, Ok}
+use Rattle.std.proofs.Common.{Err, List, [], ◌∷◌, ◌++◌, length, set, sym, ap, subst, ◌∙◌, inl, inr, arith}
 use Rattle.std.specs.Prelude.{slice_get, slice_index, sum_by, IfSome, OnOk}
 use Rattle.std.proofs.lemmas.List.{get_or-set_same}
 use Rattle.std.proofs.lemmas.List.Sums.{sum_by-set}
@@ -8,15 +9,19 @@ use Rattle.nj_cycles.specs.declared.finishing_order.Stage.{Stage}
 use Rattle.nj_cycles.specs.declared.finishing_order.Stage.TheVariants.{Unseen, Open, Done}
 use Rattle.nj_cycles.specs.declared.finishing_order.Walk.{Walk}
 use Rattle.nj_cycles.specs.Cycles.{Needs, AreEdges}
-use Rattle.nj_cycles.specs.Inside.Walks.{stage_of, stage_of_maker, turns_of, Sound, WalkIsSound, IsSoundAt, EndsAt, TakesTurn, Walked}
+use Rattle.nj_cycles.specs.Inside.Walks.{stage_of, stage_of_maker, turns_of, Sound, WalkIsSound, IsSoundAt}
+use Rattle.nj_cycles.specs.Inside.Walks.{EndsAt, TakesTurn, Walked}
 use Rattle.nj_cycles.proofs.Places.{index_of, needs_got}
-use Rattle.nj_cycles.proofs.Walking.{stage_cases, kept_by_set, open_is_seen, done_is_seen, passes, opens, top_in, top_open, top_links, finishes}
+use Rattle.nj_cycles.proofs.Walking.{stage_cases, kept_by_set, open_is_seen, done_is_seen, passes, opens}
+use Rattle.nj_cycles.proofs.Walking.{top_in, top_open, top_links, finishes}
 
 pub on_ok_both : {T E P Q R : Type 0} (r : Result T E) → (P → Q → R) → OnOk r P → OnOk r Q → OnOk r R
 on_ok_both (Ok x) h p q = h p q
 on_ok_both (Err e) h p q = p
 
-pub to_comes : (makers : ℕ → List (Option ℕ)) (count : ℕ) (w : Walk) (stages : List Stage) (next path order : List ℕ) (meets : Bool) → w.stages.items ≡ stages → w.next.items ≡ next → w.path.items ≡ path → w.order.items ≡ order → w.meets_open ≡ meets
+pub to_comes : (makers : ℕ → List (Option ℕ)) (count : ℕ) (w : Walk) (stages : List Stage)
+    (next path order : List ℕ) (meets : Bool) → w.stages.items ≡ stages → w.next.items ≡ next
+    → w.path.items ≡ path → w.order.items ≡ order → w.meets_open ≡ meets
     → Sound makers count stages next path order meets → WalkIsSound makers count w
 to_comes makers count w stages next path order meets a b c d e s =
     subst (λ x. Sound makers count x w.next.items w.path.items w.order.items w.meets_open) (sym a)
@@ -25,17 +30,21 @@ to_comes makers count w stages next path order meets a b c d e s =
     (subst (λ x. Sound makers count stages next path x w.meets_open) (sym d)
     (subst (λ x. Sound makers count stages next path order x) (sym e) s))))
 
-fewer_by_set : (stages : List Stage) (m : ℕ) (old new : Stage) → m < length stages → stage_of stages m ≡ old → turns_of new < turns_of old → sum_by turns_of (set stages m new) < sum_by turns_of stages
-fewer_by_set stages m old new lt is less = omega (arith, sum_by-set turns_of stages m new Unseen lt, ap turns_of is, less)
+fewer_by_set : (stages : List Stage) (m : ℕ) (old new : Stage) → m < length stages → stage_of stages m ≡ old
+    → turns_of new < turns_of old → sum_by turns_of (set stages m new) < sum_by turns_of stages
+fewer_by_set stages m old new lt is less =
+    omega (arith, sum_by-set turns_of stages m new Unseen lt, ap turns_of is, less)
 
-same_old : (makers : ℕ → List (Option ℕ)) (count : ℕ) (old mid new : Walk) → mid.stages.items ≡ old.stages.items → TakesTurn makers count mid new → TakesTurn makers count old new
+same_old : (makers : ℕ → List (Option ℕ)) (count : ℕ) (old mid new : Walk)
+    → mid.stages.items ≡ old.stages.items → TakesTurn makers count mid new → TakesTurn makers count old new
 same_old makers count old mid new same t = record {
   sound = t.sound;
   fewer = subst (λ ss. sum_by turns_of new.stages.items < sum_by turns_of ss) same t.fewer;
   kept = subst (λ ss. (e : ℕ) → stage_of ss e ≢ Unseen → stage_of new.stages.items e ≢ Unseen) same t.kept;
 }
 
-module _ (makers : ℕ → List (Option ℕ)) (count : ℕ) (old mid new : Walk) (e : ℕ) (same : mid.stages.items ≡ old.stages.items)
+module _ (makers : ℕ → List (Option ℕ)) (count : ℕ) (old mid new : Walk) (e : ℕ)
+    (same : mid.stages.items ≡ old.stages.items)
     (s : IsSoundAt makers count mid e)
     (same_next : new.next.items ≡ mid.next.items) (same_meets : new.meets_open ≡ mid.meets_open) where
   pub turn-opens : (m : ℕ) (grown : List ℕ) → AreEdges makers count → EndsAt makers e mid (Some m)
@@ -47,8 +56,12 @@ module _ (makers : ℕ → List (Option ℕ)) (count : ℕ) (old mid new : Walk)
       let m_in : m < count = (edges e m needs).1 in
       let inside : m < length mid.stages.items = omega (arith, m_in, s.stages_len) in
       same_old makers count old mid new same (record {
-        sound = to_comes makers count new (set mid.stages.items m Open) mid.next.items ((mid.path.items ++ e ∷ []) ++ m ∷ []) mid.order.items mid.meets_open stages same_next (path ∙ ap (λ (p : List ℕ). p ++ m ∷ []) with_e) same_order same_meets
-            (opens makers count mid.stages.items mid.next.items (mid.path.items ++ e ∷ []) mid.order.items mid.meets_open s m m_in ends.1 (top_links makers count mid.stages.items mid.next.items mid.path.items mid.order.items mid.meets_open e s m needs));
+        sound = to_comes makers count new (set mid.stages.items m Open) mid.next.items
+            ((mid.path.items ++ e ∷ []) ++ m ∷ []) mid.order.items mid.meets_open stages same_next
+            (path ∙ ap (λ (p : List ℕ). p ++ m ∷ []) with_e) same_order same_meets
+            (opens makers count mid.stages.items mid.next.items (mid.path.items ++ e ∷ []) mid.order.items
+            mid.meets_open s m m_in ends.1 (top_links makers count mid.stages.items mid.next.items
+            mid.path.items mid.order.items mid.meets_open e s m needs));
         fewer = rw stages (fewer_by_set mid.stages.items m Unseen Open inside ends.1 (omega arith));
         kept = rw stages (kept_by_set mid.stages.items m Open inside open_is_seen);
       })
@@ -57,39 +70,63 @@ module _ (makers : ℕ → List (Option ℕ)) (count : ℕ) (old mid new : Walk)
       → new.order.items ≡ mid.order.items ++ e ∷ [] → new.stages.items ≡ set mid.stages.items e Done
       → TakesTurn makers count old new
   turn-finishes passed path grown stages =
-      let e_in : e < count = top_in makers count mid.stages.items mid.next.items mid.path.items mid.order.items mid.meets_open e s in
+      let e_in : e < count = top_in makers count mid.stages.items mid.next.items mid.path.items
+      mid.order.items mid.meets_open e s in
       let inside : e < length mid.stages.items = omega (arith, e_in, s.stages_len) in
       same_old makers count old mid new same (record {
-        sound = to_comes makers count new (set mid.stages.items e Done) mid.next.items mid.path.items (mid.order.items ++ e ∷ []) mid.meets_open stages same_next path grown same_meets
-            (finishes makers count mid.stages.items mid.next.items mid.path.items mid.order.items mid.meets_open e s passed);
-        fewer = rw stages (fewer_by_set mid.stages.items e Open Done inside (top_open makers count mid.stages.items mid.next.items mid.path.items mid.order.items mid.meets_open e s) (omega arith));
+        sound = to_comes makers count new (set mid.stages.items e Done) mid.next.items mid.path.items
+            (mid.order.items ++ e ∷ []) mid.meets_open stages same_next path grown same_meets
+            (finishes makers count mid.stages.items mid.next.items mid.path.items mid.order.items
+            mid.meets_open e s passed);
+        fewer = rw stages (fewer_by_set mid.stages.items e Open Done inside
+            (top_open makers count mid.stages.items mid.next.items mid.path.items mid.order.items
+            mid.meets_open e s) (omega arith));
         kept = rw stages (kept_by_set mid.stages.items e Done inside done_is_seen);
       })
 
 -- ---- an edge passes its next input
 
-pub next_maker : {X : Type 0} (makers : ℕ → List (Option ℕ)) (count : ℕ) (stages : List X) (e i : ℕ) (m : Option ℕ) → AreEdges makers count → length stages ≡ count → slice_get (makers e) i ≡ Some m → IfSome m (λ f. f < length stages)
+pub next_maker : {X : Type 0} (makers : ℕ → List (Option ℕ)) (count : ℕ) (stages : List X) (e i : ℕ)
+    (m : Option ℕ) → AreEdges makers count → length stages ≡ count → slice_get (makers e) i ≡ Some m
+    → IfSome m (λ f. f < length stages)
 next_maker makers count stages e i None edges len got = tt
-next_maker makers count stages e i (Some f) edges len got = omega (arith, (edges e f (needs_got makers e i f got)).1, len)
+next_maker makers count stages e i (Some f) edges len got =
+    omega (arith, (edges e f (needs_got makers e i f got)).1, len)
 
-pub ends_unseen : (makers : ℕ → List (Option ℕ)) (e : ℕ) (w : Walk) (m : Option ℕ) (stage : Stage) → slice_get (makers e) (slice_index w.next.items e) ≡ Some m → stage ≡ stage_of_maker w.stages.items m → stage ≡ Unseen → EndsAt makers e w m
+pub ends_unseen : (makers : ℕ → List (Option ℕ)) (e : ℕ) (w : Walk) (m : Option ℕ) (stage : Stage)
+    → slice_get (makers e) (slice_index w.next.items e) ≡ Some m → stage ≡ stage_of_maker w.stages.items m
+    → stage ≡ Unseen → EndsAt makers e w m
 ends_unseen makers e w None stage got is unseen = absurd (done_is_seen (sym is ∙ unseen))
 ends_unseen makers e w (Some f) stage got is unseen = (got, sym is ∙ unseen)
 
 pub past_inputs : (row : List (Option ℕ)) (i : ℕ) → slice_get row i ≡ None → length row ≤ i
-past_inputs row i got = elim (slice_get_cases row i).1 [ inl here ↦ let clash : Some here.0 ≡ None = sym here.2 ∙ got in cc | inr past ↦ past.0 ]
+past_inputs row i got = elim (slice_get_cases row i).1
+    [ inl here ↦ let clash : Some here.0 ≡ None = sym here.2 ∙ got in cc | inr past ↦ past.0 ]
 
-pub fewer_left : (makers : ℕ → List (Option ℕ)) (next : List ℕ) (e i : ℕ) (m : Option ℕ) → e < length next → i ≡ slice_index next e → slice_get (makers e) (slice_index next e) ≡ Some m
+pub fewer_left : (makers : ℕ → List (Option ℕ)) (next : List ℕ) (e i : ℕ) (m : Option ℕ) → e < length next
+    → i ≡ slice_index next e → slice_get (makers e) (slice_index next e) ≡ Some m
     → length (makers e) - slice_index (set next e (i + 1)) e < length (makers e) - slice_index next e
-fewer_left makers next e i m lt at got = omega (arith, at, get_or-set_same next e (i + 1) 0 lt, slice_get_within (makers e) (slice_index next e) m got)
+fewer_left makers next e i m lt at got =
+    omega (
+      arith,
+      at,
+      get_or-set_same next e (i + 1) 0 lt,
+      slice_get_within (makers e) (slice_index next e) m got,
+    )
 
 -- the maker of the input is not unseen, and where it is open that was noted
-pub passes_next : (makers : ℕ → List (Option ℕ)) (count : ℕ) (old : Walk) (e i : ℕ) (m : Option ℕ) (stage : Stage) (after : Bool) → IsSoundAt makers count old e → i ≡ slice_index old.next.items e
-    → slice_get (makers e) (slice_index old.next.items e) ≡ Some m → stage ≡ stage_of_maker old.stages.items m → stage ≢ Unseen → (after ≡ false → (old.meets_open ≡ false) × (stage ≢ Open))
-    → Sound makers count old.stages.items (set old.next.items e (i + 1)) (old.path.items ++ e ∷ []) old.order.items after
+pub passes_next : (makers : ℕ → List (Option ℕ)) (count : ℕ) (old : Walk) (e i : ℕ) (m : Option ℕ)
+    (stage : Stage) (after : Bool) → IsSoundAt makers count old e → i ≡ slice_index old.next.items e
+    → slice_get (makers e) (slice_index old.next.items e) ≡ Some m → stage ≡ stage_of_maker old.stages.items m
+    → stage ≢ Unseen → (after ≡ false → (old.meets_open ≡ false) × (stage ≢ Open))
+    → Sound makers count old.stages.items (set old.next.items e (i + 1)) (old.path.items ++ e ∷ [])
+    old.order.items after
 passes_next makers count old e i m stage after s at got is seen done =
-    subst (λ k. Sound makers count old.stages.items (set old.next.items e (k + 1)) (old.path.items ++ e ∷ []) old.order.items after) (sym at)
-    (passes makers count old.stages.items old.next.items (old.path.items ++ e ∷ []) old.order.items old.meets_open s e after (top_in makers count old.stages.items old.next.items old.path.items old.order.items old.meets_open e s)
+    subst (λ k. Sound makers count old.stages.items (set old.next.items e (k + 1)) (old.path.items ++ e ∷ [])
+    old.order.items after) (sym at)
+    (passes makers count old.stages.items old.next.items (old.path.items ++ e ∷ []) old.order.items
+    old.meets_open s e after (top_in makers count old.stages.items old.next.items old.path.items
+    old.order.items old.meets_open e s)
     (top_open makers count old.stages.items old.next.items old.path.items old.order.items old.meets_open e s)
     (λ f made un. seen (here f made ∙ un))
     (λ unmet. (
@@ -100,27 +137,36 @@ passes_next makers count old e i m stage after s at got is seen done =
       ],
     )))
   where
-    here : (f : ℕ) → slice_get (makers e) (slice_index old.next.items e) ≡ Some (Some f) → stage ≡ stage_of old.stages.items f
-    here f made = let both : Some m ≡ Some (Some f) = sym got ∙ made in let same : m ≡ Some f = cc in is ∙ ap (stage_of_maker old.stages.items) same
+    here : (f : ℕ) → slice_get (makers e) (slice_index old.next.items e) ≡ Some (Some f)
+        → stage ≡ stage_of old.stages.items f
+    here f made = let both : Some m ≡ Some (Some f) = sym got ∙ made in let same : m ≡ Some f = cc
+        in is ∙ ap (stage_of_maker old.stages.items) same
 
 -- ---- the walk
 
 -- the walk begins at an unseen edge with nothing open
-pub begins : (makers : ℕ → List (Option ℕ)) (count : ℕ) (old new : Walk) (m : ℕ) → WalkIsSound makers count old → old.path.items ≡ [] → m < count → stage_of old.stages.items m ≡ Unseen
-    → new.path.items ≡ old.path.items ++ m ∷ [] → new.stages.items ≡ set old.stages.items m Open → new.next.items ≡ old.next.items → new.order.items ≡ old.order.items → new.meets_open ≡ old.meets_open
+pub begins : (makers : ℕ → List (Option ℕ)) (count : ℕ) (old new : Walk) (m : ℕ)
+    → WalkIsSound makers count old → old.path.items ≡ [] → m < count → stage_of old.stages.items m ≡ Unseen
+    → new.path.items ≡ old.path.items ++ m ∷ [] → new.stages.items ≡ set old.stages.items m Open
+    → new.next.items ≡ old.next.items → new.order.items ≡ old.order.items → new.meets_open ≡ old.meets_open
     → WalkIsSound makers count new
 begins makers count old new m s none lt unseen path stages same_next same_order same_meets =
-    to_comes makers count new (set old.stages.items m Open) old.next.items (old.path.items ++ m ∷ []) old.order.items old.meets_open stages same_next path same_order same_meets
-    (opens makers count old.stages.items old.next.items old.path.items old.order.items old.meets_open s m lt unseen (λ i h. absurd (omega (arith, h, ap length none))))
+    to_comes makers count new (set old.stages.items m Open) old.next.items (old.path.items ++ m ∷ [])
+    old.order.items old.meets_open stages same_next path same_order same_meets
+    (opens makers count old.stages.items old.next.items old.path.items old.order.items old.meets_open s m lt
+    unseen (λ i h. absurd (omega (arith, h, ap length none))))
 
 -- where nothing is open and each edge is seen, all are finished
-pub ends : (makers : ℕ → List (Option ℕ)) (count : ℕ) (w : Walk) → WalkIsSound makers count w → w.path.items ≡ [] → AreEdges makers count → ((e : ℕ) → e < count → stage_of w.stages.items e ≢ Unseen) → Walked makers count w.order.items
+pub ends : (makers : ℕ → List (Option ℕ)) (count : ℕ) (w : Walk) → WalkIsSound makers count w
+    → w.path.items ≡ [] → AreEdges makers count → ((e : ℕ) → e < count → stage_of w.stages.items e ≢ Unseen)
+    → Walked makers count w.order.items
 ends makers count w s none edges seen = record {
   known = edges;
   all = λ e lt. elim (stage_cases (stage_of w.stages.items e)) [
     | inl un ↦ absurd (seen e lt un)
     | inr q ↦ elim q [
-      | inl is_open ↦ let k = index_of w.path.items e (s.open_in_path e is_open) in absurd (omega (arith, k.1, ap length none))
+      | inl is_open ↦ let k = index_of w.path.items e (s.open_in_path e is_open)
+          in absurd (omega (arith, k.1, ap length none))
       | inr is_done ↦ s.done_in_order e is_done
     ]
   ];

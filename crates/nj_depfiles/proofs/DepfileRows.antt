@@ -9,17 +9,20 @@ named : (targets inputs : List (List ℕ)) → DepfileModel
 named targets inputs = record { targets = targets; inputs = inputs }
 
 -- what compilers write
-one_rule : depfile_of (codes "a.o: a.c a.h" ++ 10 ∷ []) ≡ Ok (named (codes "a.o" ∷ []) (codes "a.c" ∷ codes "a.h" ∷ []))
+one_rule : depfile_of (codes "a.o: a.c a.h" ++ 10 ∷ [])
+    ≡ Ok (named (codes "a.o" ∷ []) (codes "a.c" ∷ codes "a.h" ∷ []))
 unfolding pieces_after named
 one_rule = refl
 
 -- a backslash before the end of a line
-two_lines : depfile_of (codes "a.o: a.c " ++ 92 ∷ 10 ∷ codes "  a.h" ++ 10 ∷ []) ≡ Ok (named (codes "a.o" ∷ []) (codes "a.c" ∷ codes "a.h" ∷ []))
+two_lines : depfile_of (codes "a.o: a.c " ++ 92 ∷ 10 ∷ codes "  a.h" ++ 10 ∷ [])
+    ≡ Ok (named (codes "a.o" ∷ []) (codes "a.c" ∷ codes "a.h" ∷ []))
 unfolding pieces_after named
 two_lines = refl
 
 -- before CR LF too
-two_lines_of_windows : depfile_of (codes "a.o: a.c " ++ 92 ∷ 13 ∷ 10 ∷ codes "  a.h" ++ 13 ∷ 10 ∷ []) ≡ Ok (named (codes "a.o" ∷ []) (codes "a.c" ∷ codes "a.h" ∷ []))
+two_lines_of_windows : depfile_of (codes "a.o: a.c " ++ 92 ∷ 13 ∷ 10 ∷ codes "  a.h" ++ 13 ∷ 10 ∷ [])
+    ≡ Ok (named (codes "a.o" ∷ []) (codes "a.c" ∷ codes "a.h" ∷ []))
 unfolding pieces_after named
 two_lines_of_windows = refl
 
@@ -31,7 +34,8 @@ escapes = refl
 
 -- three backslashes and a space are one and a space; two are two, and the name ends
 backslashes_before_space : depfile_of (codes "a: b" ++ 92 ∷ 92 ∷ 92 ∷ codes " c d" ++ 92 ∷ 92 ∷ codes " e")
-    ≡ Ok (named (codes "a" ∷ []) ((codes "b" ++ 92 ∷ codes " c") ∷ (codes "d" ++ 92 ∷ 92 ∷ []) ∷ codes "e" ∷ []))
+    ≡ Ok (named (codes "a" ∷ []) ((codes "b" ++ 92 ∷ codes " c") ∷ (codes "d" ++ 92 ∷ 92 ∷ []) ∷ codes "e" ∷
+    []))
 unfolding pieces_after named
 backslashes_before_space = refl
 
@@ -42,7 +46,8 @@ unfolding pieces_after named
 backslashes_before_letters = refl
 
 -- a backslash before the colon that ends the targets stays
-backslash_before_the_colon : depfile_of (codes "a" ++ 92 ∷ codes ": b") ≡ Ok (named ((codes "a" ++ 92 ∷ []) ∷ []) (codes "b" ∷ []))
+backslash_before_the_colon : depfile_of (codes "a" ++ 92 ∷ codes ": b")
+    ≡ Ok (named ((codes "a" ++ 92 ∷ []) ∷ []) (codes "b" ∷ []))
 unfolding pieces_after named
 backslash_before_the_colon = refl
 
@@ -64,7 +69,8 @@ unfolding pieces_after
 input_with_inputs = refl
 
 -- and with inputs that are known it is none
-input_with_known_inputs : depfile_of (codes "a: b c" ++ 10 ∷ codes "b: c" ++ 10 ∷ []) ≡ Ok (named (codes "a" ∷ []) (codes "b" ∷ codes "c" ∷ []))
+input_with_known_inputs : depfile_of (codes "a: b c" ++ 10 ∷ codes "b: c" ++ 10 ∷ [])
+    ≡ Ok (named (codes "a" ∷ []) (codes "b" ∷ codes "c" ∷ []))
 unfolding pieces_after named
 input_with_known_inputs = refl
 
@@ -82,6 +88,7 @@ unfolding pieces_after
 nothing = refl
 
 -- other signs end a name and are dropped, as a zero byte
-other_signs : depfile_of (codes "a: b*c" ++ 0 ∷ codes "d$e") ≡ Ok (named (codes "a" ∷ []) (codes "b" ∷ codes "c" ∷ codes "d" ∷ codes "e" ∷ []))
+other_signs : depfile_of (codes "a: b*c" ++ 0 ∷ codes "d$e")
+    ≡ Ok (named (codes "a" ∷ []) (codes "b" ∷ codes "c" ∷ codes "d" ∷ codes "e" ∷ []))
 unfolding pieces_after named
 other_signs = refl

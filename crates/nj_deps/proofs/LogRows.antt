@@ -10,7 +10,8 @@ use Rattle.nj_deps.proofs.WordLemmas.{length-word}
 -- ---- two paths, and the inputs of the first one
 
 two_paths : List LogRecord
-two_paths = path (97 ∷ 0 ∷ 0 ∷ 0 ∷ []) 4294967295 ∷ path (98 ∷ 98 ∷ 0 ∷ 0 ∷ []) 4294967294 ∷ dependencies 0 7 1 (1 ∷ []) ∷ []
+two_paths = path (97 ∷ 0 ∷ 0 ∷ 0 ∷ []) 4294967295 ∷ path (98 ∷ 98 ∷ 0 ∷ 0 ∷ []) 4294967294 ∷ dependencies 0 7
+    1 (1 ∷ []) ∷ []
 
 two_paths_as_bytes : flat_map bytes_of two_paths
     ≡ 8 ∷ 0 ∷ 0 ∷ 0 ∷ 97 ∷ 0 ∷ 0 ∷ 0 ∷ 255 ∷ 255 ∷ 255 ∷ 255
@@ -34,20 +35,51 @@ their_outputs = refl
 they_count : CountInTurn [] two_paths
 unfolding word two_paths
 they_count = (
-  record { size = omega arith; fits = record { number = refl; may_be_named = (λ e. (let none = ap length e in omega arith), refl); is_new = refl } },
+  record {
+    size = omega arith;
+    fits = record
+        { number = refl; may_be_named = (λ e. (let none = ap length e in omega arith), refl); is_new = refl };
+  },
   (
-    record { size = omega arith; fits = record { number = refl; may_be_named = (λ e. (let none = ap length e in omega arith), refl); is_new = refl } },
-    (record { size = omega arith; fits = record { output_known = omega arith; low_fits = omega arith; high_fits = omega arith; inputs_known = (omega arith, tt) } }, tt),
+    record {
+      size = omega arith;
+      fits = record
+          { number = refl; may_be_named = (λ e. (let none = ap length e in omega arith), refl); is_new = refl };
+    },
+    (
+      record {
+        size = omega arith;
+        fits = record {
+          output_known = omega arith;
+          low_fits = omega arith;
+          high_fits = omega arith;
+          inputs_known =
+              (omega arith, tt);
+        };
+      },
+      tt,
+    ),
   ),
 )
 
 nothing_follows : EndsBefore (paths_of two_paths) []
 nothing_follows r more counts e =
     let none = ap length e in
-    omega (arith, length-append (bytes_of r) more, length-append (word (kind_bit r + length (content_of r))) (content_of r), length-word (kind_bit r + length (content_of r)))
+    omega (
+      arith,
+      length-append (bytes_of r) more,
+      length-append (word (kind_bit r + length (content_of r))) (content_of r),
+      length-word (kind_bit r + length (content_of r)),
+    )
 
 their_log : IsLogOf (opening 4 ++ (flat_map bytes_of two_paths ++ []))
-    (record { paths = codes "a" ∷ codes "bb" ∷ []; outputs = record { output = 0; time = 4294967303; inputs = 1 ∷ [] } ∷ []; size = 60; is_whole = true })
+    (record {
+      paths = codes "a" ∷ codes "bb" ∷ [];
+      outputs =
+          record { output = 0; time = 4294967303; inputs = 1 ∷ [] } ∷ [];
+      size = 60;
+      is_whole = true;
+    })
 unfolding word two_paths
 their_log = record {
   records = two_paths;
@@ -74,6 +106,7 @@ zero_inside : path_in (97 ∷ 0 ∷ 98 ∷ 0 ∷ []) ≡ 97 ∷ 0 ∷ 98 ∷ []
 zero_inside = refl
 
 -- the last record of an output counts, at the place of its first one
-later_record : outputs_of (dependencies 3 1 0 (5 ∷ []) ∷ dependencies 4 2 0 [] ∷ dependencies 3 6 0 (7 ∷ []) ∷ [])
+later_record : outputs_of (dependencies 3 1 0 (5 ∷ []) ∷ dependencies 4 2 0 [] ∷ dependencies 3 6 0 (7 ∷ []) ∷
+    [])
     ≡ record { output = 3; time = 6; inputs = 7 ∷ [] } ∷ record { output = 4; time = 2; inputs = [] } ∷ []
 later_record = refl

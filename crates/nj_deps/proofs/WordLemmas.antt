@@ -1,5 +1,7 @@
 -- Lemmas on lists that are joined, and on numbers as bytes.
-use Rattle.std.proofs.Common.{◌≡◌, ◌≢◌, ◌<◌, ◌≤◌, ◌+◌, ◌*◌, ◌^◌, ◌%◌, ℕ, true, false, Option, Some, None, MatchOption, Bor, List, [], ◌∷◌, ◌++◌, length, refl, sym, ap, ◌∙◌, arith, append_assoc, length-append}
+use Rattle.std.proofs.Common.{◌≡◌, ◌≢◌, ◌<◌, ◌≤◌, ◌+◌, ◌*◌, ◌^◌, ◌%◌, ℕ, true, false, Option, Some, None}
+use Rattle.std.proofs.Common.{MatchOption, Bor, List, [], ◌∷◌, ◌++◌, length, refl, sym, ap, ◌∙◌, arith}
+use Rattle.std.proofs.Common.{append_assoc, length-append}
 use Rattle.std.specs.Int.{w32, from_le_bytes}
 use Rattle.std.specs.List.{AllByRecursion}
 use Rattle.std.proofs.lemmas.List.{append-nil, append_cancel_left, nil_from_length}
@@ -33,28 +35,34 @@ length-word n = refl
 
 pub word_is : (n m : ℕ) → n < 2 ^ 32 → m < 2 ^ 32 → word n ≡ word m → n ≡ m
 unfolding word
-word_is n m small_n small_m e = sym (from_le_bytes-to_le_bytes_4 n small_n) ∙ ap (from_le_bytes w32) e ∙ from_le_bytes-to_le_bytes_4 m small_m
+word_is n m small_n small_m e = sym (from_le_bytes-to_le_bytes_4 n small_n) ∙ ap (from_le_bytes w32) e
+    ∙ from_le_bytes-to_le_bytes_4 m small_m
 
 pub length-words : (ns : List ℕ) → length (words ns) ≡ 4 * length ns
 length-words [] = refl
 length-words (n ∷ ns) = omega (arith, length-append (word n) (words ns), length-word n, length-words ns)
 
 -- words are of one list of numbers
-pub words_are : (ns ms : List ℕ) → AllByRecursion (λ n. n < 2 ^ 32) ns → AllByRecursion (λ n. n < 2 ^ 32) ms → words ns ≡ words ms → ns ≡ ms
+pub words_are : (ns ms : List ℕ) → AllByRecursion (λ n. n < 2 ^ 32) ns → AllByRecursion (λ n. n < 2 ^ 32) ms
+    → words ns ≡ words ms → ns ≡ ms
 words_are [] [] small_ns small_ms e = refl
-words_are [] (m ∷ ms) small_ns small_ms e = let l = ap length e in absurd (omega (arith, length-words (m ∷ ms)))
-words_are (n ∷ ns) [] small_ns small_ms e = let l = ap length e in absurd (omega (arith, length-words (n ∷ ns)))
+words_are [] (m ∷ ms) small_ns small_ms e = let l = ap length e
+    in absurd (omega (arith, length-words (m ∷ ms)))
+words_are (n ∷ ns) [] small_ns small_ms e = let l = ap length e
+    in absurd (omega (arith, length-words (n ∷ ns)))
 words_are (n ∷ ns) (m ∷ ms) small_ns small_ms e =
     let both = apart (word n) (word m) (words ns) (words ms) (length-word n ∙ sym (length-word m)) e in
     let head : n ≡ m = word_is n m small_ns.0 small_ms.0 both.0 in
     let rest : ns ≡ ms = words_are ns ms small_ns.1 small_ms.1 both.1 in
     cc
 
-pub after-word : (bytes : List ℕ) (n : ℕ) (rest : List ℕ) → bytes ≡ word n ++ rest → length bytes ≡ length rest + 4
+pub after-word : (bytes : List ℕ) (n : ℕ) (rest : List ℕ) → bytes ≡ word n ++ rest
+    → length bytes ≡ length rest + 4
 after-word bytes n rest e = let l = ap length e in omega (arith, length-append (word n) rest, length-word n)
 
 -- a number at the front
-pub shorter-by : (bytes : List ℕ) (n : ℕ) (rest : List ℕ) → bytes ≡ word n ++ rest → length rest < length bytes
+pub shorter-by : (bytes : List ℕ) (n : ℕ) (rest : List ℕ) → bytes ≡ word n ++ rest
+    → length rest < length bytes
 shorter-by bytes n rest e = let l = ap length e in omega (arith, length-append (word n) rest, length-word n)
 
 -- ---- numbers that are read
@@ -66,14 +74,16 @@ pub record NumbersRead (count : ℕ) (bytes rest old new : List ℕ) : Type 0 wh
   pub known : AllByRecursion (λ n. n < count) numbers
   pub cut : bytes ≡ words numbers ++ rest
 
-known-last : (count : ℕ) (ns : List ℕ) (n : ℕ) → AllByRecursion (λ k. k < count) ns → n < count → AllByRecursion (λ k. k < count) (ns ++ n ∷ [])
+known-last : (count : ℕ) (ns : List ℕ) (n : ℕ) → AllByRecursion (λ k. k < count) ns → n < count
+    → AllByRecursion (λ k. k < count) (ns ++ n ∷ [])
 known-last count [] n all one = (one, tt)
 known-last count (m ∷ ns) n all one = (all.0, known-last count ns n all.1 one)
 
 pub none_read : (count : ℕ) (bytes old : List ℕ) → NumbersRead count bytes bytes old old
 none_read count bytes old = record { numbers = []; appended = sym (append-nil old); known = tt; cut = refl }
 
-pub number_read : (count : ℕ) (bytes rest old new : List ℕ) (n : ℕ) (others : List ℕ) → NumbersRead count bytes rest old new → n < count → rest ≡ word n ++ others
+pub number_read : (count : ℕ) (bytes rest old new : List ℕ) (n : ℕ) (others : List ℕ)
+    → NumbersRead count bytes rest old new → n < count → rest ≡ word n ++ others
     → NumbersRead count bytes others old (new ++ n ∷ [])
 number_read count bytes rest old new n others so_far below e = record {
   numbers = so_far.numbers ++ n ∷ [];
@@ -85,36 +95,56 @@ number_read count bytes rest old new n others so_far below e = record {
       ∙ ap (λ w. w ++ others) (sym (flat_map-append word so_far.numbers (n ∷ [])));
 }
 
-pub all_read : (count : ℕ) (bytes rest old new : List ℕ) → NumbersRead count bytes rest old new → length bytes % 4 ≡ 0 → length rest < 4 → AppendsNumbers count bytes old new true
+pub all_read : (count : ℕ) (bytes rest old new : List ℕ) → NumbersRead count bytes rest old new
+    → length bytes % 4 ≡ 0 → length rest < 4 → AppendsNumbers count bytes old new true
 all_read count bytes rest old new so_far whole short =
     let l = ap length so_far.cut in
-    let sizes : length bytes ≡ 4 * length so_far.numbers + length rest = omega (arith, length-append (words so_far.numbers) rest, length-words so_far.numbers) in
-    let none : length rest ≡ 0 = omega arith in
-    (so_far.numbers, so_far.appended, so_far.cut ∙ ap (λ r. words so_far.numbers ++ r) (nil_from_length rest none) ∙ append-nil (words so_far.numbers), so_far.known)
+    let sizes : length bytes ≡ 4 * length so_far.numbers + length rest =
+    omega (arith, length-append (words so_far.numbers) rest, length-words so_far.numbers) in
+    let none : length rest ≡ 0 = omega arith in (
+      so_far.numbers,
+      so_far.appended,
+      so_far.cut
+          ∙ ap (λ r. words so_far.numbers ++ r) (nil_from_length rest none) ∙ append-nil (words so_far.numbers),
+      so_far.known,
+    )
 
 -- numbers below the count that have a number among their words
-below-among : (count : ℕ) (ns : List ℕ) (n : ℕ) (others is : List ℕ) → count ≤ 2 ^ 32 → n < 2 ^ 32 → words is ≡ words ns ++ (word n ++ others) → AllByRecursion (λ k. k < count) is → n < count
-below-among count [] n others [] few small e all = let l = ap length e in absurd (omega (arith, length-append (word n) others, length-word n))
+below-among : (count : ℕ) (ns : List ℕ) (n : ℕ) (others is : List ℕ) → count ≤ 2 ^ 32 → n < 2 ^ 32
+    → words is ≡ words ns ++ (word n ++ others) → AllByRecursion (λ k. k < count) is → n < count
+below-among count [] n others [] few small e all = let l = ap length e
+    in absurd (omega (arith, length-append (word n) others, length-word n))
 below-among count [] n others (i ∷ is) few small e all =
     let both = apart (word i) (word n) (words is) others (length-word i ∙ sym (length-word n)) e in
     let below : i < count = all.0 in
     let same : i ≡ n = word_is i n (omega arith) small both.0 in
     omega arith
-below-among count (m ∷ ns) n others [] few small e all = let l = ap length e in absurd (omega (arith, length-append (words (m ∷ ns)) (word n ++ others), length-append (word m) (words ns), length-word m))
+below-among count (m ∷ ns) n others [] few small e all = let l = ap length e
+    in absurd (omega (
+      arith,
+      length-append (words (m ∷ ns)) (word n ++ others),
+      length-append (word m) (words ns),
+      length-word m,
+    ))
 below-among count (m ∷ ns) n others (i ∷ is) few small e all =
-    let both = apart (word i) (word m) (words is) (words ns ++ (word n ++ others)) (length-word i ∙ sym (length-word m)) (e ∙ append_assoc (word m) (words ns) (word n ++ others)) in
+    let both = apart (word i) (word m) (words is) (words ns ++ (word n ++ others))
+    (length-word i ∙ sym (length-word m)) (e ∙ append_assoc (word m) (words ns) (word n ++ others)) in
     below-among count ns n others is few small both.1 all.1
 
-pub one_past : (count : ℕ) (bytes rest old new : List ℕ) (n : ℕ) (others : List ℕ) → NumbersRead count bytes rest old new → count ≤ 2 ^ 32 → n < 2 ^ 32 → rest ≡ word n ++ others → count ≤ n
+pub one_past : (count : ℕ) (bytes rest old new : List ℕ) (n : ℕ) (others : List ℕ)
+    → NumbersRead count bytes rest old new → count ≤ 2 ^ 32 → n < 2 ^ 32 → rest ≡ word n ++ others → count ≤ n
     → AppendsNumbers count bytes old new false
 one_past count bytes rest old new n others so_far few small e past is cut all =
-    let below = below-among count so_far.numbers n others is few small (sym cut ∙ so_far.cut ∙ ap (λ r. words so_far.numbers ++ r) e) all in
+    let below = below-among count so_far.numbers n others is few small
+    (sym cut ∙ so_far.cut ∙ ap (λ r. words so_far.numbers ++ r) e) all in
     omega arith
 
 -- ---- the opening
 
-pub opening_read : (bytes rest : List ℕ) (r : Option (ℕ × Bor (List ℕ))) → bytes ≡ first_line ++ rest → MatchOption r (length rest < 4) (λ p. (p.0 < 2 ^ 32) × (rest ≡ word p.0 ++ p.1.now))
-    → MatchOption r ((version : ℕ) (more : List ℕ) → bytes ≢ opening version ++ more) (λ p. (p.0 < 2 ^ 32) × (bytes ≡ opening p.0 ++ p.1.now))
+pub opening_read : (bytes rest : List ℕ) (r : Option (ℕ × Bor (List ℕ))) → bytes ≡ first_line ++ rest
+    → MatchOption r (length rest < 4) (λ p. (p.0 < 2 ^ 32) × (rest ≡ word p.0 ++ p.1.now))
+    → MatchOption r ((version : ℕ) (more : List ℕ) → bytes ≢ opening version ++ more)
+    (λ p. (p.0 < 2 ^ 32) × (bytes ≡ opening p.0 ++ p.1.now))
 opening_read bytes rest None line short = λ version more e. (
     let l = ap length (sym line ∙ e) in
     omega (arith, length-append (word version) more, length-word version)
@@ -122,7 +152,10 @@ opening_read bytes rest None line short = λ version more e. (
 opening_read bytes rest (Some p) line m = (m.0, line ∙ ap (λ r. first_line ++ r) m.1)
 
 -- a version is known by its opening
-pub version_is : (version other : ℕ) (rest more : List ℕ) → version < 2 ^ 32 → other < 2 ^ 32 → opening version ++ rest ≡ opening other ++ more → version ≡ other
+pub version_is : (version other : ℕ) (rest more : List ℕ) → version < 2 ^ 32 → other < 2 ^ 32
+    → opening version ++ rest ≡ opening other ++ more → version ≡ other
 version_is version other rest more small other_small e =
-    let words = append_cancel_left first_line (word version ++ rest) (word other ++ more) (sym (append_assoc first_line (word version) rest) ∙ e ∙ append_assoc first_line (word other) more) in
-    word_is version other small other_small (apart (word version) (word other) rest more (length-word version ∙ sym (length-word other)) words).0
+    let words = append_cancel_left first_line (word version ++ rest) (word other ++ more)
+    (sym (append_assoc first_line (word version) rest) ∙ e ∙ append_assoc first_line (word other) more) in
+    word_is version other small other_small
+    (apart (word version) (word other) rest more (length-word version ∙ sym (length-word other)) words).0

@@ -30,7 +30,8 @@ edge = record {
 abbrev file : List ℕ → Discovery
 file text = by_text edge (Text (Some text))
 
-one_header : file (codes "a.o: a.c ./a.h" ++ 10 ∷ []) ≡ record { verdict = Known; inputs = codes "a.c" ∷ codes "a.h" ∷ [] }
+one_header : file (codes "a.o: a.c ./a.h" ++ 10 ∷ [])
+    ≡ record { verdict = Known; inputs = codes "a.c" ∷ codes "a.h" ∷ [] }
 unfolding edge pieces_after clean_path_of without_leftmost_pair
 one_header = refl
 
@@ -79,14 +80,17 @@ log = record {
   is_whole = false;
 }
 
-same_time : by_record log (record { output = 0; time = 50; inputs = 1 ∷ [] }) (Time (Some 50)) ≡ record { verdict = Known; inputs = codes "a.h" ∷ [] }
+same_time : by_record log (record { output = 0; time = 50; inputs = 1 ∷ [] }) (Time (Some 50))
+    ≡ record { verdict = Known; inputs = codes "a.h" ∷ [] }
 unfolding log clean_path_of without_leftmost_pair
 same_time = refl
 
-newer_output : by_record log (record { output = 0; time = 50; inputs = 1 ∷ [] }) (Time (Some 51)) ≡ unknown why.NewerOutput
+newer_output : by_record log (record { output = 0; time = 50; inputs = 1 ∷ [] }) (Time (Some 51))
+    ≡ unknown why.NewerOutput
 newer_output = refl
 
-removed_output : by_record log (record { output = 0; time = 50; inputs = 1 ∷ [] }) (Time None) ≡ record { verdict = Known; inputs = codes "a.h" ∷ [] }
+removed_output : by_record log (record { output = 0; time = 50; inputs = 1 ∷ [] }) (Time None)
+    ≡ record { verdict = Known; inputs = codes "a.h" ∷ [] }
 unfolding log clean_path_of without_leftmost_pair
 removed_output = refl
 

@@ -1,6 +1,10 @@
 -- Lemmas on what edges discover, by the numbers of paths.
-use Rattle.std.proofs.Common.{◌≡◌, ◌<◌, ◌≤◌, ◌+◌, ◌-◌, ◌==◌, ◌⊎◌, inl, inr, ℕ, zero, suc, Bool, true, false, cond, not, Option, Some, Result, Ok, Err, List, [], ◌∷◌, ◌++◌, length, take, drop, slice_get, slice_range, refl, sym, ap, subst, ◌∙◌, true≢false, arith, add-one, append-nil, append_assoc, length-append}
-use Rattle.std.specs.Prelude.{map, option_map, is_some, unwrap_or, find, slice_index, slice_index_or, IfOk, IfSome}
+use Rattle.std.proofs.Common.{◌≡◌, ◌<◌, ◌≤◌, ◌+◌, ◌-◌, ◌==◌, ◌⊎◌, inl, inr, ℕ, zero, suc, Bool, true, false}
+use Rattle.std.proofs.Common.{cond, not, Option, Some, Result, Ok, Err, List, [], ◌∷◌, ◌++◌, length, take}
+use Rattle.std.proofs.Common.{drop, slice_get, slice_range, refl, sym, ap, subst, ◌∙◌, true≢false, arith}
+use Rattle.std.proofs.Common.{add-one, append-nil, append_assoc, length-append}
+use Rattle.std.specs.Prelude.{map, option_map, is_some, unwrap_or, find, slice_index, slice_index_or, IfOk}
+use Rattle.std.specs.Prelude.{IfSome}
 use Rattle.std.specs.Global.{Vec}
 use Rattle.std.specs.declared.alloc.AllocError.{AllocError}
 use Rattle.std.proofs.lemmas.Grind.{common_steps}
@@ -19,7 +23,8 @@ use Rattle.nj_edges.specs.Edges.{EdgePaths, outputs_of}
 use Rattle.nj_depfiles.specs.Depfiles.{DepfileModel, depfile_of}
 use Rattle.nj_depfiles.specs.declared.depfile_fault.DepfileFault.{DepfileFault}
 use Rattle.nj_depfiles.specs.declared.depfile_fault.DepfileFault.TheVariants as depfile
-use Rattle.nj_discovered.specs.Discovered.{Discovery, by_depfile, by_stranger, by_targets, by_text, faulty, is_first_output, unknown}
+use Rattle.nj_discovered.specs.Discovered.{Discovery, by_depfile, by_stranger, by_targets, by_text, faulty}
+use Rattle.nj_discovered.specs.Discovered.{is_first_output, unknown}
 use Rattle.nj_discovered.specs.Discovered.TextFound.{Text}
 use Rattle.nj_discovered.specs.declared.verdict.DepfileError.TheVariants as error
 use Rattle.nj_discovered.specs.declared.verdict.DepfileError.TheVariants.{NoTarget}
@@ -37,12 +42,14 @@ clean-empty = refl
 
 -- ---- lists
 
-pub get-map : {A B : Type 0} (f : A → B) (xs : List A) (n : ℕ) → slice_get (map f xs) n ≡ option_map f (slice_get xs n)
+pub get-map : {A B : Type 0} (f : A → B) (xs : List A) (n : ℕ)
+    → slice_get (map f xs) n ≡ option_map f (slice_get xs n)
 get-map f [] n = refl
 get-map f (x ∷ xs) zero = refl
 get-map f (x ∷ xs) (suc n) = get-map f xs n
 
-pub drop-at : {A : Type 0} (xs : List A) (i : ℕ) (x : A) → slice_get xs i ≡ Some x → drop i xs ≡ x ∷ drop (i + 1) xs
+pub drop-at : {A : Type 0} (xs : List A) (i : ℕ) (x : A) → slice_get xs i ≡ Some x
+    → drop i xs ≡ x ∷ drop (i + 1) xs
 drop-at {A = A} xs i x at = rw (add-one i) (from xs i at)
   where
     from : (ys : List A) (n : ℕ) → slice_get ys n ≡ Some x → drop n ys ≡ x ∷ drop (suc n) ys
@@ -50,8 +57,10 @@ drop-at {A = A} xs i x at = rw (add-one i) (from xs i at)
     from (y ∷ ys) zero first = ap (λ z. z ∷ ys) (ap (λ o. unwrap_or o y) first)
     from (y ∷ ys) (suc n) more = from ys n more
 
-pub take-next : {A : Type 0} (xs : List A) (i : ℕ) (x : A) → slice_get xs i ≡ Some x → take (i + 1) xs ≡ take i xs ++ x ∷ []
-take-next xs i x at = take_more xs i x (slice_get_within xs i x at) ∙ ap (λ y. take i xs ++ y ∷ []) (get_or_from_slice_get xs i x x at)
+pub take-next : {A : Type 0} (xs : List A) (i : ℕ) (x : A) → slice_get xs i ≡ Some x
+    → take (i + 1) xs ≡ take i xs ++ x ∷ []
+take-next xs i x at = take_more xs i x (slice_get_within xs i x at)
+    ∙ ap (λ y. take i xs ++ y ∷ []) (get_or_from_slice_get xs i x x at)
 
 pub map-append : {A B : Type 0} (f : A → B) (xs ys : List A) → map f (xs ++ ys) ≡ map f xs ++ map f ys
 map-append f [] ys = refl
@@ -59,30 +68,39 @@ map-append f (x ∷ xs) ys = ap (λ zs. f x ∷ zs) (map-append f xs ys)
 
 -- ---- numbers of names
 
-pub below-more : (count other : ℕ) (numbers : List ℕ) → count ≤ other → AreBelow count numbers → AreBelow other numbers
+pub below-more : (count other : ℕ) (numbers : List ℕ) → count ≤ other → AreBelow count numbers
+    → AreBelow other numbers
 below-more count other [] more below = tt
-below-more count other (n ∷ numbers) more below = let first : n < count = below.0 in (omega (arith, first, more), below-more count other numbers more below.1)
+below-more count other (n ∷ numbers) more below = let first : n < count = below.0
+    in (omega (arith, first, more), below-more count other numbers more below.1)
 
-pub below-append : (count : ℕ) (one other : List ℕ) → AreBelow count one → AreBelow count other → AreBelow count (one ++ other)
+pub below-append : (count : ℕ) (one other : List ℕ) → AreBelow count one → AreBelow count other
+    → AreBelow count (one ++ other)
 below-append count [] other below and = and
 below-append count (n ∷ one) other below and = (below.0, below-append count one other below.1 and)
 
-name-kept : (names more : List (List ℕ)) (n : ℕ) → n < length names → name_at (names ++ more) n ≡ name_at names n
+name-kept : (names more : List (List ℕ)) (n : ℕ) → n < length names
+    → name_at (names ++ more) n ≡ name_at names n
 name-kept [] more n within = absurd (omega (arith, within))
 name-kept (x ∷ names) more zero within = refl
 name-kept (x ∷ names) more (suc n) within = name-kept names more n (omega (arith, within))
 
 -- names that are added at the end change no name
-pub names-kept : (names more : List (List ℕ)) (numbers : List ℕ) → AreBelow (length names) numbers → map (name_at (names ++ more)) numbers ≡ map (name_at names) numbers
+pub names-kept : (names more : List (List ℕ)) (numbers : List ℕ) → AreBelow (length names) numbers
+    → map (name_at (names ++ more)) numbers ≡ map (name_at names) numbers
 names-kept names more [] below = refl
 names-kept names more (n ∷ numbers) below =
-    ap (λ x. x ∷ map (name_at (names ++ more)) numbers) (name-kept names more n below.0) ∙ ap (λ xs. name_at names n ∷ xs) (names-kept names more numbers below.1)
+    ap (λ x. x ∷ map (name_at (names ++ more)) numbers) (name-kept names more n below.0)
+    ∙ ap (λ xs. name_at names n ∷ xs) (names-kept names more numbers below.1)
 
-pub prefix-kept : (names later : List (List ℕ)) (numbers : List ℕ) → IsPrefix names later → AreBelow (length names) numbers → map (name_at later) numbers ≡ map (name_at names) numbers
-prefix-kept names later numbers (more, is) below = ap (λ all. map (name_at all) numbers) is ∙ names-kept names more numbers below
+pub prefix-kept : (names later : List (List ℕ)) (numbers : List ℕ) → IsPrefix names later
+    → AreBelow (length names) numbers → map (name_at later) numbers ≡ map (name_at names) numbers
+prefix-kept names later numbers (more, is) below =
+    ap (λ all. map (name_at all) numbers) is ∙ names-kept names more numbers below
 
 pub prefix-longer : {A : Type 0} (front whole : List A) → IsPrefix front whole → length front ≤ length whole
-prefix-longer front whole (more, is) = let same = ap length is in omega (arith, same, length-append front more)
+prefix-longer front whole (more, is) = let same = ap length is
+    in omega (arith, same, length-append front more)
 
 pub with-prefix : (names : List (List ℕ)) (name : List ℕ) → IsPrefix names (with_name names name)
 with-prefix names name = by (is_among names name)
@@ -102,8 +120,10 @@ appends-none names numbers = record {
   paths_are = refl;
 }
 
-pub appends-clean : (names later : List (List ℕ)) (numbers new : List ℕ) (path clean : List ℕ) (number short : ℕ) → clean ≡ path → later ≡ with_name names clean
-    → slice_get later number ≡ Some clean → short ≡ number → new ≡ numbers ++ short ∷ [] → Appends (path ∷ []) names later numbers new
+pub appends-clean : (names later : List (List ℕ)) (numbers new : List ℕ) (path clean : List ℕ)
+    (number short : ℕ) → clean ≡ path → later ≡ with_name names clean
+    → slice_get later number ≡ Some clean → short ≡ number → new ≡ numbers ++ short ∷ []
+    → Appends (path ∷ []) names later numbers new
 appends-clean names later numbers new path clean number short clean-is later-is at short-is new-is = record {
   names = subst (IsPrefix names) (sym later-is) (with-prefix names clean);
   added = short ∷ [];
@@ -112,56 +132,81 @@ appends-clean names later numbers new path clean number short clean-is later-is 
   paths_are = ap (λ p. p ∷ []) (ap (name_at later) short-is ∙ ap (λ o. unwrap_or o []) at ∙ clean-is);
 }
 
-pub appends-then : (paths others names later last : List (List ℕ)) (numbers more all : List ℕ) → Appends paths names later numbers more → Appends others later last more all
+pub appends-then : (paths others names later last : List (List ℕ)) (numbers more all : List ℕ)
+    → Appends paths names later numbers more → Appends others later last more all
     → Appends (paths ++ others) names last numbers all
 appends-then paths others names later last numbers more all one other =
     let front : AreBelow (length later) one.added = one.below in
     record {
-      names = (one.names.0 ++ other.names.0, other.names.1 ∙ ap (λ ns. ns ++ other.names.0) one.names.1 ∙ append_assoc names one.names.0 other.names.0);
+      names = (
+        one.names.0 ++ other.names.0,
+        other.names.1 ∙ ap (λ ns. ns ++ other.names.0) one.names.1
+            ∙ append_assoc names one.names.0 other.names.0,
+      );
       added = one.added ++ other.added;
-      numbers = other.numbers ∙ ap (λ ns. ns ++ other.added) one.numbers ∙ append_assoc numbers one.added other.added;
-      below = below-append (length last) one.added other.added (below-more (length later) (length last) one.added (prefix-longer later last other.names) front) other.below;
+      numbers = other.numbers ∙ ap (λ ns. ns ++ other.added) one.numbers
+          ∙ append_assoc numbers one.added other.added;
+      below = below-append (length last) one.added other.added
+          (below-more (length later) (length last) one.added (prefix-longer later last other.names) front)
+          other.below;
       paths_are = map-append (name_at last) one.added other.added
-          ∙ ap (λ ps. ps ++ map (name_at last) other.added) (prefix-kept later last one.added other.names front ∙ one.paths_are)
+          ∙ ap (λ ps. ps ++ map (name_at last) other.added)
+          (prefix-kept later last one.added other.names front ∙ one.paths_are)
           ∙ ap (λ ps. paths ++ ps) other.paths_are;
     }
 
 -- one more path of a list
-pub appends-next : (paths : List (List ℕ)) (i : ℕ) (path : List ℕ) (names later last : List (List ℕ)) (numbers more all : List ℕ) → slice_get paths i ≡ Some path
-    → Appends (map clean_path_of (take i paths)) names later numbers more → Appends (clean_path_of path ∷ []) later last more all
+pub appends-next : (paths : List (List ℕ)) (i : ℕ) (path : List ℕ) (names later last : List (List ℕ))
+    (numbers more all : List ℕ) → slice_get paths i ≡ Some path
+    → Appends (map clean_path_of (take i paths)) names later numbers more
+    → Appends (clean_path_of path ∷ []) later last more all
     → Appends (map clean_path_of (take (i + 1) paths)) names last numbers all
 appends-next paths i path names later last numbers more all at one other =
-    subst (λ ps. Appends ps names last numbers all) (sym (ap (map clean_path_of) (take-next paths i path at) ∙ map-append clean_path_of (take i paths) (path ∷ [])))
-    (appends-then (map clean_path_of (take i paths)) (clean_path_of path ∷ []) names later last numbers more all one other)
+    subst (λ ps. Appends ps names last numbers all)
+    (sym (ap (map clean_path_of) (take-next paths i path at)
+    ∙ map-append clean_path_of (take i paths) (path ∷ [])))
+    (appends-then (map clean_path_of (take i paths)) (clean_path_of path ∷ []) names later last numbers more
+    all one other)
 
 -- ---- the first item that passes a test
 
-pub find-passes : {A : Type 0} (test : A → Bool) (xs : List A) (i : ℕ) (x : A) → slice_get xs i ≡ Some x → test x ≡ true → find test (drop i xs) ≡ Some x
-find-passes test xs i x at passes = ap (find test) (drop-at xs i x at) ∙ ap (λ b. cond b (Some x) (find test (drop (i + 1) xs))) passes
+pub find-passes : {A : Type 0} (test : A → Bool) (xs : List A) (i : ℕ) (x : A) → slice_get xs i ≡ Some x
+    → test x ≡ true → find test (drop i xs) ≡ Some x
+find-passes test xs i x at passes = ap (find test) (drop-at xs i x at)
+    ∙ ap (λ b. cond b (Some x) (find test (drop (i + 1) xs))) passes
 
-pub find-fails : {A : Type 0} (test : A → Bool) (xs : List A) (i : ℕ) (x : A) → slice_get xs i ≡ Some x → test x ≡ false → find test (drop i xs) ≡ find test (drop (i + 1) xs)
-find-fails test xs i x at fails = ap (find test) (drop-at xs i x at) ∙ ap (λ b. cond b (Some x) (find test (drop (i + 1) xs))) fails
+pub find-fails : {A : Type 0} (test : A → Bool) (xs : List A) (i : ℕ) (x : A) → slice_get xs i ≡ Some x
+    → test x ≡ false → find test (drop i xs) ≡ find test (drop (i + 1) xs)
+find-fails test xs i x at fails = ap (find test) (drop-at xs i x at)
+    ∙ ap (λ b. cond b (Some x) (find test (drop (i + 1) xs))) fails
 
 -- ---- paths of a log
 
-pub same-length : (names paths : List (List ℕ)) (numbers : List ℕ) → AreCleanNumbers paths names numbers → length numbers ≡ length paths
-same-length names paths numbers are = sym (length-map numbers (name_at names)) ∙ ap length are.paths_are ∙ length-map paths clean_path_of
+pub same-length : (names paths : List (List ℕ)) (numbers : List ℕ) → AreCleanNumbers paths names numbers
+    → length numbers ≡ length paths
+same-length names paths numbers are = sym (length-map numbers (name_at names)) ∙ ap length are.paths_are
+    ∙ length-map paths clean_path_of
 
 -- the number of a path of the log is that of its clean path
-clean-at : (f : ℕ → List ℕ) (paths : List (List ℕ)) (numbers : List ℕ) (i : ℕ) → map f numbers ≡ map clean_path_of paths → i < length paths
+clean-at : (f : ℕ → List ℕ) (paths : List (List ℕ)) (numbers : List ℕ) (i : ℕ)
+    → map f numbers ≡ map clean_path_of paths → i < length paths
     → f (slice_index numbers i) ≡ clean_path_of (name_at paths i)
 clean-at f [] numbers i same within = absurd (omega (arith, within))
 clean-at f (p ∷ paths) [] i same within = absurd (omega (arith, ap length same))
 clean-at f (p ∷ paths) (n ∷ numbers) zero same within = ap (λ xs. slice_index_or xs 0 []) same
-clean-at f (p ∷ paths) (n ∷ numbers) (suc i) same within = clean-at f paths numbers i (ap (drop 1) same) (omega (arith, within))
+clean-at f (p ∷ paths) (n ∷ numbers) (suc i) same within =
+    clean-at f paths numbers i (ap (drop 1) same) (omega (arith, within))
 
-below-at : (count : ℕ) (numbers : List ℕ) (i : ℕ) → AreBelow count numbers → i < length numbers → slice_index numbers i < count
+below-at : (count : ℕ) (numbers : List ℕ) (i : ℕ) → AreBelow count numbers → i < length numbers
+    → slice_index numbers i < count
 below-at count [] i below within = absurd (omega (arith, within))
 below-at count (n ∷ numbers) zero below within = below.0
 below-at count (n ∷ numbers) (suc i) below within = below-at count numbers i below.1 (omega (arith, within))
 
-pub appends-logged : (names paths : List (List ℕ)) (numbers inputs old new : List ℕ) → AreCleanNumbers paths names numbers → AreBelow (length paths) inputs
-    → new ≡ old ++ map (λ i. slice_index numbers i) inputs → Appends (map clean_path_of (map (name_at paths) inputs)) names names old new
+pub appends-logged : (names paths : List (List ℕ)) (numbers inputs old new : List ℕ)
+    → AreCleanNumbers paths names numbers → AreBelow (length paths) inputs
+    → new ≡ old ++ map (λ i. slice_index numbers i) inputs
+    → Appends (map clean_path_of (map (name_at paths) inputs)) names names old new
 appends-logged names paths numbers inputs old new are within new-is = record {
   names = ([], sym (append-nil names));
   added = map (λ i. slice_index numbers i) inputs;
@@ -170,30 +215,50 @@ appends-logged names paths numbers inputs old new are within new-is = record {
   paths_are = same inputs within;
 }
   where
-    below : (is : List ℕ) → AreBelow (length paths) is → AreBelow (length names) (map (λ i. slice_index numbers i) is)
+    below : (is : List ℕ) → AreBelow (length paths) is
+        → AreBelow (length names) (map (λ i. slice_index numbers i) is)
     below [] within = tt
-    below (i ∷ is) within = (below-at (length names) numbers i are.below (subst (λ n. i < n) (sym (same-length names paths numbers are)) within.0), below is within.1)
+    below (i ∷ is) within = (
+      below-at (length names) numbers i are.below
+          (subst (λ n. i < n) (sym (same-length names paths numbers are)) within.0),
+      below is within.1,
+    )
 
-    same : (is : List ℕ) → AreBelow (length paths) is → map (name_at names) (map (λ i. slice_index numbers i) is) ≡ map clean_path_of (map (name_at paths) is)
+    same : (is : List ℕ) → AreBelow (length paths) is
+        → map (name_at names) (map (λ i. slice_index numbers i) is)
+        ≡ map clean_path_of (map (name_at paths) is)
     same [] within = refl
     same (i ∷ is) within =
-        ap (λ p. p ∷ map (name_at names) (map (λ j. slice_index numbers j) is)) (clean-at (name_at names) paths numbers i are.paths_are within.0)
+        ap (λ p. p ∷ map (name_at names) (map (λ j. slice_index numbers j) is))
+        (clean-at (name_at names) paths numbers i are.paths_are within.0)
         ∙ ap (λ ps. clean_path_of (name_at paths i) ∷ ps) (same is within.1)
 
 -- ---- what an edge discovers
 
-pub finds-none : (IsFound : Discovery → Type 0) (names : List (List ℕ)) (numbers : List ℕ) (verdict : Verdict) → IsFound (record { verdict = verdict; inputs = [] })
+pub finds-none : (IsFound : Discovery → Type 0) (names : List (List ℕ)) (numbers : List ℕ) (verdict : Verdict)
+    → IsFound (record { verdict = verdict; inputs = [] })
     → Finds IsFound names names numbers numbers verdict
-finds-none IsFound names numbers verdict is = record { inputs = []; is_found = is; appends = appends-none names numbers }
+finds-none IsFound names numbers verdict is =
+    record { inputs = []; is_found = is; appends = appends-none names numbers }
 
-pub finds-weaker : (IsFound Other : Discovery → Type 0) (names later : List (List ℕ)) (numbers more : List ℕ) (verdict : Verdict)
-    → ((found : Discovery) → IsFound found → Other found) → Finds IsFound names later numbers more verdict → Finds Other names later numbers more verdict
+pub finds-weaker : (IsFound Other : Discovery → Type 0) (names later : List (List ℕ)) (numbers more : List ℕ)
+    (verdict : Verdict)
+    → ((found : Discovery) → IsFound found → Other found) → Finds IsFound names later numbers more verdict
+    → Finds Other names later numbers more verdict
 finds-weaker IsFound Other names later numbers more verdict weaker found =
-    record { inputs = found.inputs; is_found = weaker (record { verdict = verdict; inputs = found.inputs }) found.is_found; appends = found.appends }
+    record {
+      inputs = found.inputs;
+      is_found =
+          weaker (record { verdict = verdict; inputs = found.inputs }) found.is_found;
+      appends = found.appends;
+    }
 
-pub finds-as : (r : Result Verdict AllocError) (IsFound Other : Discovery → Type 0) (names later : List (List ℕ)) (numbers more : List ℕ)
-    → ((found : Discovery) → IsFound found → Other found) → IfOk r (Finds IsFound names later numbers more) → IfOk r (Finds Other names later numbers more)
-finds-as (Ok verdict) IsFound Other names later numbers more weaker found = finds-weaker IsFound Other names later numbers more verdict weaker found
+pub finds-as : (r : Result Verdict AllocError) (IsFound Other : Discovery → Type 0)
+    (names later : List (List ℕ)) (numbers more : List ℕ)
+    → ((found : Discovery) → IsFound found → Other found) → IfOk r (Finds IsFound names later numbers more)
+    → IfOk r (Finds Other names later numbers more)
+finds-as (Ok verdict) IsFound Other names later numbers more weaker found =
+    finds-weaker IsFound Other names later numbers more verdict weaker found
 finds-as (Err fault) IsFound Other names later numbers more weaker found = tt
 
 -- by the targets of a depfile
@@ -210,16 +275,21 @@ module _ (edge : EdgePaths) (targets inputs : List (List ℕ)) where
     first-of = drop-at targets 0 first at
 
     by-first : (is : Bool) → is_first_output edge (clean_path_of first) ≡ is
-        → by_targets edge targets inputs ≡ cond is (by_stranger (find (λ target. not (is_among (outputs_of edge) target)) (drop 1 targets)) inputs) (unknown OtherTarget)
+        → by_targets edge targets inputs ≡ cond is
+        (by_stranger (find (λ target. not (is_among (outputs_of edge) target)) (drop 1 targets)) inputs)
+        (unknown OtherTarget)
     by-first is same =
         ap (λ ts. by_targets edge ts inputs) first-of
-        ∙ ap (λ b. cond b (by_stranger (find (λ target. not (is_among (outputs_of edge) target)) (drop 1 targets)) inputs) (unknown OtherTarget)) same
+        ∙ ap (λ b. cond b (by_stranger (find (λ target. not (is_among (outputs_of edge) target))
+        (drop 1 targets)) inputs) (unknown OtherTarget)) same
 
-    pub other-target : is_first_output edge (clean_path_of first) ≡ false → by_targets edge targets inputs ≡ unknown OtherTarget
+    pub other-target : is_first_output edge (clean_path_of first) ≡ false
+        → by_targets edge targets inputs ≡ unknown OtherTarget
     other-target is = by-first false is
 
     pub with-stranger : (stranger : Option (List ℕ)) → is_first_output edge (clean_path_of first) ≡ true
-        → find (λ target. not (is_among (outputs_of edge) target)) (drop 1 targets) ≡ stranger → by_targets edge targets inputs ≡ by_stranger stranger inputs
+        → find (λ target. not (is_among (outputs_of edge) target)) (drop 1 targets) ≡ stranger
+        → by_targets edge targets inputs ≡ by_stranger stranger inputs
     with-stranger stranger is found = by-first true is ∙ ap (λ s. by_stranger s inputs) found
 
 -- by the fault of a depfile, which is not a lack of memory
@@ -228,32 +298,42 @@ is_memory depfile.OutOfMemory = true
 is_memory depfile.NoColon = false
 is_memory depfile.InputHasInputs = false
 
-pub fault-read : (read : Result DepfileModel DepfileFault) (fault : DepfileFault) → is_memory fault ≡ false → (fault ≡ depfile.OutOfMemory) ⊎ (read ≡ Err fault) → read ≡ Err fault
+pub fault-read : (read : Result DepfileModel DepfileFault) (fault : DepfileFault) → is_memory fault ≡ false
+    → (fault ≡ depfile.OutOfMemory) ⊎ (read ≡ Err fault) → read ≡ Err fault
 fault-read read fault other (inl memory) = absurd (true≢false (sym (ap is_memory memory) ∙ other))
 fault-read read fault other (inr is) = is
 
-pub text-some : (edge : EdgePaths) (text : List ℕ) → (length text == 0) ≡ false → by_text edge (Text (Some text)) ≡ by_depfile edge (depfile_of text)
+pub text-some : (edge : EdgePaths) (text : List ℕ) → (length text == 0) ≡ false
+    → by_text edge (Text (Some text)) ≡ by_depfile edge (depfile_of text)
 text-some edge [] some = absurd (true≢false some)
 text-some edge (byte ∷ bytes) some = refl
 
-pub faulty-finds : (edge : EdgePaths) (text : List ℕ) (fault : DepfileFault) (names : List (List ℕ)) (numbers : List ℕ) (found : Verdict) (field : DepfileFault) → field ≡ fault
+pub faulty-finds : (edge : EdgePaths) (text : List ℕ) (fault : DepfileFault) (names : List (List ℕ))
+    (numbers : List ℕ) (found : Verdict) (field : DepfileFault) → field ≡ fault
     → found ≡ verdict.Faulty (error.Depfile fault)
-    → (length text == 0) ≡ false → is_memory fault ≡ false → (field ≡ depfile.OutOfMemory) ⊎ (depfile_of text ≡ Err field)
+    → (length text == 0) ≡ false → is_memory fault ≡ false
+    → (field ≡ depfile.OutOfMemory) ⊎ (depfile_of text ≡ Err field)
     → Finds (λ one. one ≡ by_text edge (Text (Some text))) names names numbers numbers found
 faulty-finds edge text fault names numbers found field same is some other read =
     finds-none (λ one. one ≡ by_text edge (Text (Some text))) names numbers found
-    (ap (λ v. record { verdict = v; inputs = [] }) is ∙ sym (text-some edge text some ∙ ap (by_depfile edge) (fault-read (depfile_of text) fault other (subst (λ f. (f ≡ depfile.OutOfMemory) ⊎ (depfile_of text ≡ Err f)) same read))))
+    (ap (λ v. record { verdict = v; inputs = [] }) is
+    ∙ sym (text-some edge text some ∙ ap (by_depfile edge)
+    (fault-read (depfile_of text) fault other
+    (subst (λ f. (f ≡ depfile.OutOfMemory) ⊎ (depfile_of text ≡ Err f)) same read))))
 
 -- ---- a source of files
 
-pub text-given : (before after : SourceState) (path depfile : List ℕ) (outcome : Option (Vec ℕ)) (bytes : Option (List ℕ)) → outcome_bytes outcome ≡ bytes → path ≡ depfile
+pub text-given : (before after : SourceState) (path depfile : List ℕ) (outcome : Option (Vec ℕ))
+    (bytes : Option (List ℕ)) → outcome_bytes outcome ≡ bytes → path ≡ depfile
     → ReadsPath before after path (Ok outcome) → IfSome (before.files depfile) (λ meant. bytes ≡ meant)
 text-given before after path depfile outcome bytes same named reads =
     subst (λ b. IfSome (before.files depfile) (λ meant. b ≡ meant)) same
     (subst (λ p. IfSome (before.files p) (λ meant. outcome_bytes outcome ≡ meant)) named reads.0.as_given.0)
 
-pub reading-failed : (before after : SourceState) (path : List ℕ) (fault : SourceFault) → fault ≡ Io → ReadsPath before after path (Err fault) → Rises before.failures after.failures
-reading-failed before after path fault is reads = let failed : ReadsPath before after path (Err Io) = subst (λ f. ReadsPath before after path (Err f)) is reads in failed.1
+pub reading-failed : (before after : SourceState) (path : List ℕ) (fault : SourceFault) → fault ≡ Io
+    → ReadsPath before after path (Err fault) → Rises before.failures after.failures
+reading-failed before after path fault is reads = let failed : ReadsPath before after path (Err Io) =
+    subst (λ f. ReadsPath before after path (Err f)) is reads in failed.1
 
 pub empty-by_length : (bytes : List ℕ) (b : Bool) → b ≡ (length bytes == 0) → is_empty bytes ≡ b
 empty-by_length [] b h = sym h
@@ -262,7 +342,8 @@ empty-by_length (x ∷ xs) b h = sym (h ∙ never (length xs))
     never : (n : ℕ) → (suc n == 0) ≡ false
     never n = grind (arith, common_steps)
 
-pub finds-moved : (IsFound : Discovery → Type 0) (names later last : List (List ℕ)) (numbers more all : List ℕ) (one other : Verdict) → later ≡ last → more ≡ all → one ≡ other
+pub finds-moved : (IsFound : Discovery → Type 0) (names later last : List (List ℕ))
+    (numbers more all : List ℕ) (one other : Verdict) → later ≡ last → more ≡ all → one ≡ other
     → Finds IsFound names later numbers more one → Finds IsFound names last numbers all other
 finds-moved IsFound names later last numbers more all one other names-are numbers-are same found =
     subst (λ v. Finds IsFound names last numbers all v) same
@@ -271,23 +352,30 @@ finds-moved IsFound names later last numbers more all one other names-are number
 
 -- ---- held
 
-part-grown : (inputs more : List ℕ) (start end : ℕ) → start ≤ end → end ≤ length inputs → slice_range (inputs ++ more) start end ≡ slice_range inputs start end
+part-grown : (inputs more : List ℕ) (start end : ℕ) → start ≤ end → end ≤ length inputs
+    → slice_range (inputs ++ more) start end ≡ slice_range inputs start end
 part-grown inputs more start end rises ends =
     ap (take (end - start)) (drop-append-le start inputs more (omega arith))
     ∙ take-append-le (end - start) (drop start inputs) more (omega (arith, length-drop start inputs))
 
-part-new : (inputs more : List ℕ) → slice_range (inputs ++ more) (length inputs) (length inputs + length more) ≡ more
+part-new : (inputs more : List ℕ) → slice_range (inputs ++ more) (length inputs) (length inputs + length more)
+    ≡ more
 part-new inputs more =
     ap (λ xs. take (length inputs + length more - length inputs) xs) (drop-append_seam inputs more)
     ∙ ap (λ n. take n more) (omega arith) ∙ take-length more
 
-pub within-more : (size other : ℕ) (edges : List FoundEdge) → size ≤ other → AllByRecursion (IsWithin size) edges → AllByRecursion (IsWithin other) edges
+pub within-more : (size other : ℕ) (edges : List FoundEdge) → size ≤ other
+    → AllByRecursion (IsWithin size) edges → AllByRecursion (IsWithin other) edges
 within-more size other [] more within = tt
 within-more size other (e ∷ edges) more within =
-    let ends : e.end ≤ size = within.0.ends in
-    (record { rises = within.0.rises; ends = omega (arith, ends, more) }, within-more size other edges more within.1)
+    let ends : e.end ≤ size = within.0.ends in (
+      record { rises = within.0.rises; ends = omega (arith, ends, more) },
+      within-more size other edges more within.1,
+    )
 
-pub within-append : (size : ℕ) (edges : List FoundEdge) (edge : FoundEdge) → AllByRecursion (IsWithin size) edges → IsWithin size edge → AllByRecursion (IsWithin size) (edges ++ edge ∷ [])
+pub within-append : (size : ℕ) (edges : List FoundEdge) (edge : FoundEdge)
+    → AllByRecursion (IsWithin size) edges → IsWithin size edge
+    → AllByRecursion (IsWithin size) (edges ++ edge ∷ [])
 within-append size [] edge within one = (one, tt)
 within-append size (e ∷ edges) edge within one = (within.0, within-append size edges edge within.1 one)
 
@@ -301,79 +389,107 @@ below-take count zero numbers below = tt
 below-take count (suc n) [] below = tt
 below-take count (suc n) (x ∷ numbers) below = (below.0, below-take count n numbers below.1)
 
-below-part : (count : ℕ) (numbers : List ℕ) (start end : ℕ) → AreBelow count numbers → AreBelow count (slice_range numbers start end)
-below-part count numbers start end below = below-take count (end - start) (drop start numbers) (below-drop count start numbers below)
+below-part : (count : ℕ) (numbers : List ℕ) (start end : ℕ) → AreBelow count numbers
+    → AreBelow count (slice_range numbers start end)
+below-part count numbers start end below =
+    below-take count (end - start) (drop start numbers) (below-drop count start numbers below)
 
 -- the edge of a number, by its paths
-abbrev pub discovery_held : (names : List (List ℕ)) → (inputs : List ℕ) → List FoundEdge → (edge : ℕ) → Discovery
+abbrev pub discovery_held : (names : List (List ℕ)) → (inputs : List ℕ) → List FoundEdge → (edge : ℕ)
+    → Discovery
 discovery_held names inputs edges edge = discovery_at (found_held names inputs edges) edge
 
 -- after names and numbers were added, and an edge, if any
-kept : (names : List (List ℕ)) (more_names : List (List ℕ)) (inputs more : List ℕ) (edges others : List FoundEdge) (e : ℕ) → e < length edges → AllByRecursion (IsWithin (length inputs)) edges
-    → AreBelow (length names) inputs → discovery_held (names ++ more_names) (inputs ++ more) (edges ++ others) e ≡ discovery_held names inputs edges e
+kept : (names : List (List ℕ)) (more_names : List (List ℕ)) (inputs more : List ℕ)
+    (edges others : List FoundEdge) (e : ℕ) → e < length edges
+    → AllByRecursion (IsWithin (length inputs)) edges
+    → AreBelow (length names) inputs → discovery_held (names ++ more_names) (inputs ++ more) (edges ++ others)
+    e ≡ discovery_held names inputs edges e
 kept names more_names inputs more [] others e within held below = absurd (omega (arith, within))
 kept names more_names inputs more (edge ∷ edges) others zero within held below =
-    ap (λ ns. record { verdict = edge.verdict; inputs = map (name_at (names ++ more_names)) ns }) (part-grown inputs more edge.start edge.end held.0.rises held.0.ends)
-    ∙ ap (λ ps. record { verdict = edge.verdict; inputs = ps }) (names-kept names more_names (slice_range inputs edge.start edge.end) (below-part (length names) inputs edge.start edge.end below))
-kept names more_names inputs more (edge ∷ edges) others (suc e) within held below = kept names more_names inputs more edges others e (omega (arith, within)) held.1 below
+    ap (λ ns. record { verdict = edge.verdict; inputs = map (name_at (names ++ more_names)) ns })
+    (part-grown inputs more edge.start edge.end held.0.rises held.0.ends)
+    ∙ ap (λ ps. record { verdict = edge.verdict; inputs = ps })
+    (names-kept names more_names (slice_range inputs edge.start edge.end)
+    (below-part (length names) inputs edge.start edge.end below))
+kept names more_names inputs more (edge ∷ edges) others (suc e) within held below =
+    kept names more_names inputs more edges others e (omega (arith, within)) held.1 below
 
-last-at : {A : Type 0} (f : FoundEdge → A) (edges : List FoundEdge) (edge : FoundEdge) (other : A) → slice_index_or (map f (edges ++ edge ∷ [])) (length edges) other ≡ f edge
+last-at : {A : Type 0} (f : FoundEdge → A) (edges : List FoundEdge) (edge : FoundEdge) (other : A)
+    → slice_index_or (map f (edges ++ edge ∷ [])) (length edges) other ≡ f edge
 last-at f [] edge other = refl
 last-at f (e ∷ edges) edge other = last-at f edges edge other
 
-newest : (names : List (List ℕ)) (inputs more : List ℕ) (edges : List FoundEdge) (edge : FoundEdge) → edge.start ≡ length inputs → edge.end ≡ length inputs + length more
-    → discovery_held names (inputs ++ more) (edges ++ edge ∷ []) (length edges) ≡ record { verdict = edge.verdict; inputs = map (name_at names) more }
+newest : (names : List (List ℕ)) (inputs more : List ℕ) (edges : List FoundEdge) (edge : FoundEdge)
+    → edge.start ≡ length inputs → edge.end ≡ length inputs + length more
+    → discovery_held names (inputs ++ more) (edges ++ edge ∷ []) (length edges)
+    ≡ record { verdict = edge.verdict; inputs = map (name_at names) more }
 newest names inputs more edges edge start end =
-    ap (λ (f : FoundModel). record { verdict = f.verdict; inputs = map (name_at names) f.inputs }) (last-at (found_of (inputs ++ more)) edges edge (record { verdict = verdict.Known; inputs = [] }))
+    ap (λ (f : FoundModel). record { verdict = f.verdict; inputs = map (name_at names) f.inputs })
+    (last-at (found_of (inputs ++ more)) edges edge (record { verdict = verdict.Known; inputs = [] }))
     ∙ ap (λ ns. record { verdict = edge.verdict; inputs = map (name_at names) ns })
-    (ap (λ n. slice_range (inputs ++ more) n edge.end) start ∙ ap (slice_range (inputs ++ more) (length inputs)) end ∙ part-new inputs more)
+    (ap (λ n. slice_range (inputs ++ more) n edge.end) start
+    ∙ ap (slice_range (inputs ++ more) (length inputs)) end ∙ part-new inputs more)
 
 -- an edge that was found
-module _ (IsFound : Discovery → Type 0) (log_paths names later : List (List ℕ)) (log_numbers inputs more : List ℕ) (edges all : List FoundEdge) (edge : FoundEdge)
-    (held : IsFinderHeld log_paths log_numbers names inputs edges) (found : Finds IsFound names later inputs more edge.verdict)
-    (start : edge.start ≡ length inputs) (end : edge.end ≡ length more) (pushed : all ≡ edges ++ edge ∷ []) where
-  longer : length more ≡ length inputs + length found.appends.added
-  longer = ap length found.appends.numbers ∙ length-append inputs found.appends.added
+module _ (IsFound : Discovery → Type 0) (log_paths names later : List (List ℕ))
+    (log_numbers inputs more : List ℕ) (edges all : List FoundEdge) (edge : FoundEdge)
+    (held : IsFinderHeld log_paths log_numbers names inputs edges)
+    (found : Finds IsFound names later inputs more edge.verdict)
+    (start : edge.start ≡ length inputs) (end : edge.end ≡ length more) (pushed : all ≡ edges ++ edge ∷ [])
+  where
+    longer : length more ≡ length inputs + length found.appends.added
+    longer = ap length found.appends.numbers ∙ length-append inputs found.appends.added
 
-  pub held-with : IsFinderHeld log_paths log_numbers later more all
-  held-with = record {
-    numbers = record {
-      below = below-more (length names) (length later) log_numbers (prefix-longer names later found.appends.names) held.numbers.below;
-      paths_are = prefix-kept names later log_numbers found.appends.names held.numbers.below ∙ held.numbers.paths_are;
-    };
-    held = record {
-      within = subst (λ es. AllByRecursion (IsWithin (length more)) es) (sym pushed)
-          (within-append (length more) edges edge (within-more (length inputs) (length more) edges (omega (arith, longer)) held.held.within)
-          (record { rises = omega (arith, start, end, longer); ends = omega (arith, end) }));
-      below = subst (AreBelow (length later)) (sym found.appends.numbers)
-          (below-append (length later) inputs found.appends.added (below-more (length names) (length later) inputs (prefix-longer names later found.appends.names) held.held.below) found.appends.below);
-    };
-  }
+    pub held-with : IsFinderHeld log_paths log_numbers later more all
+    held-with = record {
+      numbers = record {
+        below = below-more (length names) (length later) log_numbers
+            (prefix-longer names later found.appends.names) held.numbers.below;
+        paths_are = prefix-kept names later log_numbers found.appends.names held.numbers.below
+            ∙ held.numbers.paths_are;
+      };
+      held = record {
+        within = subst (λ es. AllByRecursion (IsWithin (length more)) es) (sym pushed)
+            (within-append (length more) edges edge
+            (within-more (length inputs) (length more) edges (omega (arith, longer)) held.held.within)
+            (record { rises = omega (arith, start, end, longer); ends = omega (arith, end) }));
+        below = subst (AreBelow (length later)) (sym found.appends.numbers)
+            (below-append (length later) inputs found.appends.added
+            (below-more (length names) (length later) inputs (prefix-longer names later found.appends.names)
+            held.held.below) found.appends.below);
+      };
+    }
 
-  pub count-with : length (found_held later more all).edges ≡ length (found_held names inputs edges).edges + 1
-  count-with =
-      length-map all (found_of more) ∙ ap length pushed ∙ length-append edges (edge ∷ []) ∙ ap (λ n. n + 1) (sym (length-map edges (found_of inputs)))
+    pub count-with : length (found_held later more all).edges ≡ length (found_held names inputs edges).edges + 1
+    count-with =
+        length-map all (found_of more) ∙ ap length pushed ∙ length-append edges (edge ∷ [])
+        ∙ ap (λ n. n + 1) (sym (length-map edges (found_of inputs)))
 
-  pub kept-with : (e : ℕ) → e < length (found_held names inputs edges).edges → discovery_held later more all e ≡ discovery_held names inputs edges e
-  kept-with e within =
-      let own : e < length edges = subst (λ n. e < n) (length-map edges (found_of inputs)) within in
-      ap (λ ns. discovery_held ns more all e) found.appends.names.1
-      ∙ ap (λ ns. discovery_held (names ++ found.appends.names.0) ns all e) found.appends.numbers
-      ∙ ap (λ es. discovery_held (names ++ found.appends.names.0) (inputs ++ found.appends.added) es e) pushed
-      ∙ kept names found.appends.names.0 inputs found.appends.added edges (edge ∷ []) e own held.held.within held.held.below
+    pub kept-with : (e : ℕ) → e < length (found_held names inputs edges).edges
+        → discovery_held later more all e ≡ discovery_held names inputs edges e
+    kept-with e within =
+        let own : e < length edges = subst (λ n. e < n) (length-map edges (found_of inputs)) within in
+        ap (λ ns. discovery_held ns more all e) found.appends.names.1
+        ∙ ap (λ ns. discovery_held (names ++ found.appends.names.0) ns all e) found.appends.numbers
+        ∙ ap (λ es. discovery_held (names ++ found.appends.names.0) (inputs ++ found.appends.added) es e) pushed
+        ∙ kept names found.appends.names.0 inputs found.appends.added edges (edge ∷ []) e own held.held.within
+        held.held.below
 
-  pub found-with : IsFound (discovery_held later more all (length (found_held names inputs edges).edges))
-  found-with =
-      subst IsFound
-      (ap (λ ps. record { verdict = edge.verdict; inputs = ps }) (sym found.appends.paths_are)
-      ∙ sym (newest later inputs found.appends.added edges edge start (end ∙ longer))
-      ∙ ap (λ ns. discovery_held later ns (edges ++ edge ∷ []) (length edges)) (sym found.appends.numbers)
-      ∙ ap (λ es. discovery_held later more es (length edges)) (sym pushed)
-      ∙ ap (discovery_held later more all) (sym (length-map edges (found_of inputs))))
-      found.is_found
+    pub found-with : IsFound (discovery_held later more all (length (found_held names inputs edges).edges))
+    found-with =
+        subst IsFound
+        (ap (λ ps. record { verdict = edge.verdict; inputs = ps }) (sym found.appends.paths_are)
+        ∙ sym (newest later inputs found.appends.added edges edge start (end ∙ longer))
+        ∙ ap (λ ns. discovery_held later ns (edges ++ edge ∷ []) (length edges)) (sym found.appends.numbers)
+        ∙ ap (λ es. discovery_held later more es (length edges)) (sym pushed)
+        ∙ ap (discovery_held later more all) (sym (length-map edges (found_of inputs))))
+        found.is_found
 
 -- ---- texts
 
-pub three-parts : (old one other last first second third : List ℕ) → first ≡ old ++ one → second ≡ first ++ other → third ≡ second ++ last → third ≡ old ++ (one ++ (other ++ last))
+pub three-parts : (old one other last first second third : List ℕ) → first ≡ old ++ one
+    → second ≡ first ++ other → third ≡ second ++ last → third ≡ old ++ (one ++ (other ++ last))
 three-parts old one other last first second third a b c =
-    c ∙ ap (λ xs. xs ++ last) (b ∙ ap (λ xs. xs ++ other) a) ∙ append_assoc (old ++ one) other last ∙ append_assoc old one (other ++ last)
+    c ∙ ap (λ xs. xs ++ last) (b ∙ ap (λ xs. xs ++ other) a) ∙ append_assoc (old ++ one) other last
+    ∙ append_assoc old one (other ++ last)

@@ -11,6 +11,9 @@ pub record IsFilled (first now : Option (List ℕ)) (capacity : List ℕ) (fille
   pub within : filled ≤ 1073741824
 
 -- one more piece
-pub Consumes-piece : (a b c : Option (List ℕ)) (old new : List ℕ) (f n : ℕ) → Consumes a b (take f old) → take f new ≡ take f old → Consumes b c (take n (drop f new)) → Consumes a c (take (f + n) new)
+pub Consumes-piece : (a b c : Option (List ℕ)) (old new : List ℕ) (f n : ℕ) → Consumes a b (take f old)
+    → take f new ≡ take f old → Consumes b c (take n (drop f new)) → Consumes a c (take (f + n) new)
 Consumes-piece a b c old new f n before front piece =
-    subst (Consumes a c) (sym (take-add f n new)) (Consumes-trans a b c (take f new) (take n (drop f new)) (subst (Consumes a b) (sym front) before) piece)
+    subst (Consumes a c) (sym (take-add f n new))
+    (Consumes-trans a b c (take f new) (take n (drop f new)) (subst (Consumes a b) (sym front) before)
+    piece)

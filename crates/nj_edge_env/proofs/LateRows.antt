@@ -22,7 +22,15 @@ abbrev two : List ℕ → List ℕ
 two name = if bytes_eq name (codes "x") then codes "2" else []
 
 abbrev edge : (block : List ℕ → Option (List ℕ)) → List RuleLineModel → LateNames
-edge block lines = record { inputs = codes "it's x" ∷ []; outputs = codes "o 1" ∷ []; block = block; lines = lines; is_phony = false; file = two }
+edge block lines = record {
+  inputs = codes "it's x" ∷ [];
+  outputs = codes "o 1" ∷ [];
+  block = block;
+  lines =
+      lines;
+  is_phony = false;
+  file = two;
+}
 
 -- command = echo $x
 abbrev echo : List RuleLineModel
@@ -36,7 +44,8 @@ of_block = refl
 
 -- command = cp $in $out
 abbrev copy : List RuleLineModel
-copy = line (codes "command") (Text (codes "cp ") ∷ Name (codes "in") ∷ Text (codes " ") ∷ Name (codes "out") ∷ []) ∷ line (codes "rspfile") (Name (codes "out") ∷ []) ∷ []
+copy = line (codes "command") (Text (codes "cp ") ∷ Name (codes "in") ∷ Text (codes " ") ∷ Name (codes "out")
+    ∷ []) ∷ line (codes "rspfile") (Name (codes "out") ∷ []) ∷ []
 
 in_quotes : asked_text (edge nothing copy) (codes "command") ≡ codes "cp 'it'\\''s x' 'o 1'"
 unfolding quoted
@@ -48,10 +57,12 @@ as_it_is = refl
 
 -- command = $description, description = $command
 abbrev circle : List RuleLineModel
-circle = line (codes "command") (Name (codes "description") ∷ []) ∷ line (codes "description") (Name (codes "command") ∷ []) ∷ []
+circle = line (codes "command") (Name (codes "description") ∷ []) ∷ line (codes "description")
+    (Name (codes "command") ∷ []) ∷ []
 
 on_cycle : IsOnCycle nothing circle (codes "command")
-on_cycle = more {g = codes "description"} (Name (codes "description") ∷ [], refl, refl) (one (Name (codes "command") ∷ [], refl, refl))
+on_cycle = more {g = codes "description"} (Name (codes "description") ∷ [], refl, refl)
+    (one (Name (codes "command") ∷ [], refl, refl))
 
 broken : asked_text (edge (only (codes "description") (codes "x")) circle) (codes "command") ≡ codes "x"
 broken = refl
@@ -61,7 +72,8 @@ least : variable_cycle_of nothing circle ≡ Some (codes "command")
 unfolding variable_cycle_of
 least = refl
 
-least_last : variable_cycle_of nothing (line (codes "description") (Name (codes "command") ∷ []) ∷ line (codes "command") (Name (codes "description") ∷ []) ∷ []) ≡ Some (codes "command")
+least_last : variable_cycle_of nothing (line (codes "description") (Name (codes "command") ∷ []) ∷ line
+    (codes "command") (Name (codes "description") ∷ []) ∷ []) ≡ Some (codes "command")
 unfolding variable_cycle_of
 least_last = refl
 
@@ -70,17 +82,23 @@ unfolding variable_cycle_of
 no_more = refl
 
 -- command = a$command
-own : variable_cycle_of nothing (line (codes "command") (Text (codes "a") ∷ Name (codes "command") ∷ []) ∷ []) ≡ Some (codes "command")
+own : variable_cycle_of nothing (line (codes "command") (Text (codes "a") ∷ Name (codes "command") ∷ []) ∷ [])
+    ≡ Some (codes "command")
 unfolding variable_cycle_of
 own = refl
 
--- command = cc @$rspfile, rspfile = $rspfile_content, rspfile_content = $rspfile: the command only leads to the cycle
-aside : variable_cycle_of nothing (line (codes "command") (Text (codes "cc @") ∷ Name (codes "rspfile") ∷ []) ∷ line (codes "rspfile") (Name (codes "rspfile_content") ∷ []) ∷ line (codes "rspfile_content") (Name (codes "rspfile") ∷ []) ∷ [])
+-- command = cc @$rspfile, rspfile = $rspfile_content, rspfile_content = $rspfile: the command only leads to
+-- the cycle
+aside : variable_cycle_of nothing (line (codes "command") (Text (codes "cc @") ∷ Name (codes "rspfile") ∷ [])
+    ∷ line (codes "rspfile") (Name (codes "rspfile_content") ∷ []) ∷ line (codes "rspfile_content")
+    (Name (codes "rspfile") ∷ []) ∷ [])
     ≡ Some (codes "rspfile")
 unfolding variable_cycle_of
 aside = refl
 
--- command = $description, then command =, description = $command: the last line counts, and is empty, so it is not given
-not_given : variable_cycle_of nothing (line (codes "command") (Name (codes "description") ∷ []) ∷ line (codes "command") [] ∷ line (codes "description") (Name (codes "command") ∷ []) ∷ []) ≡ None
+-- command = $description, then command =, description = $command: the last line counts, and is empty, so it
+-- is not given
+not_given : variable_cycle_of nothing (line (codes "command") (Name (codes "description") ∷ []) ∷ line
+    (codes "command") [] ∷ line (codes "description") (Name (codes "command") ∷ []) ∷ []) ≡ None
 unfolding variable_cycle_of
 not_given = refl

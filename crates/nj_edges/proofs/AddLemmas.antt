@@ -1,5 +1,8 @@
 -- Lemmas on a file that is named for the edge that is being read.
-use Rattle.std.proofs.Common.{◌≡◌, ◌≢◌, ◌<◌, ◌+◌, ◌-◌, ◌==◌, ◌||◌, ◌⊎◌, inl, inr, ℕ, Bool, true, false, cond, List, [], ◌∷◌, ◌++◌, map, length, drop, slice_get, get_or, set, Option, Some, None, is_some, bytes_eq, refl, sym, ap, subst, ◌∙◌, true≢false, arith, length-append}
+use Rattle.std.proofs.Common.{◌≡◌, ◌≢◌, ◌<◌, ◌+◌, ◌-◌, ◌==◌, ◌||◌, ◌⊎◌, inl, inr, ℕ, Bool, true, false, cond}
+use Rattle.std.proofs.Common.{List, [], ◌∷◌, ◌++◌, map, length, drop, slice_get, get_or, set, Option, Some}
+use Rattle.std.proofs.Common.{None, is_some, bytes_eq, refl, sym, ap, subst, ◌∙◌, true≢false, arith}
+use Rattle.std.proofs.Common.{length-append}
 use Rattle.std.specs.List.{IsDistinct, list_any}
 use Rattle.std.proofs.Math.Bool.{or-true}
 use Rattle.std.proofs.Math.Seq.{drop-length}
@@ -12,11 +15,17 @@ use Rattle.nj_edges.specs.declared.edges.EdgeRow.{EdgeRow}
 use Rattle.nj_edges.specs.declared.edges.OpenStarts.{OpenStarts}
 use Rattle.nj_edges.specs.declared.edges.KindEnds.{KindEnds}
 use Rattle.nj_edges.specs.Edges.{first_edge, is_among}
-use Rattle.nj_edges.specs.Inside.EdgesHeld.{within, table_of, row_between, with_maker, is_edge, is_made_by, has_number, AreNumbers, AreNamed, OpenAreNew, output_rows, EdgesAreHeld, TableIsHeld}
-use Rattle.nj_edges.specs.EdgeTables.{EdgeTable, naming, EndWithin, plus_output, plus_input, plus_validation, with_output, with_input, with_validation, is_made}
+use Rattle.nj_edges.specs.Inside.EdgesHeld.{within, table_of, row_between, with_maker, is_edge, is_made_by}
+use Rattle.nj_edges.specs.Inside.EdgesHeld.{has_number, AreNumbers, AreNamed, OpenAreNew, output_rows}
+use Rattle.nj_edges.specs.Inside.EdgesHeld.{EdgesAreHeld, TableIsHeld}
+use Rattle.nj_edges.specs.EdgeTables.{EdgeTable, naming, EndWithin, plus_output, plus_input, plus_validation}
+use Rattle.nj_edges.specs.EdgeTables.{with_output, with_input, with_validation, is_made}
 use Rattle.nj_names.specs.NameTables.{with_name}
 use Rattle.nj_names.specs.Files.{path_at}
-use Rattle.nj_edges.proofs.EdgeLemmas.{all-drop, ends_of, get-path, first-last, first-more, has-push, held-ended, held-input, held-new, held-output, held-validation, IsNew, IsOld, made-at, named-cases, none-front, open-among, rows-same, table-input, table-named, table-output, table-validation, unmade}
+use Rattle.nj_edges.proofs.EdgeLemmas.{all-drop, ends_of, get-path, first-last, first-more, has-push}
+use Rattle.nj_edges.proofs.EdgeLemmas.{held-ended, held-input, held-new, held-output, held-validation, IsNew}
+use Rattle.nj_edges.proofs.EdgeLemmas.{IsOld, made-at, named-cases, none-front, open-among, rows-same}
+use Rattle.nj_edges.proofs.EdgeLemmas.{table-input, table-named, table-output, table-validation, unmade}
 use Rattle.nj_edges.proofs.GraphLemmas.{first-below}
 
 -- ---- tests
@@ -45,14 +54,17 @@ same-number n = by (eqb_tells n n)
     by (inr apart) = absurd (apart.1 refl)
 
 has-last : (ns : List FileNo) (f : FileNo) → has_number f.0 (ns ++ f ∷ []) ≡ true
-has-last ns f = has-push f.0 ns f ∙ ap (λ b. has_number f.0 ns || b) (same-number f.0) ∙ or-true (has_number f.0 ns)
+has-last ns f = has-push f.0 ns f ∙ ap (λ b. has_number f.0 ns || b) (same-number f.0)
+    ∙ or-true (has_number f.0 ns)
 
 -- ---- a row of the makers
 
-last-edge : {E : Type 0} (test : E → Bool) (es : List E) (e : E) → (test e ≡ true → first_edge test es ≡ None) → is_edge (first_edge test (es ++ e ∷ [])) (length es) ≡ test e
+last-edge : {E : Type 0} (test : E → Bool) (es : List E) (e : E) → (test e ≡ true → first_edge test es ≡ None)
+    → is_edge (first_edge test (es ++ e ∷ [])) (length es) ≡ test e
 last-edge test es e new = by (test e) refl
   where
-    apart : (m : ℕ) → ((m == length es) ≡ true × (m ≡ length es)) ⊎ ((m == length es) ≡ false × (m ≢ length es)) → m < length es → (m == length es) ≡ false
+    apart : (m : ℕ) → ((m == length es) ≡ true × (m ≡ length es))
+        ⊎ ((m == length es) ≡ false × (m ≢ length es)) → m < length es → (m == length es) ≡ false
     apart m (inl same) less = let e' : m ≡ length es = same.1 in absurd (omega arith)
     apart m (inr differ) less = differ.0
 
@@ -61,62 +73,89 @@ last-edge test es e new = by (test e) refl
     other (Some m) below = apart m (eqb_tells m (length es)) (below m refl)
 
     by : (b : Bool) → test e ≡ b → is_edge (first_edge test (es ++ e ∷ [])) (length es) ≡ b
-    by true passes = ap (λ o. is_edge o (length es)) (first-last test es e (new passes) passes) ∙ same-number (length es)
-    by false fails = ap (λ o. is_edge o (length es)) (first-more test es e fails) ∙ other (first_edge test es) (first-below test es)
+    by true passes = ap (λ o. is_edge o (length es)) (first-last test es e (new passes) passes)
+        ∙ same-number (length es)
+    by false fails = ap (λ o. is_edge o (length es)) (first-more test es e fails)
+        ∙ other (first_edge test es) (first-below test es)
 
 -- a number among numbers of files is one
 has-below : (count n : ℕ) (ns : List FileNo) → AreNumbers count ns → has_number n ns ≡ true → n < count
 has-below count n [] are h = absurd (true≢false (sym h))
 has-below count n (f ∷ ns) are h = by (eqb_tells n f.0) are.0 h (has-below count n ns are.1)
   where
-    by : ((n == f.0) ≡ true × (n ≡ f.0)) ⊎ ((n == f.0) ≡ false × (n ≢ f.0)) → f.0 < count → ((n == f.0) || has_number n ns) ≡ true → (has_number n ns ≡ true → n < count) → n < count
+    by : ((n == f.0) ≡ true × (n ≡ f.0)) ⊎ ((n == f.0) ≡ false × (n ≢ f.0)) → f.0 < count
+        → ((n == f.0) || has_number n ns) ≡ true → (has_number n ns ≡ true → n < count) → n < count
     by (inl same) below h' more = subst (λ k. k < count) (sym same.1) below
     by (inr apart) below h' more = more (sym (ap (λ b. b || has_number n ns) apart.0) ∙ h')
 
 -- ---- the list of makers
 
 -- where the file's number is the number of the next maker, it is new
-pub maker-then : (files : List (List ℕ)) (path : List ℕ) (makers : List (Option ℕ)) (n : ℕ) → length makers ≡ length files → slice_get (with_name files path) n ≡ Some path → n ≡ length makers → makers ++ None ∷ [] ≡ with_maker files path makers
+pub maker-then : (files : List (List ℕ)) (path : List ℕ) (makers : List (Option ℕ)) (n : ℕ)
+    → length makers ≡ length files → slice_get (with_name files path) n ≡ Some path → n ≡ length makers
+    → makers ++ None ∷ [] ≡ with_maker files path makers
 maker-then files path makers n count here next = by (list_any (bytes_eq path) files) here
   where
-    by : (b : Bool) → slice_get (cond b files (files ++ path ∷ [])) n ≡ Some path → makers ++ None ∷ [] ≡ cond b makers (makers ++ None ∷ [])
+    by : (b : Bool) → slice_get (cond b files (files ++ path ∷ [])) n ≡ Some path
+        → makers ++ None ∷ [] ≡ cond b makers (makers ++ None ∷ [])
     by true h = let below : n < length files = slice_get_within files n path h in absurd (omega arith)
     by false h = refl
 
-pub maker-else : (files : List (List ℕ)) (path : List ℕ) (makers : List (Option ℕ)) (n : ℕ) → length makers ≡ length files → slice_get (with_name files path) n ≡ Some path → (n ≡ length makers → ⊥) → makers ≡ with_maker files path makers
+pub maker-else : (files : List (List ℕ)) (path : List ℕ) (makers : List (Option ℕ)) (n : ℕ)
+    → length makers ≡ length files → slice_get (with_name files path) n ≡ Some path → (n ≡ length makers → ⊥)
+    → makers ≡ with_maker files path makers
 maker-else files path makers n count here apart = by (named-cases files path n here)
   where
-    same : (b : Bool) → list_any (bytes_eq path) files ≡ b → (b ≡ false → ⊥) → makers ≡ cond (list_any (bytes_eq path) files) makers (makers ++ None ∷ [])
+    same : (b : Bool) → list_any (bytes_eq path) files ≡ b → (b ≡ false → ⊥)
+        → makers ≡ cond (list_any (bytes_eq path) files) makers (makers ++ None ∷ [])
     same true e none = ap (λ b. cond b makers (makers ++ None ∷ [])) (sym e)
     same false e none = absurd (none refl)
 
     by : IsNew files path n ⊎ IsOld files path n → makers ≡ with_maker files path makers
     by (inl new) = absurd (apart (new.last ∙ sym count))
     by (inr old) = same (list_any (bytes_eq path) files) refl (λ absent.
-        let grown : length files ≡ length files + 1 = ap length (sym old.same ∙ ap (λ b. cond b files (files ++ path ∷ [])) absent) ∙ length-append files (path ∷ []) in omega arith)
+        let grown : length files ≡ length files + 1 =
+        ap length (sym old.same ∙ ap (λ b. cond b files (files ++ path ∷ [])) absent)
+        ∙ length-append files (path ∷ []) in omega arith)
 
 -- ---- the whole after a name
 
-module _ (files : List (List ℕ)) (makers : List (Option ℕ)) (outputs inputs validations : List FileNo) (rows : List EdgeRow) (starts : OpenStarts) (held : TableIsHeld files makers outputs inputs validations rows starts) (path : List ℕ)
-    (fs : List (List ℕ)) (ms : List (Option ℕ)) (f : FileNo) (files-are : fs ≡ with_name files path) (makers-are : ms ≡ with_maker files path makers) (distinct : IsDistinct bytes_eq fs) (here : slice_get fs f.0 ≡ Some path) (t : EdgeTable) (is : table_of files outputs inputs validations rows starts ≡ t) where
-  as-held : (b : Bool) → list_any (bytes_eq path) files ≡ b → (fs ≡ cond b files (files ++ path ∷ [])) × (ms ≡ cond b makers (makers ++ None ∷ []))
-  as-held b e = (files-are ∙ ap (λ c. cond c files (files ++ path ∷ [])) e, makers-are ∙ ap (λ c. cond c makers (makers ++ None ∷ [])) e)
+module _ (files : List (List ℕ)) (makers : List (Option ℕ)) (outputs inputs validations : List FileNo)
+    (rows : List EdgeRow) (starts : OpenStarts)
+    (held : TableIsHeld files makers outputs inputs validations rows starts) (path : List ℕ)
+    (fs : List (List ℕ)) (ms : List (Option ℕ)) (f : FileNo) (files-are : fs ≡ with_name files path)
+    (makers-are : ms ≡ with_maker files path makers) (distinct : IsDistinct bytes_eq fs)
+    (here : slice_get fs f.0 ≡ Some path) (t : EdgeTable)
+    (is : table_of files outputs inputs validations rows starts ≡ t) where
+  as-held : (b : Bool) → list_any (bytes_eq path) files ≡ b
+      → (fs ≡ cond b files (files ++ path ∷ [])) × (ms ≡ cond b makers (makers ++ None ∷ []))
+  as-held b e = (
+    files-are ∙ ap (λ c. cond c files (files ++ path ∷ [])) e,
+    makers-are
+        ∙ ap (λ c. cond c makers (makers ++ None ∷ [])) e,
+  )
 
-  as-two : (xs : List (List ℕ)) (ys : List (Option ℕ)) → fs ≡ xs → ms ≡ ys → EdgesAreHeld xs ys outputs inputs validations rows starts → EdgesAreHeld fs ms outputs inputs validations rows starts
-  as-two xs ys e d h = subst (λ x. EdgesAreHeld x ms outputs inputs validations rows starts) (sym e) (subst (λ y. EdgesAreHeld xs y outputs inputs validations rows starts) (sym d) h)
+  as-two : (xs : List (List ℕ)) (ys : List (Option ℕ)) → fs ≡ xs → ms ≡ ys
+      → EdgesAreHeld xs ys outputs inputs validations rows starts
+      → EdgesAreHeld fs ms outputs inputs validations rows starts
+  as-two xs ys e d h = subst (λ x. EdgesAreHeld x ms outputs inputs validations rows starts) (sym e)
+      (subst (λ y. EdgesAreHeld xs y outputs inputs validations rows starts) (sym d) h)
 
   held-name : EdgesAreHeld fs ms outputs inputs validations rows starts
   held-name = by (list_any (bytes_eq path) files) refl
     where
-      by : (b : Bool) → list_any (bytes_eq path) files ≡ b → EdgesAreHeld fs ms outputs inputs validations rows starts
+      by : (b : Bool) → list_any (bytes_eq path) files ≡ b
+          → EdgesAreHeld fs ms outputs inputs validations rows starts
       by true e = as-two files makers (as-held true e).0 (as-held true e).1 held.edges_are
       by false e = as-two (files ++ path ∷ []) (makers ++ None ∷ []) (as-held false e).0 (as-held false e).1
-          (held-new files makers outputs inputs validations rows starts held.edges_are path (subst (IsDistinct bytes_eq) (as-held false e).0 distinct))
+          (held-new files makers outputs inputs validations rows starts held.edges_are path
+          (subst (IsDistinct bytes_eq) (as-held false e).0 distinct))
 
   table-name : table_of fs outputs inputs validations rows starts ≡ naming t path
   table-name =
       ap (λ xs. table_of xs outputs inputs validations rows starts) files-are
-      ∙ table-named files makers outputs inputs validations rows starts held.edges_are path ∙ ap (λ u. naming u path) is
+      ∙ table-named files makers outputs inputs validations rows starts held.edges_are path
+      ∙ ap (λ u. naming u path) is
 
   cases : IsNew files path f.0 ⊎ IsOld files path f.0
   cases = named-cases files path f.0 (ap (λ xs. slice_get xs f.0) (sym files-are) ∙ here)
@@ -131,49 +170,61 @@ module _ (files : List (List ℕ)) (makers : List (Option ℕ)) (outputs inputs 
   old-or-named : (m : ℕ) → m < length fs → (m < length files) ⊎ (m ≡ f.0)
   old-or-named m below = by cases
     where
-      last : length fs ≡ length files + 1 → f.0 ≡ length files → ((m == f.0) ≡ true × (m ≡ f.0)) ⊎ ((m == f.0) ≡ false × (m ≢ f.0)) → (m < length files) ⊎ (m ≡ f.0)
+      last : length fs ≡ length files + 1 → f.0 ≡ length files
+          → ((m == f.0) ≡ true × (m ≡ f.0)) ⊎ ((m == f.0) ≡ false × (m ≢ f.0))
+          → (m < length files) ⊎ (m ≡ f.0)
       last count end (inl same) = inr same.1
       last count end (inr apart) = let differ : m ≢ f.0 = apart.1 in inl (omega arith)
 
       by : IsNew files path f.0 ⊎ IsOld files path f.0 → (m < length files) ⊎ (m ≡ f.0)
-      by (inl new) = last (ap length (files-are ∙ new.grown) ∙ length-append files (path ∷ [])) new.last (eqb_tells m f.0)
+      by (inl new) = last (ap length (files-are ∙ new.grown) ∙ length-append files (path ∷ [])) new.last
+          (eqb_tells m f.0)
       by (inr old) = inl (subst (λ xs. m < length xs) (files-are ∙ old.same) below)
 
   named-more : (os is' vs : List FileNo)
-      → ((m : ℕ) → (has_number m outputs || has_number m inputs || has_number m validations) ≡ true → (has_number m os || has_number m is' || has_number m vs) ≡ true)
+      → ((m : ℕ) → (has_number m outputs || has_number m inputs || has_number m validations) ≡ true
+      → (has_number m os || has_number m is' || has_number m vs) ≡ true)
       → (has_number f.0 os || has_number f.0 is' || has_number f.0 vs) ≡ true → AreNamed (length fs) os is' vs
   named-more os is' vs keeps one m below = by (old-or-named m below)
     where
       by : (m < length files) ⊎ (m ≡ f.0) → (has_number m os || has_number m is' || has_number m vs) ≡ true
       by (inl old) = keeps m (held.named m old)
-      by (inr same) = subst (λ k. (has_number k os || has_number k is' || has_number k vs) ≡ true) (sym same) one
+      by (inr same) = subst (λ k. (has_number k os || has_number k is' || has_number k vs) ≡ true) (sym same)
+          one
 
   -- ---- an input
 
   pub input-table : table_of fs outputs (inputs ++ f ∷ []) validations rows starts ≡ with_input t path
-  input-table = table-input fs ms outputs inputs validations rows starts held-name f path here ∙ ap (λ u. plus_input u path) table-name
+  input-table = table-input fs ms outputs inputs validations rows starts held-name f path here
+      ∙ ap (λ u. plus_input u path) table-name
 
   pub input-held : TableIsHeld fs ms outputs (inputs ++ f ∷ []) validations rows starts
   input-held = record {
     edges_are = held-input fs ms outputs inputs validations rows starts held-name f within-files;
     open_are_new = held.open_are_new;
     named = named-more outputs (inputs ++ f ∷ []) validations
-        (λ m h. ap (λ b. has_number m outputs || b || has_number m validations) (has-push m inputs f) ∙ or-more-2 (has_number m outputs) (has_number m inputs) (has_number m validations) (m == f.0) h)
-        (ap (λ b. has_number f.0 outputs || b || has_number f.0 validations) (has-last inputs f) ∙ ap (λ b. b || has_number f.0 validations) (or-true (has_number f.0 outputs)));
+        (λ m h. ap (λ b. has_number m outputs || b || has_number m validations) (has-push m inputs f)
+        ∙ or-more-2 (has_number m outputs) (has_number m inputs) (has_number m validations) (m == f.0) h)
+        (ap (λ b. has_number f.0 outputs || b || has_number f.0 validations) (has-last inputs f)
+        ∙ ap (λ b. b || has_number f.0 validations) (or-true (has_number f.0 outputs)));
   }
 
   -- ---- a validation
 
-  pub validation-table : table_of fs outputs inputs (validations ++ f ∷ []) rows starts ≡ with_validation t path
-  validation-table = table-validation fs ms outputs inputs validations rows starts held-name f path here ∙ ap (λ u. plus_validation u path) table-name
+  pub validation-table : table_of fs outputs inputs (validations ++ f ∷ []) rows starts
+      ≡ with_validation t path
+  validation-table = table-validation fs ms outputs inputs validations rows starts held-name f path here
+      ∙ ap (λ u. plus_validation u path) table-name
 
   pub validation-held : TableIsHeld fs ms outputs inputs (validations ++ f ∷ []) rows starts
   validation-held = record {
     edges_are = held-validation fs ms outputs inputs validations rows starts held-name f within-files;
     open_are_new = held.open_are_new;
     named = named-more outputs inputs (validations ++ f ∷ [])
-        (λ m h. ap (λ b. has_number m outputs || has_number m inputs || b) (has-push m validations f) ∙ or-more-3 (has_number m outputs) (has_number m inputs) (has_number m validations) (m == f.0) h)
-        (ap (λ b. has_number f.0 outputs || has_number f.0 inputs || b) (has-last validations f) ∙ or-true (has_number f.0 outputs || has_number f.0 inputs));
+        (λ m h. ap (λ b. has_number m outputs || has_number m inputs || b) (has-push m validations f)
+        ∙ or-more-3 (has_number m outputs) (has_number m inputs) (has_number m validations) (m == f.0) h)
+        (ap (λ b. has_number f.0 outputs || has_number f.0 inputs || b) (has-last validations f)
+        ∙ or-true (has_number f.0 outputs || has_number f.0 inputs));
   }
 
   -- ---- a file that was there
@@ -181,73 +232,100 @@ module _ (files : List (List ℕ)) (makers : List (Option ℕ)) (outputs inputs 
   same-files : f.0 < length files → (fs ≡ files) × (ms ≡ makers)
   same-files below = by (list_any (bytes_eq path) files) refl cases
     where
-      by : (b : Bool) → list_any (bytes_eq path) files ≡ b → IsNew files path f.0 ⊎ IsOld files path f.0 → (fs ≡ files) × (ms ≡ makers)
+      by : (b : Bool) → list_any (bytes_eq path) files ≡ b → IsNew files path f.0 ⊎ IsOld files path f.0
+          → (fs ≡ files) × (ms ≡ makers)
       by true e known = as-held true e
       by false e (inl new) = let end : f.0 ≡ length files = new.last in absurd (omega arith)
       by false e (inr old) =
-          let grown : length files ≡ length files + 1 = ap length (sym old.same ∙ ap (λ c. cond c files (files ++ path ∷ [])) e) ∙ length-append files (path ∷ []) in absurd (omega arith)
+          let grown : length files ≡ length files + 1 =
+          ap length (sym old.same ∙ ap (λ c. cond c files (files ++ path ∷ [])) e)
+          ∙ length-append files (path ∷ []) in absurd (omega arith)
 
   -- a file with a maker was there
   made-before : (found : Option ℕ) → found ≡ get_or ms f.0 None → is_some found ≡ true → f.0 < length files
   made-before found found-is some = by cases
     where
-      last : f.0 ≡ length files → (b : Bool) → list_any (bytes_eq path) files ≡ b → slice_get ms f.0 ≡ Some None
-      last end true e = let below : f.0 < length files = subst (λ xs. f.0 < length xs) (as-held true e).0 within-files in absurd (omega arith)
-      last end false e = ap (slice_get ms) (end ∙ sym held.edges_are.makers_count) ∙ ap (λ xs. slice_get xs (length makers)) (as-held false e).1 ∙ get-last makers None
+      last : f.0 ≡ length files → (b : Bool) → list_any (bytes_eq path) files ≡ b
+          → slice_get ms f.0 ≡ Some None
+      last end true e = let below : f.0 < length files =
+          subst (λ xs. f.0 < length xs) (as-held true e).0 within-files in absurd (omega arith)
+      last end false e = ap (slice_get ms) (end ∙ sym held.edges_are.makers_count)
+          ∙ ap (λ xs. slice_get xs (length makers)) (as-held false e).1 ∙ get-last makers None
 
       by : IsNew files path f.0 ⊎ IsOld files path f.0 → f.0 < length files
       by (inr old) = old.below
-      by (inl new) = absurd (true≢false (sym some ∙ ap is_some (found-is ∙ get_or_from_slice_get ms f.0 None None (last new.last (list_any (bytes_eq path) files) refl))))
+      by (inl new) = absurd (true≢false (sym some
+          ∙ ap is_some (found-is ∙ get_or_from_slice_get ms f.0 None None
+          (last new.last (list_any (bytes_eq path) files) refl))))
 
-  same-table : f.0 < length files → TableIsHeld fs ms outputs inputs validations rows starts × (table_of fs outputs inputs validations rows starts ≡ t)
+  same-table : f.0 < length files → TableIsHeld fs ms outputs inputs validations rows starts
+      × (table_of fs outputs inputs validations rows starts ≡ t)
   same-table below =
       let same = same-files below in (
-        subst (λ xs. TableIsHeld xs ms outputs inputs validations rows starts) (sym same.0) (subst (λ ys. TableIsHeld files ys outputs inputs validations rows starts) (sym same.1) held),
+        subst (λ xs. TableIsHeld xs ms outputs inputs validations rows starts) (sym same.0)
+            (subst (λ ys. TableIsHeld files ys outputs inputs validations rows starts) (sym same.1) held),
         ap (λ xs. table_of xs outputs inputs validations rows starts) same.0 ∙ is,
       )
 
   -- a file with a maker: nothing changes
-  pub made-table : (found : Option ℕ) → found ≡ get_or ms f.0 None → is_some found ≡ true → table_of fs outputs inputs validations rows starts ≡ t
+  pub made-table : (found : Option ℕ) → found ≡ get_or ms f.0 None → is_some found ≡ true
+      → table_of fs outputs inputs validations rows starts ≡ t
   made-table found found-is some = (same-table (made-before found found-is some)).1
 
-  pub made-held : (found : Option ℕ) → found ≡ get_or ms f.0 None → is_some found ≡ true → TableIsHeld fs ms outputs inputs validations rows starts
+  pub made-held : (found : Option ℕ) → found ≡ get_or ms f.0 None → is_some found ≡ true
+      → TableIsHeld fs ms outputs inputs validations rows starts
   made-held found found-is some = (same-table (made-before found found-is some)).0
 
   -- whether it has a maker
   pub made-is : (found : Option ℕ) → found ≡ get_or ms f.0 None → is_some found ≡ is_made t path
-  made-is found found-is = made-at fs ms outputs inputs validations rows starts held-name f.0 path here found found-is ∙ ap (λ u. is_made u path) table-name
+  made-is found found-is = made-at fs ms outputs inputs validations rows starts held-name f.0 path here found
+      found-is ∙ ap (λ u. is_made u path) table-name
 
   -- ---- an output
 
   module _ (found : Option ℕ) (found-is : found ≡ get_or ms f.0 None) (none : is_some found ≡ false) where
     unmade-now : first_edge (has_number f.0) (output_rows outputs starts.outputs rows) ≡ None
-    unmade-now = unmade fs ms outputs inputs validations rows starts held-name f found within-files found-is none
+    unmade-now = unmade fs ms outputs inputs validations rows starts held-name f found within-files found-is
+        none
 
     pub output-table : table_of fs (outputs ++ f ∷ []) inputs validations rows starts ≡ with_output t path
-    output-table = table-output fs ms outputs inputs validations rows starts held-name f path here ∙ ap (λ u. plus_output u path) table-name
+    output-table = table-output fs ms outputs inputs validations rows starts held-name f path here
+        ∙ ap (λ u. plus_output u path) table-name
 
     output-new : OpenAreNew (outputs ++ f ∷ []) starts.outputs rows
-    output-new m has = ap (first_edge (has_number m)) (rows-same fs ms outputs inputs validations rows starts held-name f rows held.edges_are.rows_are) ∙ by (eqb_tells m f.0)
+    output-new m has = ap (first_edge (has_number m))
+        (rows-same fs ms outputs inputs validations rows starts held-name f rows held.edges_are.rows_are)
+        ∙ by (eqb_tells m f.0)
       where
         has' : (has_number m (drop starts.outputs outputs) || (m == f.0)) ≡ true
-        has' = sym (ap (has_number m) (drop-append-le starts.outputs outputs (f ∷ []) held.edges_are.outputs_start) ∙ has-push m (drop starts.outputs outputs) f) ∙ has
+        has' = sym (ap (has_number m) (drop-append-le starts.outputs outputs (f ∷ [])
+            held.edges_are.outputs_start) ∙ has-push m (drop starts.outputs outputs) f) ∙ has
 
         or-left : (a : Bool) → (a || false) ≡ true → a ≡ true
         or-left true h = refl
         or-left false h = h
 
-        by : ((m == f.0) ≡ true × (m ≡ f.0)) ⊎ ((m == f.0) ≡ false × (m ≢ f.0)) → first_edge (has_number m) (map (λ (row : EdgeRow). within outputs row.outputs) rows) ≡ None
+        by : ((m == f.0) ≡ true × (m ≡ f.0)) ⊎ ((m == f.0) ≡ false × (m ≢ f.0))
+            → first_edge (has_number m) (map (λ (row : EdgeRow). within outputs row.outputs) rows) ≡ None
         by (inl same) =
-            subst (λ k. first_edge (has_number k) (map (λ (row : EdgeRow). within outputs row.outputs) rows) ≡ None) (sym same.1)
-            (none-front (has_number f.0) (map (λ (row : EdgeRow). within outputs row.outputs) rows) (drop starts.outputs outputs) unmade-now)
-        by (inr apart) = held.open_are_new m (or-left (has_number m (drop starts.outputs outputs)) (sym (ap (λ b. has_number m (drop starts.outputs outputs) || b) apart.0) ∙ has'))
+            subst (λ k. first_edge (has_number k) (map (λ (row : EdgeRow). within outputs row.outputs) rows)
+            ≡ None) (sym same.1)
+            (none-front (has_number f.0) (map (λ (row : EdgeRow). within outputs row.outputs) rows)
+            (drop starts.outputs outputs) unmade-now)
+        by (inr apart) = held.open_are_new m
+            (or-left (has_number m (drop starts.outputs outputs))
+            (sym (ap (λ b. has_number m (drop starts.outputs outputs) || b) apart.0) ∙ has'))
 
-    pub output-held : TableIsHeld fs (set ms f.0 (Some (length rows))) (outputs ++ f ∷ []) inputs validations rows starts
+    pub output-held : TableIsHeld fs (set ms f.0 (Some (length rows))) (outputs ++ f ∷ []) inputs validations
+        rows starts
     output-held = record {
-      edges_are = held-output fs ms outputs inputs validations rows starts held-name f within-files unmade-now;
+      edges_are = held-output fs ms outputs inputs validations rows starts held-name f within-files
+          unmade-now;
       open_are_new = output-new;
       named = named-more (outputs ++ f ∷ []) inputs validations
-          (λ m h. ap (λ b. b || has_number m inputs || has_number m validations) (has-push m outputs f) ∙ or-more-1 (has_number m outputs) (has_number m inputs) (has_number m validations) (m == f.0) h)
+          (λ m h. ap (λ b. b || has_number m inputs || has_number m validations) (has-push m outputs f)
+          ∙ or-more-1 (has_number m outputs) (has_number m inputs) (has_number m validations) (m == f.0)
+          h)
           (ap (λ b. b || has_number f.0 inputs || has_number f.0 validations) (has-last outputs f));
     }
 
@@ -255,28 +333,42 @@ module _ (files : List (List ℕ)) (makers : List (Option ℕ)) (outputs inputs 
 
   pub own-number : is_made_by ms f.0 (length rows) ≡ has_number f.0 (drop starts.outputs outputs)
   own-number =
-      ap (λ o. is_edge o (length rows)) (get_or_from_slice_get ms f.0 (first_edge (has_number f.0) (output_rows outputs starts.outputs rows)) None (held-name.makers_are f.0 within-all))
-      ∙ ap (is_edge (first_edge (has_number f.0) (output_rows outputs starts.outputs rows))) (sym (length-map rows (λ (row : EdgeRow). within outputs row.outputs)))
-      ∙ last-edge (has_number f.0) (map (λ (row : EdgeRow). within outputs row.outputs) rows) (drop starts.outputs outputs) (held.open_are_new f.0)
+      ap (λ o. is_edge o (length rows)) (get_or_from_slice_get ms f.0
+      (first_edge (has_number f.0) (output_rows outputs starts.outputs rows)) None
+      (held-name.makers_are f.0 within-all))
+      ∙ ap (is_edge (first_edge (has_number f.0) (output_rows outputs starts.outputs rows)))
+      (sym (length-map rows (λ (row : EdgeRow). within outputs row.outputs)))
+      ∙ last-edge (has_number f.0) (map (λ (row : EdgeRow). within outputs row.outputs) rows)
+      (drop starts.outputs outputs) (held.open_are_new f.0)
 
   own-is : is_made_by ms f.0 (length rows) ≡ is_among t.«open».outputs path
-  own-is = own-number ∙ open-among fs ms outputs inputs validations rows starts held-name f.0 path here ∙ ap (λ u. is_among u.«open».outputs path) table-name
+  own-is = own-number ∙ open-among fs ms outputs inputs validations rows starts held-name f.0 path here
+      ∙ ap (λ u. is_among u.«open».outputs path) table-name
 
   own-before : is_made_by ms f.0 (length rows) ≡ true → f.0 < length files
-  own-before own = has-below (length files) f.0 (drop starts.outputs outputs) (all-drop (λ g. g.0 < length files) starts.outputs outputs held.edges_are.outputs_are) (sym own-number ∙ own)
+  own-before own = has-below (length files) f.0 (drop starts.outputs outputs)
+      (all-drop (λ g. g.0 < length files) starts.outputs outputs held.edges_are.outputs_are)
+      (sym own-number ∙ own)
 
-  pub own-table : is_made_by ms f.0 (length rows) ≡ true → table_of fs outputs inputs validations rows starts ≡ cond (is_among t.«open».outputs path) t (with_input t path)
+  pub own-table : is_made_by ms f.0 (length rows) ≡ true
+      → table_of fs outputs inputs validations rows starts
+      ≡ cond (is_among t.«open».outputs path) t (with_input t path)
   own-table own = (same-table (own-before own)).1 ∙ ap (λ b. cond b t (with_input t path)) (sym own ∙ own-is)
 
-  pub own-held : is_made_by ms f.0 (length rows) ≡ true → TableIsHeld fs ms outputs inputs validations rows starts
+  pub own-held : is_made_by ms f.0 (length rows) ≡ true
+      → TableIsHeld fs ms outputs inputs validations rows starts
   own-held own = (same-table (own-before own)).0
 
-  pub other-table : is_made_by ms f.0 (length rows) ≡ false → table_of fs outputs (inputs ++ f ∷ []) validations rows starts ≡ cond (is_among t.«open».outputs path) t (with_input t path)
+  pub other-table : is_made_by ms f.0 (length rows) ≡ false
+      → table_of fs outputs (inputs ++ f ∷ []) validations rows starts
+      ≡ cond (is_among t.«open».outputs path) t (with_input t path)
   other-table other = input-table ∙ ap (λ b. cond b t (with_input t path)) (sym other ∙ own-is)
 
 -- ---- an input whose file was there
 
-module _ (files : List (List ℕ)) (makers : List (Option ℕ)) (outputs inputs validations : List FileNo) (rows : List EdgeRow) (starts : OpenStarts) (held : TableIsHeld files makers outputs inputs validations rows starts) (f : FileNo) (t : EdgeTable)
+module _ (files : List (List ℕ)) (makers : List (Option ℕ)) (outputs inputs validations : List FileNo)
+    (rows : List EdgeRow) (starts : OpenStarts)
+    (held : TableIsHeld files makers outputs inputs validations rows starts) (f : FileNo) (t : EdgeTable)
     (is : table_of files outputs inputs validations rows starts ≡ t) where
   module _ (path : List ℕ) (here' : slice_get t.files f.0 ≡ Some path) where
     here : slice_get files f.0 ≡ Some path
@@ -292,30 +384,45 @@ module _ (files : List (List ℕ)) (makers : List (Option ℕ)) (outputs inputs 
     makers-stay = sym (ap (λ b. cond b makers (makers ++ None ∷ [])) known)
 
     pub known-table : table_of files outputs (inputs ++ f ∷ []) validations rows starts ≡ with_input t path
-    known-table = input-table files makers outputs inputs validations rows starts held path files makers f files-stay makers-stay held.edges_are.distinct here t is
+    known-table = input-table files makers outputs inputs validations rows starts held path files makers f
+        files-stay makers-stay held.edges_are.distinct here t is
 
-    pub known-own-table : is_made_by makers f.0 (length rows) ≡ true → t ≡ cond (is_among t.«open».outputs path) t (with_input t path)
-    known-own-table own = sym is ∙ own-table files makers outputs inputs validations rows starts held path files makers f files-stay makers-stay held.edges_are.distinct here t is own
+    pub known-own-table : is_made_by makers f.0 (length rows) ≡ true
+        → t ≡ cond (is_among t.«open».outputs path) t (with_input t path)
+    known-own-table own = sym is ∙ own-table files makers outputs inputs validations rows starts held path
+        files makers f files-stay makers-stay held.edges_are.distinct here t is own
 
-    pub known-other-table : is_made_by makers f.0 (length rows) ≡ false → table_of files outputs (inputs ++ f ∷ []) validations rows starts ≡ cond (is_among t.«open».outputs path) t (with_input t path)
-    known-other-table other = other-table files makers outputs inputs validations rows starts held path files makers f files-stay makers-stay held.edges_are.distinct here t is other
+    pub known-other-table : is_made_by makers f.0 (length rows) ≡ false
+        → table_of files outputs (inputs ++ f ∷ []) validations rows starts
+        ≡ cond (is_among t.«open».outputs path) t (with_input t path)
+    known-other-table other = other-table files makers outputs inputs validations rows starts held path files
+        makers f files-stay makers-stay held.edges_are.distinct here t is other
 
   pub known-within : f.0 < length t.files → f.0 < length makers
-  known-within below = subst (λ k. f.0 < k) (sym held.edges_are.makers_count) (subst (λ (u : EdgeTable). f.0 < length u.files) (sym is) below)
+  known-within below = subst (λ k. f.0 < k) (sym held.edges_are.makers_count)
+      (subst (λ (u : EdgeTable). f.0 < length u.files) (sym is) below)
 
-  pub known-held : f.0 < length t.files → TableIsHeld files makers outputs (inputs ++ f ∷ []) validations rows starts
+  pub known-held : f.0 < length t.files → TableIsHeld files makers outputs (inputs ++ f ∷ []) validations rows
+      starts
   known-held below =
       let path = path_at t.files f in
       let here' : slice_get t.files f.0 ≡ Some path = get-path t.files f below in
-      input-held files makers outputs inputs validations rows starts held path files makers f (files-stay path here') (makers-stay path here') held.edges_are.distinct (here path here') t is
+      input-held files makers outputs inputs validations rows starts held path files makers f
+      (files-stay path here') (makers-stay path here') held.edges_are.distinct (here path here') t is
 
 -- ---- the end of an edge
 
-pub ended-held : (files : List (List ℕ)) (makers : List (Option ℕ)) (outputs inputs validations : List FileNo) (rows : List EdgeRow) (starts : OpenStarts) → TableIsHeld files makers outputs inputs validations rows starts
-    → (kinds : KindEnds) (is_phony : Bool) → EndWithin kinds (length outputs - starts.outputs) (length inputs - starts.inputs)
-    → TableIsHeld files makers outputs inputs validations (rows ++ row_between starts (ends_of outputs inputs validations) kinds is_phony ∷ []) (ends_of outputs inputs validations)
+pub ended-held : (files : List (List ℕ)) (makers : List (Option ℕ)) (outputs inputs validations : List FileNo)
+    (rows : List EdgeRow) (starts : OpenStarts)
+    → TableIsHeld files makers outputs inputs validations rows starts
+    → (kinds : KindEnds) (is_phony : Bool)
+    → EndWithin kinds (length outputs - starts.outputs) (length inputs - starts.inputs)
+    → TableIsHeld files makers outputs inputs validations
+    (rows ++ row_between starts (ends_of outputs inputs validations) kinds is_phony ∷ [])
+    (ends_of outputs inputs validations)
 ended-held files makers outputs inputs validations rows starts held kinds is_phony fits = record {
-  edges_are = held-ended files makers outputs inputs validations rows starts held.edges_are kinds is_phony fits;
+  edges_are = held-ended files makers outputs inputs validations rows starts held.edges_are kinds is_phony
+      fits;
   open_are_new = λ n has. absurd (true≢false (sym has ∙ ap (has_number n) (drop-length outputs)));
   named = held.named;
 }

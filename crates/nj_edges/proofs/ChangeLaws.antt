@@ -1,5 +1,7 @@
 -- The edges that a change of files affects, by the needs of edges.
-use Rattle.std.proofs.Common.{◌≡◌, ◌<◌, ◌+◌, ◌||◌, inl, inr, ℕ, zero, suc, Bool, true, false, cond, List, [], ◌∷◌, ◌++◌, length, get_or, Option, Some, None, is_some, option_map, unwrap_or, bytes_eq, refl, sym, ap, subst, ◌∙◌, true≢false, arith}
+use Rattle.std.proofs.Common.{◌≡◌, ◌<◌, ◌+◌, ◌||◌, inl, inr, ℕ, zero, suc, Bool, true, false, cond, List, []}
+use Rattle.std.proofs.Common.{◌∷◌, ◌++◌, length, get_or, Option, Some, None, is_some, option_map, unwrap_or}
+use Rattle.std.proofs.Common.{bytes_eq, refl, sym, ap, subst, ◌∙◌, true≢false, arith}
 use Rattle.std.specs.Prelude.{Contains}
 use Rattle.std.specs.List.{AllByRecursion, IsDistinct, flat_map}
 use Rattle.std.proofs.lemmas.Bool.{both_ways, cases_lt}
@@ -28,7 +30,8 @@ contains-among : (path : List ℕ) (paths : List (List ℕ)) → Contains paths 
 contains-among path paths has = list_any-from_Contains nat_list_eq_equiv path paths has
 
 -- edge `e` has one of the paths that are among these as an input
-input-of : (path : List ℕ) (paths : List (List ℕ)) (e : EdgePaths) → is_among paths path ≡ true → is_among (inputs_of e) path ≡ true → has_input_of paths e ≡ true
+input-of : (path : List ℕ) (paths : List (List ℕ)) (e : EdgePaths) → is_among paths path ≡ true
+    → is_among (inputs_of e) path ≡ true → has_input_of paths e ≡ true
 input-of path paths e is input =
     let has = among-contains path paths is in
     list_any-from_Any (is_among (inputs_of e)) paths (has.0, path, has.1, has.2, input)
@@ -40,66 +43,87 @@ abbrev no-edge : EdgePaths
 no-edge = edge_at [] 0
 
 -- an output of some edge is an output of an edge of the graph
-made-below : (edges : List EdgePaths) (f : ℕ) (path : List ℕ) → is_among (outputs_of (edge_at edges f)) path ≡ true → f < length edges
+made-below : (edges : List EdgePaths) (f : ℕ) (path : List ℕ)
+    → is_among (outputs_of (edge_at edges f)) path ≡ true → f < length edges
 made-below edges f path is = elim (cases_lt f (length edges)) [
   | inl below ↦ below
-  | inr past ↦ absurd (both_ways (is_among (outputs_of (edge_at edges f)) path) (ap (λ e. is_among (outputs_of e) path) (get_or_past edges f no-edge past)) is)
+  | inr past ↦ absurd (both_ways (is_among (outputs_of (edge_at edges f)) path)
+      (ap (λ e. is_among (outputs_of e) path) (get_or_past edges f no-edge past)) is)
 ]
 
-first-passes : {E : Type 0} (test : E → Bool) (d : E) (es : List E) (f : ℕ) → first_edge test es ≡ Some f → test (get_or es f d) ≡ true
+first-passes : {E : Type 0} (test : E → Bool) (d : E) (es : List E) (f : ℕ) → first_edge test es ≡ Some f
+    → test (get_or es f d) ≡ true
 first-passes test d [] f first = absurd (true≢false (sym (ap is_some first)))
 first-passes test d (e ∷ es) f first = by (test e) refl first (first-passes test d es)
   where
-    later : (o : Option ℕ) → first_edge test es ≡ o → option_map (λ n. n + 1) o ≡ Some f → ((g : ℕ) → first_edge test es ≡ Some g → test (get_or es g d) ≡ true) → test (get_or (e ∷ es) f d) ≡ true
+    later : (o : Option ℕ) → first_edge test es ≡ o → option_map (λ n. n + 1) o ≡ Some f
+        → ((g : ℕ) → first_edge test es ≡ Some g → test (get_or es g d) ≡ true)
+        → test (get_or (e ∷ es) f d) ≡ true
     later None is h rest = absurd (true≢false (sym (ap is_some h)))
     later (Some g) is h rest =
         let after : g + 1 ≡ f = ap (λ o. unwrap_or o 0) h in
         let next : suc g ≡ f = omega (arith, after) in
         subst (λ n. test (get_or (e ∷ es) n d) ≡ true) next (rest g is)
 
-    by : (b : Bool) → test e ≡ b → cond b (Some 0) (option_map (λ n. n + 1) (first_edge test es)) ≡ Some f → ((g : ℕ) → first_edge test es ≡ Some g → test (get_or es g d) ≡ true) → test (get_or (e ∷ es) f d) ≡ true
+    by : (b : Bool) → test e ≡ b → cond b (Some 0) (option_map (λ n. n + 1) (first_edge test es)) ≡ Some f
+        → ((g : ℕ) → first_edge test es ≡ Some g → test (get_or es g d) ≡ true)
+        → test (get_or (e ∷ es) f d) ≡ true
     by true is h rest = subst (λ n. test (get_or (e ∷ es) n d) ≡ true) (ap (λ o. unwrap_or o 0) h) is
     by false is h rest = later (first_edge test es) refl h rest
 
-maker-makes : (edges : List EdgePaths) (path : List ℕ) (f : ℕ) → maker_of edges path ≡ Some f → is_among (outputs_of (edge_at edges f)) path ≡ true
+maker-makes : (edges : List EdgePaths) (path : List ℕ) (f : ℕ) → maker_of edges path ≡ Some f
+    → is_among (outputs_of (edge_at edges f)) path ≡ true
 maker-makes edges path f made = first-passes (λ e. is_among (outputs_of e) path) no-edge edges f made
 
-none-among : (path : List ℕ) (paths : List (List ℕ)) → AllByRecursion (λ other. bytes_eq path other ≡ false) paths → is_among paths path ≡ false
+none-among : (path : List ℕ) (paths : List (List ℕ))
+    → AllByRecursion (λ other. bytes_eq path other ≡ false) paths → is_among paths path ≡ false
 none-among path [] apart = refl
-none-among path (other ∷ paths) apart = ap (λ b. b || is_among paths path) apart.0 ∙ none-among path paths apart.1
+none-among path (other ∷ paths) apart =
+    ap (λ b. b || is_among paths path) apart.0 ∙ none-among path paths apart.1
 
 all-right : {X : Type 0} (P : X → Type 0) (xs ys : List X) → AllByRecursion P (xs ++ ys) → AllByRecursion P ys
 all-right P [] ys all = all
 all-right P (x ∷ xs) ys all = all-right P xs ys all.1
 
-distinct-right : (paths others : List (List ℕ)) → IsDistinct bytes_eq (paths ++ others) → IsDistinct bytes_eq others
+distinct-right : (paths others : List (List ℕ)) → IsDistinct bytes_eq (paths ++ others)
+    → IsDistinct bytes_eq others
 unfolding IsDistinct
 distinct-right [] others apart = apart
 distinct-right (path ∷ paths) others apart = distinct-right paths others apart.1
 
 -- an element of the second of two lists that are apart is not in the first
-apart-left : (paths others : List (List ℕ)) (path : List ℕ) → IsDistinct bytes_eq (paths ++ others) → is_among others path ≡ true → is_among paths path ≡ false
+apart-left : (paths others : List (List ℕ)) (path : List ℕ) → IsDistinct bytes_eq (paths ++ others)
+    → is_among others path ≡ true → is_among paths path ≡ false
 unfolding IsDistinct
 apart-left [] others path apart is = refl
-apart-left (p ∷ paths) others path apart is = by (bytes_eq path p) refl (apart-left paths others path apart.1 is)
+apart-left (p ∷ paths) others path apart is =
+    by (bytes_eq path p) refl (apart-left paths others path apart.1 is)
   where
     by : (b : Bool) → bytes_eq path p ≡ b → is_among paths path ≡ false → (b || is_among paths path) ≡ false
     by true same rest =
         let none = none-among p others (all-right (λ other. bytes_eq p other ≡ false) paths others apart.0) in
-        absurd (both_ways (is_among others p) none (subst (λ q. is_among others q ≡ true) (same-path path p same) is))
+        absurd (both_ways (is_among others p) none
+        (subst (λ q. is_among others q ≡ true) (same-path path p same) is))
     by false other rest = rest
 
 -- where no file has two makers, an edge is the maker of its outputs
-output-maker : (edges : List EdgePaths) → IsDistinct bytes_eq (flat_map outputs_of edges) → (path : List ℕ) (f : ℕ) → is_among (outputs_of (edge_at edges f)) path ≡ true → maker_of edges path ≡ Some f
+output-maker : (edges : List EdgePaths) → IsDistinct bytes_eq (flat_map outputs_of edges)
+    → (path : List ℕ) (f : ℕ) → is_among (outputs_of (edge_at edges f)) path ≡ true
+    → maker_of edges path ≡ Some f
 output-maker [] apart path f is = absurd (omega (arith, made-below [] f path is))
-output-maker (e ∷ edges) apart path zero is = ap (λ b. cond b (Some 0) (option_map (λ n. n + 1) (maker_of edges path))) is
+output-maker (e ∷ edges) apart path zero is =
+    ap (λ b. cond b (Some 0) (option_map (λ n. n + 1) (maker_of edges path))) is
 output-maker (e ∷ edges) apart path (suc f) is =
     let below : f < length edges = made-below edges f path is in
-    let among : is_among (flat_map outputs_of edges) path ≡ true = among-flat outputs_of path edges ∙ list_any_at (λ x. is_among (outputs_of x) path) edges f no-edge below is in
-    let other : is_among (outputs_of e) path ≡ false = apart-left (outputs_of e) (flat_map outputs_of edges) path apart among in
+    let among : is_among (flat_map outputs_of edges) path ≡ true =
+    among-flat outputs_of path edges ∙ list_any_at (λ x. is_among (outputs_of x) path) edges f no-edge
+    below is in
+    let other : is_among (outputs_of e) path ≡ false =
+    apart-left (outputs_of e) (flat_map outputs_of edges) path apart among in
     let after : f + 1 ≡ suc f = omega arith in
     ap (λ b. cond b (Some 0) (option_map (λ n. n + 1) (maker_of edges path))) other
-    ∙ ap (option_map (λ n. n + 1)) (output-maker edges (distinct-right (outputs_of e) (flat_map outputs_of edges) apart) path f is)
+    ∙ ap (option_map (λ n. n + 1)) (output-maker edges
+    (distinct-right (outputs_of e) (flat_map outputs_of edges) apart) path f is)
     ∙ ap Some after
 
 -- ---- the needs of edges
@@ -109,27 +133,36 @@ module _ (edges : List EdgePaths) where
   edge e = edge_at edges e
 
   -- the maker of an input is needed
-  needs-maker : (e f : ℕ) (path : List ℕ) → is_among (inputs_of (edge e)) path ≡ true → maker_of edges path ≡ Some f → Needs (makers_of_inputs edges) e f
+  needs-maker : (e f : ℕ) (path : List ℕ) → is_among (inputs_of (edge e)) path ≡ true
+      → maker_of edges path ≡ Some f → Needs (makers_of_inputs edges) e f
   needs-maker e f path input made =
       let has = among-contains path (inputs_of (edge e)) input in
-      let count = length-map (inputs_of (edge e)) (maker_of edges) in
-      (has.0, omega (arith, has.1, count), get_or-map (maker_of edges) (inputs_of (edge e)) has.0 path (Some f) has.1 ∙ ap (maker_of edges) has.2 ∙ made)
+      let count = length-map (inputs_of (edge e)) (maker_of edges) in (
+        has.0,
+        omega (arith, has.1, count),
+        get_or-map (maker_of edges) (inputs_of (edge e)) has.0 path
+            (Some f) has.1 ∙ ap (maker_of edges) has.2 ∙ made,
+      )
 
   -- where an output of `f` is an input of `e`, that is needed
-  takes-needs : IsDistinct bytes_eq (flat_map outputs_of edges) → (e f : ℕ) → has_input_of (outputs_of (edge f)) (edge e) ≡ true → Needs (makers_of_inputs edges) e f
+  takes-needs : IsDistinct bytes_eq (flat_map outputs_of edges) → (e f : ℕ)
+      → has_input_of (outputs_of (edge f)) (edge e) ≡ true → Needs (makers_of_inputs edges) e f
   takes-needs apart e f takes =
       let any = Any-from_list_any (is_among (inputs_of (edge e))) (outputs_of (edge f)) takes in
       let output = contains-among any.1 (outputs_of (edge f)) (any.0, any.2, any.3) in
       needs-maker e f any.1 any.4 (output-maker edges apart any.1 f output)
 
   -- and a needed edge makes an input
-  needs-takes : (e f : ℕ) → Needs (makers_of_inputs edges) e f → has_input_of (outputs_of (edge f)) (edge e) ≡ true
+  needs-takes : (e f : ℕ) → Needs (makers_of_inputs edges) e f
+      → has_input_of (outputs_of (edge f)) (edge e) ≡ true
   needs-takes e f needs =
       let inputs = inputs_of (edge e) in
       let below : needs.0 < length inputs = omega (arith, needs.1, length-map inputs (maker_of edges)) in
       let path = get_or inputs needs.0 [] in
-      let made : maker_of edges path ≡ Some f = sym (get_or-map (maker_of edges) inputs needs.0 [] (Some f) below) ∙ needs.2 in
-      let input : is_among inputs path ≡ true = list_any_at (bytes_eq path) inputs needs.0 [] below (nat_list_eq_equiv.refl path) in
+      let made : maker_of edges path ≡ Some f =
+      sym (get_or-map (maker_of edges) inputs needs.0 [] (Some f) below) ∙ needs.2 in
+      let input : is_among inputs path ≡ true =
+      list_any_at (bytes_eq path) inputs needs.0 [] below (nat_list_eq_equiv.refl path) in
       input-of path (outputs_of (edge f)) (edge e) (maker-makes edges path f made) input
 
   module _ (files : List (List ℕ)) where
@@ -139,23 +172,32 @@ module _ (edges : List EdgePaths) where
     abbrev NeedsFile : ℕ → Type 0
     NeedsFile e = (f : ℕ) × IsOrNeeds edges e f × HasFile f
 
-    affected-needs : IsDistinct bytes_eq (flat_map outputs_of edges) → (e : ℕ) → IsAffected edges files e → NeedsFile e
+    affected-needs : IsDistinct bytes_eq (flat_map outputs_of edges) → (e : ℕ) → IsAffected edges files e
+        → NeedsFile e
     affected-needs apart _ (by_file {e = e} has) = (e, inl refl, has)
     affected-needs apart _ (by_edge {e = e} {f = f} takes affected) =
         let step = takes-needs apart e f takes in
         by step (affected-needs apart f affected)
       where
         by : Needs (makers_of_inputs edges) e f → NeedsFile f → NeedsFile e
-        by step (g, inl same, has) = (g, inr (subst (λ x. NeedsByChain (makers_of_inputs edges) e x) same (one step)), has)
+        by step (g, inl same, has) = (
+          g,
+          inr
+              (subst (λ x. NeedsByChain (makers_of_inputs edges) e x) same (one step)),
+          has,
+        )
         by step (g, inr chain, has) = (g, inr (more step chain), has)
 
-    chain-affected : (e f : ℕ) → NeedsByChain (makers_of_inputs edges) e f → IsAffected edges files f → IsAffected edges files e
+    chain-affected : (e f : ℕ) → NeedsByChain (makers_of_inputs edges) e f → IsAffected edges files f
+        → IsAffected edges files e
     chain-affected e f (one step) affected = by_edge (needs-takes e f step) affected
-    chain-affected e f (more {g = g} step chain) affected = by_edge (needs-takes e g step) (chain-affected g f chain affected)
+    chain-affected e f (more {g = g} step chain) affected =
+        by_edge (needs-takes e g step) (chain-affected g f chain affected)
 
     needs-affected : (e : ℕ) → NeedsFile e → IsAffected edges files e
     needs-affected e (f, inl same, has) = subst (IsAffected edges files) (sym same) (by_file has)
     needs-affected e (f, inr chain, has) = chain-affected e f chain (by_file has)
 
 pub affected_edges_need_the_files : AffectedEdgesNeedTheFiles
-affected_edges_need_the_files edges files apart e = (affected-needs edges files apart e, needs-affected edges files e)
+affected_edges_need_the_files edges files apart e =
+    (affected-needs edges files apart e, needs-affected edges files e)

@@ -6,7 +6,8 @@ use Rattle.nj_edges.specs.Changes.{IsAffected, has_input_of}
 use Rattle.nj_edges.specs.Changes.IsAffected.{by_file, by_edge}
 
 -- a build statement with these inputs, order-only inputs and validations
-abbrev pub build : (output : List ℕ) → (inputs order_only validations : List (List ℕ)) → (is_phony : Bool) → EdgePaths
+abbrev pub build : (output : List ℕ) → (inputs order_only validations : List (List ℕ)) → (is_phony : Bool)
+    → EdgePaths
 build output inputs order_only validations is_phony = record {
   explicit_outputs = output ∷ [];
   implicit_outputs = [];
@@ -34,7 +35,8 @@ v = 118 ∷ []
 
 -- `build a: cc s`; `build p: phony a`; `build b: cc || p`; `build v: cc |@ a`
 abbrev pub four : List EdgePaths
-four = build a (s ∷ []) [] [] false ∷ build p (a ∷ []) [] [] true ∷ build b [] (p ∷ []) [] false ∷ build v [] [] (a ∷ []) false ∷ []
+four = build a (s ∷ []) [] [] false ∷ build p (a ∷ []) [] [] true ∷ build b [] (p ∷ []) [] false ∷ build v []
+    [] (a ∷ []) false ∷ []
 
 by-input : IsAffected four (s ∷ []) 0
 by-input = by_file refl
@@ -48,7 +50,8 @@ none-of (path ∷ paths) = none-of paths
 
 not-by-validation : IsAffected four (s ∷ []) 3 → ⊥
 not-by-validation (by_file has) = true≢false (sym has)
-not-by-validation (by_edge {f = f} has affected) = true≢false (sym has ∙ none-of (outputs_of (edge_at four f)))
+not-by-validation (by_edge {f = f} has affected) =
+    true≢false (sym has ∙ none-of (outputs_of (edge_at four f)))
 
 makes-no-input : (f : ℕ) → has_input_of (outputs_of (edge_at four f)) (edge_at four 0) ≡ false
 makes-no-input zero = refl

@@ -1,5 +1,6 @@
 -- Lemmas on how the makers of files are held.
-use Rattle.std.proofs.Common.{◌≡◌, ℕ, zero, suc, List, [], ◌∷◌, ◌++◌, length, replicate, slice_get, Option, None, Some, refl, sym, ap, ◌∙◌}
+use Rattle.std.proofs.Common.{◌≡◌, ℕ, zero, suc, List, [], ◌∷◌, ◌++◌, length, replicate, slice_get, Option}
+use Rattle.std.proofs.Common.{None, Some, refl, sym, ap, ◌∙◌}
 use Rattle.std.proofs.lemmas.List.{length-map, map-append}
 use Rattle.nj_names.specs.NameTables.{with_name}
 use Rattle.nj_edges.specs.Inside.EdgesHeld.{with_maker}
@@ -11,7 +12,9 @@ pub sources : (count : ℕ) → makers_held (replicate count 0) ≡ replicate co
 sources zero = refl
 sources (suc count) = ap (λ makers. None ∷ makers) (sources count)
 
-module _ (numbers : List ℕ) (makers : List (Option ℕ)) (held : makers_held numbers ≡ makers) (files : List (List ℕ)) (path : List ℕ) (n : ℕ) (count : length makers ≡ length files) (here : slice_get (with_name files path) n ≡ Some path) where
+module _ (numbers : List ℕ) (makers : List (Option ℕ)) (held : makers_held numbers ≡ makers)
+    (files : List (List ℕ)) (path : List ℕ) (n : ℕ) (count : length makers ≡ length files)
+    (here : slice_get (with_name files path) n ≡ Some path) where
   as-many : length numbers ≡ length makers
   as-many = sym (length-map numbers maker_held) ∙ ap length held
 

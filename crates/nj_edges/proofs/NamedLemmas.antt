@@ -1,5 +1,7 @@
 -- Lemmas on the files that edges name: they are the files that are held.
-use Rattle.std.proofs.Common.{◌≡◌, ◌<◌, ◌||◌, ℕ, zero, suc, Bool, true, false, List, [], ◌∷◌, map, length, take, drop, slice_get, Option, Some, bytes_eq, refl, sym, ap, subst, ◌∙◌, true≢false}
+use Rattle.std.proofs.Common.{◌≡◌, ◌<◌, ◌||◌, ℕ, zero, suc, Bool, true, false, List, [], ◌∷◌, map, length}
+use Rattle.std.proofs.Common.{take, drop, slice_get, Option, Some, bytes_eq, refl, sym, ap, subst, ◌∙◌}
+use Rattle.std.proofs.Common.{true≢false}
 use Rattle.std.specs.List.{AllByRecursion, IsDistinct, flat_map, list_any}
 use Rattle.std.proofs.Math.Bool.{or-true}
 use Rattle.std.proofs.Math.Seq.{drop-length}
@@ -14,7 +16,9 @@ use Rattle.nj_edges.specs.declared.edges.EdgeRow.{EdgeRow}
 use Rattle.nj_edges.specs.declared.edges.OpenStarts.{OpenStarts}
 use Rattle.nj_edges.specs.Edges.{EdgePaths, inputs_of, is_among, is_named, outputs_of}
 use Rattle.nj_edges.specs.EdgeGraphs.{EdgeGraph}
-use Rattle.nj_edges.specs.Inside.EdgesHeld.{paths_at, within, edge_of, edges_of, table_of, has_number, AreNumbers, AreJoined, AreNamed, RowIsWithin, EdgesAreHeld, TableIsHeld}
+use Rattle.nj_edges.specs.Inside.EdgesHeld.{paths_at, within, edge_of, edges_of, table_of, has_number}
+use Rattle.nj_edges.specs.Inside.EdgesHeld.{AreNumbers, AreJoined, AreNamed, RowIsWithin, EdgesAreHeld}
+use Rattle.nj_edges.specs.Inside.EdgesHeld.{TableIsHeld}
 use Rattle.nj_edges.specs.EdgeTables.{OpenEdge, EdgeTable, no_files, is_named_so_far}
 use Rattle.nj_names.specs.Files.{AreFiles, path_at}
 use Rattle.nj_edges.specs.Inside.GraphHeld.{ends_of}
@@ -32,39 +36,52 @@ or-parts false false true false y z = sym (or-true y)
 or-parts false false false false y z = refl
 
 or-same : {a b c x y z : Bool} → a ≡ x → b ≡ y → c ≡ z → (a || b || c) ≡ (x || y || z)
-or-same {b = b} {c = c} {x = x} {y = y} p q r = ap (λ t. t || b || c) p ∙ ap (λ t. x || t || c) q ∙ ap (λ t. x || y || t) r
+or-same {b = b} {c = c} {x = x} {y = y} p q r =
+    ap (λ t. t || b || c) p ∙ ap (λ t. x || t || c) q ∙ ap (λ t. x || y || t) r
 
 or-none : (b : Bool) → (b || false) ≡ b
 or-none true = refl
 or-none false = refl
 
-any-parts : {E : Type 0} (p q r : E → Bool) (es : List E) → list_any (λ e. p e || q e || r e) es ≡ (list_any p es || list_any q es || list_any r es)
+any-parts : {E : Type 0} (p q r : E → Bool) (es : List E)
+    → list_any (λ e. p e || q e || r e) es ≡ (list_any p es || list_any q es || list_any r es)
 any-parts p q r [] = refl
-any-parts p q r (e ∷ es) = ap (λ b. (p e || q e || r e) || b) (any-parts p q r es) ∙ or-parts (p e) (q e) (r e) (list_any p es) (list_any q es) (list_any r es)
+any-parts p q r (e ∷ es) = ap (λ b. (p e || q e || r e) || b) (any-parts p q r es)
+    ∙ or-parts (p e) (q e) (r e) (list_any p es) (list_any q es) (list_any r es)
 
 -- ---- numbers
 
 -- a path that is among them has a position
-found-get : (path : List ℕ) (files : List (List ℕ)) → list_any (bytes_eq path) files ≡ true → (n : ℕ) × (slice_get files n ≡ Some path)
+found-get : (path : List ℕ) (files : List (List ℕ)) → list_any (bytes_eq path) files ≡ true
+    → (n : ℕ) × (slice_get files n ≡ Some path)
 found-get path [] h = absurd (true≢false (sym h))
 found-get path (p ∷ files) h = by (bytes_eq path p) refl h (found-get path files)
   where
-    by : (b : Bool) → bytes_eq path p ≡ b → (b || list_any (bytes_eq path) files) ≡ true → (list_any (bytes_eq path) files ≡ true → (n : ℕ) × (slice_get files n ≡ Some path)) → (n : ℕ) × (slice_get (p ∷ files) n ≡ Some path)
+    by : (b : Bool) → bytes_eq path p ≡ b → (b || list_any (bytes_eq path) files) ≡ true
+        → (list_any (bytes_eq path) files ≡ true → (n : ℕ) × (slice_get files n ≡ Some path))
+        → (n : ℕ) × (slice_get (p ∷ files) n ≡ Some path)
     by true e h' more = (zero, ap Some (sym ((bytes_eq-Decides path p).0 e)))
     by false e h' more = let rest = more h' in (suc rest.0, rest.1)
 
-pub none-among : (files : List (List ℕ)) (path : List ℕ) → list_any (bytes_eq path) files ≡ false → (ns : List FileNo) → AreNumbers (length files) ns → is_among (paths_at files ns) path ≡ false
+pub none-among : (files : List (List ℕ)) (path : List ℕ) → list_any (bytes_eq path) files ≡ false
+    → (ns : List FileNo) → AreNumbers (length files) ns → is_among (paths_at files ns) path ≡ false
 none-among files path absent [] are = refl
-none-among files path absent (f ∷ ns) are = by (bytes_eq path (path_at files f)) refl (none-among files path absent ns are.1)
+none-among files path absent (f ∷ ns) are =
+    by (bytes_eq path (path_at files f)) refl (none-among files path absent ns are.1)
   where
-    by : (b : Bool) → bytes_eq path (path_at files f) ≡ b → is_among (paths_at files ns) path ≡ false → is_among (paths_at files (f ∷ ns)) path ≡ false
-    by true e more = absurd (true≢false (sym (among-get files f.0 path (get-path files f are.0 ∙ ap Some (sym ((bytes_eq-Decides path (path_at files f)).0 e)))) ∙ absent))
+    by : (b : Bool) → bytes_eq path (path_at files f) ≡ b → is_among (paths_at files ns) path ≡ false
+        → is_among (paths_at files (f ∷ ns)) path ≡ false
+    by true e more = absurd (true≢false (sym
+        (among-get files f.0 path (get-path files f are.0
+        ∙ ap Some (sym ((bytes_eq-Decides path (path_at files f)).0 e)))) ∙ absent))
     by false e more = ap (λ b. b || is_among (paths_at files ns) path) e ∙ more
 
 -- ---- parts of edges
 
-parts-paths : (files : List (List ℕ)) (part : EdgePaths → List (List ℕ)) (ns : List FileNo) (span : EdgeRow → Span) (edge : EdgeRow → EdgePaths) (P : EdgeRow → Type 0)
-    → ((row : EdgeRow) → P row → part (edge row) ≡ paths_at files (within ns (span row))) → (rows : List EdgeRow) → AllByRecursion P rows
+parts-paths : (files : List (List ℕ)) (part : EdgePaths → List (List ℕ)) (ns : List FileNo)
+    (span : EdgeRow → Span) (edge : EdgeRow → EdgePaths) (P : EdgeRow → Type 0)
+    → ((row : EdgeRow) → P row → part (edge row) ≡ paths_at files (within ns (span row)))
+    → (rows : List EdgeRow) → AllByRecursion P rows
     → flat_map part (map edge rows) ≡ paths_at files (flat_map (within ns) (map span rows))
 parts-paths files part ns span edge P same [] all = refl
 parts-paths files part ns span edge P same (row ∷ rows) all =
@@ -73,10 +90,13 @@ parts-paths files part ns span edge P same (row ∷ rows) all =
     let join = map-append (path_at files) (within ns (span row)) (flat_map (within ns) (map span rows)) in
     rw (first, more) (sym join)
 
-among-parts : (files : List (List ℕ)) (part : EdgePaths → List (List ℕ)) (ns : List FileNo) (span : EdgeRow → Span) (edge : EdgeRow → EdgePaths) (P : EdgeRow → Type 0)
-    → ((row : EdgeRow) → P row → part (edge row) ≡ paths_at files (within ns (span row))) → (rows : List EdgeRow) → AllByRecursion P rows
+among-parts : (files : List (List ℕ)) (part : EdgePaths → List (List ℕ)) (ns : List FileNo)
+    (span : EdgeRow → Span) (edge : EdgeRow → EdgePaths) (P : EdgeRow → Type 0)
+    → ((row : EdgeRow) → P row → part (edge row) ≡ paths_at files (within ns (span row)))
+    → (rows : List EdgeRow) → AllByRecursion P rows
     → (start : ℕ) → AreJoined (map span rows) start ns → (path : List ℕ)
-    → is_among (paths_at files ns) path ≡ (list_any (λ e. is_among (part e) path) (map edge rows) || is_among (paths_at files (drop start ns)) path)
+    → is_among (paths_at files ns) path ≡ (list_any (λ e. is_among (part e) path) (map edge rows)
+    || is_among (paths_at files (drop start ns)) path)
 among-parts files part ns span edge P same rows all start joined path =
     ap (λ xs. is_among (paths_at files xs) path) (sym (take-append-drop start ns))
     ∙ ap (λ ps. is_among ps path) (map-append (path_at files) (take start ns) (drop start ns))
@@ -86,16 +106,27 @@ among-parts files part ns span edge P same rows all start joined path =
     ∙ ap (λ ps. is_among ps path) (sym (parts-paths files part ns span edge P same rows all))
     ∙ among-flat part path (map edge rows))
 
-module _ (files : List (List ℕ)) (makers : List (Option ℕ)) (outputs inputs validations : List FileNo) (rows : List EdgeRow) (starts : OpenStarts) (held : EdgesAreHeld files makers outputs inputs validations rows starts) (named : AreNamed (length files) outputs inputs validations) (path : List ℕ) where
-  at-numbers : list_any (bytes_eq path) files ≡ (is_among (paths_at files outputs) path || is_among (paths_at files inputs) path || is_among (paths_at files validations) path)
+module _ (files : List (List ℕ)) (makers : List (Option ℕ)) (outputs inputs validations : List FileNo)
+    (rows : List EdgeRow) (starts : OpenStarts)
+    (held : EdgesAreHeld files makers outputs inputs validations rows starts)
+    (named : AreNamed (length files) outputs inputs validations) (path : List ℕ) where
+  at-numbers : list_any (bytes_eq path) files
+      ≡ (is_among (paths_at files outputs) path || is_among (paths_at files inputs) path
+      || is_among (paths_at files validations) path)
   at-numbers = by (list_any (bytes_eq path) files) refl
     where
-      by : (b : Bool) → list_any (bytes_eq path) files ≡ b → b ≡ (is_among (paths_at files outputs) path || is_among (paths_at files inputs) path || is_among (paths_at files validations) path)
+      by : (b : Bool) → list_any (bytes_eq path) files ≡ b
+          → b ≡ (is_among (paths_at files outputs) path || is_among (paths_at files inputs) path
+          || is_among (paths_at files validations) path)
       by true e =
           let n = found-get path files e in
           sym (named n.0 (slice_get_within files n.0 path n.1))
-          ∙ or-same (has-among files held.distinct n.0 path n.1 outputs held.outputs_are) (has-among files held.distinct n.0 path n.1 inputs held.inputs_are) (has-among files held.distinct n.0 path n.1 validations held.validations_are)
-      by false e = sym (or-same (none-among files path e outputs held.outputs_are) (none-among files path e inputs held.inputs_are) (none-among files path e validations held.validations_are))
+          ∙ or-same (has-among files held.distinct n.0 path n.1 outputs held.outputs_are)
+          (has-among files held.distinct n.0 path n.1 inputs held.inputs_are)
+          (has-among files held.distinct n.0 path n.1 validations held.validations_are)
+      by false e = sym (or-same (none-among files path e outputs held.outputs_are)
+          (none-among files path e inputs held.inputs_are)
+          (none-among files path e validations held.validations_are))
 
   abbrev edge : EdgeRow → EdgePaths
   edge = edge_of files outputs inputs validations
@@ -103,47 +134,90 @@ module _ (files : List (List ℕ)) (makers : List (Option ℕ)) (outputs inputs 
   abbrev Inside : EdgeRow → Type 0
   Inside = RowIsWithin starts.outputs starts.inputs starts.validations
 
-  outputs-among : is_among (paths_at files outputs) path ≡ (list_any (λ e. is_among (outputs_of e) path) (map edge rows) || is_among (paths_at files (drop starts.outputs outputs)) path)
-  outputs-among = among-parts files outputs_of outputs (λ row. row.outputs) edge Inside (λ row inside. take-append-drop row.kinds.explicit_outputs (paths_at files (within outputs row.outputs))) rows held.rows_are starts.outputs held.outputs_joined path
+  outputs-among : is_among (paths_at files outputs) path
+      ≡ (list_any (λ e. is_among (outputs_of e) path) (map edge rows)
+      || is_among (paths_at files (drop starts.outputs outputs)) path)
+  outputs-among = among-parts files outputs_of outputs (λ row. row.outputs) edge Inside
+      (λ row inside. take-append-drop row.kinds.explicit_outputs
+      (paths_at files (within outputs row.outputs))) rows held.rows_are starts.outputs held.outputs_joined
+      path
 
-  inputs-among : is_among (paths_at files inputs) path ≡ (list_any (λ e. is_among (inputs_of e) path) (map edge rows) || is_among (paths_at files (drop starts.inputs inputs)) path)
-  inputs-among = among-parts files inputs_of inputs (λ row. row.inputs) edge Inside (λ row inside. kinds-joined (paths_at files (within inputs row.inputs)) row.kinds.explicit_inputs row.kinds.implicit_inputs inside.kinds.explicit_inputs) rows held.rows_are starts.inputs held.inputs_joined path
+  inputs-among : is_among (paths_at files inputs) path
+      ≡ (list_any (λ e. is_among (inputs_of e) path) (map edge rows)
+      || is_among (paths_at files (drop starts.inputs inputs)) path)
+  inputs-among = among-parts files inputs_of inputs (λ row. row.inputs) edge Inside
+      (λ row inside. kinds-joined (paths_at files (within inputs row.inputs)) row.kinds.explicit_inputs
+      row.kinds.implicit_inputs inside.kinds.explicit_inputs) rows held.rows_are starts.inputs
+      held.inputs_joined path
 
-  validations-among : is_among (paths_at files validations) path ≡ (list_any (λ (e : EdgePaths). is_among e.validations path) (map edge rows) || is_among (paths_at files (drop starts.validations validations)) path)
-  validations-among = among-parts files (λ e. e.validations) validations (λ row. row.validations) edge Inside (λ row inside. refl) rows held.rows_are starts.validations held.validations_joined path
+  validations-among : is_among (paths_at files validations) path
+      ≡ (list_any (λ (e : EdgePaths). is_among e.validations path) (map edge rows)
+      || is_among (paths_at files (drop starts.validations validations)) path)
+  validations-among = among-parts files (λ e. e.validations) validations (λ row. row.validations) edge Inside
+      (λ row inside. refl) rows held.rows_are starts.validations held.validations_joined path
 
   -- the files that are held are those that edges name
-  pub named-files : list_any (bytes_eq path) files ≡ is_named_so_far (table_of files outputs inputs validations rows starts) path
+  pub named-files : list_any (bytes_eq path) files
+      ≡ is_named_so_far (table_of files outputs inputs validations rows starts) path
   named-files =
       at-numbers ∙ or-same outputs-among inputs-among validations-among
-      ∙ sym (or-parts (list_any (λ e. is_among (outputs_of e) path) (map edge rows)) (list_any (λ e. is_among (inputs_of e) path) (map edge rows)) (list_any (λ (e : EdgePaths). is_among e.validations path) (map edge rows))
-      (is_among (paths_at files (drop starts.outputs outputs)) path) (is_among (paths_at files (drop starts.inputs inputs)) path) (is_among (paths_at files (drop starts.validations validations)) path))
-      ∙ ap (λ b. b || (is_among (paths_at files (drop starts.outputs outputs)) path || is_among (paths_at files (drop starts.inputs inputs)) path || is_among (paths_at files (drop starts.validations validations)) path))
-      (sym (any-parts (λ e. is_among (outputs_of e) path) (λ e. is_among (inputs_of e) path) (λ (e : EdgePaths). is_among e.validations path) (map edge rows)))
+      ∙ sym (or-parts (list_any (λ e. is_among (outputs_of e) path) (map edge rows))
+      (list_any (λ e. is_among (inputs_of e) path) (map edge rows))
+      (list_any (λ (e : EdgePaths). is_among e.validations path) (map edge rows))
+      (is_among (paths_at files (drop starts.outputs outputs)) path)
+      (is_among (paths_at files (drop starts.inputs inputs)) path)
+      (is_among (paths_at files (drop starts.validations validations)) path))
+      ∙ ap (λ b. b || (is_among (paths_at files (drop starts.outputs outputs)) path
+      || is_among (paths_at files (drop starts.inputs inputs)) path
+      || is_among (paths_at files (drop starts.validations validations)) path))
+      (sym (any-parts (λ e. is_among (outputs_of e) path) (λ e. is_among (inputs_of e) path)
+      (λ (e : EdgePaths). is_among e.validations path) (map edge rows)))
 
 -- where no edge is being read
-pub closed-named : (t : EdgeTable) (path : List ℕ) → t.«open» ≡ no_files → is_named_so_far t path ≡ is_named t.edges path
-closed-named t path none = ap (λ (o : OpenEdge). is_named t.edges path || (is_among o.outputs path || is_among o.inputs path || is_among o.validations path)) none ∙ or-none (is_named t.edges path)
+pub closed-named : (t : EdgeTable) (path : List ℕ) → t.«open» ≡ no_files
+    → is_named_so_far t path ≡ is_named t.edges path
+closed-named t path none = ap (λ (o : OpenEdge). is_named t.edges path
+    || (is_among o.outputs path || is_among o.inputs path || is_among o.validations path)) none
+    ∙ or-none (is_named t.edges path)
 
-pub table-files : (files : List (List ℕ)) (makers : List (Option ℕ)) (outputs inputs validations : List FileNo) (rows : List EdgeRow) (starts : OpenStarts) → TableIsHeld files makers outputs inputs validations rows starts
-    → (t : EdgeTable) → table_of files outputs inputs validations rows starts ≡ t → (path : List ℕ) → list_any (bytes_eq path) t.files ≡ is_named_so_far t path
+pub table-files : (files : List (List ℕ)) (makers : List (Option ℕ))
+    (outputs inputs validations : List FileNo) (rows : List EdgeRow) (starts : OpenStarts)
+    → TableIsHeld files makers outputs inputs validations rows starts
+    → (t : EdgeTable) → table_of files outputs inputs validations rows starts ≡ t → (path : List ℕ)
+    → list_any (bytes_eq path) t.files ≡ is_named_so_far t path
 table-files files makers outputs inputs validations rows starts held t is path =
-    subst (λ u. list_any (bytes_eq path) u.files ≡ is_named_so_far u path) is (named-files files makers outputs inputs validations rows starts held.edges_are held.named path)
+    subst (λ u. list_any (bytes_eq path) u.files ≡ is_named_so_far u path) is
+    (named-files files makers outputs inputs validations rows starts held.edges_are held.named path)
 
-pub graph-files : (files : List (List ℕ)) (makers : List (Option ℕ)) (outputs inputs validations : List FileNo) (rows : List EdgeRow) → EdgesAreHeld files makers outputs inputs validations rows (ends_of outputs inputs validations) → AreNamed (length files) outputs inputs validations
-    → (g : EdgeGraph) → record { files = files; edges = edges_of files outputs inputs validations rows } ≡ g → (path : List ℕ) → list_any (bytes_eq path) g.files ≡ is_named g.edges path
+pub graph-files : (files : List (List ℕ)) (makers : List (Option ℕ))
+    (outputs inputs validations : List FileNo) (rows : List EdgeRow)
+    → EdgesAreHeld files makers outputs inputs validations rows (ends_of outputs inputs validations)
+    → AreNamed (length files) outputs inputs validations
+    → (g : EdgeGraph) → record { files = files; edges = edges_of files outputs inputs validations rows } ≡ g
+    → (path : List ℕ) → list_any (bytes_eq path) g.files ≡ is_named g.edges path
 graph-files files makers outputs inputs validations rows held named g is path =
-    let none : (table_of files outputs inputs validations rows (ends_of outputs inputs validations)).«open» ≡ no_files = rw (drop-length outputs, drop-length inputs, drop-length validations) refl in
+    let none : (table_of files outputs inputs validations rows (ends_of outputs inputs validations)).«open»
+    ≡ no_files = rw (drop-length outputs, drop-length inputs, drop-length validations) refl in
     subst (λ (h : EdgeGraph). list_any (bytes_eq path) h.files ≡ is_named h.edges path) is
-    (named-files files makers outputs inputs validations rows (ends_of outputs inputs validations) held named path ∙ closed-named (table_of files outputs inputs validations rows (ends_of outputs inputs validations)) path none)
+    (named-files files makers outputs inputs validations rows (ends_of outputs inputs validations) held named
+    path ∙ closed-named (table_of files outputs inputs validations rows
+    (ends_of outputs inputs validations)) path none)
 
 -- ---- the files of the edge that is being read
 
-pub open-files : (files : List (List ℕ)) (ns : List FileNo) (start : ℕ) → AreNumbers (length files) ns → AreFiles files (drop start ns) (paths_at files (drop start ns))
-open-files files ns start are = files-at files (drop start ns) (all-drop (λ f. f.0 < length files) start ns are)
+pub open-files : (files : List (List ℕ)) (ns : List FileNo) (start : ℕ) → AreNumbers (length files) ns
+    → AreFiles files (drop start ns) (paths_at files (drop start ns))
+open-files files ns start are = files-at files (drop start ns)
+    (all-drop (λ f. f.0 < length files) start ns are)
 
-pub open-has : (files : List (List ℕ)) (ns : List FileNo) (start : ℕ) → IsDistinct bytes_eq files → AreNumbers (length files) ns → (n : ℕ) (path : List ℕ) → slice_get files n ≡ Some path → has_number n (drop start ns) ≡ is_among (paths_at files (drop start ns)) path
-open-has files ns start distinct are n path here = has-among files distinct n path here (drop start ns) (all-drop (λ f. f.0 < length files) start ns are)
+pub open-has : (files : List (List ℕ)) (ns : List FileNo) (start : ℕ) → IsDistinct bytes_eq files
+    → AreNumbers (length files) ns → (n : ℕ) (path : List ℕ) → slice_get files n ≡ Some path
+    → has_number n (drop start ns) ≡ is_among (paths_at files (drop start ns)) path
+open-has files ns start distinct are n path here =
+    has-among files distinct n path here (drop start ns) (all-drop (λ f. f.0 < length files) start ns are)
 
-pub open-none : (files : List (List ℕ)) (ns : List FileNo) (start : ℕ) → AreNumbers (length files) ns → (path : List ℕ) → list_any (bytes_eq path) files ≡ false → is_among (paths_at files (drop start ns)) path ≡ false
-open-none files ns start are path absent = none-among files path absent (drop start ns) (all-drop (λ f. f.0 < length files) start ns are)
+pub open-none : (files : List (List ℕ)) (ns : List FileNo) (start : ℕ) → AreNumbers (length files) ns
+    → (path : List ℕ) → list_any (bytes_eq path) files ≡ false
+    → is_among (paths_at files (drop start ns)) path ≡ false
+open-none files ns start are path absent =
+    none-among files path absent (drop start ns) (all-drop (λ f. f.0 < length files) start ns are)

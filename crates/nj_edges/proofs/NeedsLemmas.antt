@@ -1,9 +1,12 @@
 -- Lemmas on the search for the edges that an edge needs.
-use Rattle.std.proofs.Common.{◌≡◌, ◌<◌, ◌≤◌, ◌+◌, ◌↔◌, inl, inr, ℕ, Bool, true, false, Option, Some, None, List, [], ◌∷◌, ◌++◌, map, length, take, get_or, refl, sym, ap, subst, ◌∙◌, arith}
+use Rattle.std.proofs.Common.{◌≡◌, ◌<◌, ◌≤◌, ◌+◌, ◌↔◌, inl, inr, ℕ, Bool, true, false, Option, Some, None}
+use Rattle.std.proofs.Common.{List, [], ◌∷◌, ◌++◌, map, length, take, get_or, refl, sym, ap, subst, ◌∙◌}
+use Rattle.std.proofs.Common.{arith}
 use Rattle.std.specs.Prelude.{Contains, slice_index}
 use Rattle.std.proofs.lemmas.Bool.{both_ways, cases_lt}
 use Rattle.std.proofs.lemmas.List.{map_push, take_more}
-use Rattle.std.proofs.lemmas.List.Elements.{All-push, Contains-append_left, Contains-push, Contains-push_cases}
+use Rattle.std.proofs.lemmas.List.Elements.{All-push, Contains-append_left, Contains-push}
+use Rattle.std.proofs.lemmas.List.Elements.{Contains-push_cases}
 use Rattle.std.proofs.lemmas.Option.{same_Some}
 use Rattle.nj_names.specs.declared.files.FileNo.{FileNo}
 use Rattle.nj_names.specs.Files.{path_at}
@@ -21,7 +24,8 @@ use Rattle.nj_edges.specs.Edges.{EdgePaths, edge_at, inputs_of, maker_of}
 use Rattle.nj_edges.specs.Needs.{makers_of_inputs}
 use Rattle.nj_edges.specs.Inside.ChangesHeld.{FindsMore}
 use Rattle.nj_edges.proofs.ChangeLemmas.{finds-one, finds-then}
-use Rattle.nj_edges.specs.Inside.NeedsSearched.{AreMakers, AreStarts, Finds, IsReached, IsSearch, IsSearchAt, IsSearched, Tells}
+use Rattle.nj_edges.specs.Inside.NeedsSearched.{AreMakers, AreStarts, Finds, IsReached, IsSearch, IsSearchAt}
+use Rattle.nj_edges.specs.Inside.NeedsSearched.{IsSearched, Tells}
 use Rattle.nj_edges.specs.declared.search_state.SearchState.{SearchState}
 
 contains-none : (e : ℕ) → Contains [] e → ⊥
@@ -31,7 +35,8 @@ module _ (edges : List EdgePaths) where
   abbrev Step : ℕ → ℕ → Type 0
   Step = Needs (makers_of_inputs edges)
 
-  pub reached-needed : (starts : List ℕ) (edge maker : ℕ) → AreStarts edges edge starts → IsReached edges starts maker ↔ NeedsByChain (makers_of_inputs edges) edge maker
+  pub reached-needed : (starts : List ℕ) (edge maker : ℕ) → AreStarts edges edge starts
+      → IsReached edges starts maker ↔ NeedsByChain (makers_of_inputs edges) edge maker
   reached-needed starts edge maker are = (forth, back)
     where
       forth : IsReached edges starts maker → NeedsByChain (makers_of_inputs edges) edge maker
@@ -48,7 +53,8 @@ module _ (edges : List EdgePaths) where
 
   -- ---- turn by turn
 
-  pub searched-none : (found : NumberSetModel) → found ≡ record { limit = length edges; numbers = [] } → IsSearched edges [] found 0
+  pub searched-none : (found : NumberSetModel) → found ≡ record { limit = length edges; numbers = [] }
+      → IsSearched edges [] found 0
   searched-none found empty = record {
     limit = ap (λ (s : NumberSetModel). s.limit) empty;
     within = omega arith;
@@ -57,35 +63,42 @@ module _ (edges : List EdgePaths) where
     closed = λ i e below. absurd (omega (arith, below));
   }
 
-  pub searched-starts : (starts : List ℕ) (none new : NumberSetModel) → none ≡ record { limit = length edges; numbers = [] } → FindsMore (Contains starts) none new → IsSearched edges starts new 0
+  pub searched-starts : (starts : List ℕ) (none new : NumberSetModel)
+      → none ≡ record { limit = length edges; numbers = [] } → FindsMore (Contains starts) none new
+      → IsSearched edges starts new 0
   searched-starts starts none new empty finds = record {
     limit = finds.limit ∙ ap (λ (s : NumberSetModel). s.limit) empty;
     within = omega arith;
     sound = λ e is. elim (finds.fresh e is) [
-      | inl before ↦ absurd (contains-none e (subst (λ (s : NumberSetModel). Contains s.numbers e) empty before))
+      | inl before ↦ absurd (contains-none e
+          (subst (λ (s : NumberSetModel). Contains s.numbers e) empty before))
       | inr has ↦ (e, has, inl refl)
     ];
     begun = finds.all;
     closed = λ i e below. absurd (omega (arith, below));
   }
 
-  module _ (starts : List ℕ) (old new : NumberSetModel) (place : ℕ) (below : place < length old.numbers) (held : IsSearched edges starts old place)
+  module _ (starts : List ℕ) (old new : NumberSetModel) (place : ℕ) (below : place < length old.numbers)
+      (held : IsSearched edges starts old place)
       (finds : FindsMore (Step (slice_index old.numbers place)) old new) where
     sound-on : (e : ℕ) → Contains new.numbers e → IsReached edges starts e
     sound-on e is = elim (finds.fresh e is) [
       | inl before ↦ held.sound e before
       | inr step ↦
-          let from = held.sound (slice_index old.numbers place) (contains_at old.numbers place (slice_index old.numbers place) below refl) in
+          let from = held.sound (slice_index old.numbers place)
+          (contains_at old.numbers place (slice_index old.numbers place) below refl) in
           (from.0, from.1, step-on from.0 (slice_index old.numbers place) e from.2 step)
     ]
 
     closed-on : (i e : ℕ) → i < place + 1 → Step (slice_index new.numbers i) e → Contains new.numbers e
     closed-on i e within step =
         let before : i < length old.numbers = omega (arith, within, below) in
-        let old_step : Step (slice_index old.numbers i) e = subst (λ n. Step n e) (finds.stays i before) step in
+        let old_step : Step (slice_index old.numbers i) e = subst (λ n. Step n e) (finds.stays i before) step
+        in
         elim (cases_lt i place) [
           | inl earlier ↦ finds.kept e (held.closed i e earlier old_step)
-          | inr now ↦ let is : i ≡ place = omega (arith, now, within) in finds.all e (subst (λ n. Step (slice_index old.numbers n) e) is old_step)
+          | inr now ↦ let is : i ≡ place = omega (arith, now, within)
+              in finds.all e (subst (λ n. Step (slice_index old.numbers n) e) is old_step)
         ]
 
     pub searched-continues : IsSearched edges starts new (place + 1)
@@ -98,13 +111,15 @@ module _ (edges : List EdgePaths) where
     }
 
   -- at the end nothing is missing
-  module _ (starts : List ℕ) (found : NumberSetModel) (place : ℕ) (past : length found.numbers ≤ place) (held : IsSearched edges starts found place) where
+  module _ (starts : List ℕ) (found : NumberSetModel) (place : ℕ) (past : length found.numbers ≤ place)
+      (held : IsSearched edges starts found place) where
     closed-step : (e f : ℕ) → Contains found.numbers e → Step e f → Contains found.numbers f
     closed-step e f has step =
         let at = index_of found.numbers e has in
         held.closed at.0 f (omega (arith, at.1, past)) (subst (λ n. Step n f) (sym at.2) step)
 
-    closed-chain : (e f : ℕ) → Contains found.numbers e → NeedsByChain (makers_of_inputs edges) e f → Contains found.numbers f
+    closed-chain : (e f : ℕ) → Contains found.numbers e → NeedsByChain (makers_of_inputs edges) e f
+        → Contains found.numbers f
     closed-chain e f has (one step) = closed-step e f has step
     closed-chain e f has (more {g = g} step chain) = closed-chain g f (closed-step e g has step) chain
 
@@ -114,52 +129,68 @@ module _ (edges : List EdgePaths) where
 
   -- ---- between two questions
 
-  pub goes-on : (old new : SearchState) → new.edge ≡ old.edge → new.starts.items ≡ old.starts.items → IsSearched edges old.starts.items new.found new.place → IsSearch edges old → IsSearch edges new
+  pub goes-on : (old new : SearchState) → new.edge ≡ old.edge → new.starts.items ≡ old.starts.items
+      → IsSearched edges old.starts.items new.found new.place → IsSearch edges old → IsSearch edges new
   goes-on old new same starts held search = record {
     at_edge = λ e is. subst (AreStarts edges e.0) (sym starts) (search.at_edge e (sym same ∙ is));
     searched = subst (λ ss. IsSearched edges ss new.found new.place) (sym starts) held;
   }
 
-  pub started : (s : SearchState) (edge : EdgeNo) → s.edge ≡ Some edge → AreStarts edges edge.0 s.starts.items → IsSearched edges s.starts.items s.found s.place → IsSearchAt edges edge.0 s
+  pub started : (s : SearchState) (edge : EdgeNo) → s.edge ≡ Some edge → AreStarts edges edge.0 s.starts.items
+      → IsSearched edges s.starts.items s.found s.place → IsSearchAt edges edge.0 s
   started s edge is are held = record {
     starts_are = are;
     search = record {
-      at_edge = λ e same. subst (λ (x : EdgeNo). AreStarts edges x.0 s.starts.items) (same_Some edge e (sym is ∙ same)) are;
+      at_edge = λ e same. subst (λ (x : EdgeNo). AreStarts edges x.0 s.starts.items)
+          (same_Some edge e (sym is ∙ same)) are;
       searched = held;
     };
   }
 
-  pub tells-needed : (starts : List ℕ) (edge other : ℕ) → (edge ≡ other → ⊥) → AreStarts edges edge starts → (answer : Bool) → Tells answer (IsReached edges starts other) → Tells answer (IsOrNeeds edges edge other)
-  tells-needed starts edge other apart are true reached = inr ((reached-needed starts edge other are).0 reached)
+  pub tells-needed : (starts : List ℕ) (edge other : ℕ) → (edge ≡ other → ⊥) → AreStarts edges edge starts
+      → (answer : Bool) → Tells answer (IsReached edges starts other)
+      → Tells answer (IsOrNeeds edges edge other)
+  tells-needed starts edge other apart are true reached =
+      inr ((reached-needed starts edge other are).0 reached)
   tells-needed starts edge other apart are false not-reached = λ needs. by needs
     where
       by : IsOrNeeds edges edge other → ⊥
       by (inl is) = apart is
       by (inr chain) = not-reached ((reached-needed starts edge other are).1 chain)
 
-  pub finds-it : (old new : SearchState) (edge : ℕ) → has new.found.numbers edge ≡ true → new.edge ≡ old.edge → new.starts.items ≡ old.starts.items
-      → IsSearched edges old.starts.items new.found new.place → IsSearch edges old → Finds edges edge old new true
+  pub finds-it : (old new : SearchState) (edge : ℕ) → has new.found.numbers edge ≡ true → new.edge ≡ old.edge
+      → new.starts.items ≡ old.starts.items
+      → IsSearched edges old.starts.items new.found new.place → IsSearch edges old
+      → Finds edges edge old new true
   finds-it old new edge is same starts held search = record {
     tells = held.sound edge (has-contains new.found.numbers edge is);
     search = goes-on old new same starts held search;
   }
 
-  pub finds-not : (old new : SearchState) (edge : ℕ) → has new.found.numbers edge ≡ false → length new.found.numbers ≤ new.place → new.edge ≡ old.edge → new.starts.items ≡ old.starts.items
-      → IsSearched edges old.starts.items new.found new.place → IsSearch edges old → Finds edges edge old new false
+  pub finds-not : (old new : SearchState) (edge : ℕ) → has new.found.numbers edge ≡ false
+      → length new.found.numbers ≤ new.place → new.edge ≡ old.edge → new.starts.items ≡ old.starts.items
+      → IsSearched edges old.starts.items new.found new.place → IsSearch edges old
+      → Finds edges edge old new false
   finds-not old new edge is past same starts held search = record {
-    tells = λ reached. both_ways (has new.found.numbers edge) is (contains-has new.found.numbers edge (searched-all old.starts.items new.found new.place past held edge reached));
+    tells = λ reached. both_ways (has new.found.numbers edge) is
+        (contains-has new.found.numbers edge
+        (searched-all old.starts.items new.found new.place past held edge reached));
     search = goes-on old new same starts held search;
   }
 
 -- ---- the numbers of a list
 
-pub finds-number : (first old new : NumberSetModel) (numbers : List ℕ) (i : ℕ) → i < length numbers → FindsMore (Contains (take i numbers)) first old
-    → new ≡ record old { numbers = with_number old.numbers (get_or numbers i 0) } → FindsMore (Contains (take (i + 1) numbers)) first new
+pub finds-number : (first old new : NumberSetModel) (numbers : List ℕ) (i : ℕ) → i < length numbers
+    → FindsMore (Contains (take i numbers)) first old
+    → new ≡ record old { numbers = with_number old.numbers (get_or numbers i 0) }
+    → FindsMore (Contains (take (i + 1) numbers)) first new
 finds-number first old new numbers i below a is =
     finds-then (Contains before) (λ e. e ≡ number) (Contains (take (i + 1) numbers)) first old new
     (λ e has. subst (λ ns. Contains ns e) (sym next) (Contains-append_left before (number ∷ []) e has))
-    (λ e same. subst (λ ns. Contains ns e) (sym next) (subst (Contains (before ++ number ∷ [])) (sym same) (Contains-push before number)))
-    (λ e has. elim (Contains-push_cases before number e (subst (λ ns. Contains ns e) next has)) [ inl was ↦ inl was | inr same ↦ inr (sym same) ])
+    (λ e same. subst (λ ns. Contains ns e) (sym next)
+    (subst (Contains (before ++ number ∷ [])) (sym same) (Contains-push before number)))
+    (λ e has. elim (Contains-push_cases before number e (subst (λ ns. Contains ns e) next has))
+    [ inl was ↦ inl was | inr same ↦ inr (sym same) ])
     a (subst (FindsMore (λ e. e ≡ number) old) (sym is) (finds-one old number))
   where
     before : List ℕ
@@ -173,32 +204,42 @@ finds-number first old new numbers i below a is =
 
 -- ---- the makers of files
 
-pub starts-are : (g : EdgeGraph) (edge : ℕ) (files : List FileNo) (next starts : List ℕ) → map (path_at g.files) files ≡ inputs_of (edge_at g.edges edge) → AreMakers g files next → starts ≡ next → AreStarts g.edges edge starts
+pub starts-are : (g : EdgeGraph) (edge : ℕ) (files : List FileNo) (next starts : List ℕ)
+    → map (path_at g.files) files ≡ inputs_of (edge_at g.edges edge) → AreMakers g files next → starts ≡ next
+    → AreStarts g.edges edge starts
 starts-are g edge files next starts is are same = λ e.
-    subst (λ ss. Contains ss e ↔ Needs (makers_of_inputs g.edges) edge e) (sym same) (subst (λ paths. Contains next e ↔ MakesOneOf g.edges paths e) is (are.are e))
+    subst (λ ss. Contains ss e ↔ Needs (makers_of_inputs g.edges) edge e) (sym same)
+    (subst (λ paths. Contains next e ↔ MakesOneOf g.edges paths e) is (are.are e))
 
 module _ (g : EdgeGraph) where
   abbrev made : List FileNo → List (Option ℕ)
   made ns = map (maker_of g.edges) (map (path_at g.files) ns)
 
-  made-more : (ns : List FileNo) (i : ℕ) (d : FileNo) → i < length ns → made (take (i + 1) ns) ≡ made (take i ns) ++ maker_of g.edges (path_at g.files (get_or ns i d)) ∷ []
+  made-more : (ns : List FileNo) (i : ℕ) (d : FileNo) → i < length ns
+      → made (take (i + 1) ns) ≡ made (take i ns) ++ maker_of g.edges (path_at g.files (get_or ns i d)) ∷ []
   made-more ns i d below =
       ap made (take_more ns i d below)
       ∙ ap (map (maker_of g.edges)) (map_push (path_at g.files) (take i ns) (get_or ns i d))
       ∙ map_push (maker_of g.edges) (map (path_at g.files) (take i ns)) (path_at g.files (get_or ns i d))
 
-  module _ (found : List ℕ) (ns : List FileNo) (i : ℕ) (d : FileNo) (below : i < length ns) (are : AreMakers g (take i ns) found) where
-    pub makers-some : (edge : ℕ) → maker_of g.edges (path_at g.files (get_or ns i d)) ≡ Some edge → edge < length g.edges → AreMakers g (take (i + 1) ns) (found ++ edge ∷ [])
+  module _ (found : List ℕ) (ns : List FileNo) (i : ℕ) (d : FileNo) (below : i < length ns)
+      (are : AreMakers g (take i ns) found) where
+    pub makers-some : (edge : ℕ) → maker_of g.edges (path_at g.files (get_or ns i d)) ≡ Some edge
+        → edge < length g.edges → AreMakers g (take (i + 1) ns) (found ++ edge ∷ [])
     makers-some edge is known = record {
       are = λ e. (
         λ has. elim (Contains-push_cases found edge e has) [
-          | inl was ↦ subst (λ os. Contains os (Some e)) (sym next) (Contains-append_left (made (take i ns)) (Some edge ∷ []) (Some e) ((are.are e).0 was))
-          | inr now ↦ subst (λ os. Contains os (Some e)) (sym next) (subst (λ x. Contains (made (take i ns) ++ Some edge ∷ []) (Some x)) now (Contains-push (made (take i ns)) (Some edge)))
+          | inl was ↦ subst (λ os. Contains os (Some e)) (sym next)
+              (Contains-append_left (made (take i ns)) (Some edge ∷ []) (Some e) ((are.are e).0 was))
+          | inr now ↦ subst (λ os. Contains os (Some e)) (sym next)
+              (subst (λ x. Contains (made (take i ns) ++ Some edge ∷ []) (Some x)) now
+              (Contains-push (made (take i ns)) (Some edge)))
         ],
-        λ has. elim (Contains-push_cases (made (take i ns)) (Some edge) (Some e) (subst (λ os. Contains os (Some e)) next has)) [
-          | inl was ↦ Contains-append_left found (edge ∷ []) e ((are.are e).1 was)
-          | inr now ↦ subst (Contains (found ++ edge ∷ [])) (same_Some edge e now) (Contains-push found edge)
-        ],
+        λ has. elim (Contains-push_cases (made (take i ns)) (Some edge) (Some e)
+            (subst (λ os. Contains os (Some e)) next has)) [
+              | inl was ↦ Contains-append_left found (edge ∷ []) e ((are.are e).1 was)
+              | inr now ↦ subst (Contains (found ++ edge ∷ [])) (same_Some edge e now) (Contains-push found edge)
+            ],
       );
       known = All-push (λ e. e < length g.edges) found edge are.known known;
     }
@@ -206,14 +247,17 @@ module _ (g : EdgeGraph) where
         next : made (take (i + 1) ns) ≡ made (take i ns) ++ Some edge ∷ []
         next = made-more ns i d below ∙ ap (λ o. made (take i ns) ++ o ∷ []) is
 
-    pub makers-none : maker_of g.edges (path_at g.files (get_or ns i d)) ≡ None → AreMakers g (take (i + 1) ns) found
+    pub makers-none : maker_of g.edges (path_at g.files (get_or ns i d)) ≡ None
+        → AreMakers g (take (i + 1) ns) found
     makers-none is = record {
       are = λ e. (
-        λ has. subst (λ os. Contains os (Some e)) (sym next) (Contains-append_left (made (take i ns)) (None ∷ []) (Some e) ((are.are e).0 has)),
-        λ has. elim (Contains-push_cases (made (take i ns)) None (Some e) (subst (λ os. Contains os (Some e)) next has)) [
-          | inl was ↦ (are.are e).1 was
-          | inr now ↦ absurd cc
-        ],
+        λ has. subst (λ os. Contains os (Some e)) (sym next)
+            (Contains-append_left (made (take i ns)) (None ∷ []) (Some e) ((are.are e).0 has)),
+        λ has. elim (Contains-push_cases (made (take i ns)) None (Some e)
+            (subst (λ os. Contains os (Some e)) next has)) [
+              | inl was ↦ (are.are e).1 was
+              | inr now ↦ absurd cc
+            ],
       );
       known = are.known;
     }

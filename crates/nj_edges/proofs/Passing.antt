@@ -1,5 +1,7 @@
 -- The numbers of the edges that pass a test.
-use Rattle.std.proofs.Common.{◌≡◌, ◌<◌, ◌≤◌, ◌+◌, ◌⊎◌, inl, inr, ℕ, zero, suc, Bool, true, false, cond, List, [], ◌∷◌, ◌++◌, length, take, get_or, refl, sym, ap, subst, ◌∙◌, true≢false, arith}
+use Rattle.std.proofs.Common.{◌≡◌, ◌<◌, ◌≤◌, ◌+◌, ◌⊎◌, inl, inr, ℕ, zero, suc, Bool, true, false, cond, List}
+use Rattle.std.proofs.Common.{[], ◌∷◌, ◌++◌, length, take, get_or, refl, sym, ap, subst, ◌∙◌, true≢false}
+use Rattle.std.proofs.Common.{arith}
 use Rattle.std.specs.Prelude.{Contains}
 use Rattle.std.specs.Cmp.{nat_cmp_is}
 use Rattle.std.specs.List.{AllByRecursion}
@@ -33,7 +35,9 @@ module _ {E : Type 0} (test : E → Bool) where
     from-passes [] k e has = absurd (omega (arith, has.1))
     from-passes (x ∷ es) k e has = by (test x) refl (from-passes es (k + 1) e) has
       where
-        by : (b : Bool) → test x ≡ b → (Contains (edges_from (k + 1) test es) e → Passes es (k + 1) e) → Contains (cond b (k ∷ edges_from (k + 1) test es) (edges_from (k + 1) test es)) e → Passes (x ∷ es) k e
+        by : (b : Bool) → test x ≡ b → (Contains (edges_from (k + 1) test es) e → Passes es (k + 1) e)
+            → Contains (cond b (k ∷ edges_from (k + 1) test es) (edges_from (k + 1) test es)) e
+            → Passes (x ∷ es) k e
         by true is more has' = elim (contains-cases k (edges_from (k + 1) test es) e has') [
           | inl here ↦ (0, omega (arith, here), is)
           | inr there ↦ passes-after x es k e (more there)
@@ -42,20 +46,27 @@ module _ {E : Type 0} (test : E → Bool) where
 
     pub passes-from : (es : List E) (k e : ℕ) → Passes es k e → Contains (edges_from k test es) e
     passes-from [] k e (i, is, passes) = absurd (true≢false (sym passes ∙ none))
-    passes-from (x ∷ es) k e (zero, is, passes) = subst (λ b. Contains (cond b (k ∷ edges_from (k + 1) test es) (edges_from (k + 1) test es)) e) (sym passes) (0, omega arith, omega (arith, is))
-    passes-from (x ∷ es) k e (suc i, is, passes) = by (test x) (passes-from es (k + 1) e (i, omega (arith, is), passes))
+    passes-from (x ∷ es) k e (zero, is, passes) =
+        subst (λ b. Contains (cond b (k ∷ edges_from (k + 1) test es) (edges_from (k + 1) test es)) e)
+        (sym passes) (0, omega arith, omega (arith, is))
+    passes-from (x ∷ es) k e (suc i, is, passes) =
+        by (test x) (passes-from es (k + 1) e (i, omega (arith, is), passes))
       where
-        by : (b : Bool) → Contains (edges_from (k + 1) test es) e → Contains (cond b (k ∷ edges_from (k + 1) test es) (edges_from (k + 1) test es)) e
+        by : (b : Bool) → Contains (edges_from (k + 1) test es) e
+            → Contains (cond b (k ∷ edges_from (k + 1) test es) (edges_from (k + 1) test es)) e
         by true has = contains-after k (edges_from (k + 1) test es) e has
         by false has = has
 
   -- ---- they rise
 
-  from-above : (es : List E) (least k : ℕ) → least ≤ k → AllByRecursion (λ n. least ≤ n) (edges_from k test es)
+  from-above : (es : List E) (least k : ℕ) → least ≤ k
+      → AllByRecursion (λ n. least ≤ n) (edges_from k test es)
   from-above [] least k le = tt
   from-above (x ∷ es) least k le = by (test x) (from-above es least (k + 1) (omega (arith, le)))
     where
-      by : (b : Bool) → AllByRecursion (λ n. least ≤ n) (edges_from (k + 1) test es) → AllByRecursion (λ n. least ≤ n) (cond b (k ∷ edges_from (k + 1) test es) (edges_from (k + 1) test es))
+      by : (b : Bool) → AllByRecursion (λ n. least ≤ n) (edges_from (k + 1) test es)
+          → AllByRecursion (λ n. least ≤ n) (cond b (k ∷ edges_from (k + 1) test es)
+          (edges_from (k + 1) test es))
       by true rest = (le, rest)
       by false rest = rest
 
@@ -64,8 +75,14 @@ module _ {E : Type 0} (test : E → Bool) where
   from-sorted [] k = tt
   from-sorted (x ∷ es) k = by (test x) (from-sorted es (k + 1))
     where
-      by : (b : Bool) → IsStrictlySortedBy nat_cmp (edges_from (k + 1) test es) → IsStrictlySortedBy nat_cmp (cond b (k ∷ edges_from (k + 1) test es) (edges_from (k + 1) test es))
-      by true rest = (all-of (λ n. k + 1 ≤ n) (λ n. nat_cmp k n ≡ Less) (λ n above. sym (nat_cmp_is k n Less (omega (arith, above)))) (edges_from (k + 1) test es) (from-above es (k + 1) (k + 1) (omega arith)), rest)
+      by : (b : Bool) → IsStrictlySortedBy nat_cmp (edges_from (k + 1) test es)
+          → IsStrictlySortedBy nat_cmp (cond b (k ∷ edges_from (k + 1) test es) (edges_from (k + 1) test es))
+      by true rest = (
+        all-of (λ n. k + 1 ≤ n) (λ n. nat_cmp k n ≡ Less)
+            (λ n above. sym (nat_cmp_is k n Less (omega (arith, above)))) (edges_from (k + 1) test es)
+            (from-above es (k + 1) (k + 1) (omega arith)),
+        rest,
+      )
       by false rest = rest
 
   pub from-rises : (es : List E) (k : ℕ) → IsStrictlyIncreasing (edges_from k test es)
@@ -73,23 +90,28 @@ module _ {E : Type 0} (test : E → Bool) where
 
   -- ---- one more edge
 
-  from-push : (es : List E) (k : ℕ) (x : E) → edges_from k test (es ++ x ∷ []) ≡ edges_from k test es ++ cond (test x) ((k + length es) ∷ []) []
+  from-push : (es : List E) (k : ℕ) (x : E)
+      → edges_from k test (es ++ x ∷ []) ≡ edges_from k test es ++ cond (test x) ((k + length es) ∷ []) []
   from-push [] k x = let here : k ≡ k + 0 = omega arith in ap (λ n. cond (test x) (n ∷ []) []) here
   from-push (e ∷ es) k x =
       let there : (k + 1) + length es ≡ k + length (e ∷ es) = omega arith in
-      by (test e) (from-push es (k + 1) x ∙ ap (λ n. edges_from (k + 1) test es ++ cond (test x) (n ∷ []) []) there)
+      by (test e) (from-push es (k + 1) x ∙ ap (λ n. edges_from (k + 1) test es ++ cond (test x) (n ∷ []) [])
+      there)
     where
       last : List ℕ
       last = cond (test x) ((k + length (e ∷ es)) ∷ []) []
 
       by : (b : Bool) → edges_from (k + 1) test (es ++ x ∷ []) ≡ edges_from (k + 1) test es ++ last
-          → cond b (k ∷ edges_from (k + 1) test (es ++ x ∷ [])) (edges_from (k + 1) test (es ++ x ∷ [])) ≡ cond b (k ∷ edges_from (k + 1) test es) (edges_from (k + 1) test es) ++ last
+          → cond b (k ∷ edges_from (k + 1) test (es ++ x ∷ [])) (edges_from (k + 1) test (es ++ x ∷ []))
+          ≡ cond b (k ∷ edges_from (k + 1) test es) (edges_from (k + 1) test es) ++ last
       by true more = ap (λ ns. k ∷ ns) more
       by false more = more
 
-  pub from-more : (es : List E) (i : ℕ) (d : E) (b : Bool) → i < length es → test (get_or es i d) ≡ b → edges_from 0 test (take (i + 1) es) ≡ edges_from 0 test (take i es) ++ cond b (i ∷ []) []
+  pub from-more : (es : List E) (i : ℕ) (d : E) (b : Bool) → i < length es → test (get_or es i d) ≡ b
+      → edges_from 0 test (take (i + 1) es) ≡ edges_from 0 test (take i es) ++ cond b (i ∷ []) []
   from-more es i d b below is =
       let count : 0 + length (take i es) ≡ i = omega (arith, length-take-le i es (omega (arith, below))) in
       ap (edges_from 0 test) (take_more es i d below)
-      ∙ from-push (take i es) 0 (get_or es i d) ∙ ap (λ n. edges_from 0 test (take i es) ++ cond (test (get_or es i d)) (n ∷ []) []) count
+      ∙ from-push (take i es) 0 (get_or es i d)
+      ∙ ap (λ n. edges_from 0 test (take i es) ++ cond (test (get_or es i d)) (n ∷ []) []) count
       ∙ ap (λ c. edges_from 0 test (take i es) ++ cond c (i ∷ []) []) is

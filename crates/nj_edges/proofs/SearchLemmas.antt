@@ -1,5 +1,6 @@
 -- How edges are found, nearest first.
-use Rattle.std.proofs.Common.{◌≡◌, ◌<◌, ◌≤◌, ◌+◌, ◌⊎◌, inl, inr, ℕ, zero, suc, Bool, true, false, cond, List, [], length, refl, sym, ap, subst, ◌∙◌, arith}
+use Rattle.std.proofs.Common.{◌≡◌, ◌<◌, ◌≤◌, ◌+◌, ◌⊎◌, inl, inr, ℕ, zero, suc, Bool, true, false, cond, List}
+use Rattle.std.proofs.Common.{[], length, refl, sym, ap, subst, ◌∙◌, arith}
 use Rattle.std.specs.Prelude.{Contains, slice_index}
 use Rattle.std.proofs.lemmas.Bool.{both_ways, cases_lt}
 use Rattle.nj_names.specs.NumberSets.{NumberSetModel, has}
@@ -34,7 +35,8 @@ module _ (distance : ℕ → ℕ) (before : List ℕ) (from e : ℕ) where
 
 module _ (begins : ℕ → Type 0) (step : ℕ → ℕ → Type 0) where
   -- the edges where steps begin were found
-  pub search-begins : (none new : NumberSetModel) → none.numbers ≡ [] → FindsMore begins none new → IsSearched begins step (λ e. 0) new.numbers 0
+  pub search-begins : (none new : NumberSetModel) → none.numbers ≡ [] → FindsMore begins none new
+      → IsSearched begins step (λ e. 0) new.numbers 0
   search-begins none new empty finds = record {
     within = omega arith;
     sound = λ e is. elim (finds.fresh e is) [
@@ -51,7 +53,8 @@ module _ (begins : ℕ → Type 0) (step : ℕ → ℕ → Type 0) where
       contains-none e is = absurd (omega (arith, is.1))
 
   -- the edges to which the one at the place leads were found
-  module _ (distance : ℕ → ℕ) (old new : NumberSetModel) (place : ℕ) (below : place < length old.numbers) (held : IsSearched begins step distance old.numbers place)
+  module _ (distance : ℕ → ℕ) (old new : NumberSetModel) (place : ℕ) (below : place < length old.numbers)
+      (held : IsSearched begins step distance old.numbers place)
       (finds : FindsMore (step (slice_index old.numbers place)) old new) where
     abbrev from : ℕ
     from = slice_index old.numbers place
@@ -67,13 +70,15 @@ module _ (begins : ℕ → Type 0) (step : ℕ → ℕ → Type 0) where
 
     -- where an edge is in the list: it was there, with its distance, or it is new
     at : (i : ℕ) → i < length new.numbers
-        → ((i < length old.numbers) × (later (slice_index new.numbers i) ≡ distance (slice_index old.numbers i)))
+        → ((i < length old.numbers) × (later (slice_index new.numbers i)
+        ≡ distance (slice_index old.numbers i)))
         ⊎ ((length old.numbers ≤ i) × (later (slice_index new.numbers i) ≡ suc (distance from)))
     at i within = elim (cases_lt i (length old.numbers)) [
       | inl before ↦ inl (
         before,
         ap later (finds.stays i before)
-            ∙ later-known (slice_index old.numbers i) (contains_at old.numbers i (slice_index old.numbers i) before refl),
+            ∙ later-known (slice_index old.numbers i)
+            (contains_at old.numbers i (slice_index old.numbers i) before refl),
       )
       | inr after ↦ inr (after, later-new (slice_index new.numbers i) (finds.added i after within).0)
     ]
@@ -119,7 +124,8 @@ module _ (begins : ℕ → Type 0) (step : ℕ → ℕ → Type 0) where
     closed-on i e within stepped =
         let before : i < length old.numbers = omega (arith, within, below) in
         let same = finds.stays i before in
-        let known = later-known (slice_index old.numbers i) (contains_at old.numbers i (slice_index old.numbers i) before refl) in
+        let known = later-known (slice_index old.numbers i)
+        (contains_at old.numbers i (slice_index old.numbers i) before refl) in
         let here : later (slice_index new.numbers i) ≡ distance (slice_index old.numbers i)
         = ap later same ∙ known in
         let old_step : step (slice_index old.numbers i) e = subst (λ n. step n e) same stepped in
@@ -142,12 +148,18 @@ module _ (begins : ℕ → Type 0) (step : ℕ → ℕ → Type 0) where
                         held.near at_e.0 place at_e.1 (omega arith) below,
                         ap distance at_e.2,
                       )
-                  | inr new ↦ omega (arith, here, ap (λ n. distance (slice_index old.numbers n)) is, later-new e new)
+                  | inr new ↦ omega (
+                    arith,
+                    here,
+                    ap (λ n. distance (slice_index old.numbers n)) is,
+                    later-new e new,
+                  )
                 ],
               )
         ]
 
-    pub search-continues : IsSearched begins step (farther distance old.numbers (slice_index old.numbers place)) new.numbers (place + 1)
+    pub search-continues : IsSearched begins step
+        (farther distance old.numbers (slice_index old.numbers place)) new.numbers (place + 1)
     search-continues = record {
       within = omega (arith, below, finds.longer);
       sound = sound-on;
@@ -158,19 +170,24 @@ module _ (begins : ℕ → Type 0) (step : ℕ → ℕ → Type 0) where
     }
 
   -- an edge reached in fewer steps than the one at the place was found before it, and is no farther
-  module _ (distance : ℕ → ℕ) (numbers : List ℕ) (place : ℕ) (held : IsSearched begins step distance numbers place) where
+  module _ (distance : ℕ → ℕ) (numbers : List ℕ) (place : ℕ)
+      (held : IsSearched begins step distance numbers place) where
     abbrev IsFoundWithin : (steps e : ℕ) → Type 0
     IsFoundWithin steps e = Contains numbers e × (distance e ≤ steps)
 
     -- an edge that comes before the place leads to edges that were found
-    next-found : (steps f e : ℕ) → IsFoundWithin steps f → ((i : ℕ) → i < length numbers → slice_index numbers i ≡ f → i < place) → step f e → IsFoundWithin (suc steps) e
+    next-found : (steps f e : ℕ) → IsFoundWithin steps f
+        → ((i : ℕ) → i < length numbers → slice_index numbers i ≡ f → i < place) → step f e
+        → IsFoundWithin (suc steps) e
     next-found steps f e found earlier stepped =
         let i = index_of numbers f found.0 in
         let next = held.closed i.0 e (earlier i.0 i.1 i.2) (subst (λ n. step n e) (sym i.2) stepped) in
         (next.0, omega (arith, next.1, ap distance i.2, found.1))
 
-    pub found-nearer : place < length numbers → (steps e : ℕ) → steps ≤ distance (slice_index numbers place) → IsReachedIn begins step steps e → IsFoundWithin steps e
-    found-nearer below zero e le reached = let begun = held.begun e reached in (begun.0, omega (arith, begun.1))
+    pub found-nearer : place < length numbers → (steps e : ℕ) → steps ≤ distance (slice_index numbers place)
+        → IsReachedIn begins step steps e → IsFoundWithin steps e
+    found-nearer below zero e le reached = let begun = held.begun e reached
+        in (begun.0, omega (arith, begun.1))
     found-nearer below (suc steps) e le (f, reached, stepped) =
         let found = found-nearer below steps f (omega (arith, le)) reached in
         next-found steps f e found (λ i within is. elim (cases_lt i place) [
@@ -178,6 +195,9 @@ module _ (begins : ℕ → Type 0) (step : ℕ → ℕ → Type 0) where
           | inr past ↦ absurd (omega (arith, held.rises place i past within, ap distance is, found.1, le))
         ]) stepped
 
-    pub found-all : length numbers ≤ place → (steps e : ℕ) → IsReachedIn begins step steps e → IsFoundWithin steps e
+    pub found-all : length numbers ≤ place → (steps e : ℕ) → IsReachedIn begins step steps e
+        → IsFoundWithin steps e
     found-all past zero e reached = let begun = held.begun e reached in (begun.0, omega (arith, begun.1))
-    found-all past (suc steps) e (f, reached, stepped) = next-found steps f e (found-all past steps f reached) (λ i within is. omega (arith, past, within)) stepped
+    found-all past (suc steps) e (f, reached, stepped) =
+        next-found steps f e (found-all past steps f reached) (λ i within is. omega (arith, past, within))
+        stepped

@@ -18,26 +18,38 @@ use Rattle.nj_graph.specs.Inside.JoiningContracts.{NextEntryIs}
 reported : {Y : Type 0} (file : List ℕ) (f : ParseFault) (expected : Result Y Fault) (fault : GraphFault)
     → Fails f expected → fault ≡ fault_in file (fault_text f)
     → (fault ≡ no_memory) ⊎ ((found : Fault) × (expected ≡ Err found) × (fault ≡ fault_in file found))
-reported file (parse.Lex (lex.BadByte spot)) expected fault fails is = inr (fault_text (parse.Lex (lex.BadByte spot)), fails, is)
-reported file (parse.Lex (lex.Tab spot)) expected fault fails is = inr (fault_text (parse.Lex (lex.Tab spot)), fails, is)
-reported file (parse.Lex (lex.BadEscape spot)) expected fault fails is = inr (fault_text (parse.Lex (lex.BadEscape spot)), fails, is)
+reported file (parse.Lex (lex.BadByte spot)) expected fault fails is =
+    inr (fault_text (parse.Lex (lex.BadByte spot)), fails, is)
+reported file (parse.Lex (lex.Tab spot)) expected fault fails is =
+    inr (fault_text (parse.Lex (lex.Tab spot)), fails, is)
+reported file (parse.Lex (lex.BadEscape spot)) expected fault fails is =
+    inr (fault_text (parse.Lex (lex.BadEscape spot)), fails, is)
 reported file (parse.Lex lex.OutOfMemory) expected fault fails is = inl is
-reported file (parse.Expected spot wanted) expected fault fails is = inr (fault_text (parse.Expected spot wanted), fails, is)
-reported file (parse.UnexpectedIndent spot) expected fault fails is = inr (fault_text (parse.UnexpectedIndent spot), fails, is)
-reported file (parse.MissingCommand spot) expected fault fails is = inr (fault_text (parse.MissingCommand spot), fails, is)
+reported file (parse.Expected spot wanted) expected fault fails is =
+    inr (fault_text (parse.Expected spot wanted), fails, is)
+reported file (parse.UnexpectedIndent spot) expected fault fails is =
+    inr (fault_text (parse.UnexpectedIndent spot), fails, is)
+reported file (parse.MissingCommand spot) expected fault fails is =
+    inr (fault_text (parse.MissingCommand spot), fails, is)
 reported file (parse.RspPair spot) expected fault fails is = inr (fault_text (parse.RspPair spot), fails, is)
-reported file (parse.UnknownKey spot key) expected fault fails is = inr (fault_text (parse.UnknownKey spot key), fails, is)
-reported file (parse.MissingDepth spot) expected fault fails is = inr (fault_text (parse.MissingDepth spot), fails, is)
-reported file (parse.DyndepVersion spot) expected fault fails is = inr (fault_text (parse.DyndepVersion spot), fails, is)
-reported file (parse.DyndepShape spot) expected fault fails is = inr (fault_text (parse.DyndepShape spot), fails, is)
+reported file (parse.UnknownKey spot key) expected fault fails is =
+    inr (fault_text (parse.UnknownKey spot key), fails, is)
+reported file (parse.MissingDepth spot) expected fault fails is =
+    inr (fault_text (parse.MissingDepth spot), fails, is)
+reported file (parse.DyndepVersion spot) expected fault fails is =
+    inr (fault_text (parse.DyndepVersion spot), fails, is)
+reported file (parse.DyndepShape spot) expected fault fails is =
+    inr (fault_text (parse.DyndepShape spot), fails, is)
 
 pub statement-reported : (file : List ℕ) (before after : Left) (f : ParseFault) (fault : GraphFault)
-    → IsNext before after (Err f) → fault ≡ fault_in file (fault_text f) → NextIs file before after (Err fault)
+    → IsNext before after (Err f) → fault ≡ fault_in file (fault_text f)
+    → NextIs file before after (Err fault)
 statement-reported file (Lines ls) after f fault next is = reported file f (next_statement ls) fault next.0 is
 statement-reported file (Refused found) after f fault next is = tt
 
 pub entry-reported : (file : List ℕ) (before after : DyndepLeft) (f : ParseFault) (fault : GraphFault)
-    → IsNextEntry before after (Err f) → fault ≡ fault_in file (fault_text f) → NextEntryIs file before after (Err fault)
+    → IsNextEntry before after (Err f) → fault ≡ fault_in file (fault_text f)
+    → NextEntryIs file before after (Err fault)
 entry-reported file (WholeFile ls) after f fault next is = reported file f _ fault next.0 is
 entry-reported file (Entries ls) after f fault next is = reported file f _ fault next.0 is
 entry-reported file (Refusing found) after f fault next is = tt

@@ -1,5 +1,7 @@
 -- The paths that come one by one are those that are reached, each at its first occurrence.
-use Rattle.std.proofs.Common.{◌≡◌, ℕ, Bool, true, false, not, cond, ◌||◌, ◌&&◌, Option, Some, None, Result, List, [], ◌∷◌, ◌++◌, bytes_eq, refl, sym, ap, subst, ◌∙◌, append-nil, append_assoc}
+use Rattle.std.proofs.Common.{◌≡◌, ℕ, Bool, true, false, not, cond, ◌||◌, ◌&&◌, Option, Some, None, Result}
+use Rattle.std.proofs.Common.{List, [], ◌∷◌, ◌++◌, bytes_eq, refl, sym, ap, subst, ◌∙◌, append-nil}
+use Rattle.std.proofs.Common.{append_assoc}
 use Rattle.std.specs.Prelude.{filter}
 use Rattle.std.specs.Option.{option_to_list}
 use Rattle.std.proofs.Math.Path.{fun_ext}
@@ -16,22 +18,27 @@ use Rattle.nj_graph.specs.Reading.{ReadingModel, main_read, with_all_new, path_a
 use Rattle.nj_graph.specs.Runs.{ReachedModel}
 use Rattle.nj_graph.specs.Loads.{LoadedModel, LoadsAfter, Loads, main_reached}
 use Rattle.nj_graph.specs.Joining.{all_joined, joined_after, Joins}
-use Rattle.nj_graph.specs.Inside.PathsReached.{with_new, with_news, paths_read, come_to, reached_of, come_joined}
+use Rattle.nj_graph.specs.Inside.PathsReached.{with_new, with_news, paths_read, come_to, reached_of}
+use Rattle.nj_graph.specs.Inside.PathsReached.{come_joined}
 use Rattle.nj_graph.proofs.JoiningTables.{all_new-append}
 
 -- ---- those that are not there yet
 
-filter-twice : (f g h : List ℕ → Bool) → ((x : List ℕ) → (g x && f x) ≡ h x) → (xs : List (List ℕ)) → filter f (filter g xs) ≡ filter h xs
+filter-twice : (f g h : List ℕ → Bool) → ((x : List ℕ) → (g x && f x) ≡ h x) → (xs : List (List ℕ))
+    → filter f (filter g xs) ≡ filter h xs
 filter-twice f g h same [] = refl
 filter-twice f g h same (x ∷ xs) = by (g x) (same x) (filter-twice f g h same xs)
   where
-    by : (b : Bool) → (b && f x) ≡ h x → filter f (filter g xs) ≡ filter h xs → filter f (cond b (x ∷ filter g xs) (filter g xs)) ≡ cond (h x) (x ∷ filter h xs) (filter h xs)
-    by true is rest = ap (λ c. cond c (x ∷ filter f (filter g xs)) (filter f (filter g xs))) is ∙ ap (λ ys. cond (h x) (x ∷ ys) ys) rest
+    by : (b : Bool) → (b && f x) ≡ h x → filter f (filter g xs) ≡ filter h xs
+        → filter f (cond b (x ∷ filter g xs) (filter g xs)) ≡ cond (h x) (x ∷ filter h xs) (filter h xs)
+    by true is rest = ap (λ c. cond c (x ∷ filter f (filter g xs)) (filter f (filter g xs))) is
+        ∙ ap (λ ys. cond (h x) (x ∷ ys) ys) rest
     by false is rest = rest ∙ ap (λ c. cond c (x ∷ filter h xs) (filter h xs)) is
 
 module _ (before : List (List ℕ)) (path : List ℕ) where
   -- where the path is there already
-  known-other : is_among before path ≡ true → (y : List ℕ) → (not (bytes_eq y path) && not (is_among before y)) ≡ not (is_among before y)
+  known-other : is_among before path ≡ true → (y : List ℕ)
+      → (not (bytes_eq y path) && not (is_among before y)) ≡ not (is_among before y)
   known-other known y = by (bytes_eq y path) (bytes_eq-Decides y path).0
     where
       by : (b : Bool) → (b ≡ true → y ≡ path) → (not b && not (is_among before y)) ≡ not (is_among before y)
@@ -39,8 +46,10 @@ module _ (before : List (List ℕ)) (path : List ℕ) where
       by false is = refl
 
   -- where it is added
-  added-other : (y : List ℕ) → (not (bytes_eq y path) && not (is_among before y)) ≡ not (is_among (before ++ path ∷ []) y)
-  added-other y = by (is_among before y) (bytes_eq y path) ∙ ap not (sym (list_any-append (bytes_eq y) before (path ∷ [])))
+  added-other : (y : List ℕ) → (not (bytes_eq y path) && not (is_among before y))
+      ≡ not (is_among (before ++ path ∷ []) y)
+  added-other y = by (is_among before y) (bytes_eq y path)
+      ∙ ap not (sym (list_any-append (bytes_eq y) before (path ∷ [])))
     where
       by : (a b : Bool) → (not b && not a) ≡ not (a || (b || false))
       by true true = refl
@@ -49,17 +58,25 @@ module _ (before : List (List ℕ)) (path : List ℕ) where
       by false false = refl
 
   new-step : (once : List (List ℕ)) → (b : Bool) → is_among before path ≡ b
-      → cond b before (before ++ path ∷ []) ++ filter (λ y. not (is_among (cond b before (before ++ path ∷ [])) y)) once
-      ≡ before ++ cond (not b) (path ∷ filter (λ y. not (is_among before y)) (filter (λ y. not (bytes_eq y path)) once)) (filter (λ y. not (is_among before y)) (filter (λ y. not (bytes_eq y path)) once))
-  new-step once true is = ap (λ ys. before ++ ys) (sym (filter-twice (λ y. not (is_among before y)) (λ y. not (bytes_eq y path)) (λ y. not (is_among before y)) (known-other is) once))
+      → cond b before (before ++ path ∷ [])
+      ++ filter (λ y. not (is_among (cond b before (before ++ path ∷ [])) y)) once
+      ≡ before ++ cond (not b) (path ∷ filter (λ y. not (is_among before y))
+      (filter (λ y. not (bytes_eq y path)) once))
+      (filter (λ y. not (is_among before y)) (filter (λ y. not (bytes_eq y path)) once))
+  new-step once true is = ap (λ ys. before ++ ys)
+      (sym (filter-twice (λ y. not (is_among before y)) (λ y. not (bytes_eq y path))
+      (λ y. not (is_among before y)) (known-other is) once))
   new-step once false is =
       append_assoc before (path ∷ []) (filter (λ y. not (is_among (before ++ path ∷ []) y)) once)
-      ∙ ap (λ ys. before ++ path ∷ ys) (sym (filter-twice (λ y. not (is_among before y)) (λ y. not (bytes_eq y path)) (λ y. not (is_among (before ++ path ∷ []) y)) added-other once))
+      ∙ ap (λ ys. before ++ path ∷ ys) (sym
+      (filter-twice (λ y. not (is_among before y)) (λ y. not (bytes_eq y path))
+      (λ y. not (is_among (before ++ path ∷ []) y)) added-other once))
 
 pub with_news-is : (before paths : List (List ℕ)) → with_news before paths ≡ with_all_new before paths
 with_news-is before [] = sym (append-nil before)
 with_news-is before (path ∷ paths) =
-    with_news-is (with_new before path) paths ∙ new-step before path (each_once bytes_eq paths) (is_among before path) refl
+    with_news-is (with_new before path) paths
+    ∙ new-step before path (each_once bytes_eq paths) (is_among before path) refl
 
 -- ---- the paths of a reading
 
@@ -67,15 +84,19 @@ or-false : (b : Bool) → (b || false) ≡ b
 or-false true = refl
 or-false false = refl
 
-once-after : (main : List ℕ) (paths : List (List ℕ)) → with_news (main ∷ []) paths ≡ each_once bytes_eq (main ∷ paths)
+once-after : (main : List ℕ) (paths : List (List ℕ))
+    → with_news (main ∷ []) paths ≡ each_once bytes_eq (main ∷ paths)
 once-after main paths =
-    with_news-is (main ∷ []) paths ∙ ap (λ test. main ∷ filter test (each_once bytes_eq paths)) (fun_ext (λ y. ap not (or-false (bytes_eq y main))))
+    with_news-is (main ∷ []) paths ∙ ap (λ test. main ∷ filter test (each_once bytes_eq paths))
+    (fun_ext (λ y. ap not (or-false (bytes_eq y main))))
 
-given-news : (before named : List (List ℕ)) (given : Option (List ℕ)) → with_news (with_news before named) (option_to_list given) ≡ with_news before (with_given named given)
+given-news : (before named : List (List ℕ)) (given : Option (List ℕ))
+    → with_news (with_news before named) (option_to_list given) ≡ with_news before (with_given named given)
 given-news before named None = refl
 given-news before named (Some path) = sym (all_new-append before named (path ∷ []))
 
-paths_read-is : (main : List ℕ) (entries : List ReadStatement) → paths_read main entries ≡ with_news (main ∷ []) (gathered path_named entries)
+paths_read-is : (main : List ℕ) (entries : List ReadStatement)
+    → paths_read main entries ≡ with_news (main ∷ []) (gathered path_named entries)
 paths_read-is main [] = refl
 paths_read-is main (e ∷ before) =
     ap (λ paths. with_news paths (option_to_list (path_named e before e.item))) (paths_read-is main before)
@@ -88,17 +109,26 @@ come_to-is main r =
     ∙ once-after main (gathered path_named r.entries ++ path_at_end r.end)
 
 reached-is : (main : List ℕ) (files : List Reading) → reached_of main files ≡ main_reached main files
-reached-is main files = ap (λ (paths : List (List ℕ)). record { read = main_read files main; paths = paths }) (come_to-is main (main_read files main))
+reached-is main files = ap (λ (paths : List (List ℕ)). record { read = main_read files main; paths = paths })
+    (come_to-is main (main_read files main))
 
-joined-is : (old : List Reading) (stated : List ReadStatement) (files : List Reading) → come_joined old stated files ≡ joined_after old stated files
+joined-is : (old : List Reading) (stated : List ReadStatement) (files : List Reading)
+    → come_joined old stated files ≡ joined_after old stated files
 joined-is old stated files =
-    ap (λ (paths : List (List ℕ)). record { read = (all_joined files stated).read; paths = paths }) (with_news-is (paths_of old) (all_joined files stated).paths)
+    ap (λ (paths : List (List ℕ)). record { read = (all_joined files stated).read; paths = paths })
+    (with_news-is (paths_of old) (all_joined files stated).paths)
 
 -- ---- so statements that are read or joined are as stated
 
-pub loads : (main : List ℕ) (before after : SourceState) (result : Result LoadedModel GraphFault) → LoadsAfter [] before after (reached_of main) result → Loads main before after result
-loads main before after result h = subst (λ (reading : List Reading → ReachedModel). LoadsAfter [] before after reading result) (fun_ext (reached-is main)) h
+pub loads : (main : List ℕ) (before after : SourceState) (result : Result LoadedModel GraphFault)
+    → LoadsAfter [] before after (reached_of main) result → Loads main before after result
+loads main before after result h = subst
+    (λ (reading : List Reading → ReachedModel). LoadsAfter [] before after reading result)
+    (fun_ext (reached-is main)) h
 
-pub joins : (stated : List ReadStatement) (old : List Reading) (before after : SourceState) (result : Result LoadedModel GraphFault)
+pub joins : (stated : List ReadStatement) (old : List Reading) (before after : SourceState)
+    (result : Result LoadedModel GraphFault)
     → LoadsAfter old before after (come_joined old stated) result → Joins stated old before after result
-joins stated old before after result h = subst (λ (reading : List Reading → ReachedModel). LoadsAfter old before after reading result) (fun_ext (joined-is old stated)) h
+joins stated old before after result h =
+    subst (λ (reading : List Reading → ReachedModel). LoadsAfter old before after reading result)
+    (fun_ext (joined-is old stated)) h

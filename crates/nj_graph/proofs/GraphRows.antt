@@ -3,7 +3,8 @@ use Rattle.std.proofs.Common.{◌≡◌, ℕ, List, [], ◌∷◌, map, true, fa
 use Rattle.std.specs.Prelude.{codes}
 use Rattle.nj_text.specs.Words.{PartModel, Text, Name}
 use Rattle.nj_scope.specs.Rules.{RuleModel, RuleLineModel, phony_rule}
-use Rattle.nj_graph.specs.Graph.{GraphModel, insert_by, sorted_by, main_rules_of, main_rule_at, has_description, description_text}
+use Rattle.nj_graph.specs.Graph.{GraphModel, insert_by, sorted_by, main_rules_of, main_rule_at}
+use Rattle.nj_graph.specs.Graph.{has_description, description_text}
 
 abbrev line : (key : List ℕ) → List PartModel → RuleLineModel
 line key value = record { key = key; value = value }
@@ -16,7 +17,8 @@ cc_rule = record {
   lines =
       line (codes "description") (Text (codes "early") ∷ [])
       ∷ line (codes "command") (Text (codes "c") ∷ [])
-      ∷ line (codes "description") (Text (codes "CC ") ∷ Name (codes "out") ∷ Text (codes "$") ∷ Text (codes " done") ∷ []) ∷ [];
+      ∷ line (codes "description") (Text (codes "CC ") ∷ Name (codes "out") ∷ Text (codes "$") ∷ Text
+      (codes " done") ∷ []) ∷ [];
 }
 
 -- rule quiet, with `description =`
@@ -36,11 +38,14 @@ phony_is_listed : names (phony_rule ∷ []) ≡ codes "phony" ∷ []
 unfolding main_rules_of sorted_by insert_by
 phony_is_listed = refl
 
-by_bytes : names (phony_rule ∷ bare 0 (codes "ld") ∷ bare 0 (codes "cc2") ∷ bare 0 (codes "Zip") ∷ bare 0 (codes "cc") ∷ bare 0 (codes "z") ∷ []) ≡ codes "Zip" ∷ codes "cc" ∷ codes "cc2" ∷ codes "ld" ∷ codes "phony" ∷ codes "z" ∷ []
+by_bytes : names (phony_rule ∷ bare 0 (codes "ld") ∷ bare 0 (codes "cc2") ∷ bare 0 (codes "Zip") ∷ bare 0
+    (codes "cc") ∷ bare 0 (codes "z") ∷ [])
+    ≡ codes "Zip" ∷ codes "cc" ∷ codes "cc2" ∷ codes "ld" ∷ codes "phony" ∷ codes "z" ∷ []
 unfolding main_rules_of sorted_by insert_by
 by_bytes = refl
 
-not_of_a_child : names (phony_rule ∷ bare 1 (codes "cc") ∷ bare 0 (codes "ld") ∷ bare 2 (codes "ar") ∷ []) ≡ codes "ld" ∷ codes "phony" ∷ []
+not_of_a_child : names (phony_rule ∷ bare 1 (codes "cc") ∷ bare 0 (codes "ld") ∷ bare 2 (codes "ar") ∷ [])
+    ≡ codes "ld" ∷ codes "phony" ∷ []
 unfolding main_rules_of sorted_by insert_by
 not_of_a_child = refl
 
@@ -49,7 +54,15 @@ not_of_a_child = refl
 abbrev graph : GraphModel
 graph = record {
   declarations = record { scopes = []; rules = phony_rule ∷ quiet_rule ∷ cc_rule ∷ []; pools = [] };
-  built = record { graph = record { files = []; edges = [] }; details = []; blocks = record { values = []; names = []; last = 0 }; defaults = []; assigned = []; pending = [] };
+  built = record {
+    graph = record { files = []; edges = [] };
+    details = [];
+    blocks =
+        record { values = []; names = []; last = 0 };
+    defaults = [];
+    assigned = [];
+    pending = [];
+  };
   origins = record { rules = []; pools = []; openings = [] };
 }
 

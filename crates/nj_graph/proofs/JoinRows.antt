@@ -9,14 +9,16 @@ use Rattle.nj_text.specs.Units.{cut}
 use Rattle.nj_manifest.specs.LineSteps.{name_next, expect_sign, words_within, words_next, section_next}
 use Rattle.nj_manifest.specs.Statements.{equals_value}
 use Rattle.nj_manifest.specs.Openings.{opening}
-use Rattle.nj_manifest.specs.Dyndeps.{version_line, version_next, word_of_form, no_path, no_section, output_next, added_inputs, entry_line, restat_block, next_entry}
+use Rattle.nj_manifest.specs.Dyndeps.{version_line, version_next, word_of_form, no_path, no_section}
+use Rattle.nj_manifest.specs.Dyndeps.{output_next, added_inputs, entry_line, restat_block, next_entry}
 use Rattle.nj_manifest.proofs.StatementRows.{on_strings, at}
 use Rattle.nj_scope.specs.Readings.{Reading}
 use Rattle.nj_scope.specs.ReadingList.{bounds}
 use Rattle.nj_edge_env.specs.VariableCycles.{variable_cycle_of}
 use Rattle.nj_edges.specs.Edges.{EdgePaths}
 use Rattle.nj_manifest.specs.declared.cause.SyntaxCause.TheVariants.{DyndepVersion}
-use Rattle.nj_faults.specs.declared.fault.Cause.TheVariants.{Syntax, Missing, PathNotText, DyndepExtra, DyndepTwice, DyndepNoStatement}
+use Rattle.nj_faults.specs.declared.fault.Cause.TheVariants.{Syntax, Missing, PathNotText, DyndepExtra}
+use Rattle.nj_faults.specs.declared.fault.Cause.TheVariants.{DyndepTwice, DyndepNoStatement}
 use Rattle.nj_faults.specs.Faults.{fault_at}
 use Rattle.nj_statements.specs.EdgeList.{edges_read, paths_of_edges, pending_read}
 use Rattle.nj_statements.specs.Joining.{discover}
@@ -28,7 +30,11 @@ use Rattle.nj_graph.proofs.ReadingRows.{main_file, file, missing, read_of}
 
 -- the definitions that a row unfolds to compute on its files
 unfoldable pub on_dyndeps : ⊤
-unfolding on_strings is_utf8 chars encode_utf8 bounds clean_path_of without_leftmost_pair edges_read pending_read discover variable_cycle_of parsed_in statements_read opened_in main_read cut opening next_entry restat_block entry_line added_inputs output_next no_section no_path word_of_form version_next version_line equals_value name_next expect_sign words_next words_within section_next entries_of entries_joined file_joined files_joined all_joined
+unfolding on_strings is_utf8 chars encode_utf8 bounds clean_path_of without_leftmost_pair edges_read
+    pending_read discover variable_cycle_of parsed_in statements_read opened_in main_read cut opening
+    next_entry restat_block entry_line added_inputs output_next no_section no_path word_of_form version_next
+    version_line equals_value name_next expect_sign words_next words_within section_next entries_of
+    entries_joined file_joined files_joined all_joined
 on_dyndeps = tt
 
 -- ---- the facts of a row
@@ -69,7 +75,8 @@ edge_of_o outputs inputs = record {
 
 -- ---- an entry
 
-pub accepted : paths_joined (joined_by one_edge (codes "build o | m: dyndep | k l\n")) ≡ edge_of_o (codes "m" ∷ []) (codes "k" ∷ codes "l" ∷ []) ∷ []
+pub accepted : paths_joined (joined_by one_edge (codes "build o | m: dyndep | k l\n"))
+    ≡ edge_of_o (codes "m" ∷ []) (codes "k" ∷ codes "l" ∷ []) ∷ []
 unfolding on_dyndeps
 accepted = refl
 
@@ -88,12 +95,14 @@ accepted_is_pending = refl
 
 -- ---- no file
 
-no_file : (joined_of one_edge (missing (codes "dd") ∷ [])).read.end ≡ Refused (fault_at main_file (at 1 1) (Missing (codes "dd")))
+no_file : (joined_of one_edge (missing (codes "dd") ∷ [])).read.end
+    ≡ Refused (fault_at main_file (at 1 1) (Missing (codes "dd")))
 unfolding on_dyndeps
 no_file = refl
 
 -- it is not in the table
-not_reported : (joined_of one_edge []).read.end ≡ Lacking (codes "dd") (record { file = main_file; spot = at 1 1 })
+not_reported : (joined_of one_edge []).read.end
+    ≡ Lacking (codes "dd") (record { file = main_file; spot = at 1 1 })
 unfolding on_dyndeps
 not_reported = refl
 
@@ -102,41 +111,49 @@ unfolding on_dyndeps
 not_reported_paths = refl
 
 -- nor is it where the path is not UTF-8
-not_text : (joined_of (codes "build o: phony || " ++ 255 ∷ codes "\n  dyndep = " ++ 255 ∷ codes "\n") []).read.end ≡ Refused (fault_at main_file (at 1 1) PathNotText)
+not_text : (joined_of (codes "build o: phony || " ++ 255 ∷ codes "\n  dyndep = " ++ 255 ∷ codes "\n")
+    []).read.end ≡ Refused (fault_at main_file (at 1 1) PathNotText)
 unfolding on_dyndeps
 not_text = refl
 
-not_text_paths : (joined_of (codes "build o: phony || " ++ 255 ∷ codes "\n  dyndep = " ++ 255 ∷ codes "\n") []).paths ≡ []
+not_text_paths : (joined_of (codes "build o: phony || " ++ 255 ∷ codes "\n  dyndep = " ++ 255 ∷ codes "\n")
+    []).paths ≡ []
 unfolding on_dyndeps
 not_text_paths = refl
 
 -- ---- the fault of a file
 
-not_bound : (joined_by three_edges (codes "build p: dyndep\n")).read.end ≡ Refused (fault_at (codes "dd") (at 2 7) (DyndepExtra (codes "p")))
+not_bound : (joined_by three_edges (codes "build p: dyndep\n")).read.end
+    ≡ Refused (fault_at (codes "dd") (at 2 7) (DyndepExtra (codes "p")))
 unfolding on_dyndeps
 not_bound = refl
 
-twice : (joined_by one_edge (codes "build o: dyndep\nbuild ./o: dyndep\n")).read.end ≡ Refused (fault_at (codes "dd") (at 3 7) (DyndepTwice (codes "o")))
+twice : (joined_by one_edge (codes "build o: dyndep\nbuild ./o: dyndep\n")).read.end
+    ≡ Refused (fault_at (codes "dd") (at 3 7) (DyndepTwice (codes "o")))
 unfolding on_dyndeps
 twice = refl
 
-no_entry : (joined_by one_edge []).read.end ≡ Refused (fault_at main_file (at 1 1) (DyndepNoStatement (codes "o") (codes "dd")))
+no_entry : (joined_by one_edge []).read.end
+    ≡ Refused (fault_at main_file (at 1 1) (DyndepNoStatement (codes "o") (codes "dd")))
 unfolding on_dyndeps
 no_entry = refl
 
 -- the entries ahead of a fault of syntax come first
-entry_first : (joined_by one_edge (codes "build x: dyndep\nbuild\n")).read.end ≡ Refused (fault_at (codes "dd") (at 2 7) (DyndepExtra (codes "x")))
+entry_first : (joined_by one_edge (codes "build x: dyndep\nbuild\n")).read.end
+    ≡ Refused (fault_at (codes "dd") (at 2 7) (DyndepExtra (codes "x")))
 unfolding on_dyndeps
 entry_first = refl
 
-no_version : (joined_of one_edge (file (codes "dd") (codes "build o: dyndep\n") ∷ [])).read.end ≡ Refused (fault_at (codes "dd") (at 1 1) (Syntax DyndepVersion))
+no_version : (joined_of one_edge (file (codes "dd") (codes "build o: dyndep\n") ∷ [])).read.end
+    ≡ Refused (fault_at (codes "dd") (at 1 1) (Syntax DyndepVersion))
 unfolding on_dyndeps
 no_version = refl
 
 -- ---- two files
 
 abbrev both : List Reading
-both = file (codes "ee") (dyndeps (codes "build p: dyndep | k\n")) ∷ file (codes "dd") (dyndeps (codes "build q: dyndep\nbuild o | m: dyndep\n")) ∷ []
+both = file (codes "ee") (dyndeps (codes "build p: dyndep | k\n")) ∷ file (codes "dd")
+    (dyndeps (codes "build q: dyndep\nbuild o | m: dyndep\n")) ∷ []
 
 -- in the order of the first edges, by clean paths
 two_files : (joined_of three_edges both).paths ≡ codes "dd" ∷ codes "ee" ∷ []
@@ -147,15 +164,19 @@ two_files_end : (joined_of three_edges both).read.end ≡ Whole
 unfolding on_dyndeps
 two_files_end = refl
 
-two_files_outputs : map (λ e. e.implicit_outputs) (paths_joined (joined_of three_edges both)) ≡ (codes "m" ∷ []) ∷ [] ∷ [] ∷ []
+two_files_outputs : map (λ e. e.implicit_outputs) (paths_joined (joined_of three_edges both))
+    ≡ (codes "m" ∷ []) ∷ [] ∷ [] ∷ []
 unfolding on_dyndeps
 two_files_outputs = refl
 
-two_files_inputs : map (λ e. e.implicit_inputs) (paths_joined (joined_of three_edges both)) ≡ (codes "j" ∷ []) ∷ (codes "k" ∷ []) ∷ [] ∷ []
+two_files_inputs : map (λ e. e.implicit_inputs) (paths_joined (joined_of three_edges both))
+    ≡ (codes "j" ∷ []) ∷ (codes "k" ∷ []) ∷ [] ∷ []
 unfolding on_dyndeps
 two_files_inputs = refl
 
 -- the second one is not there
-second_missing : (joined_of three_edges (file (codes "dd") (dyndeps (codes "build q: dyndep\nbuild o: dyndep\n")) ∷ missing (codes "ee") ∷ [])).read.end ≡ Refused (fault_at main_file (at 3 1) (Missing (codes "ee")))
+second_missing : (joined_of three_edges
+    (file (codes "dd") (dyndeps (codes "build q: dyndep\nbuild o: dyndep\n")) ∷ missing (codes "ee") ∷
+    [])).read.end ≡ Refused (fault_at main_file (at 3 1) (Missing (codes "ee")))
 unfolding on_dyndeps
 second_missing = refl

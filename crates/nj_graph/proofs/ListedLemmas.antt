@@ -1,5 +1,7 @@
 -- How a graph represents the rules that it lists.
-use Rattle.std.proofs.Common.{◌≡◌, ℕ, zero, suc, ◌+◌, ◌<◌, Bool, true, false, cond, ◌==◌, List, [], ◌∷◌, ◌++◌, map, take, length, get_or, Option, Some, option_map, unwrap_or, refl, sym, ap, ◌∙◌, eqb-true, eq-eqb, arith}
+use Rattle.std.proofs.Common.{◌≡◌, ℕ, zero, suc, ◌+◌, ◌<◌, Bool, true, false, cond, ◌==◌, List, [], ◌∷◌, ◌++◌}
+use Rattle.std.proofs.Common.{map, take, length, get_or, Option, Some, option_map, unwrap_or, refl, sym, ap}
+use Rattle.std.proofs.Common.{◌∙◌, eqb-true, eq-eqb, arith}
 use Rattle.std.specs.Prelude.{slice_get}
 use Rattle.std.specs.List.Sorted.{IsSortedBy, IsStableBy}
 use Rattle.std.proofs.lemmas.Cmp.{nat_list_cmp_total}
@@ -24,21 +26,31 @@ module _ (rules : List RuleModel) where
 
   -- ---- rule by rule
 
-  module _ (numbers : List ℕ) (i : ℕ) (rule : RuleModel) (below : i < length rules) (is : rule ≡ get_or rules i rule) (so_far : map (slice_get rules) numbers ≡ map some_rule (rules_in (take i rules) 0)) where
+  module _ (numbers : List ℕ) (i : ℕ) (rule : RuleModel) (below : i < length rules)
+      (is : rule ≡ get_or rules i rule) (so_far : map (slice_get rules) numbers
+      ≡ map some_rule (rules_in (take i rules) 0)) where
     -- with the next rule
-    more : rules_in (take (i + 1) rules) 0 ≡ rules_in (take i rules) 0 ++ cond (0 == rule.scope) (rule ∷ []) []
-    more = filter_more (λ r. 0 == r.scope) rules i rule below ∙ ap (λ r. rules_in (take i rules) 0 ++ cond (0 == r.scope) (r ∷ []) []) (sym is)
+    more : rules_in (take (i + 1) rules) 0
+        ≡ rules_in (take i rules) 0 ++ cond (0 == rule.scope) (rule ∷ []) []
+    more = filter_more (λ r. 0 == r.scope) rules i rule below
+        ∙ ap (λ r. rules_in (take i rules) 0 ++ cond (0 == r.scope) (r ∷ []) []) (sym is)
 
-    pub listed-rule : rule.scope ≡ 0 → map (slice_get rules) (numbers ++ i ∷ []) ≡ map some_rule (rules_in (take (i + 1) rules) 0)
+    pub listed-rule : rule.scope ≡ 0 → map (slice_get rules) (numbers ++ i ∷ [])
+        ≡ map some_rule (rules_in (take (i + 1) rules) 0)
     listed-rule scope =
         map_push (slice_get rules) numbers i ∙ ap (λ rs. rs ++ slice_get rules i ∷ []) so_far
-        ∙ ap (λ r. map some_rule (rules_in (take i rules) 0) ++ r ∷ []) (slice_get-get_or rules i rule below ∙ ap some_rule (sym is))
+        ∙ ap (λ r. map some_rule (rules_in (take i rules) 0) ++ r ∷ [])
+        (slice_get-get_or rules i rule below ∙ ap some_rule (sym is))
         ∙ sym (map_push some_rule (rules_in (take i rules) 0) rule)
-        ∙ ap (map some_rule) (sym (more ∙ ap (λ b. rules_in (take i rules) 0 ++ cond b (rule ∷ []) []) (eq-eqb 0 rule.scope (sym scope))))
+        ∙ ap (map some_rule) (sym (more ∙ ap (λ b. rules_in (take i rules) 0 ++ cond b (rule ∷ []) [])
+        (eq-eqb 0 rule.scope (sym scope))))
 
-    pub passed-rule : (rule.scope ≡ 0 → ⊥) → map (slice_get rules) numbers ≡ map some_rule (rules_in (take (i + 1) rules) 0)
+    pub passed-rule : (rule.scope ≡ 0 → ⊥)
+        → map (slice_get rules) numbers ≡ map some_rule (rules_in (take (i + 1) rules) 0)
     passed-rule other =
-        so_far ∙ ap (map some_rule) (sym (more ∙ ap (λ b. rules_in (take i rules) 0 ++ cond b (rule ∷ []) []) (differs (0 == rule.scope) (eqb-true 0 rule.scope)) ∙ append-nil (rules_in (take i rules) 0)))
+        so_far ∙ ap (map some_rule) (sym (more
+        ∙ ap (λ b. rules_in (take i rules) 0 ++ cond b (rule ∷ []) [])
+        (differs (0 == rule.scope) (eqb-true 0 rule.scope)) ∙ append-nil (rules_in (take i rules) 0)))
       where
         differs : (b : Bool) → (b ≡ true → 0 ≡ rule.scope) → b ≡ false
         differs true h = absurd (other (sym (h refl)))
@@ -49,15 +61,20 @@ module _ (rules : List RuleModel) where
   abbrev by_name : Option RuleModel → Option RuleModel → Bool
   by_name r s = is_before (name_of r) (name_of s)
 
-  pub sorted-held : (numbers sorted : List ℕ) → map (slice_get rules) numbers ≡ map some_rule (rules_in rules 0) → IsSortedBy comes_before sorted → IsStableBy comes_before numbers sorted → HasMainRules rules sorted
+  pub sorted-held : (numbers sorted : List ℕ)
+      → map (slice_get rules) numbers ≡ map some_rule (rules_in rules 0) → IsSortedBy comes_before sorted
+      → IsStableBy comes_before numbers sorted → HasMainRules rules sorted
   unfolding main_rules_of
   sorted-held numbers sorted all up stable =
-      ap (map (slice_get rules)) (stable_sort-is comes_before (ranks_by nat_list_cmp_total (rule_name rules)) numbers sorted up stable)
+      ap (map (slice_get rules)) (stable_sort-is comes_before (ranks_by nat_list_cmp_total (rule_name rules))
+      numbers sorted up stable)
       ∙ sorted_by-map (slice_get rules) by_name numbers ∙ ap (sorted_by by_name) all
       ∙ sym (sorted_by-map some_rule by_name (rules_in rules 0))
 
 -- the rule at an index
-pub held-at : (rules : List RuleModel) (numbers : List ℕ) (listed : List RuleModel) → map (slice_get rules) numbers ≡ map some_rule listed → (i d : ℕ) → i < length listed → slice_get rules (get_or numbers i d) ≡ Some (get_or listed i phony_rule)
+pub held-at : (rules : List RuleModel) (numbers : List ℕ) (listed : List RuleModel)
+    → map (slice_get rules) numbers ≡ map some_rule listed → (i d : ℕ) → i < length listed
+    → slice_get rules (get_or numbers i d) ≡ Some (get_or listed i phony_rule)
 held-at rules [] [] h i d below = absurd (omega (arith, below))
 held-at rules [] (r ∷ listed) h i d below = absurd cc
 held-at rules (n ∷ numbers) [] h i d below = absurd cc

@@ -1,5 +1,7 @@
 -- Lemmas on the inputs that a deps log names for edges.
-use Rattle.std.proofs.Common.{◌≡◌, ◌<◌, ◌≤◌, ◌⊎◌, inl, inr, ℕ, zero, suc, List, [], ◌∷◌, ◌++◌, length, option_map, slice_get, Option, Some, refl, sym, ap, subst, ◌∙◌, arith, length-append}
+use Rattle.std.proofs.Common.{◌≡◌, ◌<◌, ◌≤◌, ◌⊎◌, inl, inr, ℕ, zero, suc, List, [], ◌∷◌, ◌++◌, length}
+use Rattle.std.proofs.Common.{option_map, slice_get, Option, Some, refl, sym, ap, subst, ◌∙◌, arith}
+use Rattle.std.proofs.Common.{length-append}
 use Rattle.std.proofs.lemmas.Bool.{cases_lt}
 use Rattle.std.proofs.lemmas.List.{length-map}
 use Rattle.std.proofs.lemmas.Option.{slice_get-map}
@@ -15,26 +17,34 @@ pub clean-empty : clean_path_of [] ≡ 46 ∷ []
 unfolding clean_path_of without_leftmost_pair
 clean-empty = refl
 
-get-front : {A : Type 0} (xs : List A) (x : A) (n : ℕ) → n < length xs → slice_get (xs ++ x ∷ []) n ≡ slice_get xs n
+get-front : {A : Type 0} (xs : List A) (x : A) (n : ℕ) → n < length xs
+    → slice_get (xs ++ x ∷ []) n ≡ slice_get xs n
 get-front [] x n below = absurd (omega (arith, below))
 get-front (z ∷ zs) x zero below = refl
 get-front (z ∷ zs) x (suc n) below = get-front zs x n (omega (arith, below))
 
 -- one more number
-pub numbers-push : (log : LogModel) (stated : List ReadStatement) (numbers : List (Option ℕ)) (number : Option ℕ) (m : ℕ) → AreNumbersLogged log stated numbers → length numbers ≡ m → number ≡ number_logged log stated m
+pub numbers-push : (log : LogModel) (stated : List ReadStatement) (numbers : List (Option ℕ))
+    (number : Option ℕ) (m : ℕ) → AreNumbersLogged log stated numbers → length numbers ≡ m
+    → number ≡ number_logged log stated m
     → AreNumbersLogged log stated (numbers ++ number ∷ [])
 numbers-push log stated numbers number m are count is n below = by (cases_lt n (length numbers))
   where
-    by : (n < length numbers) ⊎ (length numbers ≤ n) → slice_get (numbers ++ number ∷ []) n ≡ Some (number_logged log stated n)
+    by : (n < length numbers) ⊎ (length numbers ≤ n)
+        → slice_get (numbers ++ number ∷ []) n ≡ Some (number_logged log stated n)
     by (inl front) = get-front numbers number n front ∙ are n front
     by (inr past) =
         let last : n ≡ length numbers = omega (arith, past, below, length-append numbers (number ∷ [])) in
-        ap (slice_get (numbers ++ number ∷ [])) last ∙ get-last numbers number ∙ ap Some (is ∙ ap (number_logged log stated) (sym (last ∙ count)))
+        ap (slice_get (numbers ++ number ∷ [])) last ∙ get-last numbers number
+        ∙ ap Some (is ∙ ap (number_logged log stated) (sym (last ∙ count)))
 
 -- the paths that a log names for an edge
 abbrev pub logged : LogModel → List ReadStatement → (edge : ℕ) → List (List ℕ)
 logged log stated edge = inputs_logged log (number_logged log stated edge)
 
-pub log-named : (log : LogModel) (stated : List ReadStatement) (numbers : List (Option ℕ)) → AreNumbersLogged log stated numbers → AreNamed (logged log stated) (inputs_by_numbers log numbers)
+pub log-named : (log : LogModel) (stated : List ReadStatement) (numbers : List (Option ℕ))
+    → AreNumbersLogged log stated numbers → AreNamed (logged log stated) (inputs_by_numbers log numbers)
 log-named log stated numbers are n below =
-    slice_get-map (inputs_logged log) numbers n ∙ ap (option_map (inputs_logged log)) (are n (subst (λ k. n < k) (length-map numbers (inputs_logged log)) below))
+    slice_get-map (inputs_logged log) numbers n
+    ∙ ap (option_map (inputs_logged log))
+    (are n (subst (λ k. n < k) (length-map numbers (inputs_logged log)) below))

@@ -19,7 +19,8 @@ on_logs = tt
 abbrev some_log : LogModel
 some_log = record {
   paths = codes "o" ∷ codes "a" ∷ codes "b" ∷ codes "h" ∷ codes "x/../h" ∷ codes "p" ∷ [];
-  outputs = record { output = 0; time = 0; inputs = 1 ∷ 2 ∷ 3 ∷ 4 ∷ 3 ∷ 0 ∷ [] } ∷ record { output = 5; time = 0; inputs = 3 ∷ [] } ∷ [];
+  outputs = record { output = 0; time = 0; inputs = 1 ∷ 2 ∷ 3 ∷ 4 ∷ 3 ∷ 0 ∷ [] } ∷ record
+      { output = 5; time = 0; inputs = 3 ∷ [] } ∷ [];
   size = 0;
   is_whole = true;
 }
@@ -36,9 +37,11 @@ joined text = implicit_inputs (with_log some_log (read_of (rules ++ text) []).en
 
 -- ---- rows
 
--- after its own ones, each clean path once, without its explicit and implicit ones, and with its order-only ones; its own output is one
+-- after its own ones, each clean path once, without its explicit and implicit ones, and with its order-only
+-- ones; its own output is one
 -- like others
-new_ones : joined (codes "build o: cc a | j || b\n") ≡ (codes "j" ∷ codes "b" ∷ codes "h" ∷ codes "o" ∷ []) ∷ []
+new_ones : joined (codes "build o: cc a | j || b\n")
+    ≡ (codes "j" ∷ codes "b" ∷ codes "h" ∷ codes "o" ∷ []) ∷ []
 unfolding on_logs
 new_ones = refl
 
@@ -48,11 +51,13 @@ unfolding on_logs
 no_deps = refl
 
 -- the block of a phony edge; an implicit output that is the first
-block_of_phony : joined (codes "build o: phony b\n  deps = msvc\nbuild | p: cc\n") ≡ (codes "a" ∷ codes "h" ∷ codes "o" ∷ []) ∷ (codes "h" ∷ []) ∷ []
+block_of_phony : joined (codes "build o: phony b\n  deps = msvc\nbuild | p: cc\n")
+    ≡ (codes "a" ∷ codes "h" ∷ codes "o" ∷ []) ∷ (codes "h" ∷ []) ∷ []
 unfolding on_logs
 block_of_phony = refl
 
 -- an edge that waits for a dyndep file goes on waiting
-waits : map (λ p. p.edge) (pending_read (with_log some_log (read_of (rules ++ codes "build p: cc || dd\n  dyndep = dd\n") []).entries)) ≡ 0 ∷ []
+waits : map (λ p. p.edge) (pending_read
+    (with_log some_log (read_of (rules ++ codes "build p: cc || dd\n  dyndep = dd\n") []).entries)) ≡ 0 ∷ []
 unfolding on_logs
 waits = refl

@@ -1,5 +1,7 @@
 -- Lemmas on the files that edges make at the paths of a deps log.
-use Rattle.std.proofs.Common.{◌≡◌, ◌+◌, ◌||◌, inl, inr, ℕ, Bool, true, false, if◌then◌else◌, Option, Some, None, option_map, unwrap_or, List, [], ◌∷◌, ◌++◌, length, bytes_eq, refl, sym, ap, subst, ◌∙◌, true≢false, arith}
+use Rattle.std.proofs.Common.{◌≡◌, ◌+◌, ◌||◌, inl, inr, ℕ, Bool, true, false, if◌then◌else◌, Option, Some}
+use Rattle.std.proofs.Common.{None, option_map, unwrap_or, List, [], ◌∷◌, ◌++◌, length, bytes_eq, refl, sym}
+use Rattle.std.proofs.Common.{ap, subst, ◌∙◌, true≢false, arith}
 use Rattle.std.specs.Prelude.{position}
 use Rattle.std.proofs.lemmas.Bool.{cases_lt}
 use Rattle.std.proofs.lemmas.List.{get_or_append_left, get_or_push, length_push}
@@ -22,21 +24,28 @@ or-second false b is = is
 or-second true b is = absurd (true≢false is)
 
 -- no edge makes a file that none names
-pub not-named : (edges : List EdgePaths) (path : List ℕ) → is_named edges path ≡ false → maker_of edges path ≡ None
+pub not-named : (edges : List EdgePaths) (path : List ℕ) → is_named edges path ≡ false
+    → maker_of edges path ≡ None
 not-named [] path is = refl
 not-named (e ∷ edges) path is =
-    ap (λ b. if b then Some 0 else option_map (λ n. n + 1) (maker_of edges path)) (or-first (is_among (outputs_of e) path) (is_among (inputs_of e) path)
-    (or-first (is_among (outputs_of e) path || is_among (inputs_of e) path) (is_among e.validations path) (or-first (names e path) (is_named edges path) is)))
+    ap (λ b. if b then Some 0 else option_map (λ n. n + 1) (maker_of edges path))
+    (or-first (is_among (outputs_of e) path) (is_among (inputs_of e) path)
+    (or-first (is_among (outputs_of e) path || is_among (inputs_of e) path) (is_among e.validations path)
+    (or-first (names e path) (is_named edges path) is)))
     ∙ ap (option_map (λ n. n + 1)) (not-named edges path (or-second (names e path) (is_named edges path) is))
 
 -- the path of a file that was found there
-pub path-found : (files : List (List ℕ)) (path : List ℕ) (file : FileNo) → position (bytes_eq path) files ≡ Some file.0 → path_at files file ≡ path
+pub path-found : (files : List (List ℕ)) (path : List ℕ) (file : FileNo)
+    → position (bytes_eq path) files ≡ Some file.0 → path_at files file ≡ path
 path-found files path file is = ap (λ o. unwrap_or o []) (found-at path files file.0 is)
 
-module _ (g : EdgeGraph) (paths : List (List ℕ)) (made : List (Option MadeFile)) (next : Option MadeFile) (n : ℕ) where
-  pub made-push : AreMade g paths made → length made ≡ n → MadeIs g (clean_path_of (name_at paths n)) next → AreMade g paths (made ++ next ∷ [])
+module _ (g : EdgeGraph) (paths : List (List ℕ)) (made : List (Option MadeFile)) (next : Option MadeFile)
+    (n : ℕ) where
+  pub made-push : AreMade g paths made → length made ≡ n → MadeIs g (clean_path_of (name_at paths n)) next
+      → AreMade g paths (made ++ next ∷ [])
   made-push are count is k below = elim (cases_lt k (length made)) [
-    | inl before ↦ subst (MadeIs g (clean_path_of (name_at paths k))) (sym (get_or_append_left made (next ∷ []) None k before)) (are k before)
+    | inl before ↦ subst (MadeIs g (clean_path_of (name_at paths k)))
+        (sym (get_or_append_left made (next ∷ []) None k before)) (are k before)
     | inr past ↦
         let last : length made ≡ k = omega (arith, past, below, length_push made next) in
         subst (MadeIs g (clean_path_of (name_at paths k))) (sym (get_or_push made next None k last))

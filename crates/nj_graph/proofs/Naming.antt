@@ -1,5 +1,7 @@
 -- The reading of a statement, where it has a fault of its own, and where it names a file.
-use Rattle.std.proofs.Common.{◌≡◌, ℕ, ◌+◌, ◌<◌, Result, Ok, Err, IfOk, OnOk, length, arith, Bool, true, false, inl, inr, Option, Some, None, option_map, List, [], ◌∷◌, ◌++◌, refl, sym, ap, subst, ◌∙◌}
+use Rattle.std.proofs.Common.{◌≡◌, ℕ, ◌+◌, ◌<◌, Result, Ok, Err, IfOk, OnOk, length, arith, Bool, true, false}
+use Rattle.std.proofs.Common.{inl, inr, Option, Some, None, option_map, List, [], ◌∷◌, ◌++◌, refl, sym, ap}
+use Rattle.std.proofs.Common.{subst, ◌∙◌}
 use Rattle.nj_graph.specs.Inside.PathsReached.{with_news, with_new, paths_read, come_to, reached_by}
 use Rattle.nj_graph.proofs.OriginLemmas.{origins-more}
 use Rattle.nj_graph.proofs.Continuing.{unless_fault}
@@ -8,7 +10,9 @@ use Rattle.std.specs.Option.{option_or, option_to_list}
 use Rattle.nj_text.specs.declared.spot.Spot.{Spot}
 use Rattle.nj_text.specs.Words.{WordModel}
 use Rattle.nj_manifest.specs.Faults.{Fault, Placed, OutOfMemory}
-use Rattle.nj_manifest.specs.Statements.{StatementModel, BindingModel, RuleModel, PoolModel, BuildModel, DefaultModel, IncludeModel, SubninjaModel, LineModel, OutputsModel, InputsModel}
+use Rattle.nj_manifest.specs.Statements.{StatementModel, BindingModel, RuleModel, PoolModel, BuildModel}
+use Rattle.nj_manifest.specs.Statements.{DefaultModel, IncludeModel, SubninjaModel, LineModel, OutputsModel}
+use Rattle.nj_manifest.specs.Statements.{InputsModel}
 use Rattle.nj_scope.specs.Readings.{Reading, EachPathOnce, IsPrefix, paths_of}
 use Rattle.nj_scope.specs.Scopes.{child, parent_at, first_given}
 use Rattle.nj_scope.specs.Declarations.{DeclarationsModel, DeclaredBy, TakesIn}
@@ -23,20 +27,25 @@ use Rattle.nj_graph.specs.declared.reader.OpenFile.{OpenFile}
 use Rattle.nj_faults.specs.declared.fault.Place.{Place}
 use Rattle.nj_faults.specs.declared.fault.Cause.{Cause}
 use Rattle.nj_faults.specs.Faults.{IsFault, fault_at, fault_in, no_memory}
-use Rattle.nj_graph.specs.Reading.{Site, entry_at, expanded_in, place_at, path_fault, depth_fault, item_fault, own_fault, Whole, Refused, ReadingModel, Opens, item_read, statement_read, opened_in, text_read}
+use Rattle.nj_graph.specs.Reading.{Site, entry_at, expanded_in, place_at, path_fault, depth_fault, item_fault}
+use Rattle.nj_graph.specs.Reading.{own_fault, Whole, Refused, ReadingModel, Opens, item_read, statement_read}
+use Rattle.nj_graph.specs.Reading.{opened_in, text_read}
 use Rattle.nj_graph.specs.Inside.Outcomes.{path_at_fault}
 use Rattle.nj_graph.specs.Inside.ReaderContracts.{site_scope}
 use Rattle.nj_edges.specs.Edges.{EdgePaths}
 use Rattle.nj_faults.specs.declared.fault.Cause.TheVariants.{RuleVariableCycle}
-use Rattle.nj_statements.specs.EdgeList.{Values, EdgeModel, path_given, line_values, edges_read, paths_of_edges, edge_of_build, names_of_edge}
-use Rattle.nj_statements.specs.BuildFaults.{empty_path, unknown_rule, two_makers, outputs_fault, paths_fault, variable_cycle_fault, late_fault, target_fault}
+use Rattle.nj_statements.specs.EdgeList.{Values, EdgeModel, path_given, line_values, edges_read}
+use Rattle.nj_statements.specs.EdgeList.{paths_of_edges, edge_of_build, names_of_edge}
+use Rattle.nj_statements.specs.BuildFaults.{empty_path, unknown_rule, two_makers, outputs_fault, paths_fault}
+use Rattle.nj_statements.specs.BuildFaults.{variable_cycle_fault, late_fault, target_fault}
 use Rattle.nj_statements.specs.Answers.{HasEdges}
 use Rattle.nj_statements.proofs.Holding.{names_files, kept-other}
 use Rattle.nj_graph.specs.Runs.{IsRead, Stops}
 use Rattle.nj_graph.specs.Graph.{IsOpenScope}
 use Rattle.nj_graph.specs.Origins.{OriginsModel, place_of}
 use Rattle.nj_graph.specs.Inside.OriginsHeld.{origins_with}
-use Rattle.nj_graph.specs.Inside.ReaderContracts.{named_item, named_site, site_of, EntersScope, Has, Grows, IsOpenIn, ReadsOne, StopsAt, OpensText, OpensNamed}
+use Rattle.nj_graph.specs.Inside.ReaderContracts.{named_item, named_site, site_of, EntersScope, Has, Grows}
+use Rattle.nj_graph.specs.Inside.ReaderContracts.{IsOpenIn, ReadsOne, StopsAt, OpensText, OpensNamed}
 use Rattle.nj_graph.proofs.Comes.{item-comes, statements-come}
 use Rattle.nj_graph.proofs.Tables.{read-nothing}
 use Rattle.nj_graph.proofs.OpenScopes.{open-grown, open-next}
@@ -49,62 +58,84 @@ NamesNone found = (fault : GraphFault) → found ≡ Some fault → path_at_faul
 some-is : {A : Type 0} (x y : A) → Some x ≡ Some y → x ≡ y
 some-is x y h = cc
 
-if-names : (b : Bool) (file : List ℕ) (spot : Spot) (cause : Cause) → path_at_fault cause ≡ [] → NamesNone (then_some b (fault_at file spot cause))
+if-names : (b : Bool) (file : List ℕ) (spot : Spot) (cause : Cause) → path_at_fault cause ≡ []
+    → NamesNone (then_some b (fault_at file spot cause))
 if-names true file spot cause none fault h = ap (λ f. path_at_fault f.cause) (sym (some-is _ fault h)) ∙ none
 if-names false file spot cause none fault h = absurd cc
 
-or-names : (first others : Option GraphFault) → NamesNone first → NamesNone others → NamesNone (option_or first others)
+or-names : (first others : Option GraphFault) → NamesNone first → NamesNone others
+    → NamesNone (option_or first others)
 or-names (Some first) others one more = one
 or-names None others one more = more
 
-depth-names : (file : List ℕ) (found : Option LineModel) (cause : Cause) → path_at_fault cause ≡ [] → NamesNone (option_map (λ l. fault_at file l.spot cause) found)
-depth-names file (Some l) cause none fault h = ap (λ f. path_at_fault f.cause) (sym (some-is _ fault h)) ∙ none
+depth-names : (file : List ℕ) (found : Option LineModel) (cause : Cause) → path_at_fault cause ≡ []
+    → NamesNone (option_map (λ l. fault_at file l.spot cause) found)
+depth-names file (Some l) cause none fault h =
+    ap (λ f. path_at_fault f.cause) (sym (some-is _ fault h)) ∙ none
 depth-names file None cause none fault h = absurd cc
 
-first-names : (fault_of : WordModel → Option GraphFault) → ((word : WordModel) → NamesNone (fault_of word)) → (words : List WordModel) → NamesNone (first_given fault_of words)
+first-names : (fault_of : WordModel → Option GraphFault) → ((word : WordModel) → NamesNone (fault_of word))
+    → (words : List WordModel) → NamesNone (first_given fault_of words)
 first-names fault_of none [] = λ fault h. absurd cc
-first-names fault_of none (word ∷ words) = or-names (fault_of word) (first_given fault_of words) (none word) (first-names fault_of none words)
+first-names fault_of none (word ∷ words) =
+    or-names (fault_of word) (first_given fault_of words) (none word) (first-names fault_of none words)
 
 empty-names : (file : List ℕ) (values : Values) (word : WordModel) → NamesNone (empty_path file values word)
 empty-names file values word = if-names _ file word.spot _ refl
 
-target-names : (file : List ℕ) (values : Values) (edges : List EdgePaths) (word : WordModel) → NamesNone (target_fault file values edges word)
-target-names file values edges word = or-names (empty_path file values word) _ (empty-names file values word) (if-names _ file word.spot _ refl)
+target-names : (file : List ℕ) (values : Values) (edges : List EdgePaths) (word : WordModel)
+    → NamesNone (target_fault file values edges word)
+target-names file values edges word = or-names (empty_path file values word) _ (empty-names file values word)
+    (if-names _ file word.spot _ refl)
 
-outputs-name : (file : List ℕ) (values : Values) (edges : List EdgePaths) (left : List (List ℕ)) (words : List WordModel) → NamesNone (outputs_fault file values edges left words)
+outputs-name : (file : List ℕ) (values : Values) (edges : List EdgePaths) (left : List (List ℕ))
+    (words : List WordModel) → NamesNone (outputs_fault file values edges left words)
 outputs-name file values edges left [] = λ fault h. absurd cc
 outputs-name file values edges left (word ∷ words) =
     or-names (option_or (empty_path file values word) (two_makers file values edges left word)) _
-    (or-names (empty_path file values word) _ (empty-names file values word) (if-names _ file word.spot _ refl))
+    (or-names (empty_path file values word) _ (empty-names file values word)
+    (if-names _ file word.spot _ refl))
     (outputs-name file values edges (left ++ path_given values word ∷ []) words)
 
-paths-name : (file : List ℕ) (values : Values) (edges : List EdgePaths) (outputs : OutputsModel) (inputs : InputsModel) → NamesNone (paths_fault file values edges outputs inputs)
+paths-name : (file : List ℕ) (values : Values) (edges : List EdgePaths) (outputs : OutputsModel)
+    (inputs : InputsModel) → NamesNone (paths_fault file values edges outputs inputs)
 paths-name file values edges outputs inputs =
     or-names (outputs_fault file values edges [] (outputs.explicit ++ outputs.implicit)) _
     (outputs-name file values edges [] (outputs.explicit ++ outputs.implicit))
-    (first-names (empty_path file values) (empty-names file values) (inputs.explicit ++ (inputs.implicit ++ (inputs.order_only ++ inputs.validations))))
+    (first-names (empty_path file values) (empty-names file values)
+    (inputs.explicit ++ (inputs.implicit ++ (inputs.order_only ++ inputs.validations))))
 
-key-names : (file : List ℕ) (spot : Spot) (key : Option (List ℕ)) → NamesNone (option_map (λ k. fault_at file spot (RuleVariableCycle k)) key)
+key-names : (file : List ℕ) (spot : Spot) (key : Option (List ℕ))
+    → NamesNone (option_map (λ k. fault_at file spot (RuleVariableCycle k)) key)
 key-names file spot (Some k) fault h = ap (λ f. path_at_fault f.cause) (sym (some-is _ fault h))
 key-names file spot None fault h = absurd cc
 
 late-names : (before : List ReadStatement) (edge : EdgeModel) → NamesNone (late_fault before edge)
 late-names before edge =
-    or-names (variable_cycle_fault edge.file edge.spot (names_of_edge before edge)) _ (key-names edge.file edge.spot _)
+    or-names (variable_cycle_fault edge.file edge.spot (names_of_edge before edge)) _
+    (key-names edge.file edge.spot _)
     (or-names _ _ (if-names _ edge.file edge.spot _ refl) (if-names _ edge.file edge.spot _ refl))
 
-item-names : (e : ReadStatement) (before : List ReadStatement) (item : StatementModel) → NamesNone (item_fault e before item)
+item-names : (e : ReadStatement) (before : List ReadStatement) (item : StatementModel)
+    → NamesNone (item_fault e before item)
 item-names e before (BindingModel name value) = if-names _ e.file e.spot _ refl
 item-names e before (RuleModel name lines) = if-names _ e.file name.spot _ refl
-item-names e before (PoolModel name lines) = or-names _ (depth_fault e.file (scope_of e) before lines) (if-names _ e.file name.spot _ refl) (depth-names e.file _ _ refl)
+item-names e before (PoolModel name lines) =
+    or-names _ (depth_fault e.file (scope_of e) before lines) (if-names _ e.file name.spot _ refl)
+    (depth-names e.file _ _ refl)
 item-names e before (BuildModel outputs rule inputs lines) =
     or-names (unknown_rule e before rule) _ (if-names _ e.file rule.spot _ refl)
-    (or-names (paths_fault e.file (line_values e before lines) (paths_of_edges (edges_read before)) outputs inputs) _
+    (or-names (paths_fault e.file (line_values e before lines) (paths_of_edges (edges_read before)) outputs
+    inputs) _
     (paths-name e.file (line_values e before lines) (paths_of_edges (edges_read before)) outputs inputs)
     (late-names before (edge_of_build e before outputs rule inputs lines)))
-item-names e before (DefaultModel words) = first-names _ (target-names e.file (value_after before (scope_of e)) (paths_of_edges (edges_read before))) words
-item-names e before (IncludeModel word) = or-names _ _ (if-names _ e.file word.spot _ refl) (if-names _ e.file word.spot _ refl)
-item-names e before (SubninjaModel word) = or-names _ _ (if-names _ e.file word.spot _ refl) (if-names _ e.file word.spot _ refl)
+item-names e before (DefaultModel words) =
+    first-names _ (target-names e.file (value_after before (scope_of e)) (paths_of_edges (edges_read before)))
+    words
+item-names e before (IncludeModel word) =
+    or-names _ _ (if-names _ e.file word.spot _ refl) (if-names _ e.file word.spot _ refl)
+item-names e before (SubninjaModel word) =
+    or-names _ _ (if-names _ e.file word.spot _ refl) (if-names _ e.file word.spot _ refl)
 
 pub syntax-names : (file : List ℕ) (fault : Fault) → path_at_fault (fault_in file fault).cause ≡ []
 syntax-names file (Placed spot cause) = refl
@@ -116,45 +147,87 @@ module _ (kind : Naming) (site : Site) (start : Spot) (entries : List ReadStatem
   abbrev names : ReadStatement
   names = entry_at site (record { spot = start; item = named_item kind word })
 
-  pub named-fault : own_fault names entries ≡ path_fault site.file word.spot (expanded_in (site_scope site) entries word)
-  named-fault = elim kind as (λ k. own_fault (entry_at site (record { spot = start; item = named_item k word })) entries ≡ path_fault site.file word.spot (expanded_in (site_scope site) entries word)) [ naming.Include ↦ refl | naming.Subninja ↦ refl ]
+  pub named-fault : own_fault names entries
+      ≡ path_fault site.file word.spot (expanded_in (site_scope site) entries word)
+  named-fault = elim kind as (λ k. own_fault
+      (entry_at site (record { spot = start; item = named_item k word })) entries
+      ≡ path_fault site.file word.spot (expanded_in (site_scope site) entries word))
+      [ naming.Include ↦ refl | naming.Subninja ↦ refl ]
 
   pub named-path : path_named names entries names.item ≡ Some (expanded_in (site_scope site) entries word)
-  named-path = elim kind as (λ k. path_named (entry_at site (record { spot = start; item = named_item k word })) entries (named_item k word) ≡ Some (expanded_in (site_scope site) entries word)) [ naming.Include ↦ refl | naming.Subninja ↦ refl ]
+  named-path = elim kind as (λ k. path_named
+      (entry_at site (record { spot = start; item = named_item k word })) entries (named_item k word)
+      ≡ Some (expanded_in (site_scope site) entries word)) [ naming.Include ↦ refl | naming.Subninja ↦ refl ]
 
   pub named-file : (named_site kind names entries word).file ≡ expanded_in (site_scope site) entries word
-  named-file = elim kind as (λ k. (named_site k names entries word).file ≡ expanded_in (site_scope site) entries word) [ naming.Include ↦ refl | naming.Subninja ↦ refl ]
+  named-file = elim kind as (λ k. (named_site k names entries word).file
+      ≡ expanded_in (site_scope site) entries word) [ naming.Include ↦ refl | naming.Subninja ↦ refl ]
 
   -- where it is opened from
   pub named-origins : (o : OriginsModel) → origins_with names entries o ≡ record o {
-    openings = o.openings ++ record { path = expanded_in (site_scope site) entries word; named_at = Some (place_of names); scope = (named_site kind names entries word).scope } ∷ [];
+    openings = o.openings ++ record {
+      path = expanded_in (site_scope site) entries word;
+      named_at =
+          Some (place_of names);
+      scope = (named_site kind names entries word).scope;
+    } ∷ [];
   }
   named-origins o =
-      elim kind as (λ k. origins_with (entry_at site (record { spot = start; item = named_item k word })) entries o ≡ record o {
-        openings = o.openings ++ record { path = expanded_in (site_scope site) entries word; named_at = Some (place_of (entry_at site (record { spot = start; item = named_item k word }))); scope = (named_site k (entry_at site (record { spot = start; item = named_item k word })) entries word).scope } ∷ [];
+      elim kind as (λ k. origins_with (entry_at site (record { spot = start; item = named_item k word }))
+      entries o ≡ record o {
+        openings = o.openings ++ record {
+          path = expanded_in (site_scope site) entries word;
+          named_at =
+              Some (place_of (entry_at site (record { spot = start; item = named_item k word })));
+          scope =
+              (named_site k (entry_at site (record { spot = start; item = named_item k word })) entries
+              word).scope;
+        } ∷ [];
       })
       [ naming.Include ↦ refl | naming.Subninja ↦ refl ]
 
   pub named-builds : names_files names.item ≡ false
-  named-builds = elim kind as (λ k. names_files (named_item k word) ≡ false) [ naming.Include ↦ refl | naming.Subninja ↦ refl ]
+  named-builds = elim kind as (λ k. names_files (named_item k word) ≡ false)
+      [ naming.Include ↦ refl | naming.Subninja ↦ refl ]
 
-  named-item : (opens : Opens) → item_read opens names entries names.item ≡ opens (named_site kind names entries word) (place_at names word.spot) names entries
-  named-item opens = elim kind as (λ k. item_read opens (entry_at site (record { spot = start; item = named_item k word })) entries (named_item k word) ≡ opens (named_site k (entry_at site (record { spot = start; item = named_item k word })) entries word) (place_at (entry_at site (record { spot = start; item = named_item k word })) word.spot) (entry_at site (record { spot = start; item = named_item k word })) entries) [ naming.Include ↦ refl | naming.Subninja ↦ refl ]
+  named-item : (opens : Opens) → item_read opens names entries names.item
+      ≡ opens (named_site kind names entries word) (place_at names word.spot) names entries
+  named-item opens = elim kind as (λ k. item_read opens
+      (entry_at site (record { spot = start; item = named_item k word })) entries (named_item k word)
+      ≡ opens (named_site k (entry_at site (record { spot = start; item = named_item k word })) entries word)
+      (place_at (entry_at site (record { spot = start; item = named_item k word })) word.spot)
+      (entry_at site (record { spot = start; item = named_item k word })) entries)
+      [ naming.Include ↦ refl | naming.Subninja ↦ refl ]
 
   -- without a fault of its own
-  pub named-read : path_fault site.file word.spot (expanded_in (site_scope site) entries word) ≡ None → (opens : Opens) → statement_read opens names entries ≡ opens (named_site kind names entries word) (place_at names word.spot) names entries
-  named-read none opens = ap (λ f. unless_fault f entries (item_read opens names entries names.item)) (named-fault ∙ none) ∙ named-item opens
+  pub named-read : path_fault site.file word.spot (expanded_in (site_scope site) entries word) ≡ None
+      → (opens : Opens) → statement_read opens names entries
+      ≡ opens (named_site kind names entries word) (place_at names word.spot) names entries
+  named-read none opens = ap (λ f. unless_fault f entries (item_read opens names entries names.item))
+      (named-fault ∙ none) ∙ named-item opens
 
 -- a new scope for the file after `subninja`
-pub enters-new : {X : Type 0} (old : Reader) (new : DeclarationsModel) (file : OpenFile) (start : Spot) (word : WordModel) (entries : List ReadStatement) (around : List ℕ) (depth : ℕ) (result : Result ScopeNo X)
-    → IfOk result (λ n. n.0 ≡ length old.declarations.scopes) → OnOk result (parent_at new.scopes (length old.declarations.scopes) ≡ Some file.scope.0)
-    → ((n : ℕ) → n < length old.declarations.scopes → parent_at new.scopes n ≡ parent_at old.declarations.scopes n) → OnOk result (length new.scopes ≡ length old.declarations.scopes + 1)
-    → OnOk result (TakesIn old.declarations new file.scope.0 around (SubninjaModel word)) → DeclaredBy old.declarations entries → IsOpenIn old file around
-    → IfOk result (λ n. EntersScope (record { declarations = new; building = old.building; files = old.files; origins = old.origins }) n.0
-    (named_site naming.Subninja (entry_at (site_of file around depth) (record { spot = start; item = SubninjaModel word })) entries word) (entry_at (site_of file around depth) (record { spot = start; item = SubninjaModel word })) entries)
-enters-new old new file start word entries around depth (Err e) number within others count opened declares inside = tt
-enters-new old new file start word entries around depth (Ok n) number within others count opened declares inside =
-    let grown = open-grown old.declarations.scopes new.scopes file.scope.0 around (record { count = omega (arith, count); parents = others }) inside in
+pub enters-new : {X : Type 0} (old : Reader) (new : DeclarationsModel) (file : OpenFile) (start : Spot)
+    (word : WordModel) (entries : List ReadStatement) (around : List ℕ) (depth : ℕ)
+    (result : Result ScopeNo X)
+    → IfOk result (λ n. n.0 ≡ length old.declarations.scopes)
+    → OnOk result (parent_at new.scopes (length old.declarations.scopes) ≡ Some file.scope.0)
+    → ((n : ℕ) → n < length old.declarations.scopes
+    → parent_at new.scopes n ≡ parent_at old.declarations.scopes n)
+    → OnOk result (length new.scopes ≡ length old.declarations.scopes + 1)
+    → OnOk result (TakesIn old.declarations new file.scope.0 around (SubninjaModel word))
+    → DeclaredBy old.declarations entries → IsOpenIn old file around
+    → IfOk result (λ n. EntersScope (record
+    { declarations = new; building = old.building; files = old.files; origins = old.origins }) n.0
+    (named_site naming.Subninja (entry_at (site_of file around depth)
+    (record { spot = start; item = SubninjaModel word })) entries word)
+    (entry_at (site_of file around depth) (record { spot = start; item = SubninjaModel word })) entries)
+enters-new old new file start word entries around depth (Err e) number within others count opened declares
+    inside = tt
+enters-new old new file start word entries around depth (Ok n) number within others count opened declares
+    inside =
+    let grown = open-grown old.declarations.scopes new.scopes file.scope.0 around
+    (record { count = omega (arith, count); parents = others }) inside in
     record {
       number_is = sym (number ∙ declares.scopes);
       scope = record {
@@ -166,57 +239,103 @@ enters-new old new file start word entries around depth (Ok n) number within oth
 
 -- ---- a run that stops
 
-pub stops-same : (main : List ℕ) (before after : SourceState) (old : List Reading) (first second : List Reading → ReadingModel) (fault : GraphFault)
-    → ((all : List Reading) → second all ≡ first all) → StopsAt main before after old first fault → StopsAt main before after old second fault
-stops-same main before after old first second fault same s = record { files = s.files; reads = s.reads; stops = by s.stops }
+pub stops-same : (main : List ℕ) (before after : SourceState) (old : List Reading)
+    (first second : List Reading → ReadingModel) (fault : GraphFault)
+    → ((all : List Reading) → second all ≡ first all) → StopsAt main before after old first fault
+    → StopsAt main before after old second fault
+stops-same main before after old first second fault same s =
+    record { files = s.files; reads = s.reads; stops = by s.stops }
   where
-    by : Stops before after s.files (λ all. reached_by main (first all)) fault → Stops before after s.files (λ all. reached_by main (second all)) fault
-    by (inl m) = inl (record { answered = m.answered; failures = m.failures; came_to = λ all e. subst (λ r. IsPrefix (paths_of s.files) (come_to main r)) (sym (same all)) (m.came_to all e) })
-    by (inr e) = inr (record { reached = e.reached; answered = e.answered; read = λ all ext lacks. ap (reached_by main) (same all) ∙ e.read all ext lacks; came_to = e.came_to })
+    by : Stops before after s.files (λ all. reached_by main (first all)) fault
+        → Stops before after s.files (λ all. reached_by main (second all)) fault
+    by (inl m) = inl (record {
+      answered = m.answered;
+      failures = m.failures;
+      came_to =
+          λ all e. subst (λ r. IsPrefix (paths_of s.files) (come_to main r)) (sym (same all)) (m.came_to all e);
+    })
+    by (inr e) = inr (record {
+      reached = e.reached;
+      answered = e.answered;
+      read =
+          λ all ext lacks. ap (reached_by main) (same all) ∙ e.read all ext lacks;
+      came_to = e.came_to;
+    })
 
-module _ (main : List ℕ) (before after : SourceState) (old : Reader) (entries : List ReadStatement) (has : Has main old entries) (same : after ≡ before) where
+module _ (main : List ℕ) (before after : SourceState) (old : Reader) (entries : List ReadStatement)
+    (has : Has main old entries) (same : after ≡ before) where
   read-no_more : IsRead before after old.files old.files
-  read-no_more = subst (λ source. IsRead before source old.files old.files) (sym same) (read-nothing before old.files has.once)
+  read-no_more = subst (λ source. IsRead before source old.files old.files) (sym same)
+      (read-nothing before old.files has.once)
 
   -- there was no memory, and nothing more was read
-  pub stops-memory : (reading : List Reading → ReadingModel) (fault : GraphFault) → ((all : List Reading) → IsPrefix (paths_read main entries) (come_to main (reading all))) → fault ≡ no_memory
+  pub stops-memory : (reading : List Reading → ReadingModel) (fault : GraphFault)
+      → ((all : List Reading) → IsPrefix (paths_read main entries) (come_to main (reading all)))
+      → fault ≡ no_memory
       → StopsAt main before after old.files reading fault
   stops-memory reading fault comes none = record {
     files = old.files;
     reads = read-no_more;
-    stops = inl (record { answered = none; failures = ap (λ source. source.failures) same; came_to = λ all e. subst (λ ps. IsPrefix ps (come_to main (reading all))) (sym has.paths_are) (comes all) });
+    stops = inl (record {
+      answered = none;
+      failures = ap (λ source. source.failures) same;
+      came_to =
+          λ all e. subst (λ ps. IsPrefix ps (come_to main (reading all))) (sym has.paths_are) (comes all);
+    });
   }
 
   -- a fault before which nothing more was read
-  pub stops-refused : (reading : List Reading → ReadingModel) (fault : GraphFault) (expected : GraphFault) → ((all : List Reading) → reading all ≡ record { entries = entries; end = Refused expected }) → path_at_fault expected.cause ≡ [] → fault ≡ expected
+  pub stops-refused : (reading : List Reading → ReadingModel) (fault : GraphFault) (expected : GraphFault)
+      → ((all : List Reading) → reading all ≡ record { entries = entries; end = Refused expected })
+      → path_at_fault expected.cause ≡ [] → fault ≡ expected
       → StopsAt main before after old.files reading fault
   stops-refused reading fault expected is none reported = record {
     files = old.files;
     reads = read-no_more;
-    stops = inr (record { reached = reached_by main (record { entries = entries; end = Refused expected }); answered = (reported, ap (λ source. source.failures) same); read = λ all e lacks. ap (reached_by main) (is all); came_to = ap (with_news (paths_read main entries)) none ∙ sym has.paths_are });
+    stops = inr (record {
+      reached = reached_by main (record { entries = entries; end = Refused expected });
+      answered = (reported, ap (λ source. source.failures) same);
+      read =
+          λ all e lacks. ap (reached_by main) (is all);
+      came_to =
+          ap (with_news (paths_read main entries)) none ∙ sym has.paths_are;
+    });
   }
 
   -- a fault of a statement by itself
   pub stops-own : (left : ℕ) (e : ReadStatement) (fault : GraphFault) → IsFault (own_fault e entries) fault
       → StopsAt main before after old.files (λ all. statement_read (opened_in all left) e entries) fault
-  stops-own left e fault (inl none) = stops-memory (λ all. statement_read (opened_in all left) e entries) fault (λ all. item-comes main all left e entries) none
+  stops-own left e fault (inl none) = stops-memory (λ all. statement_read (opened_in all left) e entries)
+      fault (λ all. item-comes main all left e entries) none
   stops-own left e fault (inr reported) =
-      stops-refused (λ all. statement_read (opened_in all left) e entries) fault fault (λ all. ap (λ f. unless_fault f entries (item_read (opened_in all left) e entries e.item)) reported)
+      stops-refused (λ all. statement_read (opened_in all left) e entries) fault fault
+      (λ all. ap (λ f. unless_fault f entries (item_read (opened_in all left) e entries e.item)) reported)
       (item-names e entries e.item fault reported) refl
 
   -- the same where this is the statement
-  pub stops-item : (left : ℕ) (site : Site) (spot : Spot) (item meant : StatementModel) (fault : GraphFault) → item ≡ meant
+  pub stops-item : (left : ℕ) (site : Site) (spot : Spot) (item meant : StatementModel) (fault : GraphFault)
+      → item ≡ meant
       → IsFault (own_fault (entry_at site (record { spot = spot; item = meant })) entries) fault
-      → StopsAt main before after old.files (λ all. statement_read (opened_in all left) (entry_at site (record { spot = spot; item = item })) entries) fault
+      → StopsAt main before after old.files
+      (λ all. statement_read (opened_in all left) (entry_at site (record { spot = spot; item = item }))
+      entries) fault
   stops-item left site spot item meant fault is reported =
-      subst (λ i. StopsAt main before after old.files (λ all. statement_read (opened_in all left) (entry_at site (record { spot = spot; item = i })) entries) fault) (sym is)
+      subst (λ i. StopsAt main before after old.files
+      (λ all. statement_read (opened_in all left) (entry_at site (record { spot = spot; item = i }))
+      entries) fault) (sym is)
       (stops-own left (entry_at site (record { spot = spot; item = meant })) fault reported)
 
 -- ---- a file that is named
 
-module _ (main : List ℕ) (before after : SourceState) (old mid held : Reader) (left : ℕ) (place : Place) (path : List ℕ) (e : ReadStatement) (entries : List ReadStatement) (text : List ℕ) where
-  pub opens-file : (inner : Site) → Has main old entries → OpensText main before after old mid left place path entries text → held.files ≡ mid.files → held.origins ≡ origins_with e entries old.origins → held.building ≡ old.building → names_files e.item ≡ false → Grows old.declarations.scopes held.declarations.scopes → IsOpenScope old.declarations.scopes e.scope e.around
-      → DeclaredBy held.declarations (e ∷ entries) → inner.file ≡ path → path_named e entries e.item ≡ Some path
+module _ (main : List ℕ) (before after : SourceState) (old mid held : Reader) (left : ℕ) (place : Place)
+    (path : List ℕ) (e : ReadStatement) (entries : List ReadStatement) (text : List ℕ) where
+  pub opens-file : (inner : Site) → Has main old entries
+      → OpensText main before after old mid left place path entries text → held.files ≡ mid.files
+      → held.origins ≡ origins_with e entries old.origins → held.building ≡ old.building
+      → names_files e.item ≡ false → Grows old.declarations.scopes held.declarations.scopes
+      → IsOpenScope old.declarations.scopes e.scope e.around
+      → DeclaredBy held.declarations (e ∷ entries) → inner.file ≡ path
+      → path_named e entries e.item ≡ Some path
       → ((opens : Opens) → statement_read opens e entries ≡ opens inner place e entries)
       → OpensNamed main before after old held left inner text e entries
   opens-file inner has o files origins building builds grows inside declares is names read = record {
@@ -224,10 +343,13 @@ module _ (main : List ℕ) (before after : SourceState) (old mid held : Reader) 
     reads = record { reads = o.reads.reads; held_is = files ∙ o.reads.held_is; failures = o.reads.failures };
     has = record {
       declares = declares;
-      edges = subst (λ b. HasEdges b (e ∷ entries)) (sym building) (kept-other old.building e entries builds has.edges);
+      edges = subst (λ b. HasEdges b (e ∷ entries)) (sym building)
+          (kept-other old.building e entries builds has.edges);
       scopes = open-next old.declarations.scopes held.declarations.scopes e entries grows inside has.scopes;
       origins = origins ∙ ap (origins_with e entries) has.origins ∙ origins-more main e entries;
-      paths_are = ap paths_of (files ∙ o.reads.held_is) ∙ o.came_to ∙ ap (λ ps. with_new ps path) has.paths_are ∙ ap (λ o. with_news (paths_read main entries) (option_to_list o)) (sym names);
+      paths_are = ap paths_of (files ∙ o.reads.held_is) ∙ o.came_to
+          ∙ ap (λ ps. with_new ps path) has.paths_are
+          ∙ ap (λ o. with_news (paths_read main entries) (option_to_list o)) (sym names);
       once = subst EachPathOnce (sym (files ∙ o.reads.held_is)) o.reads.reads.once;
     };
     within = o.within;
@@ -236,7 +358,8 @@ module _ (main : List ℕ) (before after : SourceState) (old mid held : Reader) 
   }
 
   -- there was no memory for the scope of a file that is open
-  pub stops-open : (inner : Site) (fault : GraphFault) → Has main old entries → OpensText main before after old mid left place path entries text
+  pub stops-open : (inner : Site) (fault : GraphFault) → Has main old entries
+      → OpensText main before after old mid left place path entries text
       → inner.file ≡ path → path_named e entries e.item ≡ Some path
       → ((opens : Opens) → statement_read opens e entries ≡ opens inner place e entries)
       → fault ≡ no_memory
@@ -244,18 +367,29 @@ module _ (main : List ℕ) (before after : SourceState) (old mid held : Reader) 
   stops-open inner fault has o is names read none = record {
     files = o.files;
     reads = o.reads.reads;
-    stops = inl (record { answered = none; failures = o.reads.failures; came_to = λ all ext. subst (λ r. IsPrefix (paths_of o.files) (come_to main r)) (sym (read (opened_in all left) ∙ o.read inner e all is ext)) (comes all) });
+    stops = inl (record {
+      answered = none;
+      failures = o.reads.failures;
+      came_to =
+          λ all ext. subst (λ r. IsPrefix (paths_of o.files) (come_to main r))
+          (sym (read (opened_in all left) ∙ o.read inner e all is ext)) (comes all);
+    });
   }
     where
       listed : paths_read main (e ∷ entries) ≡ paths_of o.files
-      listed = ap (λ o. with_news (paths_read main entries) (option_to_list o)) names ∙ ap (λ ps. with_new ps path) (sym has.paths_are) ∙ sym o.came_to
+      listed = ap (λ o. with_news (paths_read main entries) (option_to_list o)) names
+          ∙ ap (λ ps. with_new ps path) (sym has.paths_are) ∙ sym o.came_to
 
-      comes : (all : List Reading) → IsPrefix (paths_of o.files) (come_to main (text_read (opened_in all o.within) inner text (e ∷ entries)))
-      comes all = subst (λ ps. IsPrefix ps (come_to main (text_read (opened_in all o.within) inner text (e ∷ entries)))) listed (statements-come main all o.within inner _ _ (e ∷ entries))
+      comes : (all : List Reading) → IsPrefix (paths_of o.files)
+          (come_to main (text_read (opened_in all o.within) inner text (e ∷ entries)))
+      comes all = subst (λ ps. IsPrefix ps (come_to main
+          (text_read (opened_in all o.within) inner text (e ∷ entries)))) listed
+          (statements-come main all o.within inner _ _ (e ∷ entries))
 
 -- ---- a statement that names none
 
-pub reads-one : (main : List ℕ) (source : SourceState) (old held : Reader) (e : ReadStatement) (entries : List ReadStatement)
+pub reads-one : (main : List ℕ) (source : SourceState) (old held : Reader) (e : ReadStatement)
+    (entries : List ReadStatement)
     → Has main old entries → Has main held (e ∷ entries) → own_fault e entries ≡ None → held.files ≡ old.files
     → ((opens : Opens) → item_read opens e entries e.item ≡ record { entries = e ∷ entries; end = Whole })
     → ReadsOne main source source old held e entries

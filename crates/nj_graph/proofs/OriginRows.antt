@@ -19,7 +19,8 @@ unfolding on_files
 nothing = refl
 
 -- rules of two scopes
-two_rules : (origins_of (codes "rule a\n  command = c\nsubninja s\n") (file (codes "s") (codes "\nrule a\n  command = c\n") ∷ [])).rules
+two_rules : (origins_of (codes "rule a\n  command = c\nsubninja s\n")
+    (file (codes "s") (codes "\nrule a\n  command = c\n") ∷ [])).rules
     ≡ None ∷ Some (line main_file 1) ∷ Some (line (codes "s") 2) ∷ []
 unfolding on_files
 two_rules = refl
@@ -31,7 +32,8 @@ unfolding on_files
 last_depth = refl
 
 -- a file that is opened again
-opened_again : (origins_of (codes "include r\nsubninja s\n") (file (codes "r") (codes "v = 1\n") ∷ file (codes "s") (codes "include r\n") ∷ [])).openings
+opened_again : (origins_of (codes "include r\nsubninja s\n")
+    (file (codes "r") (codes "v = 1\n") ∷ file (codes "s") (codes "include r\n") ∷ [])).openings
     ≡ main_opening main_file
     ∷ record { path = codes "r"; named_at = Some (line main_file 1); scope = 0 }
     ∷ record { path = codes "s"; named_at = Some (line main_file 2); scope = 1 }

@@ -14,13 +14,18 @@ use Rattle.nj_edge_env.specs.VariableCycles.{variable_cycle_of}
 use Rattle.nj_statements.specs.EdgeList.{edges_read}
 use Rattle.nj_graph.specs.Parsed.{parsed_in}
 use Rattle.nj_faults.specs.declared.fault.Cause.{Cause}
-use Rattle.nj_faults.specs.declared.fault.Cause.TheVariants.{Syntax, EmptyPath, BadDepth, DuplicateRule, DuplicatePool, VersionTooNew, Missing, PathNotText, TooDeep, UnknownRule, TwoMakers, UnknownTarget}
+use Rattle.nj_faults.specs.declared.fault.Cause.TheVariants.{Syntax, EmptyPath, BadDepth, DuplicateRule}
+use Rattle.nj_faults.specs.declared.fault.Cause.TheVariants.{DuplicatePool, VersionTooNew, Missing}
+use Rattle.nj_faults.specs.declared.fault.Cause.TheVariants.{PathNotText, TooDeep, UnknownRule, TwoMakers}
+use Rattle.nj_faults.specs.declared.fault.Cause.TheVariants.{UnknownTarget}
 use Rattle.nj_faults.specs.Faults.{fault_at}
-use Rattle.nj_graph.specs.Reading.{Whole, Refused, Lacking, ReadingModel, statements_read, opened_in, main_read, paths_come_to}
+use Rattle.nj_graph.specs.Reading.{Whole, Refused, Lacking, ReadingModel, statements_read, opened_in}
+use Rattle.nj_graph.specs.Reading.{main_read, paths_come_to}
 
 -- the definitions that a row unfolds to compute on its files
 unfoldable pub on_files : ⊤
-unfolding on_strings is_utf8 chars encode_utf8 bounds clean_path_of without_leftmost_pair edges_read variable_cycle_of parsed_in statements_read opened_in main_read
+unfolding on_strings is_utf8 chars encode_utf8 bounds clean_path_of without_leftmost_pair edges_read
+    variable_cycle_of parsed_in statements_read opened_in main_read
 on_files = tt
 
 -- ---- the facts of a row
@@ -55,17 +60,20 @@ empty : reads_all [] []
 unfolding on_files
 empty = refl
 
-no_main_file : (main_read (missing main_file ∷ []) main_file).end ≡ Refused (fault_at main_file (at 1 1) (Missing main_file))
+no_main_file : (main_read (missing main_file ∷ []) main_file).end
+    ≡ Refused (fault_at main_file (at 1 1) (Missing main_file))
 unfolding on_files
 no_main_file = refl
 
-main_file_not_reported : (main_read [] main_file).end ≡ Lacking main_file (record { file = main_file; spot = at 1 1 })
+main_file_not_reported : (main_read [] main_file).end
+    ≡ Lacking main_file (record { file = main_file; spot = at 1 1 })
 unfolding on_files
 main_file_not_reported = refl
 
 -- ---- versions
 
-newer_version : refuses_alone (codes "ninja_required_version = 1.13\n") (at 1 1) (VersionTooNew (codes "1.13"))
+newer_version : refuses_alone (codes "ninja_required_version = 1.13\n") (at 1 1)
+    (VersionTooNew (codes "1.13"))
 unfolding on_files
 newer_version = refl
 
@@ -78,7 +86,9 @@ unfolding on_files
 same_version = refl
 
 -- in every file
-version_of_included : refuses (codes "include s\n") (file (codes "s") (codes "v = 2\nninja_required_version = $v\n") ∷ []) (codes "s") (at 2 1) (VersionTooNew (codes "2"))
+version_of_included : refuses (codes "include s\n")
+    (file (codes "s") (codes "v = 2\nninja_required_version = $v\n") ∷ []) (codes "s") (at 2 1)
+    (VersionTooNew (codes "2"))
 unfolding on_files
 version_of_included = refl
 
@@ -118,12 +128,14 @@ unfolding on_files
 console_pool = refl
 
 -- the name comes before the depth
-second_pool : refuses_alone (codes "pool p\n  depth = 1\npool p\n  depth = x\n") (at 3 6) (DuplicatePool (codes "p"))
+second_pool : refuses_alone (codes "pool p\n  depth = 1\npool p\n  depth = x\n") (at 3 6)
+    (DuplicatePool (codes "p"))
 unfolding on_files
 second_pool = refl
 
 -- a pool is one of all scopes
-pool_in_two_scopes : refuses (codes "subninja s\nsubninja s\n") (file (codes "s") (codes "pool p\n  depth = 1\n") ∷ []) (codes "s") (at 1 6) (DuplicatePool (codes "p"))
+pool_in_two_scopes : refuses (codes "subninja s\nsubninja s\n")
+    (file (codes "s") (codes "pool p\n  depth = 1\n") ∷ []) (codes "s") (at 1 6) (DuplicatePool (codes "p"))
 unfolding on_files
 pool_in_two_scopes = refl
 
@@ -147,7 +159,8 @@ unfolding on_files
 rule_in_two_scopes = refl
 
 -- twice in the same scope
-rule_twice : refuses (codes "include s\ninclude s\n") (a_rule ∷ []) (codes "s") (at 1 6) (DuplicateRule (codes "r"))
+rule_twice : refuses (codes "include s\ninclude s\n") (a_rule ∷ []) (codes "s") (at 1 6)
+    (DuplicateRule (codes "r"))
 unfolding on_files
 rule_twice = refl
 
@@ -156,17 +169,20 @@ rule_hidden : reads_all (codes "rule r\n  command = d\nsubninja s\n") (a_rule �
 unfolding on_files
 rule_hidden = refl
 
-rule_after_included : refuses (codes "include s\nrule r\n  command = d\n") (a_rule ∷ []) main_file (at 2 6) (DuplicateRule (codes "r"))
+rule_after_included : refuses (codes "include s\nrule r\n  command = d\n") (a_rule ∷ []) main_file (at 2 6)
+    (DuplicateRule (codes "r"))
 unfolding on_files
 rule_after_included = refl
 
 -- ---- files
 
-file_not_there : refuses (codes "include x\n") (missing (codes "x") ∷ []) main_file (at 1 9) (Missing (codes "x"))
+file_not_there : refuses (codes "include x\n") (missing (codes "x") ∷ []) main_file (at 1 9)
+    (Missing (codes "x"))
 unfolding on_files
 file_not_there = refl
 
-file_not_reported : (read_of (codes "include x\n") []).end ≡ Lacking (codes "x") (record { file = main_file; spot = at 1 9 })
+file_not_reported : (read_of (codes "include x\n") []).end
+    ≡ Lacking (codes "x") (record { file = main_file; spot = at 1 9 })
 unfolding on_files
 file_not_reported = refl
 
@@ -198,12 +214,14 @@ abbrev chain : ℕ → List Reading
 chain zero = missing (codes "x") ∷ []
 chain (suc n) = file (name_remainder (suc n)) (codes "include " ++ name_remainder n) ∷ chain n
 
-missing_in_capacity : refuses (codes "include " ++ name_remainder 30) (chain 30) (codes "ax") (at 1 9) (Missing (codes "x"))
+missing_in_capacity : refuses (codes "include " ++ name_remainder 30) (chain 30) (codes "ax") (at 1 9)
+    (Missing (codes "x"))
 unfolding on_files
 missing_in_capacity = refl
 
 -- where 32 files are open, no other is looked for
-missing_without_capacity : refuses (codes "include " ++ name_remainder 31) (chain 31) (codes "ax") (at 1 9) TooDeep
+missing_without_capacity : refuses (codes "include " ++ name_remainder 31) (chain 31) (codes "ax") (at 1 9)
+    TooDeep
 unfolding on_files
 missing_without_capacity = refl
 
@@ -220,11 +238,13 @@ unfolding on_files
 paths_once = refl
 
 -- the place of a missing file too
-paths_to_missing : comes_to (codes "subninja s\ninclude x\ninclude y\n") (a_rule ∷ missing (codes "x") ∷ []) (codes "s" ∷ codes "x" ∷ [])
+paths_to_missing : comes_to (codes "subninja s\ninclude x\ninclude y\n") (a_rule ∷ missing (codes "x") ∷ [])
+    (codes "s" ∷ codes "x" ∷ [])
 unfolding on_files
 paths_to_missing = refl
 
-paths_to_lacking : comes_to (codes "subninja s\ninclude x\ninclude y\n") (a_rule ∷ []) (codes "s" ∷ codes "x" ∷ [])
+paths_to_lacking : comes_to (codes "subninja s\ninclude x\ninclude y\n") (a_rule ∷ [])
+    (codes "s" ∷ codes "x" ∷ [])
 unfolding on_files
 paths_to_lacking = refl
 
@@ -239,12 +259,15 @@ paths_within_itself = refl
 
 -- ---- values
 
-path_by_name : refuses (codes "v = s\ninclude $v\n") (missing (codes "s") ∷ []) main_file (at 2 9) (Missing (codes "s"))
+path_by_name : refuses (codes "v = s\ninclude $v\n") (missing (codes "s") ∷ []) main_file (at 2 9)
+    (Missing (codes "s"))
 unfolding on_files
 path_by_name = refl
 
 -- a child sees the values of the scope around
-path_by_outer_name : refuses (codes "v = a\nsubninja s\n") (file (codes "s") (codes "include $v\n") ∷ missing (codes "a") ∷ []) (codes "s") (at 1 9) (Missing (codes "a"))
+path_by_outer_name : refuses (codes "v = a\nsubninja s\n")
+    (file (codes "s") (codes "include $v\n") ∷ missing (codes "a") ∷ []) (codes "s") (at 1 9)
+    (Missing (codes "a"))
 unfolding on_files
 path_by_outer_name = refl
 
@@ -252,17 +275,20 @@ abbrev binds_b : List Reading
 binds_b = file (codes "s") (codes "v = b\n") ∷ missing (codes "a") ∷ missing (codes "b") ∷ []
 
 -- the file after `subninja` binds in its own scope
-bound_within : refuses (codes "v = a\nsubninja s\ninclude $v\n") binds_b main_file (at 3 9) (Missing (codes "a"))
+bound_within : refuses (codes "v = a\nsubninja s\ninclude $v\n") binds_b main_file (at 3 9)
+    (Missing (codes "a"))
 unfolding on_files
 bound_within = refl
 
 -- an included file binds in the same scope
-bound_by_included : refuses (codes "v = a\ninclude s\ninclude $v\n") binds_b main_file (at 3 9) (Missing (codes "b"))
+bound_by_included : refuses (codes "v = a\ninclude s\ninclude $v\n") binds_b main_file (at 3 9)
+    (Missing (codes "b"))
 unfolding on_files
 bound_by_included = refl
 
 -- a value is expanded where it is read
-bound_before : refuses (codes "v = a\nw = $v\nv = b\ninclude $w\n") (missing (codes "a") ∷ missing (codes "b") ∷ []) main_file (at 4 9) (Missing (codes "a"))
+bound_before : refuses (codes "v = a\nw = $v\nv = b\ninclude $w\n")
+    (missing (codes "a") ∷ missing (codes "b") ∷ []) main_file (at 4 9) (Missing (codes "a"))
 unfolding on_files
 bound_before = refl
 
@@ -285,7 +311,8 @@ made_twice : refuses_alone (codes "build a: phony\nbuild ./a: phony\n") (at 2 7)
 unfolding on_files
 made_twice = refl
 
-made_in_another_file : refuses (codes "build a: phony\nsubninja s\n") (file (codes "s") (codes "build a: phony\n") ∷ []) (codes "s") (at 1 7) (TwoMakers (codes "a"))
+made_in_another_file : refuses (codes "build a: phony\nsubninja s\n")
+    (file (codes "s") (codes "build a: phony\n") ∷ []) (codes "s") (at 1 7) (TwoMakers (codes "a"))
 unfolding on_files
 made_in_another_file = refl
 
@@ -308,6 +335,7 @@ unfolding on_files
 build_without_colon = refl
 
 -- under the name of the file that contains it
-fault_in_included : refuses (codes "include s\n") (file (codes "s") (codes "x = 1\ny = $!\n") ∷ []) (codes "s") (at 2 5) (Syntax BadEscape)
+fault_in_included : refuses (codes "include s\n") (file (codes "s") (codes "x = 1\ny = $!\n") ∷ [])
+    (codes "s") (at 2 5) (Syntax BadEscape)
 unfolding on_files
 fault_in_included = refl

@@ -26,17 +26,20 @@ sign_is_found = refl
 -- ---- commands
 
 -- without the sign and the name; line feeds in the content are spaces
-content_for_the_name : with_content (codes "ld @p.rsp \"p\"") (codes "p.rsp") (codes "a\nb") ≡ codes "ld a b \"p\""
+content_for_the_name : with_content (codes "ld @p.rsp \"p\"") (codes "p.rsp") (codes "a\nb")
+    ≡ codes "ld a b \"p\""
 content_for_the_name = refl
 
 -- only the first occurrence counts
-first_has_no_sign : with_content (codes "ld p.rsp @p.rsp") (codes "p.rsp") (codes "a") ≡ codes "ld p.rsp @p.rsp"
+first_has_no_sign : with_content (codes "ld p.rsp @p.rsp") (codes "p.rsp") (codes "a")
+    ≡ codes "ld p.rsp @p.rsp"
 first_has_no_sign = refl
 
 later_ones_stay : with_content (codes "ld @p.rsp @p.rsp") (codes "p.rsp") (codes "a") ≡ codes "ld a @p.rsp"
 later_ones_stay = refl
 
-first_is_in_a_longer_name : with_content (codes "ld up.rsp @p.rsp") (codes "p.rsp") (codes "a") ≡ codes "ld up.rsp @p.rsp"
+first_is_in_a_longer_name : with_content (codes "ld up.rsp @p.rsp") (codes "p.rsp") (codes "a")
+    ≡ codes "ld up.rsp @p.rsp"
 first_is_in_a_longer_name = refl
 
 no_name : with_content (codes "ld p") (codes "p.rsp") (codes "a") ≡ codes "ld p"

@@ -7,19 +7,23 @@ use Rattle.nj_graph.specs.Graph.{GraphModel, edges_of, IsGraphOf, rule_name, rul
 use Rattle.nj_graph.proofs.EdgeStrings.{there, detail-is}
 
 -- its edges
-pub graph-edges : {g : GraphModel} {entries : List ReadStatement} → IsGraphOf g entries → edges_of g ≡ paths_of_edges (edges_read entries)
+pub graph-edges : {g : GraphModel} {entries : List ReadStatement} → IsGraphOf g entries
+    → edges_of g ≡ paths_of_edges (edges_read entries)
 graph-edges is = is.built.paths
 
 -- where their statements are, with their scopes and rules
-pub graph-details : {g : GraphModel} {entries : List ReadStatement} → IsGraphOf g entries → g.built.details ≡ map detail_of (edges_read entries)
+pub graph-details : {g : GraphModel} {entries : List ReadStatement} → IsGraphOf g entries
+    → g.built.details ≡ map detail_of (edges_read entries)
 graph-details is = is.built.details
 
 -- its rules
-pub graph-rules : {g : GraphModel} {entries : List ReadStatement} → IsGraphOf g entries → g.declarations.rules ≡ rules_read entries
+pub graph-rules : {g : GraphModel} {entries : List ReadStatement} → IsGraphOf g entries
+    → g.declarations.rules ≡ rules_read entries
 graph-rules is = is.declares.rules
 
 -- the name of the rule of an edge
-pub graph-rule_name : {g : GraphModel} {entries : List ReadStatement} → IsGraphOf g entries → (number : ℕ) → number < length (edges_of g)
+pub graph-rule_name : {g : GraphModel} {entries : List ReadStatement} → IsGraphOf g entries → (number : ℕ)
+    → number < length (edges_of g)
     → rule_name g.declarations.rules (detail_at g.built.details number).rule ≡ rule_name_at entries number
 graph-rule_name {g} {entries} is number below =
     ap (λ rules. rule_name rules (detail_at g.built.details number).rule) is.declares.rules

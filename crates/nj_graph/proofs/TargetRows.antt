@@ -21,7 +21,8 @@ edge implicit_outputs inputs validations = record {
 
 -- `build | a.o: cc a.c` and `build | b.o: cc a.c |@ v`
 abbrev edges : List EdgePaths
-edges = edge (codes "a.o" ∷ []) (codes "a.c" ∷ []) [] ∷ edge (codes "b.o" ∷ []) (codes "a.c" ∷ []) (codes "v" ∷ []) ∷ []
+edges = edge (codes "a.o" ∷ []) (codes "a.c" ∷ []) [] ∷ edge (codes "b.o" ∷ []) (codes "a.c" ∷ [])
+    (codes "v" ∷ []) ∷ []
 
 abbrev means : (word : List ℕ) → Result (List ℕ) GraphFault → Type 0
 means word target = picked edges word ≡ target

@@ -8,11 +8,13 @@ use Rattle.nj_graph.proofs.ReadingRows.{read_of}
 
 -- ---- the facts of a row
 
--- `a.o` and `b.o` depend on the same header, which the log has by two paths; `c.o` depends on `build.ninja`, and `d.o` on that file by
+-- `a.o` and `b.o` depend on the same header, which the log has by two paths; `c.o` depends on `build.ninja`,
+-- and `d.o` on that file by
 -- another path
 abbrev some_log : LogModel
 some_log = record {
-  paths = codes "a.o" ∷ codes "a.c" ∷ codes "gen.h" ∷ codes "x/../gen.h" ∷ codes "b.o" ∷ codes "c.o" ∷ codes "build.ninja" ∷ codes "d.o" ∷ codes "./build.ninja" ∷ [];
+  paths = codes "a.o" ∷ codes "a.c" ∷ codes "gen.h" ∷ codes "x/../gen.h" ∷ codes "b.o" ∷ codes "c.o" ∷ codes
+      "build.ninja" ∷ codes "d.o" ∷ codes "./build.ninja" ∷ [];
   outputs = record { output = 0; time = 0; inputs = 1 ∷ 3 ∷ 2 ∷ 1 ∷ [] }
       ∷ record { output = 4; time = 0; inputs = 2 ∷ [] }
       ∷ record { output = 5; time = 0; inputs = 2 ∷ 6 ∷ [] }
@@ -28,7 +30,8 @@ unfolding on_logs
 each-once = refl
 
 -- none where the log names `build.ninja`, by that very path
-main-file : map (paths_of_output some_log) (Some 5 ∷ Some 7 ∷ []) ≡ [] ∷ (codes "gen.h" ∷ codes "build.ninja" ∷ []) ∷ []
+main-file : map (paths_of_output some_log) (Some 5 ∷ Some 7 ∷ [])
+    ≡ [] ∷ (codes "gen.h" ∷ codes "build.ninja" ∷ []) ∷ []
 unfolding on_logs
 main-file = refl
 
@@ -36,7 +39,9 @@ abbrev rules : List ℕ
 rules = codes "rule cc\n  command = cc\n  deps = gcc\nrule gen\n  command = gen\n"
 
 -- by edge; none for an edge without `deps`, and for one whose first output the log does not name
-by-edge : inputs_named some_log (read_of (rules ++ codes "build gen.h: gen\nbuild b.o: cc\nbuild a.o: gen\nbuild e.o b.o2: cc\nbuild c.o: cc\n") []).entries
+by-edge : inputs_named some_log (read_of
+    (rules ++ codes "build gen.h: gen\nbuild b.o: cc\nbuild a.o: gen\nbuild e.o b.o2: cc\nbuild c.o: cc\n")
+    []).entries
     ≡ record { edge = 1; path = codes "gen.h" } ∷ []
 unfolding on_logs
 by-edge = refl

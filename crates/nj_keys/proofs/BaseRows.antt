@@ -29,21 +29,26 @@ inside_another = refl
 longer_names : mapped one (codes "/home/ab /home/a.b") ≡ codes "/home/ab /home/a.b"
 longer_names = refl
 
-before_separators : mapped one (codes "--at=/home/a:/home/a,/home/a;x") ≡ codes "--at=" ++ first (58 ∷ first (44 ∷ first (codes ";x")))
+before_separators : mapped one (codes "--at=/home/a:/home/a,/home/a;x")
+    ≡ codes "--at=" ++ first (58 ∷ first (44 ∷ first (codes ";x")))
 before_separators = refl
 
 -- -DAT=\"/home/a\", and a directory `a b` whose blank has a `\` before it
-before_quote : mapped one (codes "-DAT=" ++ 92 ∷ 34 ∷ codes "/home/a" ++ 92 ∷ 34 ∷ []) ≡ codes "-DAT=" ++ 92 ∷ 34 ∷ first (92 ∷ 34 ∷ [])
+before_quote : mapped one (codes "-DAT=" ++ 92 ∷ 34 ∷ codes "/home/a" ++ 92 ∷ 34 ∷ [])
+    ≡ codes "-DAT=" ++ 92 ∷ 34 ∷ first (92 ∷ 34 ∷ [])
 before_quote = refl
 
 before_blank : mapped one (codes "/home/a" ++ 92 ∷ codes " b") ≡ codes "/home/a" ++ 92 ∷ codes " b"
 before_blank = refl
 
-longest_counts : mapped two (codes "/home/a/b/c /home/a/c /home/a/bc") ≡ second (codes "/c " ++ first (codes "/c " ++ first (codes "/bc")))
+longest_counts : mapped two (codes "/home/a/b/c /home/a/c /home/a/bc")
+    ≡ second (codes "/c " ++ first (codes "/c " ++ first (codes "/bc")))
 longest_counts = refl
 
-folders_agree : mapped one (codes "cc -c /home/a/x.c") ≡ mapped (codes "/mnt/b" ∷ []) (codes "cc -c /mnt/b/x.c")
+folders_agree : mapped one (codes "cc -c /home/a/x.c")
+    ≡ mapped (codes "/mnt/b" ∷ []) (codes "cc -c /mnt/b/x.c")
 folders_agree = refl
 
-with_blank : mapped (codes "/home/a b" ∷ []) (codes "cc '/home/a b/x.c'") ≡ codes "cc '" ++ first (codes "/x.c'")
+with_blank : mapped (codes "/home/a b" ∷ []) (codes "cc '/home/a b/x.c'")
+    ≡ codes "cc '" ++ first (codes "/x.c'")
 with_blank = refl

@@ -1,5 +1,6 @@
 -- Some edges have one text only, and the texts of pages join.
-use Rattle.std.proofs.Common.{◌≡◌, ℕ, List, [], ◌∷◌, ◌++◌, length, reverse, refl, sym, ap, ◌∙◌, subst, append_assoc, arith}
+use Rattle.std.proofs.Common.{◌≡◌, ℕ, List, [], ◌∷◌, ◌++◌, length, reverse, refl, sym, ap, ◌∙◌, subst}
+use Rattle.std.proofs.Common.{append_assoc, arith}
 use Rattle.std.proofs.lemmas.List.{append-nil, length_push, reverse-append, reverse-reverse}
 use Rattle.nj_graph.specs.ReadingList.{ReadStatement}
 use Rattle.nj_graph.specs.Edges.{EdgePaths}
@@ -12,30 +13,42 @@ last-apart xs x is = absurd (omega (arith, ap length is, length_push xs x))
 
 last-same : (xs ys : List ℕ) (x y : ℕ) → xs ++ x ∷ [] ≡ ys ++ y ∷ [] → (xs ≡ ys) × (x ≡ y)
 last-same xs ys x y is =
-    let turned : x ∷ reverse xs ≡ y ∷ reverse ys = sym (reverse-append xs (x ∷ [])) ∙ ap reverse is ∙ reverse-append ys (y ∷ []) in
+    let turned : x ∷ reverse xs ≡ y ∷ reverse ys =
+    sym (reverse-append xs (x ∷ [])) ∙ ap reverse is ∙ reverse-append ys (y ∷ []) in
     let front : reverse xs ≡ reverse ys = cc in
     (sym (reverse-reverse xs) ∙ ap reverse front ∙ reverse-reverse ys, cc)
 
 module _ (folders : List (List ℕ)) (edges : List EdgePaths) (entries : List ReadStatement) where
-  one-text : (numbers others text other : List ℕ) → numbers ≡ others → ListsKeys folders edges entries numbers text → ListsKeys folders edges entries others other → text ≡ other
+  one-text : (numbers others text other : List ℕ) → numbers ≡ others
+      → ListsKeys folders edges entries numbers text → ListsKeys folders edges entries others other
+      → text ≡ other
   one-text _ _ _ _ same none none = refl
   one-text _ _ _ _ same none (last {numbers = ms} {e = f} are key) = absurd (last-apart ms f same)
   one-text _ _ _ _ same (last {numbers = ns} {e = e} are key) none = absurd (last-apart ns e (sym same))
-  one-text _ _ _ _ same (last {numbers = ns} {text = text} {e = e} {key = k} are key) (last {numbers = ms} {text = other} {e = f} {key = l} also more) =
+  one-text _ _ _ _ same (last {numbers = ns} {text = text} {e = e} {key = k} are key)
+      (last {numbers = ms} {text = other} {e = f} {key = l} also more) =
       let both = last-same ns ms e f same in
-      let keys = unique folders edges entries f k l (subst (λ n. IsKey folders edges entries n k) both.1 key) more in
+      let keys = unique folders edges entries f k l (subst (λ n. IsKey folders edges entries n k) both.1 key)
+      more in
       ap (λ t. t ++ line edges e k) (one-text ns ms text other both.0 are also)
       ∙ ap (λ n. other ++ line edges n k) both.1 ∙ ap (λ key. other ++ line edges f key) keys
 
-  joined : (numbers more text rest : List ℕ) → ListsKeys folders edges entries numbers text → ListsKeys folders edges entries more rest → ListsKeys folders edges entries (numbers ++ more) (text ++ rest)
+  joined : (numbers more text rest : List ℕ) → ListsKeys folders edges entries numbers text
+      → ListsKeys folders edges entries more rest
+      → ListsKeys folders edges entries (numbers ++ more) (text ++ rest)
   joined numbers _ text _ are none =
-      subst (λ ns. ListsKeys folders edges entries ns (text ++ [])) (sym (append-nil numbers)) (subst (ListsKeys folders edges entries numbers) (sym (append-nil text)) are)
+      subst (λ ns. ListsKeys folders edges entries ns (text ++ [])) (sym (append-nil numbers))
+      (subst (ListsKeys folders edges entries numbers) (sym (append-nil text)) are)
   joined numbers _ text _ are (last {numbers = ms} {text = rest} {e = e} {key = k} also key) =
-      subst (λ ns. ListsKeys folders edges entries ns (text ++ (rest ++ line edges e k))) (append_assoc numbers ms (e ∷ []))
-      (subst (ListsKeys folders edges entries ((numbers ++ ms) ++ e ∷ [])) (append_assoc text rest (line edges e k)) (last (joined numbers ms text rest are also) key))
+      subst (λ ns. ListsKeys folders edges entries ns (text ++ (rest ++ line edges e k)))
+      (append_assoc numbers ms (e ∷ []))
+      (subst (ListsKeys folders edges entries ((numbers ++ ms) ++ e ∷ []))
+      (append_assoc text rest (line edges e k)) (last (joined numbers ms text rest are also) key))
 
 pub one : LinesAreUnique
-one folders edges entries numbers text other are also = one-text folders edges entries numbers numbers text other refl are also
+one folders edges entries numbers text other are also =
+    one-text folders edges entries numbers numbers text other refl are also
 
 pub join : PagesOfLinesJoin
-join folders edges entries numbers more text rest are also = joined folders edges entries numbers more text rest are also
+join folders edges entries numbers more text rest are also =
+    joined folders edges entries numbers more text rest are also

@@ -1,5 +1,6 @@
 -- The lines of a block, as the lexer comes to them.
-use Rattle.std.proofs.Common.{◌≡◌, ℕ, suc, ◌+◌, ◌<◌, ◌≤◌, Bool, true, false, cond, ◌&&◌, Result, Ok, Err, List, [], ◌∷◌, ◌++◌, refl, sym, ap, subst, ◌∙◌, append_assoc, arith}
+use Rattle.std.proofs.Common.{◌≡◌, ℕ, suc, ◌+◌, ◌<◌, ◌≤◌, Bool, true, false, cond, ◌&&◌, Result, Ok, Err}
+use Rattle.std.proofs.Common.{List, [], ◌∷◌, ◌++◌, refl, sym, ap, subst, ◌∙◌, append_assoc, arith}
 use Rattle.std.proofs.lemmas.List.{append-nil}
 use Rattle.std.specs.Result.{IsErr, IsErrAnd}
 use Rattle.std.proofs.lemmas.Bool.{false≢true}
@@ -10,9 +11,11 @@ use Rattle.nj_text.specs.declared.line_start.LineStart.{LineStart}
 use Rattle.nj_text.specs.declared.line_start.LineStart.TheVariants as start
 use Rattle.nj_text.specs.Bytes.{drop_while, begins_with}
 use Rattle.nj_text.specs.Units.{TextUnit}
-use Rattle.nj_text.specs.Lines.{Line, with_units, lines_after, Kind, CommentLine, TabLine, BlankLine, IndentedLine, PlainLine, kind_of, is_space_unit, kind_after_spaces}
+use Rattle.nj_text.specs.Lines.{Line, with_units, lines_after, Kind, CommentLine, TabLine, BlankLine}
+use Rattle.nj_text.specs.Lines.{IndentedLine, PlainLine, kind_of, is_space_unit, kind_after_spaces}
 use Rattle.nj_text.specs.Inside.States.{reply}
-use Rattle.nj_text.specs.Calls.{State, Between, Inside, Failed, Answers, start_line_of, begun, begun_by, is_comment, is_empty, without_comments, Reply}
+use Rattle.nj_text.specs.Calls.{State, Between, Inside, Failed, Answers, start_line_of, begun, begun_by}
+use Rattle.nj_text.specs.Calls.{is_comment, is_empty, without_comments, Reply}
 use Rattle.nj_manifest.specs.declared.block_lines.Keys.{Keys}
 use Rattle.nj_manifest.specs.declared.parse_fault.ParseFault.{ParseFault}
 use Rattle.nj_manifest.specs.declared.parse_fault.ParseFault.TheVariants as fault
@@ -52,7 +55,8 @@ weight-after l ls = by_last l.is_last refl
 -- The lexer is at the first line of the block that is left.
 abbrev pub BeginsLine : Keys → ℕ → Parse (List LineModel) → State → Type 0
 BeginsLine allowed limit whole s =
-    (l : Line) × (ls : List Line) × (s ≡ Inside (without_spaces l) ls) × (whole ≡ block_by allowed IndentedLine l ls (block allowed ls)) × (lines_weight ls < limit)
+    (l : Line) × (ls : List Line) × (s ≡ Inside (without_spaces l) ls)
+    × (whole ≡ block_by allowed IndentedLine l ls (block allowed ls)) × (lines_weight ls < limit)
 
 -- The block that the start of a line implies, and where the lexer is then. The limit is the weight
 -- of the lines that were left.
@@ -69,7 +73,8 @@ after-last l ls h = ap (λ t. cond t (with_units [] l ∷ ls) ls) h
 same-end : (l : Line) (ls : List Line) → (l.is_last && is_empty l.units) ≡ true → lines_after l ls ≡ l ∷ ls
 same-end l ls h = by_units l.is_last l.units refl refl h
   where
-    by_units : (t : Bool) (us : List TextUnit) → l.is_last ≡ t → l.units ≡ us → (t && is_empty us) ≡ true → lines_after l ls ≡ l ∷ ls
+    by_units : (t : Bool) (us : List TextUnit) → l.is_last ≡ t → l.units ≡ us → (t && is_empty us) ≡ true
+        → lines_after l ls ≡ l ∷ ls
     by_units true [] e u h = after-last l ls e ∙ ap (λ (us : List TextUnit). with_units us l ∷ ls) (sym u)
     by_units true (u ∷ us) e v h = absurd cc
     by_units false us e u h = absurd cc
@@ -81,57 +86,78 @@ blank_is_indented h = absurd cc
 indented-weight : (l : Line) → kind_of l ≡ IndentedLine → line_weight l ≡ 1
 indented-weight l h = by_units l.is_last l.units h
   where
-    by_units : (t : Bool) (us : List TextUnit) → kind_after_spaces (drop_while is_space_unit us) (begins_with is_space_unit us) ≡ IndentedLine → cond (t && is_empty us) 0 1 ≡ suc 0
+    by_units : (t : Bool) (us : List TextUnit)
+        → kind_after_spaces (drop_while is_space_unit us) (begins_with is_space_unit us) ≡ IndentedLine
+        → cond (t && is_empty us) 0 1 ≡ suc 0
     by_units t [] h = absurd (blank_is_indented h)
     by_units true (u ∷ us) h = refl
     by_units false (u ∷ us) h = refl
 
-begun-kind : (allowed : Keys) (limit : ℕ) (k : Kind) (l : Line) (ls : List Line) → kind_of l ≡ k → is_comment k ≡ false → lines_weight (l ∷ ls) ≤ limit
+begun-kind : (allowed : Keys) (limit : ℕ) (k : Kind) (l : Line) (ls : List Line) → kind_of l ≡ k
+    → is_comment k ≡ false → lines_weight (l ∷ ls) ≤ limit
     → Begins allowed limit (block_by allowed k l ls (block allowed ls)) (begun_by k l ls)
 begun-kind allowed limit CommentLine l ls e h g = absurd cc
 begun-kind allowed limit (TabLine tab) l ls e h g = refl
 begun-kind allowed limit BlankLine l ls e h g = by_end (l.is_last && is_empty l.units) refl
   where
-    by_end : (t : Bool) → (l.is_last && is_empty l.units) ≡ t → Begins allowed limit (no_lines (lines_after l ls)) (cond t (reply start.End (Between (l ∷ ls))) (reply start.Blank (Between (lines_after l ls))))
+    by_end : (t : Bool) → (l.is_last && is_empty l.units) ≡ t
+        → Begins allowed limit (no_lines (lines_after l ls))
+        (cond t (reply start.End (Between (l ∷ ls))) (reply start.Blank (Between (lines_after l ls))))
     by_end true e = (ap no_lines (same-end l ls e), tt)
     by_end false e = (refl, tt)
-begun-kind allowed limit IndentedLine l ls e h g = let w = indented-weight l e in (l, ls, refl, refl, omega arith)
+begun-kind allowed limit IndentedLine l ls e h g = let w = indented-weight l e
+    in (l, ls, refl, refl, omega arith)
 begun-kind allowed limit PlainLine l ls e h g = (refl, e)
 
 -- a comment gives nothing
-block-comment : (allowed : Keys) (k : Kind) (l : Line) (ls : List Line) (others : Parse (List LineModel)) → is_comment k ≡ true → block_by allowed k l ls others ≡ or_last l (no_lines (lines_after l (without_comments ls))) others
+block-comment : (allowed : Keys) (k : Kind) (l : Line) (ls : List Line) (others : Parse (List LineModel))
+    → is_comment k ≡ true → block_by allowed k l ls others
+    ≡ or_last l (no_lines (lines_after l (without_comments ls))) others
 block-comment allowed CommentLine l ls others h = refl
 block-comment allowed (TabLine tab) l ls others h = absurd cc
 block-comment allowed BlankLine l ls others h = absurd cc
 block-comment allowed IndentedLine l ls others h = absurd cc
 block-comment allowed PlainLine l ls others h = absurd cc
 
-begun-begins : (allowed : Keys) (limit : ℕ) (ls : List Line) → lines_weight ls ≤ limit → Begins allowed limit (block allowed ls) (begun (without_comments ls))
+begun-begins : (allowed : Keys) (limit : ℕ) (ls : List Line) → lines_weight ls ≤ limit
+    → Begins allowed limit (block allowed ls) (begun (without_comments ls))
 unfolding block
 begun-begins allowed limit [] h = (refl, tt)
-begun-begins allowed limit (l ∷ ls) h = by_comment (is_comment (kind_of l)) refl (begun-begins allowed limit ls (omega arith))
+begun-begins allowed limit (l ∷ ls) h =
+    by_comment (is_comment (kind_of l)) refl (begun-begins allowed limit ls (omega arith))
   where
-    by_last : (t : Bool) → l.is_last ≡ t → Begins allowed limit (block allowed ls) (begun (without_comments ls))
-        → Begins allowed limit (cond t (no_lines (cond t (with_units [] l ∷ without_comments ls) (without_comments ls))) (block allowed ls)) (begun (cond t (with_units [] l ∷ without_comments ls) (without_comments ls)))
+    by_last : (t : Bool) → l.is_last ≡ t → Begins allowed limit (block allowed ls)
+        (begun (without_comments ls))
+        → Begins allowed limit (cond t (no_lines
+        (cond t (with_units [] l ∷ without_comments ls) (without_comments ls))) (block allowed ls))
+        (begun (cond t (with_units [] l ∷ without_comments ls) (without_comments ls)))
     by_last true e rest = rw e (refl, tt)
     by_last false e rest = rest
 
-    by_comment : (t : Bool) → is_comment (kind_of l) ≡ t → Begins allowed limit (block allowed ls) (begun (without_comments ls))
-        → Begins allowed limit (block_by allowed (kind_of l) l ls (block allowed ls)) (begun (cond t (lines_after l (without_comments ls)) (l ∷ ls)))
+    by_comment : (t : Bool) → is_comment (kind_of l) ≡ t
+        → Begins allowed limit (block allowed ls) (begun (without_comments ls))
+        → Begins allowed limit (block_by allowed (kind_of l) l ls (block allowed ls))
+        (begun (cond t (lines_after l (without_comments ls)) (l ∷ ls)))
     by_comment false e rest = begun-kind allowed limit (kind_of l) l ls refl e h
     by_comment true e rest =
-        subst (λ (whole : Parse (List LineModel)). Begins allowed limit whole (begun (lines_after l (without_comments ls)))) (sym (block-comment allowed (kind_of l) l ls (block allowed ls) e)) (by_last l.is_last refl rest)
+        subst (λ (whole : Parse (List LineModel)). Begins allowed limit whole
+        (begun (lines_after l (without_comments ls))))
+        (sym (block-comment allowed (kind_of l) l ls (block allowed ls) e)) (by_last l.is_last refl rest)
 
 -- the result of the lexer at the start of a line
-pub start-begins : (allowed : Keys) (ls : List Line) (r : Reply LineStart) → start_line_of (Between ls) ≡ r → Begins allowed (lines_weight ls) (block allowed ls) r
-start-begins allowed ls r h = subst (Begins allowed (lines_weight ls) (block allowed ls)) h (begun-begins allowed (lines_weight ls) ls (omega arith))
+pub start-begins : (allowed : Keys) (ls : List Line) (r : Reply LineStart) → start_line_of (Between ls) ≡ r
+    → Begins allowed (lines_weight ls) (block allowed ls) r
+start-begins allowed ls r h = subst (Begins allowed (lines_weight ls) (block allowed ls)) h
+    (begun-begins allowed (lines_weight ls) ls (omega arith))
 
 -- a line is followed by the rest of the block
-pub block-after : (allowed : Keys) (l : Line) (ls : List Line) → block allowed (lines_after l ls) ≡ or_last l (no_lines (lines_after l ls)) (block allowed ls)
+pub block-after : (allowed : Keys) (l : Line) (ls : List Line)
+    → block allowed (lines_after l ls) ≡ or_last l (no_lines (lines_after l ls)) (block allowed ls)
 unfolding block
 block-after allowed l ls = by_last l.is_last refl
   where
-    by_last : (t : Bool) → l.is_last ≡ t → block allowed (cond t (with_units [] l ∷ ls) ls) ≡ cond t (no_lines (cond t (with_units [] l ∷ ls) ls)) (block allowed ls)
+    by_last : (t : Bool) → l.is_last ≡ t → block allowed (cond t (with_units [] l ∷ ls) ls)
+        ≡ cond t (no_lines (cond t (with_units [] l ∷ ls) ls)) (block allowed ls)
     by_last true e = rw e refl
     by_last false e = refl
 
@@ -143,7 +169,8 @@ in_front front others = others >>= λ o. Ok (front ++ o.0, o.1)
 
 -- The lines read, in front of those that are still to be read, are the whole.
 abbrev pub StillReads : Keys → (front : List LineModel) → (before now : State) → Type 0
-StillReads allowed front (Between ls) now = (ms : List Line) × (now ≡ Between ms) × (in_front front (block allowed ms) ≡ block allowed ls)
+StillReads allowed front (Between ls) now =
+    (ms : List Line) × (now ≡ Between ms) × (in_front front (block allowed ms) ≡ block allowed ls)
 StillReads allowed front other now = Unit {0}
 
 pub still-begins : (allowed : Keys) (before : State) → StillReads allowed [] before before
@@ -164,66 +191,97 @@ begins_indented (Ok (start.Indented, s)) = true
 begins_indented other = false
 
 -- An indented line comes only after the start of a line.
-started-indented : (allowed : Keys) (s middle : State) → Started start.Indented s middle → (ms : List Line) × (s ≡ Between ms) × BeginsLine allowed (lines_weight ms) (block allowed ms) middle
-started-indented allowed (Between ms) middle h = (ms, refl, start-begins allowed ms (Ok (start.Indented, middle)) h)
+started-indented : (allowed : Keys) (s middle : State) → Started start.Indented s middle
+    → (ms : List Line) × (s ≡ Between ms) × BeginsLine allowed (lines_weight ms) (block allowed ms) middle
+started-indented allowed (Between ms) middle h =
+    (ms, refl, start-begins allowed ms (Ok (start.Indented, middle)) h)
 started-indented allowed (Inside l ls) middle h = absurd (false≢true (ap begins_indented h))
 started-indented allowed (Failed f) middle h = absurd (false≢true (ap begins_indented h))
 
 -- where a line that was read leaves the lexer
-line-after : (allowed : Keys) (l : Line) (ls : List Line) (middle : State) (line : LineModel) (after : State) → middle ≡ Inside (without_spaces l) ls → line_next allowed middle ≡ Ok (line, after) → after ≡ Between (lines_after l ls)
-line-after allowed l ls middle line after i h = line-inside allowed (without_spaces l) ls line after (ap (line_next allowed) (sym i) ∙ h)
+line-after : (allowed : Keys) (l : Line) (ls : List Line) (middle : State) (line : LineModel) (after : State)
+    → middle ≡ Inside (without_spaces l) ls → line_next allowed middle ≡ Ok (line, after)
+    → after ≡ Between (lines_after l ls)
+line-after allowed l ls middle line after i h =
+    line-inside allowed (without_spaces l) ls line after (ap (line_next allowed) (sym i) ∙ h)
 
 -- After a line fewer lines are left.
-pub lines_left-line : (allowed : Keys) (s middle : State) (line : LineModel) (after : State) → Started start.Indented s middle → line_next allowed middle ≡ Ok (line, after) → lines_left after < lines_left s
+pub lines_left-line : (allowed : Keys) (s middle : State) (line : LineModel) (after : State)
+    → Started start.Indented s middle → line_next allowed middle ≡ Ok (line, after)
+    → lines_left after < lines_left s
 lines_left-line allowed s middle line after h e =
     let b = started-indented allowed s middle h in
     let here : lines_left s ≡ lines_weight b.0 = ap lines_left b.1 in
-    let there : lines_left after ≡ lines_weight (lines_after b.2.0 b.2.1) = ap lines_left (line-after allowed b.2.0 b.2.1 middle line after b.2.2 e) in
+    let there : lines_left after ≡ lines_weight (lines_after b.2.0 b.2.1) =
+    ap lines_left (line-after allowed b.2.0 b.2.1 middle line after b.2.2 e) in
     let fewer : lines_weight b.2.1 < lines_weight b.0 = b.2.4 in
     let remainder = weight-after b.2.0 b.2.1 in
     omega arith
 
-in_front-more : (front : List LineModel) (line : LineModel) (after : State) (l : Line) (last others : Parse (List LineModel)) (x : Step LineModel) → x ≡ Ok (line, after)
-    → in_front front (x >>= λ line. (or_last l last others >>= λ more. Ok (line.0 ∷ more.0, more.1))) ≡ in_front (front ++ line ∷ []) (or_last l last others)
+in_front-more : (front : List LineModel) (line : LineModel) (after : State) (l : Line)
+    (last others : Parse (List LineModel)) (x : Step LineModel) → x ≡ Ok (line, after)
+    → in_front front (x >>= λ line. (or_last l last others >>= λ more. Ok (line.0 ∷ more.0, more.1)))
+    ≡ in_front (front ++ line ∷ []) (or_last l last others)
 in_front-more front line after l last others x h = rw h (with_more (or_last l last others))
   where
-    with_more : (more : Parse (List LineModel)) → in_front front (more >>= λ more. Ok (line ∷ more.0, more.1)) ≡ in_front (front ++ line ∷ []) more
+    with_more : (more : Parse (List LineModel))
+        → in_front front (more >>= λ more. Ok (line ∷ more.0, more.1)) ≡ in_front (front ++ line ∷ []) more
     with_more (Err f) = refl
     with_more (Ok o) = ap (λ (x : List LineModel). Ok (x, o.1)) (sym (append_assoc front (line ∷ []) o.0))
 
 -- the block after a line
-after-turn : (allowed : Keys) (front : List LineModel) (l : Line) (ms : List Line) (middle : State) (line : LineModel) (after : State) (left whole : Parse (List LineModel)) → middle ≡ Inside (without_spaces l) ms
-    → left ≡ block_by allowed IndentedLine l ms (block allowed ms) → in_front front left ≡ whole → line_next allowed middle ≡ Ok (line, after) → in_front (front ++ line ∷ []) (block allowed (lines_after l ms)) ≡ whole
+after-turn : (allowed : Keys) (front : List LineModel) (l : Line) (ms : List Line) (middle : State)
+    (line : LineModel) (after : State) (left whole : Parse (List LineModel))
+    → middle ≡ Inside (without_spaces l) ms
+    → left ≡ block_by allowed IndentedLine l ms (block allowed ms) → in_front front left ≡ whole
+    → line_next allowed middle ≡ Ok (line, after)
+    → in_front (front ++ line ∷ []) (block allowed (lines_after l ms)) ≡ whole
 after-turn allowed front l ms middle line after left whole i b w e =
-    let more = in_front-more front line after l (no_lines (lines_after l ms)) (block allowed ms) (line_next allowed (Inside (without_spaces l) ms)) (ap (line_next allowed) (sym i) ∙ e) in
+    let more = in_front-more front line after l (no_lines (lines_after l ms)) (block allowed ms)
+    (line_next allowed (Inside (without_spaces l) ms)) (ap (line_next allowed) (sym i) ∙ e) in
     ap (in_front (front ++ line ∷ [])) (block-after allowed l ms) ∙ sym more ∙ sym (ap (in_front front) b) ∙ w
 
-pub block-turn : (allowed : Keys) (front : List LineModel) (before s middle : State) (line : LineModel) (after : State) → StillReads allowed front before s → Started start.Indented s middle → line_next allowed middle ≡ Ok (line, after)
+pub block-turn : (allowed : Keys) (front : List LineModel) (before s middle : State) (line : LineModel)
+    (after : State) → StillReads allowed front before s → Started start.Indented s middle
+    → line_next allowed middle ≡ Ok (line, after)
     → StillReads allowed (front ++ line ∷ []) before after
 block-turn allowed front (Between ls) s middle line after still h e =
-    let b = start-begins allowed still.0 (Ok (start.Indented, middle)) (ap start_line_of (sym still.1) ∙ h) in
-    (lines_after b.0 b.1, line-after allowed b.0 b.1 middle line after b.2 e, after-turn allowed front b.0 b.1 middle line after (block allowed still.0) (block allowed ls) b.2 b.3 still.2 e)
+    let b = start-begins allowed still.0 (Ok (start.Indented, middle)) (ap start_line_of (sym still.1) ∙ h) in (
+      lines_after b.0 b.1,
+      line-after allowed b.0 b.1 middle line after b.2 e,
+      after-turn allowed front b.0 b.1 middle line after (block allowed still.0) (block allowed ls) b.2 b.3
+          still.2 e,
+    )
 block-turn allowed front (Inside l ls) s middle line after still h e = tt
 block-turn allowed front (Failed f) s middle line after still h e = tt
 
 -- a line of another kind ends the block
-ends-block : (allowed : Keys) (limit : ℕ) (whole : Parse (List LineModel)) (x : LineStart) (s : State) → (x ≡ start.Indented → ⊥) → Begins allowed limit whole (Ok (x, s)) → (whole ≡ no_lines (lines_from s)) × IsBetweenStatements s
+ends-block : (allowed : Keys) (limit : ℕ) (whole : Parse (List LineModel)) (x : LineStart) (s : State)
+    → (x ≡ start.Indented → ⊥) → Begins allowed limit whole (Ok (x, s))
+    → (whole ≡ no_lines (lines_from s)) × IsBetweenStatements s
 ends-block allowed limit whole start.Indented s other h = absurd (other refl)
 ends-block allowed limit whole start.Middle s other h = absurd h
 ends-block allowed limit whole start.End s other h = h
 ends-block allowed limit whole start.Blank s other h = h
 ends-block allowed limit whole start.Plain s other h = h
 
-pub block-end : {X : Type 0} (view : X → List LineModel) (allowed : Keys) (before s after : State) (x : LineStart) (lines : X) → StillReads allowed (view lines) before s → (x ≡ start.Indented → ⊥) → Started x s after
+pub block-end : {X : Type 0} (view : X → List LineModel) (allowed : Keys) (before s after : State)
+    (x : LineStart) (lines : X) → StillReads allowed (view lines) before s → (x ≡ start.Indented → ⊥)
+    → Started x s after
     → ParsesFrom view before after (block allowed) (Ok lines)
 block-end view allowed (Between ls) s after x lines still other h =
-    let e = ends-block allowed (lines_weight still.0) (block allowed still.0) x after other (start-begins allowed still.0 (Ok (x, after)) (ap start_line_of (sym still.1) ∙ h)) in
-    (sym still.2 ∙ ap (in_front (view lines)) e.0 ∙ ap (λ (front : List LineModel). Ok (front, lines_from after)) (append-nil (view lines)), e.1)
+    let e = ends-block allowed (lines_weight still.0) (block allowed still.0) x after other
+    (start-begins allowed still.0 (Ok (x, after)) (ap start_line_of (sym still.1) ∙ h)) in (
+      sym still.2 ∙ ap (in_front (view lines)) e.0
+          ∙ ap (λ (front : List LineModel). Ok (front, lines_from after)) (append-nil (view lines)),
+      e.1,
+    )
 block-end view allowed (Inside l ls) s after x lines still other h = tt
 block-end view allowed (Failed f) s after x lines still other h = tt
 
 -- a fault of a step is a fault of the whole
-fails-so : {A B : Type 0} (f : ParseFault) (x : Result A Fault) (y : Result B Fault) → ((e : Fault) → x ≡ Err e → y ≡ Err e) → Fails f x → Fails f y
+fails-so : {A B : Type 0} (f : ParseFault) (x : Result A Fault) (y : Result B Fault)
+    → ((e : Fault) → x ≡ Err e → y ≡ Err e) → Fails f x → Fails f y
 fails-so (fault.Lex lex.OutOfMemory) x y so h = tt
 fails-so (fault.Lex (lex.BadByte spot)) x y so h = so _ h
 fails-so (fault.Lex (lex.Tab spot)) x y so h = so _ h
@@ -242,33 +300,45 @@ abbrev pub FailsFrom : State → (List Line → Parse (List LineModel)) → Pars
 FailsFrom (Between ls) reading f = Fails f (reading ls)
 FailsFrom other reading f = Unit {0}
 
-pub fails-from : {X : Type 0} (view : X → List LineModel) (before after : State) (reading : List Line → Parse (List LineModel)) (r : Result X ParseFault) (f : ParseFault) → IsErr r × IsErrAnd r (λ e. e ≡ f) → FailsFrom before reading f
+pub fails-from : {X : Type 0} (view : X → List LineModel) (before after : State)
+    (reading : List Line → Parse (List LineModel)) (r : Result X ParseFault) (f : ParseFault)
+    → IsErr r × IsErrAnd r (λ e. e ≡ f) → FailsFrom before reading f
     → ParsesFrom view before after reading r
 fails-from view before after reading (Ok x) f h so = absurd cc
 fails-from view (Between ls) after reading (Err e) f h so = rw h.1 so
 fails-from view (Inside l ls) after reading (Err e) f h so = tt
 fails-from view (Failed g) after reading (Err e) f h so = tt
 
-pub block-start-fails : (allowed : Keys) (front : List LineModel) (before s after : State) (f : LexFault) → StillReads allowed front before s → Answers {X = LineStart} (λ s. s) (Err f) after (start_line_of s) → FailsFrom before (block allowed) (fault.Lex f)
+pub block-start-fails : (allowed : Keys) (front : List LineModel) (before s after : State) (f : LexFault)
+    → StillReads allowed front before s → Answers {X = LineStart} (λ s. s) (Err f) after (start_line_of s)
+    → FailsFrom before (block allowed) (fault.Lex f)
 block-start-fails allowed front (Between ls) s after lex.OutOfMemory still h = tt
 block-start-fails allowed front (Between ls) s after (lex.BadByte spot) still h =
-    let e = start-begins allowed still.0 (Err (unit_fault.BadByte spot)) (ap start_line_of (sym still.1) ∙ h.0) in
+    let e = start-begins allowed still.0 (Err (unit_fault.BadByte spot))
+    (ap start_line_of (sym still.1) ∙ h.0) in
     sym still.2 ∙ ap (in_front front) e
 block-start-fails allowed front (Between ls) s after (lex.Tab spot) still h =
     let e = start-begins allowed still.0 (Err (unit_fault.Tab spot)) (ap start_line_of (sym still.1) ∙ h.0) in
     sym still.2 ∙ ap (in_front front) e
 block-start-fails allowed front (Between ls) s after (lex.BadEscape spot) still h =
-    let e = start-begins allowed still.0 (Err (unit_fault.BadEscape spot)) (ap start_line_of (sym still.1) ∙ h.0) in
+    let e = start-begins allowed still.0 (Err (unit_fault.BadEscape spot))
+    (ap start_line_of (sym still.1) ∙ h.0) in
     sym still.2 ∙ ap (in_front front) e
 block-start-fails allowed front (Inside l ls) s after f still h = tt
 block-start-fails allowed front (Failed g) s after f still h = tt
 
-pub block-line-fails : (allowed : Keys) (front : List LineModel) (before s middle : State) (f : ParseFault) → StillReads allowed front before s → Started start.Indented s middle → Fails f (line_next allowed middle) → FailsFrom before (block allowed) f
+pub block-line-fails : (allowed : Keys) (front : List LineModel) (before s middle : State) (f : ParseFault)
+    → StillReads allowed front before s → Started start.Indented s middle → Fails f (line_next allowed middle)
+    → FailsFrom before (block allowed) f
 block-line-fails allowed front (Between ls) s middle f still h fails =
     let b = start-begins allowed still.0 (Ok (start.Indented, middle)) (ap start_line_of (sym still.1) ∙ h) in
-    fails-so f (line_next allowed middle) (block allowed ls) (λ e failed. sym still.2 ∙ ap (in_front front) b.3 ∙ failed-line b.0 b.1 e (ap (line_next allowed) (sym b.2) ∙ failed)) fails
+    fails-so f (line_next allowed middle) (block allowed ls)
+    (λ e failed. sym still.2 ∙ ap (in_front front) b.3
+    ∙ failed-line b.0 b.1 e (ap (line_next allowed) (sym b.2) ∙ failed)) fails
   where
-    failed-line : (l : Line) (ms : List Line) (e : Fault) → line_next allowed (Inside (without_spaces l) ms) ≡ Err e → in_front front (block_by allowed IndentedLine l ms (block allowed ms)) ≡ Err e
+    failed-line : (l : Line) (ms : List Line) (e : Fault)
+        → line_next allowed (Inside (without_spaces l) ms) ≡ Err e
+        → in_front front (block_by allowed IndentedLine l ms (block allowed ms)) ≡ Err e
     failed-line l ms e failed = rw failed refl
 block-line-fails allowed front (Inside l ls) s middle f still h fails = tt
 block-line-fails allowed front (Failed g) s middle f still h fails = tt

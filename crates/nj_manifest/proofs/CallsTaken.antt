@@ -20,19 +20,28 @@ failed-so : {Y : Type 0} (f : UnitFault) (r : Reply Y) → r ≡ Err f → calle
 failed-so f r h = ap called h
 
 -- a step that fails with a fault of the lexer
-pub fails-by : {X Y : Type 0} (f : LexFault) (before after : State) (r : Reply X) (whole : Result Y Fault) → FailsOrLacksMemory (unit_of f) before after r → ((unit : UnitFault) → called r ≡ Err (bad_unit unit) → whole ≡ Err (bad_unit unit)) → Fails (fault.Lex f) whole
+pub fails-by : {X Y : Type 0} (f : LexFault) (before after : State) (r : Reply X) (whole : Result Y Fault)
+    → FailsOrLacksMemory (unit_of f) before after r
+    → ((unit : UnitFault) → called r ≡ Err (bad_unit unit) → whole ≡ Err (bad_unit unit))
+    → Fails (fault.Lex f) whole
 fails-by lex.OutOfMemory before after r whole h so = tt
-fails-by (lex.BadByte spot) before after r whole h so = so (unit_fault.BadByte spot) (failed-so (unit_fault.BadByte spot) r h.0)
-fails-by (lex.Tab spot) before after r whole h so = so (unit_fault.Tab spot) (failed-so (unit_fault.Tab spot) r h.0)
-fails-by (lex.BadEscape spot) before after r whole h so = so (unit_fault.BadEscape spot) (failed-so (unit_fault.BadEscape spot) r h.0)
+fails-by (lex.BadByte spot) before after r whole h so =
+    so (unit_fault.BadByte spot) (failed-so (unit_fault.BadByte spot) r h.0)
+fails-by (lex.Tab spot) before after r whole h so =
+    so (unit_fault.Tab spot) (failed-so (unit_fault.Tab spot) r h.0)
+fails-by (lex.BadEscape spot) before after r whole h so =
+    so (unit_fault.BadEscape spot) (failed-so (unit_fault.BadEscape spot) r h.0)
 
 -- the error that `?` returns
-pub handed-on : {X Y : Type 0} (view : X → Y) (f : LexFault) (r : Result X ParseFault) (after : State) (whole : Step Y) → IsErr r × IsErrAnd r (λ e. e ≡ fault.Lex f) → Fails (fault.Lex f) whole → TakesStep view r after whole
+pub handed-on : {X Y : Type 0} (view : X → Y) (f : LexFault) (r : Result X ParseFault) (after : State)
+    (whole : Step Y) → IsErr r × IsErrAnd r (λ e. e ≡ fault.Lex f) → Fails (fault.Lex f) whole
+    → TakesStep view r after whole
 handed-on view f (Ok x) after whole h so = absurd cc
 handed-on view f (Err e) after whole h so = rw h.1 so
 
 -- the result of a function with this fault
-pub fails-so : {Y : Type 0} (f : ParseFault) (whole : Result Y Fault) → whole ≡ Err (fault_text f) → Fails f whole
+pub fails-so : {Y : Type 0} (f : ParseFault) (whole : Result Y Fault) → whole ≡ Err (fault_text f)
+    → Fails f whole
 fails-so (fault.Lex lex.OutOfMemory) whole h = tt
 fails-so (fault.Lex (lex.BadByte spot)) whole h = h
 fails-so (fault.Lex (lex.Tab spot)) whole h = h
@@ -47,5 +56,6 @@ fails-so (fault.DyndepVersion s) whole h = h
 fails-so (fault.DyndepShape s) whole h = h
 
 -- a call that is made where another one took nothing
-pub made-there : {Y : Type 0} (call : State → Reply Y) (before there : State) (step : Step Y) → there ≡ before → called (call there) ≡ step → called (call before) ≡ step
+pub made-there : {Y : Type 0} (call : State → Reply Y) (before there : State) (step : Step Y) → there ≡ before
+    → called (call there) ≡ step → called (call before) ≡ step
 made-there call before there step e h = ap (λ s. called (call s)) (sym e) ∙ h

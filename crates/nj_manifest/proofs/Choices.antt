@@ -1,5 +1,6 @@
 -- Short names for the choices of the steps, each with its cases.
-use Rattle.std.proofs.Common.{◌≡◌, ℕ, suc, Bool, cond, Option, None, Result, Ok, Err, List, [], ◌∷◌, length, refl}
+use Rattle.std.proofs.Common.{◌≡◌, ℕ, suc, Bool, cond, Option, None, Result, Ok, Err, List, [], ◌∷◌, length}
+use Rattle.std.proofs.Common.{refl}
 use Rattle.std.specs.Prelude.{ok_or}
 use Rattle.std.specs.Option.{option_map_or}
 use Rattle.nj_text.specs.declared.spot.Spot.{Spot}
@@ -17,14 +18,16 @@ use Rattle.nj_manifest.specs.Statements.{LineModel}
 -- ---- along a line
 
 abbrev pub named : Wanted → Spot → Option (List ℕ) → State → Step NameModel
-named wanted spot found after = ok_or found (Placed spot (cause.Expected wanted)) >>= λ name. Ok (record { spot = spot; name = name }, after)
+named wanted spot found after = ok_or found (Placed spot (cause.Expected wanted)) >>=
+    λ name. Ok (record { spot = spot; name = name }, after)
 
 abbrev pub if_there : Wanted → Bool → State → Result State Fault
 if_there wanted there after = cond there (Ok after) (Err (Placed (spot_of after) (cause.Expected wanted)))
 
 -- a word before those that follow it; none ends them
 abbrev pub words_from : Option WordModel → State → Step (List WordModel) → Step (List WordModel)
-words_from word after others = option_map_or (λ first. others >>= λ more. Ok (first ∷ more.0, more.1)) word (Ok ([], after))
+words_from word after others = option_map_or (λ first. others >>= λ more. Ok (first ∷ more.0, more.1)) word
+    (Ok ([], after))
 
 -- Each word has a unit at least.
 abbrev pub units_left : State → ℕ
@@ -58,7 +61,8 @@ abbrev pub unless_none : {A : Type 0} → (none : Bool) → Wanted → State →
 unless_none none want s others = cond none (Err (Placed (spot_of s) (cause.Expected want))) others
 
 abbrev pub path_there : Option WordModel → State → Step WordModel
-path_there found after = ok_or found (Placed (spot_of after) (cause.Expected wanted.Path)) >>= λ word. Ok (word, after)
+path_there found after = ok_or found (Placed (spot_of after) (cause.Expected wanted.Path)) >>=
+    λ word. Ok (word, after)
 
 abbrev pub unless_missing : {A : Type 0} → (there : Bool) → Fault → Result A Fault → Result A Fault
 unless_missing there fault others = cond there others (Err fault)

@@ -1,5 +1,6 @@
 -- The calls of a parser of dyndep files, by the lines that they read.
-use Rattle.std.proofs.Common.{◌≡◌, true, false, Some, option_map, Result, Ok, Err, List, refl, sym, ap, subst, ◌∙◌}
+use Rattle.std.proofs.Common.{◌≡◌, true, false, Some, option_map, Result, Ok, Err, List, refl, sym, ap, subst}
+use Rattle.std.proofs.Common.{◌∙◌}
 use Rattle.nj_text.specs.declared.spot.Spot.{Spot}
 use Rattle.nj_text.specs.Lines.{Line, lines_after}
 use Rattle.nj_text.specs.Calls.{State, Between, Inside, Failed, spot_of}
@@ -11,8 +12,10 @@ use Rattle.nj_manifest.specs.LineSteps.{◌>>=◌}
 use Rattle.nj_manifest.specs.Statements.{lines_from}
 use Rattle.nj_manifest.specs.Openings.{opening}
 use Rattle.nj_manifest.specs.Parsers.{Fails}
-use Rattle.nj_manifest.specs.Inside.ParserContracts.{LeadsTo, IsBetweenStatements, ParsesAt, FindsOpening, entry_here}
-use Rattle.nj_manifest.specs.Dyndeps.{version_line, version_from, version_next, entry_line, restat_block, entry_from, next_entry}
+use Rattle.nj_manifest.specs.Inside.ParserContracts.{LeadsTo, IsBetweenStatements, ParsesAt, FindsOpening}
+use Rattle.nj_manifest.specs.Inside.ParserContracts.{entry_here}
+use Rattle.nj_manifest.specs.Dyndeps.{version_line, version_from, version_next, entry_line, restat_block}
+use Rattle.nj_manifest.specs.Dyndeps.{entry_from, next_entry}
 use Rattle.nj_manifest.specs.DyndepParsers.{entry_model}
 use Rattle.nj_manifest.specs.Inside.ParserContracts.{ReadsVersion}
 use Rattle.nj_manifest.proofs.Heres.{fails-on}
@@ -24,28 +27,42 @@ version-is : (ls : List Line) → version_next ls ≡ (opening ls >>= version_fr
 unfolding version_next
 version-is ls = refl
 
-pub version-no_opening : (f : ParseFault) (before after : State) → FindsOpening before after (Err f) → ReadsVersion before after (Err f)
-version-no_opening f before after h = subst (Fails f) (sym (version-is (lines_from before))) (fails-on f (opening (lines_from before)) version_from h)
+pub version-no_opening : (f : ParseFault) (before after : State) → FindsOpening before after (Err f)
+    → ReadsVersion before after (Err f)
+version-no_opening f before after h = subst (Fails f) (sym (version-is (lines_from before)))
+    (fails-on f (opening (lines_from before)) version_from h)
 
-pub version-at_end : (before after : State) (spot : Spot) → FindsOpening before after (Ok false) → spot ≡ spot_of after → version_next (lines_from before) ≡ Err (Placed spot cause.DyndepVersion)
-version-at_end before (Between ls) spot h s = version-is (lines_from before) ∙ (ap (λ o. o >>= version_from) h.0 ∙ ap (λ p. Err (Placed p cause.DyndepVersion)) (sym s))
+pub version-at_end : (before after : State) (spot : Spot) → FindsOpening before after (Ok false)
+    → spot ≡ spot_of after → version_next (lines_from before) ≡ Err (Placed spot cause.DyndepVersion)
+version-at_end before (Between ls) spot h s =
+    version-is (lines_from before) ∙ (ap (λ o. o >>= version_from) h.0
+    ∙ ap (λ p. Err (Placed p cause.DyndepVersion)) (sym s))
 version-at_end before (Inside l ls) spot h s = absurd (apart h.2)
   where
     apart : true ≡ false → ⊥
     apart e = absurd cc
 version-at_end before (Failed f) spot h s = absurd h.1
 
-pub version-read : (before middle after : State) (result : Result (Unit {0}) ParseFault) → FindsOpening before middle (Ok true) → LeadsTo result after (version_line middle) → ReadsVersion before after result
+pub version-read : (before middle after : State) (result : Result (Unit {0}) ParseFault)
+    → FindsOpening before middle (Ok true) → LeadsTo result after (version_line middle)
+    → ReadsVersion before after result
 version-read before (Between ls) after result h p = absurd (apart h.2)
   where
     apart : false ≡ true → ⊥
     apart e = absurd cc
 version-read before (Failed f) after result h p = absurd h.1
-version-read before (Inside l ls) after result h p = by_result result p (version-is (lines_from before) ∙ ap (λ o. o >>= version_from) h.0)
+version-read before (Inside l ls) after result h p =
+    by_result result p (version-is (lines_from before) ∙ ap (λ o. o >>= version_from) h.0)
   where
-    by_result : (r : Result (Unit {0}) ParseFault) → LeadsTo r after (version_line (Inside l ls)) → version_next (lines_from before) ≡ (version_line (Inside l ls) >>= λ end. Ok (lines_from end)) → ReadsVersion before after r
-    by_result (Ok done) p e = (e ∙ ap (λ r. r >>= λ end. Ok (lines_from end)) p, subst IsBetweenStatements (sym (version-ends l ls after p)) tt)
-    by_result (Err f) p e = subst (Fails f) (sym e) (fails-on f (version_line (Inside l ls)) (λ end. Ok (lines_from end)) p)
+    by_result : (r : Result (Unit {0}) ParseFault) → LeadsTo r after (version_line (Inside l ls))
+        → version_next (lines_from before) ≡ (version_line (Inside l ls) >>= λ end. Ok (lines_from end))
+        → ReadsVersion before after r
+    by_result (Ok done) p e = (
+      e ∙ ap (λ r. r >>= λ end. Ok (lines_from end)) p,
+      subst IsBetweenStatements (sym (version-ends l ls after p)) tt,
+    )
+    by_result (Err f) p e = subst (Fails f) (sym e)
+        (fails-on f (version_line (Inside l ls)) (λ end. Ok (lines_from end)) p)
 
 -- ---- an entry
 
@@ -53,25 +70,37 @@ pub entry-is : (ls : List Line) → next_entry ls ≡ (opening ls >>= entry_from
 unfolding next_entry
 entry-is ls = refl
 
-at-is : (l : Line) (ls : List Line) → entry_here l ls ≡ (entry_line (Inside l ls) >>= λ entry. restat_block entry.1 >>= λ end. Ok (Some entry.0, lines_from end))
+at-is : (l : Line) (ls : List Line) → entry_here l ls
+    ≡ (entry_line (Inside l ls) >>= λ entry. restat_block entry.1 >>=
+    λ end. Ok (Some entry.0, lines_from end))
 at-is l ls = refl
 
-pub entry-no_line : (before after : State) (f : ParseFault) → Fails f (entry_line before) → ParsesAt (option_map entry_model) before after entry_here (Err f)
+pub entry-no_line : (before after : State) (f : ParseFault) → Fails f (entry_line before)
+    → ParsesAt (option_map entry_model) before after entry_here (Err f)
 entry-no_line (Between ls) after f h = tt
 entry-no_line (Failed g) after f h = tt
-entry-no_line (Inside l ls) after f h = subst (Fails f) (sym (at-is l ls)) (fails-on f (entry_line (Inside l ls)) _ h)
+entry-no_line (Inside l ls) after f h =
+    subst (Fails f) (sym (at-is l ls)) (fails-on f (entry_line (Inside l ls)) _ h)
 
-pub entry-no_block : (before middle after : State) (e : Entry) (f : ParseFault) → entry_line before ≡ Ok (entry_model e, middle) → Fails f (restat_block middle) → ParsesAt (option_map entry_model) before after entry_here (Err f)
+pub entry-no_block : (before middle after : State) (e : Entry) (f : ParseFault)
+    → entry_line before ≡ Ok (entry_model e, middle) → Fails f (restat_block middle)
+    → ParsesAt (option_map entry_model) before after entry_here (Err f)
 entry-no_block (Between ls) middle after e f h p = tt
 entry-no_block (Failed g) middle after e f h p = tt
 entry-no_block (Inside l ls) middle after e f h p =
-    let whole = at-is l ls ∙ ap (λ r. r >>= λ entry. restat_block entry.1 >>= λ end. Ok (Some entry.0, lines_from end)) h in
-    subst (Fails f) (sym whole) (fails-on f (restat_block middle) (λ end. Ok (Some (entry_model e), lines_from end)) p)
+    let whole = at-is l ls ∙ ap (λ r. r >>= λ entry. restat_block entry.1 >>=
+    λ end. Ok (Some entry.0, lines_from end)) h in
+    subst (Fails f) (sym whole) (fails-on f (restat_block middle)
+    (λ end. Ok (Some (entry_model e), lines_from end)) p)
 
-pub entry-read : (before middle after : State) (e : Entry) → entry_line before ≡ Ok (entry_model e, middle) → restat_block middle ≡ Ok after → ParsesAt (option_map entry_model) before after entry_here (Ok (Some e))
+pub entry-read : (before middle after : State) (e : Entry) → entry_line before ≡ Ok (entry_model e, middle)
+    → restat_block middle ≡ Ok after → ParsesAt (option_map entry_model) before after entry_here (Ok (Some e))
 entry-read (Between ls) middle after e h p = tt
 entry-read (Failed g) middle after e h p = tt
 entry-read (Inside l ls) middle after e h p =
-    let whole = at-is l ls ∙ ap (λ r. r >>= λ entry. restat_block entry.1 >>= λ end. Ok (Some entry.0, lines_from end)) h in
-    let ends = entry-ends l ls (entry_model e, middle) h in
-    (whole ∙ ap (λ r. r >>= λ end. Ok (Some (entry_model e), lines_from end)) p, block-ends (lines_after l ls) after (ap restat_block (sym ends) ∙ p))
+    let whole = at-is l ls ∙ ap (λ r. r >>= λ entry. restat_block entry.1 >>=
+    λ end. Ok (Some entry.0, lines_from end)) h in
+    let ends = entry-ends l ls (entry_model e, middle) h in (
+      whole ∙ ap (λ r. r >>= λ end. Ok (Some (entry_model e), lines_from end)) p,
+      block-ends (lines_after l ls) after (ap restat_block (sym ends) ∙ p),
+    )

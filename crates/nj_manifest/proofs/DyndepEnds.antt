@@ -1,5 +1,6 @@
 -- Where the lines of a dyndep file leave the lexer.
-use Rattle.std.proofs.Common.{◌≡◌, ℕ, Bool, true, false, Option, Some, None, Result, Ok, Err, List, refl, sym, ap, subst, ◌∙◌, codes}
+use Rattle.std.proofs.Common.{◌≡◌, ℕ, Bool, true, false, Option, Some, None, Result, Ok, Err, List, refl, sym}
+use Rattle.std.proofs.Common.{ap, subst, ◌∙◌, codes}
 use Rattle.nj_text.specs.declared.sign.Sign.{Sign}
 use Rattle.nj_text.specs.declared.sign.Sign.TheVariants as sign
 use Rattle.nj_text.specs.declared.line_start.LineStart.{LineStart}
@@ -8,7 +9,8 @@ use Rattle.nj_text.specs.declared.spot.Spot.{Spot}
 use Rattle.nj_text.specs.Bytes.{drop_while}
 use Rattle.nj_text.specs.Lines.{Line, lines_after}
 use Rattle.nj_text.specs.Words.{WordModel, is_blank}
-use Rattle.nj_text.specs.Calls.{State, Between, Inside, start_line_of, skip_blanks_of, sign_of, path_word_of, spot_of, fault_spot, Reply}
+use Rattle.nj_text.specs.Calls.{State, Between, Inside, start_line_of, skip_blanks_of, sign_of, path_word_of}
+use Rattle.nj_text.specs.Calls.{spot_of, fault_spot, Reply}
 use Rattle.nj_manifest.specs.declared.cause.SyntaxCause.TheVariants as cause
 use Rattle.nj_manifest.specs.declared.block_lines.Keys.TheVariants as keys
 use Rattle.nj_manifest.specs.declared.cause.Wanted.{Wanted}
@@ -16,14 +18,19 @@ use Rattle.nj_manifest.specs.declared.cause.Wanted.TheVariants as wanted
 use Rattle.nj_manifest.specs.Faults.{Fault, Placed, bad_unit}
 use Rattle.nj_manifest.specs.LineSteps.{Step, ◌>>=◌, called, name_next, expect_sign, section_next}
 use Rattle.nj_manifest.specs.Statements.{equals_value, block}
-use Rattle.nj_manifest.specs.Dyndeps.{is_same_spot, version_line, word_of_form, no_path_by, no_path, no_section, output_next, added_inputs, EntryModel, entry_line, if_indented, restat_block}
+use Rattle.nj_manifest.specs.Dyndeps.{is_same_spot, version_line, word_of_form, no_path_by, no_path}
+use Rattle.nj_manifest.specs.Dyndeps.{no_section, output_next, added_inputs, EntryModel, entry_line}
+use Rattle.nj_manifest.specs.Dyndeps.{if_indented, restat_block}
 use Rattle.nj_manifest.specs.Inside.ParserContracts.{IsBetweenStatements}
 use Rattle.nj_manifest.specs.Openings.{without_spaces}
 use Rattle.nj_manifest.proofs.Choices.{unless_missing}
-use Rattle.nj_manifest.proofs.EntryBlocks.{first_output, output-steps, restat_line, line_too_many, block-lines}
+use Rattle.nj_manifest.proofs.EntryBlocks.{first_output, output-steps, restat_line, line_too_many}
+use Rattle.nj_manifest.proofs.EntryBlocks.{block-lines}
 use Rattle.nj_manifest.proofs.FormsKeys.{unless_missing-ok}
 use Rattle.nj_manifest.proofs.BlockLines.{lines_weight, Begins, start-begins}
-use Rattle.nj_manifest.proofs.Framing.{bind-ok, after-is, On, InLine, line_end-inside, colon-inside, name-inside, word-inside, sign-inside, section-inside, ends-line, equals_value-inside}
+use Rattle.nj_manifest.proofs.Framing.{bind-ok, after-is, On, InLine, line_end-inside, colon-inside}
+use Rattle.nj_manifest.proofs.Framing.{name-inside, word-inside, sign-inside, section-inside, ends-line}
+use Rattle.nj_manifest.proofs.Framing.{equals_value-inside}
 use Rattle.nj_manifest.proofs.Framing as framing
 
 pub oks : {A : Type 0} {x y : A} → ◌≡◌ {A = Result A Fault} (Ok x) (Ok y) → x ≡ y
@@ -47,19 +54,23 @@ module _ (l : Line) (ls : List Line) where
   skip-inside : (s : State) → On l ls s → On l ls (skip_blanks_of s)
   skip-inside s o = (drop_while is_blank o.0, ap skip_blanks_of o.1)
 
-  word_of_form-inside : (word : List ℕ) (want : Wanted) (s s' : State) → On l ls s → word_of_form word want s ≡ Ok s' → On l ls s'
+  word_of_form-inside : (word : List ℕ) (want : Wanted) (s s' : State) → On l ls s
+      → word_of_form word want s ≡ Ok s' → On l ls s'
   unfolding word_of_form
   word_of_form-inside word want s s' o h =
       let n = bind-ok (name_next want s) _ s' h in
       let k = unless_missing-ok _ _ (Ok n.0.1) s' n.2 in
       subst (On l ls) (oks k.1) (name-inside want l ls s n.0 o n.1)
 
-  pub no_path-called : (spot : Spot) (r : Reply (Option WordModel)) (s' : State) → no_path_by spot r ≡ Ok s' → called r ≡ Ok (None, s')
+  pub no_path-called : (spot : Spot) (r : Reply (Option WordModel)) (s' : State) → no_path_by spot r ≡ Ok s'
+      → called r ≡ Ok (None, s')
   no_path-called spot (Ok (None, after)) s' h = ap (λ (s : State). Ok (None, s)) (oks h)
   no_path-called spot (Ok (Some word, after)) s' h = no_ok h
   no_path-called spot (Err unit) s' h = by_test (is_same_spot (fault_spot unit) spot) h
     where
-      by_test : (t : Bool) → ◌≡◌ {A = Result State Fault} (unless_missing t (Placed spot cause.DyndepShape) (Err (bad_unit unit))) (Ok s') → ◌≡◌ {A = Step (Option WordModel)} (Err (bad_unit unit)) (Ok (None, s'))
+      by_test : (t : Bool) → ◌≡◌ {A = Result State Fault}
+          (unless_missing t (Placed spot cause.DyndepShape) (Err (bad_unit unit))) (Ok s')
+          → ◌≡◌ {A = Step (Option WordModel)} (Err (bad_unit unit)) (Ok (None, s'))
       by_test true g = no_ok g
       by_test false g = no_ok g
 
@@ -67,16 +78,19 @@ module _ (l : Line) (ls : List Line) where
   unfolding no_path
   no_path-inside s s' o h =
       let here = skip_blanks_of s in
-      word-inside l ls here (None, s') (skip-inside s o) (no_path-called (spot_of here) (path_word_of here) s' h)
+      word-inside l ls here (None, s') (skip-inside s o)
+      (no_path-called (spot_of here) (path_word_of here) s' h)
 
-  no_section-inside : (want : Sign) (s s' : State) → InLine want → On l ls s → no_section want s ≡ Ok s' → On l ls s'
+  no_section-inside : (want : Sign) (s s' : State) → InLine want → On l ls s → no_section want s ≡ Ok s'
+      → On l ls s'
   unfolding no_section
   no_section-inside want s s' i o h =
       let there = bind-ok (called (sign_of want (skip_blanks_of s))) _ s' h in
       let k = unless_missing-ok _ _ (Ok there.0.1) s' there.2 in
       subst (On l ls) (oks k.1) (sign-inside want l ls (skip_blanks_of s) there.0 i (skip-inside s o) there.1)
 
-  pub first_output-after : (found : Option WordModel) (after : State) (y : WordModel × State) → first_output found after ≡ Ok y → after ≡ y.1
+  pub first_output-after : (found : Option WordModel) (after : State) (y : WordModel × State)
+      → first_output found after ≡ Ok y → after ≡ y.1
   first_output-after (Some word) after y h = after-is word after y h
   first_output-after None after y h =
       let pipe = bind-ok (called (sign_of sign.Pipe after)) _ y h in
@@ -91,18 +105,23 @@ module _ (l : Line) (ls : List Line) where
       let at_out = subst (On l ls) (first_output-after found.0.0 found.0.1 out.0 out.1) at_word in
       subst (On l ls) (after-is out.0.0 end.0 y end.2) (no_path-inside out.0.1 end.0 at_out end.1)
 
-  added_inputs-inside : (s : State) (y : List WordModel × State) → On l ls s → added_inputs s ≡ Ok y → framing.Ended l ls y.1
+  added_inputs-inside : (s : State) (y : List WordModel × State) → On l ls s → added_inputs s ≡ Ok y
+      → framing.Ended l ls y.1
   unfolding added_inputs
   added_inputs-inside s y o h =
       let alone = bind-ok (no_path s) _ y h in
       let ins = bind-ok (section_next sign.Pipe alone.0) _ y alone.2 in
       let order_only = bind-ok (no_section sign.Pipe2 ins.0.1) _ y ins.2 in
       let validations = bind-ok (no_section sign.PipeAt order_only.0) _ y order_only.2 in
-      let at_ins = section-inside sign.Pipe l ls alone.0 ins.0 pipe_in_line (no_path-inside s alone.0 o alone.1) ins.1 in
-      let at_end = no_section-inside sign.PipeAt order_only.0 validations.0 pipe_at_in_line (no_section-inside sign.Pipe2 ins.0.1 order_only.0 pipe2_in_line at_ins order_only.1) validations.1 in
+      let at_ins = section-inside sign.Pipe l ls alone.0 ins.0 pipe_in_line
+      (no_path-inside s alone.0 o alone.1) ins.1 in
+      let at_end = no_section-inside sign.PipeAt order_only.0 validations.0 pipe_at_in_line
+      (no_section-inside sign.Pipe2 ins.0.1 order_only.0 pipe2_in_line at_ins order_only.1) validations.1
+      in
       ends-line l ls ins.0.0 validations.0 y at_end validations.2
 
-  entry_line-inside : (s : State) (y : EntryModel × State) → On l ls s → entry_line s ≡ Ok y → framing.Ended l ls y.1
+  entry_line-inside : (s : State) (y : EntryModel × State) → On l ls s → entry_line s ≡ Ok y
+      → framing.Ended l ls y.1
   unfolding entry_line
   entry_line-inside s y o h =
       let build = bind-ok (word_of_form (codes "build") wanted.Statement s) _ y h in
@@ -110,12 +129,15 @@ module _ (l : Line) (ls : List Line) where
       let outs = bind-ok (section_next sign.Pipe out.0.1) _ y out.2 in
       let colon = bind-ok (expect_sign sign.Colon wanted.Colon outs.0.1) _ y outs.2 in
       let rule = bind-ok (word_of_form (codes "dyndep") wanted.CommandName colon.0) _ y colon.2 in
-      let ins = bind-ok (added_inputs rule.0) (λ ins. Ok (record { out = out.0.0; outs = outs.0.0; ins = ins.0 }, ins.1)) y rule.2 in
-      let at_out = output_next-inside build.0 out.0 (word_of_form-inside (codes "build") wanted.Statement s build.0 o build.1) out.1 in
+      let ins = bind-ok (added_inputs rule.0)
+      (λ ins. Ok (record { out = out.0.0; outs = outs.0.0; ins = ins.0 }, ins.1)) y rule.2 in
+      let at_out = output_next-inside build.0 out.0
+      (word_of_form-inside (codes "build") wanted.Statement s build.0 o build.1) out.1 in
       let at_outs = section-inside sign.Pipe l ls out.0.1 outs.0 pipe_in_line at_out outs.1 in
       let at_colon = colon-inside wanted.Colon l ls outs.0.1 colon.0 at_outs colon.1 in
       let at_rule = word_of_form-inside (codes "dyndep") wanted.CommandName colon.0 rule.0 at_colon rule.1 in
-      sym (after-is (record { out = out.0.0; outs = outs.0.0; ins = ins.0.0 }) ins.0.1 y ins.2) ∙ added_inputs-inside rule.0 ins.0 at_rule ins.1
+      sym (after-is (record { out = out.0.0; outs = outs.0.0; ins = ins.0.0 }) ins.0.1 y ins.2)
+      ∙ added_inputs-inside rule.0 ins.0 at_rule ins.1
 
   version_line-inside : (s s' : State) → On l ls s → version_line s ≡ Ok s' → framing.Ended l ls s'
   unfolding version_line
@@ -124,21 +146,25 @@ module _ (l : Line) (ls : List Line) where
       let value = bind-ok (unless_missing _ _ (equals_value name.0.1)) _ s' name.2 in
       let read = unless_missing-ok _ _ (equals_value name.0.1) value.0 value.1 in
       let k = unless_missing-ok _ _ (Ok value.0.1) s' value.2 in
-      sym (oks k.1) ∙ equals_value-inside l ls name.0.1 value.0 (name-inside wanted.Statement l ls s name.0 o name.1) read.1
+      sym (oks k.1) ∙ equals_value-inside l ls name.0.1 value.0
+      (name-inside wanted.Statement l ls s name.0 o name.1) read.1
 
   pub restat_line-inside : (s s' : State) → On l ls s → restat_line s ≡ Ok s' → framing.Ended l ls s'
   unfolding restat_line
   restat_line-inside s s' o h =
       let key = bind-ok (word_of_form (codes "restat") wanted.VariableName s) _ s' h in
       let value = bind-ok (equals_value key.0) (λ value. Ok value.1) s' key.2 in
-      sym (oks value.2) ∙ equals_value-inside l ls key.0 value.0 (word_of_form-inside (codes "restat") wanted.VariableName s key.0 o key.1) value.1
+      sym (oks value.2) ∙ equals_value-inside l ls key.0 value.0
+      (word_of_form-inside (codes "restat") wanted.VariableName s key.0 o key.1) value.1
 
 -- ---- whole lines
 
-pub entry-ends : (l : Line) (ls : List Line) (y : EntryModel × State) → entry_line (Inside l ls) ≡ Ok y → y.1 ≡ Between (lines_after l ls)
+pub entry-ends : (l : Line) (ls : List Line) (y : EntryModel × State) → entry_line (Inside l ls) ≡ Ok y
+    → y.1 ≡ Between (lines_after l ls)
 entry-ends l ls y h = entry_line-inside l ls (Inside l ls) y (l.units, refl) h
 
-pub version-ends : (l : Line) (ls : List Line) (s : State) → version_line (Inside l ls) ≡ Ok s → s ≡ Between (lines_after l ls)
+pub version-ends : (l : Line) (ls : List Line) (s : State) → version_line (Inside l ls) ≡ Ok s
+    → s ≡ Between (lines_after l ls)
 version-ends l ls s h = version_line-inside l ls (Inside l ls) s (l.units, refl) h
 
 -- ---- blocks
@@ -148,11 +174,15 @@ called-ok (Ok y) x s h = ap Ok (oks h)
 called-ok (Err f) x s h = no_ok h
 
 -- where a line was begun, or was not
-settled : (ls : List Line) (x : LineStart) (m s : State) (k : State → Result State Fault) → called (start_line_of (Between ls)) ≡ Ok (x, m) → if_indented x m k ≡ Ok s
-    → ((l : Line) (others : List Line) → m ≡ Inside (without_spaces l) others → k m ≡ Ok s → IsBetweenStatements s) → IsBetweenStatements s
-settled ls x m s k h g indented = by_start x (start-begins keys.All ls (Ok (x, m)) (called-ok (start_line_of (Between ls)) x m h)) g
+settled : (ls : List Line) (x : LineStart) (m s : State) (k : State → Result State Fault)
+    → called (start_line_of (Between ls)) ≡ Ok (x, m) → if_indented x m k ≡ Ok s
+    → ((l : Line) (others : List Line) → m ≡ Inside (without_spaces l) others → k m ≡ Ok s
+    → IsBetweenStatements s) → IsBetweenStatements s
+settled ls x m s k h g indented = by_start x
+    (start-begins keys.All ls (Ok (x, m)) (called-ok (start_line_of (Between ls)) x m h)) g
   where
-    by_start : (x : LineStart) → Begins keys.All (lines_weight ls) (block keys.All ls) (Ok (x, m)) → if_indented x m k ≡ Ok s → IsBetweenStatements s
+    by_start : (x : LineStart) → Begins keys.All (lines_weight ls) (block keys.All ls) (Ok (x, m))
+        → if_indented x m k ≡ Ok s → IsBetweenStatements s
     by_start start.Indented b g = indented b.0 b.1 b.2 g
     by_start start.Middle b g = absurd b
     by_start start.End b g = subst IsBetweenStatements (oks g) b.1
@@ -167,10 +197,14 @@ block-ends ls s h =
     let first = bind-ok (called (start_line_of (Between ls))) _ s (sym (block-lines (Between ls)) ∙ h) in
     settled ls first.0.0 first.0.1 s _ first.1 first.2 (λ l others is g. in_block l others first.0.1 is g)
   where
-    in_block : (l : Line) (others : List Line) (m : State) → m ≡ Inside (without_spaces l) others → (restat_line m >>= λ restat. called (start_line_of restat) >>= λ second. if_indented second.0 second.1 line_too_many) ≡ Ok s → IsBetweenStatements s
+    in_block : (l : Line) (others : List Line) (m : State) → m ≡ Inside (without_spaces l) others
+        → (restat_line m >>= λ restat. called (start_line_of restat) >>=
+        λ second. if_indented second.0 second.1 line_too_many) ≡ Ok s → IsBetweenStatements s
     in_block l others m is g =
         let restat = bind-ok (restat_line m) _ s g in
         let second = bind-ok (called (start_line_of restat.0)) _ s restat.2 in
-        let end : restat.0 ≡ Between (lines_after (without_spaces l) others) = restat_line-inside (without_spaces l) others m restat.0 ((without_spaces l).units, is) restat.1 in
+        let end : restat.0 ≡ Between (lines_after (without_spaces l) others) =
+        restat_line-inside (without_spaces l) others m restat.0 ((without_spaces l).units, is) restat.1 in
         let begun = ap (λ (t : State). called (start_line_of t)) (sym end) ∙ second.1 in
-        settled (lines_after (without_spaces l) others) second.0.0 second.0.1 s line_too_many begun second.2 (λ l others is g. too_many-fails second.0.1 s g)
+        settled (lines_after (without_spaces l) others) second.0.0 second.0.1 s line_too_many begun second.2
+        (λ l others is g. too_many-fails second.0.1 s g)

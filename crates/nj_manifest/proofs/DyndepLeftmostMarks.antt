@@ -1,6 +1,8 @@
--- The line of an entry in steps. A departure from the form is marked by the fault of an unknown key, which names its place
+-- The line of an entry in steps. A departure from the form is marked by the fault of an unknown key, which
+-- names its place
 -- too.
-use Rattle.std.proofs.Common.{◌≡◌, ℕ, zero, suc, Bool, true, false, not, Option, Some, None, Result, Ok, Err, List, [], refl, ap, subst, ◌∙◌, sym, codes}
+use Rattle.std.proofs.Common.{◌≡◌, ℕ, zero, suc, Bool, true, false, not, Option, Some, None, Result, Ok, Err}
+use Rattle.std.proofs.Common.{List, [], refl, ap, subst, ◌∙◌, sym, codes}
 use Rattle.std.specs.Str.{bytes_eq}
 use Rattle.nj_text.specs.declared.fault.UnitFault.{UnitFault}
 use Rattle.nj_text.specs.declared.fault.UnitFault.TheVariants as unit_fault
@@ -8,14 +10,17 @@ use Rattle.nj_text.specs.declared.sign.Sign.{Sign}
 use Rattle.nj_text.specs.declared.sign.Sign.TheVariants as sign
 use Rattle.nj_text.specs.declared.spot.Spot.{Spot}
 use Rattle.nj_text.specs.Words.{WordModel}
-use Rattle.nj_text.specs.Calls.{State, Reply, skip_blanks_of, ident_of, sign_of, path_word_of, value_of, spot_of, fault_spot}
+use Rattle.nj_text.specs.Calls.{State, Reply, skip_blanks_of, ident_of, sign_of, path_word_of, value_of}
+use Rattle.nj_text.specs.Calls.{spot_of, fault_spot}
 use Rattle.nj_manifest.specs.declared.cause.SyntaxCause.TheVariants as cause
 use Rattle.nj_manifest.specs.declared.cause.Wanted.{Wanted}
 use Rattle.nj_manifest.specs.declared.cause.Wanted.TheVariants as wanted
 use Rattle.nj_manifest.specs.Faults.{Fault, Placed, bad_unit}
-use Rattle.nj_manifest.specs.LineSteps.{Step, ◌>>=◌, called, NameModel, name_next, expect_sign, words_within, words_next, section_next}
+use Rattle.nj_manifest.specs.LineSteps.{Step, ◌>>=◌, called, NameModel, name_next, expect_sign, words_within}
+use Rattle.nj_manifest.specs.LineSteps.{words_next, section_next}
 use Rattle.nj_manifest.specs.Statements.{equals_value}
-use Rattle.nj_manifest.specs.Dyndeps.{EntryModel, word_of_form, is_same_spot, no_path_by, no_path, no_section, output_next, added_inputs, entry_line}
+use Rattle.nj_manifest.specs.Dyndeps.{EntryModel, word_of_form, is_same_spot, no_path_by, no_path, no_section}
+use Rattle.nj_manifest.specs.Dyndeps.{output_next, added_inputs, entry_line}
 use Rattle.nj_manifest.proofs.Choices.{named, if_there, words_if, unless_missing, words_next-is, words_from}
 use Rattle.nj_manifest.proofs.LeftmostSteps.{bind-bind}
 use Rattle.nj_manifest.proofs.LeftmostSigns.{sign_step, led_on, ending}
@@ -44,11 +49,13 @@ pub reported-same : {A : Type 0} (r : Result A Fault) → Kept r → reported r 
 reported-same (Ok x) k = refl
 reported-same (Err f) k = ap Err k
 
-pub reported-bind : {A B : Type 0} (r : Result A Fault) (f g : A → Result B Fault) → Kept r → ((x : A) → reported (f x) ≡ g x) → reported (r >>= f) ≡ (r >>= g)
+pub reported-bind : {A B : Type 0} (r : Result A Fault) (f g : A → Result B Fault) → Kept r
+    → ((x : A) → reported (f x) ≡ g x) → reported (r >>= f) ≡ (r >>= g)
 reported-bind (Ok x) f g k h = h x
 reported-bind (Err e) f g k h = ap Err k
 
-kept-bind : {A B : Type 0} (r : Result A Fault) (f : A → Result B Fault) → Kept r → ((x : A) → Kept (f x)) → Kept (r >>= f)
+kept-bind : {A B : Type 0} (r : Result A Fault) (f : A → Result B Fault) → Kept r → ((x : A) → Kept (f x))
+    → Kept (r >>= f)
 kept-bind (Ok x) f k h = h x
 kept-bind (Err e) f k h = k
 
@@ -61,13 +68,15 @@ pub kept-called : {A : Type 0} (r : Reply A) → Kept (called r)
 kept-called (Ok x) = tt
 kept-called (Err f) = real_bad f
 
-kept-named : (want : Wanted) (spot : Spot) (name : Option (List ℕ)) (s : State) → Kept (named want spot name s)
+kept-named : (want : Wanted) (spot : Spot) (name : Option (List ℕ)) (s : State)
+    → Kept (named want spot name s)
 kept-named want spot (Some name) s = tt
 kept-named want spot None s = refl
 
 pub kept-name : (want : Wanted) (s : State) → Kept (name_next want s)
 unfolding name_next
-kept-name want s = kept-bind (called (ident_of (skip_blanks_of s))) _ (kept-called (ident_of (skip_blanks_of s))) (λ n. kept-named want (spot_of (skip_blanks_of s)) n.0 n.1)
+kept-name want s = kept-bind (called (ident_of (skip_blanks_of s))) _
+    (kept-called (ident_of (skip_blanks_of s))) (λ n. kept-named want (spot_of (skip_blanks_of s)) n.0 n.1)
 
 kept-there : (want : Wanted) (t : Bool) (s : State) → Kept (if_there want t s)
 kept-there want true s = tt
@@ -75,18 +84,22 @@ kept-there want false s = refl
 
 pub kept-sign : (want : Sign) (miss : Wanted) (s : State) → Kept (expect_sign want miss s)
 unfolding expect_sign
-kept-sign want miss s = kept-bind (called (sign_of want s)) _ (kept-called (sign_of want s)) (λ t. kept-there miss t.0 t.1)
+kept-sign want miss s = kept-bind (called (sign_of want s)) _ (kept-called (sign_of want s))
+    (λ t. kept-there miss t.0 t.1)
 
-kept-from : (found : Option WordModel) (s : State) (others : Step (List WordModel)) → Kept others → Kept (words_from found s others)
+kept-from : (found : Option WordModel) (s : State) (others : Step (List WordModel)) → Kept others
+    → Kept (words_from found s others)
 kept-from None s others k = tt
 kept-from (Some w) s others k = kept-bind others _ k (λ more. tt)
 
 kept-within : (limit : ℕ) (s : State) → Kept (words_within limit s)
 unfolding words_within
 kept-within zero s = tt
-kept-within (suc limit) s = by_word (called (path_word_of s)) (kept-called (path_word_of s)) (λ t. kept-within limit t)
+kept-within (suc limit) s = by_word (called (path_word_of s)) (kept-called (path_word_of s))
+    (λ t. kept-within limit t)
   where
-    by_word : (r : Step (Option WordModel)) → Kept r → ((t : State) → Kept (words_within limit t)) → Kept (r >>= λ word. words_from word.0 word.1 (words_within limit word.1))
+    by_word : (r : Step (Option WordModel)) → Kept r → ((t : State) → Kept (words_within limit t))
+        → Kept (r >>= λ word. words_from word.0 word.1 (words_within limit word.1))
     by_word (Ok word) k others = kept-from word.0 word.1 (words_within limit word.1) (others word.1)
     by_word (Err f) k others = k
 
@@ -95,7 +108,8 @@ kept-words s = subst (λ (r : Step (List WordModel)). Kept r) (sym (words_next-i
 
 pub kept-section : (want : Sign) (s : State) → Kept (section_next want s)
 unfolding section_next
-kept-section want s = kept-bind (called (sign_of want s)) _ (kept-called (sign_of want s)) (λ t. by_test t.0 t.1)
+kept-section want s = kept-bind (called (sign_of want s)) _ (kept-called (sign_of want s))
+    (λ t. by_test t.0 t.1)
   where
     by_test : (t : Bool) (s : State) → Kept (words_if t s)
     by_test true s = kept-words s
@@ -108,7 +122,8 @@ pub kept-value : (s : State) → Kept (equals_value s)
 unfolding equals_value
 kept-value s =
     kept-bind (expect_sign sign.Equals wanted.Equals s) _ (kept-sign sign.Equals wanted.Equals s)
-    (λ equals. kept-bind (called (value_of equals)) _ (kept-called (value_of equals)) (λ value. kept-ending value.0 _ (kept-sign sign.LineEnd wanted.Newline value.1)))
+    (λ equals. kept-bind (called (value_of equals)) _ (kept-called (value_of equals))
+    (λ value. kept-ending value.0 _ (kept-sign sign.LineEnd wanted.Newline value.1)))
 
 -- ---- steps
 
@@ -116,15 +131,22 @@ kept-value s =
 abbrev pub this_word : {B : Type 0} → (word : List ℕ) → (State → Step B) → NameModel × State → Step B
 this_word word next name = unless_missing (bytes_eq name.0.name word) (marked name.0.spot) (next name.1)
 
-pub word-reported : {B : Type 0} (word : List ℕ) (want : Wanted) (s : State) (f g : State → Step B) → ((t : State) → reported (f t) ≡ g t) → reported (name_next want s >>= this_word word f) ≡ (word_of_form word want s >>= g)
+pub word-reported : {B : Type 0} (word : List ℕ) (want : Wanted) (s : State) (f g : State → Step B)
+    → ((t : State) → reported (f t) ≡ g t)
+    → reported (name_next want s >>= this_word word f) ≡ (word_of_form word want s >>= g)
 unfolding word_of_form
 word-reported {B = B} word want s f g h = by_name (name_next want s) (kept-name want s)
   where
-    by_test : (t : Bool) (n : NameModel × State) → reported (unless_missing t (marked n.0.spot) (f n.1)) ≡ (unless_missing t (Placed n.0.spot cause.DyndepShape) (Ok n.1) >>= g)
+    by_test : (t : Bool) (n : NameModel × State)
+        → reported (unless_missing t (marked n.0.spot) (f n.1))
+        ≡ (unless_missing t (Placed n.0.spot cause.DyndepShape) (Ok n.1) >>= g)
     by_test true n = h n.1
     by_test false n = refl
 
-    by_name : (r : Step NameModel) → Kept r → reported (r >>= this_word word f) ≡ ((r >>= λ name. unless_missing (bytes_eq name.0.name word) (Placed name.0.spot cause.DyndepShape) (Ok name.1)) >>= g)
+    by_name : (r : Step NameModel) → Kept r
+        → reported (r >>= this_word word f) ≡ ((r >>=
+        λ name. unless_missing (bytes_eq name.0.name word) (Placed name.0.spot cause.DyndepShape) (Ok name.1))
+        >>= g)
     by_name (Ok n) k = by_test (bytes_eq n.0.name word) n
     by_name (Err e) k = ap Err k
 
@@ -132,20 +154,26 @@ word-reported {B = B} word want s f g h = by_name (name_next want s) (kept-name 
 abbrev pub path_by : Spot → Reply (Option WordModel) → Step Bool
 path_by spot (Ok (None, after)) = Ok (true, after)
 path_by spot (Ok (Some word, after)) = Err (marked spot)
-path_by spot (Err unit) = unless_missing (is_same_spot (fault_spot unit) spot) (marked spot) (Err (bad_unit unit))
+path_by spot (Err unit) = unless_missing (is_same_spot (fault_spot unit) spot) (marked spot)
+    (Err (bad_unit unit))
 
 abbrev pub path_step : State → Step Bool
 path_step s = let here = skip_blanks_of s in path_by (spot_of here) (path_word_of here)
 
-path-reported : {B : Type 0} (s : State) (f g : State → Result B Fault) → ((t : State) → reported (f t) ≡ g t) → reported (path_step s >>= λ c. f c.1) ≡ (no_path s >>= g)
+path-reported : {B : Type 0} (s : State) (f g : State → Result B Fault) → ((t : State) → reported (f t) ≡ g t)
+    → reported (path_step s >>= λ c. f c.1) ≡ (no_path s >>= g)
 unfolding no_path
 path-reported {B = B} s f g h = let here = skip_blanks_of s in by_reply (spot_of here) (path_word_of here)
   where
-    by_test : (t : Bool) (spot : Spot) (unit : UnitFault) → reported (◌>>=◌ {A = Bool × State} (unless_missing t (marked spot) (Err (bad_unit unit))) (λ c. f c.1)) ≡ (◌>>=◌ {A = State} (unless_missing t (Placed spot cause.DyndepShape) (Err (bad_unit unit))) g)
+    by_test : (t : Bool) (spot : Spot) (unit : UnitFault)
+        → reported (◌>>=◌ {A = Bool × State} (unless_missing t (marked spot) (Err (bad_unit unit)))
+        (λ c. f c.1)) ≡ (◌>>=◌ {A = State} (unless_missing t (Placed spot cause.DyndepShape)
+        (Err (bad_unit unit))) g)
     by_test true spot unit = ap Err (real_bad unit)
     by_test false spot unit = refl
 
-    by_reply : (spot : Spot) (r : Reply (Option WordModel)) → reported (path_by spot r >>= λ c. f c.1) ≡ (no_path_by spot r >>= g)
+    by_reply : (spot : Spot) (r : Reply (Option WordModel))
+        → reported (path_by spot r >>= λ c. f c.1) ≡ (no_path_by spot r >>= g)
     by_reply spot (Ok (None, after)) = h after
     by_reply spot (Ok (Some word, after)) = refl
     by_reply spot (Err unit) = by_test (is_same_spot (fault_spot unit) spot) spot unit
@@ -160,11 +188,16 @@ no_bar spot there = unless_missing (not there.0) (Placed spot cause.DyndepShape)
 abbrev pub bar_step : Sign → State → Step Bool
 bar_step want s = called (sign_of want (skip_blanks_of s)) >>= unbarred (spot_of (skip_blanks_of s))
 
-bar-reported : {B : Type 0} (want : Sign) (s : State) (f g : State → Result B Fault) → ((t : State) → reported (f t) ≡ g t) → reported (bar_step want s >>= λ c. f c.1) ≡ (no_section want s >>= g)
+bar-reported : {B : Type 0} (want : Sign) (s : State) (f g : State → Result B Fault)
+    → ((t : State) → reported (f t) ≡ g t)
+    → reported (bar_step want s >>= λ c. f c.1) ≡ (no_section want s >>= g)
 unfolding no_section
-bar-reported {B = B} want s f g h = by_sign (called (sign_of want (skip_blanks_of s))) (kept-called (sign_of want (skip_blanks_of s))) (spot_of (skip_blanks_of s))
+bar-reported {B = B} want s f g h = by_sign (called (sign_of want (skip_blanks_of s)))
+    (kept-called (sign_of want (skip_blanks_of s))) (spot_of (skip_blanks_of s))
   where
-    by_test : (t : Bool) (after : State) (spot : Spot) → reported (◌>>=◌ {A = Bool × State} (unless_missing t (marked spot) (Ok (true, after))) (λ c. f c.1)) ≡ (◌>>=◌ {A = State} (unless_missing t (Placed spot cause.DyndepShape) (Ok after)) g)
+    by_test : (t : Bool) (after : State) (spot : Spot)
+        → reported (◌>>=◌ {A = Bool × State} (unless_missing t (marked spot) (Ok (true, after))) (λ c. f c.1))
+        ≡ (◌>>=◌ {A = State} (unless_missing t (Placed spot cause.DyndepShape) (Ok after)) g)
     by_test true after spot = h after
     by_test false after spot = refl
 
@@ -176,13 +209,19 @@ bar-reported {B = B} want s f g h = by_sign (called (sign_of want (skip_blanks_o
 -- the first output
 abbrev pub output_there : Option WordModel → State → Step WordModel
 output_there (Some word) after = Ok (word, after)
-output_there None after = called (sign_of sign.Pipe after) >>= λ pipe. unless_missing (not pipe.0) (marked (spot_of after)) (Err (Placed (spot_of after) (cause.Expected wanted.Path)))
+output_there None after = called (sign_of sign.Pipe after) >>=
+    λ pipe. unless_missing (not pipe.0) (marked (spot_of after))
+    (Err (Placed (spot_of after) (cause.Expected wanted.Path)))
 
 abbrev pub output_word : State → Step WordModel
 output_word s = called (path_word_of s) >>= λ found. output_there found.0 found.1
 
-output-reported : {B : Type 0} (s : State) (f g : WordModel → State → Result B Fault) → ((w : WordModel) (t : State) → reported (f w t) ≡ g w t) → reported (output_word s >>= λ o. path_step o.1 >>= λ c. f o.0 c.1) ≡ (output_next s >>= λ out. g out.0 out.1)
-output-reported {B = B} s f g h = by_word (called (path_word_of s)) (kept-called (path_word_of s)) ∙ ap (λ (r : Step WordModel). r >>= λ out. g out.0 out.1) (sym (output-steps s))
+output-reported : {B : Type 0} (s : State) (f g : WordModel → State → Result B Fault)
+    → ((w : WordModel) (t : State) → reported (f w t) ≡ g w t)
+    → reported (output_word s >>= λ o. path_step o.1 >>= λ c. f o.0 c.1)
+    ≡ (output_next s >>= λ out. g out.0 out.1)
+output-reported {B = B} s f g h = by_word (called (path_word_of s)) (kept-called (path_word_of s))
+    ∙ ap (λ (r : Step WordModel). r >>= λ out. g out.0 out.1) (sym (output-steps s))
   where
     then : WordModel × State → Result B Fault
     then o = path_step o.1 >>= λ c. f o.0 c.1
@@ -190,21 +229,33 @@ output-reported {B = B} s f g h = by_word (called (path_word_of s)) (kept-called
     read : WordModel → State → Step WordModel
     read w end = Ok (w, end)
 
-    after_word : (w : WordModel) (a : State) → reported (path_step a >>= λ c. f w c.1) ≡ ((no_path a >>= read w) >>= λ out. g out.0 out.1)
-    after_word w a = path-reported a (f w) (g w) (h w) ∙ sym (bind-bind (no_path a) (read w) (λ out. g out.0 out.1))
+    after_word : (w : WordModel) (a : State)
+        → reported (path_step a >>= λ c. f w c.1) ≡ ((no_path a >>= read w) >>= λ out. g out.0 out.1)
+    after_word w a = path-reported a (f w) (g w) (h w)
+        ∙ sym (bind-bind (no_path a) (read w) (λ out. g out.0 out.1))
 
     by_pipe : (r : Step Bool) → Kept r → (spot : Spot)
-        → reported (◌>>=◌ {A = WordModel × State} (r >>= λ pipe. unless_missing (not pipe.0) (marked spot) (Err (Placed spot (cause.Expected wanted.Path)))) then)
-        ≡ (◌>>=◌ {A = WordModel × State} (◌>>=◌ {A = WordModel × State} (r >>= λ pipe. unless_missing (not pipe.0) (Placed spot cause.DyndepShape) (Err (Placed spot (cause.Expected wanted.Path)))) (λ out. no_path out.1 >>= read out.0)) (λ out. g out.0 out.1))
+        → reported (◌>>=◌ {A = WordModel × State}
+        (r >>= λ pipe. unless_missing (not pipe.0) (marked spot)
+        (Err (Placed spot (cause.Expected wanted.Path)))) then)
+        ≡ (◌>>=◌ {A = WordModel × State} (◌>>=◌ {A = WordModel × State}
+        (r >>= λ pipe. unless_missing (not pipe.0) (Placed spot cause.DyndepShape)
+        (Err (Placed spot (cause.Expected wanted.Path)))) (λ out. no_path out.1 >>= read out.0))
+        (λ out. g out.0 out.1))
     by_pipe (Ok (true, after)) k spot = refl
     by_pipe (Ok (false, after)) k spot = refl
     by_pipe (Err e) k spot = ap Err k
 
-    by_found : (found : Option WordModel) (a : State) → reported (output_there found a >>= then) ≡ ((first_output found a >>= λ out. no_path out.1 >>= read out.0) >>= λ out. g out.0 out.1)
+    by_found : (found : Option WordModel) (a : State)
+        → reported (output_there found a >>= then)
+        ≡ ((first_output found a >>= λ out. no_path out.1 >>= read out.0) >>= λ out. g out.0 out.1)
     by_found (Some w) a = after_word w a
     by_found None a = by_pipe (called (sign_of sign.Pipe a)) (kept-called (sign_of sign.Pipe a)) (spot_of a)
 
-    by_word : (r : Step (Option WordModel)) → Kept r → reported ((r >>= λ found. output_there found.0 found.1) >>= then) ≡ ((r >>= λ found. first_output found.0 found.1 >>= λ out. no_path out.1 >>= read out.0) >>= λ out. g out.0 out.1)
+    by_word : (r : Step (Option WordModel)) → Kept r
+        → reported ((r >>= λ found. output_there found.0 found.1) >>= then)
+        ≡ ((r >>= λ found. first_output found.0 found.1 >>= λ out. no_path out.1 >>= read out.0) >>=
+        λ out. g out.0 out.1)
     by_word (Ok found) k = by_found found.0 found.1
     by_word (Err e) k = ap Err k
 
@@ -249,13 +300,19 @@ at_output s = output_word s >>= with_output
 abbrev pub entry_marked : State → Step EntryModel
 entry_marked s = name_next wanted.Statement s >>= this_word (codes "build") at_output
 
-inputs-reported : (out : WordModel) (outs : List WordModel) (s : State) → reported (at_inputs out outs s) ≡ (added_inputs s >>= λ ins. Ok (entry_of out outs ins.0, ins.1))
+inputs-reported : (out : WordModel) (outs : List WordModel) (s : State)
+    → reported (at_inputs out outs s) ≡ (added_inputs s >>= λ ins. Ok (entry_of out outs ins.0, ins.1))
 unfolding added_inputs
 inputs-reported out outs s =
     path-reported s (at_ins out outs) (λ alone. after_path alone >>= whole) (λ alone.
-    reported-bind (section_next sign.Pipe alone) (with_ins out outs) (λ ins. after_ins ins >>= whole) (kept-section sign.Pipe alone) (λ ins.
-    bar-reported sign.Pipe2 ins.1 (at_second_bar (entry_of out outs ins.0)) (λ order_only. after_first ins.0 order_only >>= whole) (λ order_only.
-    bar-reported sign.PipeAt order_only (at_end (entry_of out outs ins.0)) (λ v. after_second ins.0 v >>= whole) (λ v. ended ins.0 (expect_sign sign.LineEnd wanted.Newline v) (kept-sign sign.LineEnd wanted.Newline v))
+    reported-bind (section_next sign.Pipe alone) (with_ins out outs) (λ ins. after_ins ins >>= whole)
+    (kept-section sign.Pipe alone) (λ ins.
+    bar-reported sign.Pipe2 ins.1 (at_second_bar (entry_of out outs ins.0))
+    (λ order_only. after_first ins.0 order_only >>= whole) (λ order_only.
+    bar-reported sign.PipeAt order_only (at_end (entry_of out outs ins.0))
+    (λ v. after_second ins.0 v >>= whole)
+    (λ v. ended ins.0 (expect_sign sign.LineEnd wanted.Newline v)
+    (kept-sign sign.LineEnd wanted.Newline v))
     ∙ sym (bind-bind (no_section sign.PipeAt order_only) (after_second ins.0) whole))
     ∙ sym (bind-bind (no_section sign.Pipe2 ins.1) (after_first ins.0) whole))
     ∙ sym (bind-bind (section_next sign.Pipe alone) after_ins whole))
@@ -276,11 +333,13 @@ inputs-reported out outs s =
     after_path : State → Step (List WordModel)
     after_path alone = section_next sign.Pipe alone >>= after_ins
 
-    ended : (ins : List WordModel) (r : Result State Fault) → Kept r → reported (ending (entry_of out outs ins) r) ≡ ((r >>= λ end. Ok (ins, end)) >>= whole)
+    ended : (ins : List WordModel) (r : Result State Fault) → Kept r
+        → reported (ending (entry_of out outs ins) r) ≡ ((r >>= λ end. Ok (ins, end)) >>= whole)
     ended ins (Ok end) k = refl
     ended ins (Err f) k = ap Err k
 
-colon-reported : (r : Result State Fault) (f g : State → Step EntryModel) → Kept r → ((t : State) → reported (f t) ≡ g t) → reported (led_on r >>= λ c. f c.1) ≡ (r >>= g)
+colon-reported : (r : Result State Fault) (f g : State → Step EntryModel) → Kept r
+    → ((t : State) → reported (f t) ≡ g t) → reported (led_on r >>= λ c. f c.1) ≡ (r >>= g)
 colon-reported (Ok s) f g k h = h s
 colon-reported (Err e) f g k h = ap Err k
 
@@ -288,14 +347,20 @@ colon-reported (Err e) f g k h = ap Err k
 pub entry-reported : (s : State) → reported (entry_marked s) ≡ entry_line s
 unfolding entry_line
 entry-reported s =
-    word-reported (codes "build") wanted.Statement s at_output (λ build. output_next build >>= λ out. outs_of out.0 out.1) (λ build.
+    word-reported (codes "build") wanted.Statement s at_output
+    (λ build. output_next build >>= λ out. outs_of out.0 out.1) (λ build.
     output-reported build at_outs outs_of (λ out t.
-    reported-bind (section_next sign.Pipe t) (with_outs out) (λ outs. colon_of out outs) (kept-section sign.Pipe t) (λ outs.
-    colon-reported (expect_sign sign.Colon wanted.Colon outs.1) (at_rule out outs.0) (rule_of out outs.0) (kept-sign sign.Colon wanted.Colon outs.1) (λ colon.
-    word-reported (codes "dyndep") wanted.CommandName colon (at_inputs out outs.0) (λ rule. added_inputs rule >>= λ ins. Ok (entry_of out outs.0 ins.0, ins.1)) (inputs-reported out outs.0)))))
+    reported-bind (section_next sign.Pipe t) (with_outs out) (λ outs. colon_of out outs)
+    (kept-section sign.Pipe t) (λ outs.
+    colon-reported (expect_sign sign.Colon wanted.Colon outs.1) (at_rule out outs.0) (rule_of out outs.0)
+    (kept-sign sign.Colon wanted.Colon outs.1) (λ colon.
+    word-reported (codes "dyndep") wanted.CommandName colon (at_inputs out outs.0)
+    (λ rule. added_inputs rule >>= λ ins. Ok (entry_of out outs.0 ins.0, ins.1))
+    (inputs-reported out outs.0)))))
   where
     rule_of : WordModel → List WordModel → State → Step EntryModel
-    rule_of out outs colon = word_of_form (codes "dyndep") wanted.CommandName colon >>= λ rule. added_inputs rule >>= λ ins. Ok (entry_of out outs ins.0, ins.1)
+    rule_of out outs colon = word_of_form (codes "dyndep") wanted.CommandName colon >>=
+        λ rule. added_inputs rule >>= λ ins. Ok (entry_of out outs ins.0, ins.1)
 
     colon_of : WordModel → List WordModel × State → Step EntryModel
     colon_of out outs = expect_sign sign.Colon wanted.Colon outs.1 >>= rule_of out outs.0

@@ -1,11 +1,13 @@
 -- The next entry: the readings of lines, and the forms.
-use Rattle.std.proofs.Common.{◌≡◌, Bool, true, false, cond, Option, Some, None, Result, Ok, Err, ◌⊎◌, inl, inr, List, [], ◌∷◌, refl, sym, ap, subst, ◌∙◌, codes}
+use Rattle.std.proofs.Common.{◌≡◌, Bool, true, false, cond, Option, Some, None, Result, Ok, Err, ◌⊎◌, inl}
+use Rattle.std.proofs.Common.{inr, List, [], ◌∷◌, refl, sym, ap, subst, ◌∙◌, codes}
 use Rattle.std.specs.Str.{bytes_eq}
 use Rattle.std.proofs.lemmas.Slice.Eq.{bytes_eq-Decides}
 use Rattle.nj_text.specs.declared.line_start.LineStart.{LineStart}
 use Rattle.nj_text.specs.declared.line_start.LineStart.TheVariants as start
 use Rattle.nj_text.specs.Words.{WordModel}
-use Rattle.nj_text.specs.Lines.{Line, lines_after, Kind, CommentLine, TabLine, BlankLine, IndentedLine, PlainLine, kind_of}
+use Rattle.nj_text.specs.Lines.{Line, lines_after, Kind, CommentLine, TabLine, BlankLine, IndentedLine}
+use Rattle.nj_text.specs.Lines.{PlainLine, kind_of}
 use Rattle.nj_text.specs.Calls.{State, Between, Inside, start_line_of, without_comments, Reply}
 use Rattle.nj_manifest.specs.declared.block_lines.Keys.TheVariants as keys
 use Rattle.nj_manifest.specs.declared.cause.Wanted.TheVariants as wanted
@@ -13,7 +15,8 @@ use Rattle.nj_manifest.specs.Faults.{Fault}
 use Rattle.nj_manifest.specs.LineSteps.{◌>>=◌, called, NameModel, name_next}
 use Rattle.nj_manifest.specs.Statements.{LineModel, lines_from, equals_value, line_next, block_by, block}
 use Rattle.nj_manifest.specs.Openings.{Parse, opening_by, opening, or_last, without_spaces}
-use Rattle.nj_manifest.specs.Dyndeps.{EntryModel, entry_line, word_of_form, if_indented, restat_block, entry_from, next_entry}
+use Rattle.nj_manifest.specs.Dyndeps.{EntryModel, entry_line, word_of_form, if_indented, restat_block}
+use Rattle.nj_manifest.specs.Dyndeps.{entry_from, next_entry}
 use Rattle.nj_manifest.specs.DyndepForms.{RestatForm, NextEntryForm, NextEntriesAreTheForms}
 use Rattle.nj_manifest.specs.Inside.ParserContracts.{entry_here}
 use Rattle.nj_manifest.proofs.Choices.{no_lines, ended}
@@ -30,12 +33,15 @@ no_err e = absurd cc
 
 -- ---- a line of a block
 
-line_of : (m : State) (name : NameModel × State) (value : WordModel × State) → name_next wanted.VariableName m ≡ Ok name → equals_value name.1 ≡ Ok value → line_next keys.All m ≡ Ok (record { spot = name.0.spot; name = name.0.name; value = value.0 }, value.1)
+line_of : (m : State) (name : NameModel × State) (value : WordModel × State)
+    → name_next wanted.VariableName m ≡ Ok name → equals_value name.1 ≡ Ok value
+    → line_next keys.All m ≡ Ok (record { spot = name.0.spot; name = name.0.name; value = value.0 }, value.1)
 unfolding line_next
 line_of m name value a b = rw (a, b) refl
 
 -- `restat = VALUE` is a line of a block that has this key.
-restat-line : (m t : State) → restat_line m ≡ Ok t → (line : LineModel) × (line.name ≡ codes "restat") × (line_next keys.All m ≡ Ok (line, t))
+restat-line : (m t : State) → restat_line m ≡ Ok t
+    → (line : LineModel) × (line.name ≡ codes "restat") × (line_next keys.All m ≡ Ok (line, t))
 unfolding restat_line word_of_form
 restat-line m t h =
     let key = bind-ok (word_of_form (codes "restat") wanted.VariableName m) _ t h in
@@ -43,67 +49,108 @@ restat-line m t h =
     let name = bind-ok (name_next wanted.VariableName m) _ key.0 key.1 in
     let k = unless_missing-ok (bytes_eq name.0.0.name (codes "restat")) _ (Ok name.0.1) key.0 name.2 in
     let line : LineModel = record { spot = name.0.0.spot; name = name.0.0.name; value = value.0.0 } in
-    let read : equals_value name.0.1 ≡ Ok value.0 = ap equals_value (oks k.1) ∙ value.1 in
-    (line, (bytes_eq-Decides name.0.0.name (codes "restat")).0 k.0, line_of m name.0 value.0 name.1 read ∙ ap (λ (s : State). Ok (line, s)) (oks value.2))
+    let read : equals_value name.0.1 ≡ Ok value.0 = ap equals_value (oks k.1) ∙ value.1 in (
+      line,
+      (bytes_eq-Decides name.0.0.name (codes "restat")).0 k.0,
+      line_of m name.0 value.0 name.1 read
+          ∙ ap (λ (s : State). Ok (line, s)) (oks value.2),
+    )
 
-line-restat : (m t : State) (line : LineModel) → line_next keys.All m ≡ Ok (line, t) → line.name ≡ codes "restat" → restat_line m ≡ Ok t
+line-restat : (m t : State) (line : LineModel) → line_next keys.All m ≡ Ok (line, t)
+    → line.name ≡ codes "restat" → restat_line m ≡ Ok t
 unfolding restat_line word_of_form line_next
 line-restat m t line h n =
     let name = bind-ok (name_next wanted.VariableName m) _ (line, t) h in
-    let value = bind-ok (equals_value name.0.1) (λ value. Ok (record { spot = name.0.0.spot; name = name.0.0.name; value = value.0 }, value.1)) (line, t) name.2 in
+    let value = bind-ok (equals_value name.0.1)
+    (λ value. Ok (record { spot = name.0.0.spot; name = name.0.0.name; value = value.0 }, value.1))
+    (line, t) name.2 in
     let same = oks value.2 in
     let named : name.0.0.name ≡ codes "restat" = ap (λ (r : LineModel × State). r.0.name) same ∙ n in
-    rw (name.1, (bytes_eq-Decides name.0.0.name (codes "restat")).1 named, value.1) (ap (λ (r : LineModel × State). Ok r.1) same)
+    rw (name.1, (bytes_eq-Decides name.0.0.name (codes "restat")).1 named, value.1)
+    (ap (λ (r : LineModel × State). Ok r.1) same)
 
 -- ---- a block
 
-begins : (ls : List Line) (x : LineStart) (m : State) → called (start_line_of (Between ls)) ≡ Ok (x, m) → Begins keys.All (lines_weight ls) (block keys.All ls) (Ok (x, m))
+begins : (ls : List Line) (x : LineStart) (m : State) → called (start_line_of (Between ls)) ≡ Ok (x, m)
+    → Begins keys.All (lines_weight ls) (block keys.All ls) (Ok (x, m))
 begins ls x m h = start-begins keys.All ls (Ok (x, m)) (called-ok (start_line_of (Between ls)) x m h)
 
 -- a line, and those that follow it
-one_line : (ls : List Line) (l : Line) (others : List Line) (m t : State) (line : LineModel) (more : List LineModel × List Line) → m ≡ Inside (without_spaces l) others → block keys.All ls ≡ block_by keys.All IndentedLine l others (block keys.All others) → line_next keys.All m ≡ Ok (line, t)
+one_line : (ls : List Line) (l : Line) (others : List Line) (m t : State) (line : LineModel)
+    (more : List LineModel × List Line) → m ≡ Inside (without_spaces l) others
+    → block keys.All ls ≡ block_by keys.All IndentedLine l others (block keys.All others)
+    → line_next keys.All m ≡ Ok (line, t)
     → block keys.All (lines_after l others) ≡ Ok more → block keys.All ls ≡ Ok (line ∷ more.0, more.1)
-one_line ls l others m t line more is reads read rest = reads ∙ rw (ap (line_next keys.All) (sym is) ∙ read, sym (block-after keys.All l others) ∙ rest) refl
+one_line ls l others m t line more is reads read rest =
+    reads ∙ rw (ap (line_next keys.All) (sym is) ∙ read, sym (block-after keys.All l others) ∙ rest) refl
 
-no_block : (ls : List Line) (m : State) → block keys.All ls ≡ no_lines (lines_from m) → RestatForm ls (lines_from m)
-no_block ls m e = record { lines = []; block = block-form keys.All ls [] (lines_from m) e; one_at_most = inl refl }
+no_block : (ls : List Line) (m : State) → block keys.All ls ≡ no_lines (lines_from m)
+    → RestatForm ls (lines_from m)
+no_block ls m e = record {
+  lines = [];
+  block = block-form keys.All ls [] (lines_from m) e;
+  one_at_most =
+      inl refl;
+}
 
 restat-form : (ls : List Line) (s : State) → restat_block (Between ls) ≡ Ok s → RestatForm ls (lines_from s)
 restat-form ls s h =
     let first = bind-ok (called (start_line_of (Between ls))) _ s (sym (block-lines (Between ls)) ∙ h) in
     by_start first.0.0 first.0.1 (begins ls first.0.0 first.0.1 first.1) first.2
   where
-    by_second : (l : Line) (others : List Line) (m t : State) (line : LineModel) → m ≡ Inside (without_spaces l) others → block keys.All ls ≡ block_by keys.All IndentedLine l others (block keys.All others) → line_next keys.All m ≡ Ok (line, t) → line.name ≡ codes "restat"
-        → (y : LineStart) (n : State) → Begins keys.All (lines_weight (lines_after l others)) (block keys.All (lines_after l others)) (Ok (y, n)) → if_indented y n line_too_many ≡ Ok s → RestatForm ls (lines_from s)
+    by_second : (l : Line) (others : List Line) (m t : State) (line : LineModel)
+        → m ≡ Inside (without_spaces l) others
+        → block keys.All ls ≡ block_by keys.All IndentedLine l others (block keys.All others)
+        → line_next keys.All m ≡ Ok (line, t) → line.name ≡ codes "restat"
+        → (y : LineStart) (n : State) → Begins keys.All (lines_weight (lines_after l others))
+        (block keys.All (lines_after l others)) (Ok (y, n)) → if_indented y n line_too_many ≡ Ok s
+        → RestatForm ls (lines_from s)
     by_second l others m t line is reads read key y n b g = by_kind y b g
       where
-        ended_there : block keys.All (lines_after l others) ≡ no_lines (lines_from n) → n ≡ s → RestatForm ls (lines_from s)
+        ended_there : block keys.All (lines_after l others) ≡ no_lines (lines_from n) → n ≡ s
+            → RestatForm ls (lines_from s)
         ended_there e same =
             subst (λ (u : State). RestatForm ls (lines_from u)) same
-            (record { lines = line ∷ []; block = block-form keys.All ls (line ∷ []) (lines_from n) (one_line ls l others m t line ([], lines_from n) is reads read e); one_at_most = inr (line, refl, key) })
+            (record {
+              lines = line ∷ [];
+              block =
+                  block-form keys.All ls (line ∷ []) (lines_from n)
+                  (one_line ls l others m t line ([], lines_from n) is reads read e);
+              one_at_most =
+                  inr (line, refl, key);
+            })
 
-        by_kind : (y : LineStart) → Begins keys.All (lines_weight (lines_after l others)) (block keys.All (lines_after l others)) (Ok (y, n)) → if_indented y n line_too_many ≡ Ok s → RestatForm ls (lines_from s)
+        by_kind : (y : LineStart) → Begins keys.All (lines_weight (lines_after l others))
+            (block keys.All (lines_after l others)) (Ok (y, n)) → if_indented y n line_too_many ≡ Ok s
+            → RestatForm ls (lines_from s)
         by_kind start.Indented b g = too_many-fails n s g
         by_kind start.Middle b g = absurd b
         by_kind start.End b g = ended_there b.0 (oks g)
         by_kind start.Blank b g = ended_there b.0 (oks g)
         by_kind start.Plain b g = ended_there b.0 (oks g)
 
-    in_block : (l : Line) (others : List Line) (m : State) → m ≡ Inside (without_spaces l) others → block keys.All ls ≡ block_by keys.All IndentedLine l others (block keys.All others) → first_line m ≡ Ok s → RestatForm ls (lines_from s)
+    in_block : (l : Line) (others : List Line) (m : State) → m ≡ Inside (without_spaces l) others
+        → block keys.All ls ≡ block_by keys.All IndentedLine l others (block keys.All others)
+        → first_line m ≡ Ok s → RestatForm ls (lines_from s)
     in_block l others m is reads g =
         let restat = bind-ok (restat_line m) _ s g in
         let second = bind-ok (called (start_line_of restat.0)) _ s restat.2 in
-        let end : restat.0 ≡ Between (lines_after l others) = restat_line-inside (without_spaces l) others m restat.0 ((without_spaces l).units, is) restat.1 in
+        let end : restat.0 ≡ Between (lines_after l others) =
+        restat_line-inside (without_spaces l) others m restat.0 ((without_spaces l).units, is) restat.1 in
         let line = restat-line m restat.0 restat.1 in
         let begun = ap (λ (t : State). called (start_line_of t)) (sym end) ∙ second.1 in
-        by_second l others m restat.0 line.0 is reads line.2 line.1 second.0.0 second.0.1 (begins (lines_after l others) second.0.0 second.0.1 begun) second.2
+        by_second l others m restat.0 line.0 is reads line.2 line.1 second.0.0 second.0.1
+        (begins (lines_after l others) second.0.0 second.0.1 begun) second.2
 
-    by_start : (x : LineStart) (m : State) → Begins keys.All (lines_weight ls) (block keys.All ls) (Ok (x, m)) → if_indented x m first_line ≡ Ok s → RestatForm ls (lines_from s)
+    by_start : (x : LineStart) (m : State) → Begins keys.All (lines_weight ls) (block keys.All ls) (Ok (x, m))
+        → if_indented x m first_line ≡ Ok s → RestatForm ls (lines_from s)
     by_start start.Indented m b g = in_block b.0 b.1 m b.2 b.3 g
     by_start start.Middle m b g = absurd b
     by_start start.End m b g = subst (λ (u : State). RestatForm ls (lines_from u)) (oks g) (no_block ls m b.0)
-    by_start start.Blank m b g = subst (λ (u : State). RestatForm ls (lines_from u)) (oks g) (no_block ls m b.0)
-    by_start start.Plain m b g = subst (λ (u : State). RestatForm ls (lines_from u)) (oks g) (no_block ls m b.0)
+    by_start start.Blank m b g = subst (λ (u : State). RestatForm ls (lines_from u)) (oks g)
+        (no_block ls m b.0)
+    by_start start.Plain m b g = subst (λ (u : State). RestatForm ls (lines_from u)) (oks g)
+        (no_block ls m b.0)
 
 -- the start of a line where a block has no line
 record Quiet (ls rest : List Line) : Type 0 where
@@ -128,11 +175,15 @@ no_more : {P : Type 0} (x : LineModel) (xs : List LineModel) → ◌≡◌ {A = 
 no_more x xs e = absurd cc
 
 -- a line that was begun in a block
-line_there : (l : Line) (others rest : List Line) (lines : List LineModel) → block_by keys.All IndentedLine l others (block keys.All others) ≡ Ok (lines, rest)
-    → (line : LineModel) × (more : List LineModel) × (end : State) × (line_next keys.All (Inside (without_spaces l) others) ≡ Ok (line, end)) × (block keys.All (lines_after l others) ≡ Ok (more, rest)) × (line ∷ more ≡ lines)
+line_there : (l : Line) (others rest : List Line) (lines : List LineModel)
+    → block_by keys.All IndentedLine l others (block keys.All others) ≡ Ok (lines, rest)
+    → (line : LineModel) × (more : List LineModel) × (end : State)
+    × (line_next keys.All (Inside (without_spaces l) others) ≡ Ok (line, end))
+    × (block keys.All (lines_after l others) ≡ Ok (more, rest)) × (line ∷ more ≡ lines)
 line_there l others rest lines h =
     let one = bind-ok (line_next keys.All (Inside (without_spaces l) others)) _ (lines, rest) h in
-    let more = bind-ok (or_last l (no_lines (lines_after l others)) (block keys.All others)) (λ more. Ok (one.0.0 ∷ more.0, more.1)) (lines, rest) one.2 in
+    let more = bind-ok (or_last l (no_lines (lines_after l others)) (block keys.All others))
+    (λ more. Ok (one.0.0 ∷ more.0, more.1)) (lines, rest) one.2 in
     let same = oks more.2 in
     let left : more.0.1 ≡ rest = ap (λ (r : List LineModel × List Line). r.1) same in (
       one.0.0,
@@ -144,23 +195,30 @@ line_there l others rest lines h =
     )
 
 quiet : (ls rest : List Line) → block keys.All ls ≡ Ok ([], rest) → Quiet ls rest
-quiet ls rest h = by_reply (start_line_of (Between ls)) refl (start-begins keys.All ls (start_line_of (Between ls)) refl)
+quiet ls rest h = by_reply (start_line_of (Between ls)) refl
+    (start-begins keys.All ls (start_line_of (Between ls)) refl)
   where
     left_of : (m : State) → block keys.All ls ≡ no_lines (lines_from m) → lines_from m ≡ rest
     left_of m b = ap (λ (r : List LineModel × List Line). r.1) (oks (sym b ∙ h))
 
-    by_reply : (r : Reply LineStart) → start_line_of (Between ls) ≡ r → Begins keys.All (lines_weight ls) (block keys.All ls) r → Quiet ls rest
+    by_reply : (r : Reply LineStart) → start_line_of (Between ls) ≡ r
+        → Begins keys.All (lines_weight ls) (block keys.All ls) r → Quiet ls rest
     by_reply (Err unit) e b = no_err (sym h ∙ b)
     by_reply (Ok (start.Indented, m)) e b =
         let there = line_there b.0 b.1 rest [] (sym b.3 ∙ h) in
         no_more there.0 there.1 there.5
     by_reply (Ok (start.Middle, m)) e b = absurd b
-    by_reply (Ok (start.End, m)) e b = record { begun = start.End; after = m; starts = ap called e; stays = λ k. refl; left = left_of m b.0 }
-    by_reply (Ok (start.Blank, m)) e b = record { begun = start.Blank; after = m; starts = ap called e; stays = λ k. refl; left = left_of m b.0 }
-    by_reply (Ok (start.Plain, m)) e b = record { begun = start.Plain; after = m; starts = ap called e; stays = λ k. refl; left = left_of m b.0 }
+    by_reply (Ok (start.End, m)) e b = record
+        { begun = start.End; after = m; starts = ap called e; stays = λ k. refl; left = left_of m b.0 }
+    by_reply (Ok (start.Blank, m)) e b = record
+        { begun = start.Blank; after = m; starts = ap called e; stays = λ k. refl; left = left_of m b.0 }
+    by_reply (Ok (start.Plain, m)) e b = record
+        { begun = start.Plain; after = m; starts = ap called e; stays = λ k. refl; left = left_of m b.0 }
 
-spoken : (ls rest : List Line) (line : LineModel) → block keys.All ls ≡ Ok (line ∷ [], rest) → Spoken ls rest line
-spoken ls rest line h = by_reply (start_line_of (Between ls)) refl (start-begins keys.All ls (start_line_of (Between ls)) refl)
+spoken : (ls rest : List Line) (line : LineModel) → block keys.All ls ≡ Ok (line ∷ [], rest)
+    → Spoken ls rest line
+spoken ls rest line h = by_reply (start_line_of (Between ls)) refl
+    (start-begins keys.All ls (start_line_of (Between ls)) refl)
   where
     empty : {P : Type 0} (m : State) → block keys.All ls ≡ no_lines (lines_from m) → P
     empty m b = no_more line [] (ap (λ (r : List LineModel × List Line). r.0) (oks (sym h ∙ b)))
@@ -171,7 +229,8 @@ spoken ls rest line h = by_reply (start_line_of (Between ls)) refl (start-begins
     tails : {x : LineModel} {xs : List LineModel} → x ∷ xs ≡ line ∷ [] → xs ≡ []
     tails e = cc
 
-    by_reply : (r : Reply LineStart) → start_line_of (Between ls) ≡ r → Begins keys.All (lines_weight ls) (block keys.All ls) r → Spoken ls rest line
+    by_reply : (r : Reply LineStart) → start_line_of (Between ls) ≡ r
+        → Begins keys.All (lines_weight ls) (block keys.All ls) r → Spoken ls rest line
     by_reply (Err unit) e b = no_err (sym h ∙ b)
     by_reply (Ok (start.Indented, m)) e b =
         let there = line_there b.0 b.1 rest (line ∷ []) (sym b.3 ∙ h) in
@@ -182,7 +241,8 @@ spoken ls rest line h = by_reply (start_line_of (Between ls)) refl (start-begins
           end = there.2;
           starts = ap called e;
           is = b.2;
-          reads = ap (line_next keys.All) b.2 ∙ (there.3 ∙ ap (λ (x : LineModel). Ok (x, there.2)) (heads there.5));
+          reads = ap (line_next keys.All) b.2
+              ∙ (there.3 ∙ ap (λ (x : LineModel). Ok (x, there.2)) (heads there.5));
           none = there.4 ∙ ap (λ (xs : List LineModel). Ok (xs, rest)) (tails there.5);
         }
     by_reply (Ok (start.Middle, m)) e b = absurd b
@@ -190,24 +250,38 @@ spoken ls rest line h = by_reply (start_line_of (Between ls)) refl (start-begins
     by_reply (Ok (start.Blank, m)) e b = empty m b.0
     by_reply (Ok (start.Plain, m)) e b = empty m b.0
 
-restat-read : (ls rest : List Line) → RestatForm ls rest → (s : State) × (restat_block (Between ls) ≡ Ok s) × (lines_from s ≡ rest)
+restat-read : (ls rest : List Line) → RestatForm ls rest
+    → (s : State) × (restat_block (Between ls) ≡ Ok s) × (lines_from s ≡ rest)
 restat-read ls rest f = by_lines f.one_at_most
   where
-    by_lines : (f.lines ≡ []) ⊎ ((line : LineModel) × (f.lines ≡ line ∷ []) × (line.name ≡ codes "restat")) → (s : State) × (restat_block (Between ls) ≡ Ok s) × (lines_from s ≡ rest)
+    by_lines : (f.lines ≡ []) ⊎ ((line : LineModel) × (f.lines ≡ line ∷ []) × (line.name ≡ codes "restat"))
+        → (s : State) × (restat_block (Between ls) ≡ Ok s) × (lines_from s ≡ rest)
     by_lines (inl e) =
-        let q = quiet ls rest (block-read f.block ∙ ap (λ (xs : List LineModel). Ok (xs, rest)) e) in
-        (q.after, block-lines (Between ls) ∙ (ap (λ r. r >>= λ first. if_indented first.0 first.1 first_line) q.starts ∙ q.stays first_line), q.left)
+        let q = quiet ls rest (block-read f.block ∙ ap (λ (xs : List LineModel). Ok (xs, rest)) e) in (
+          q.after,
+          block-lines (Between ls) ∙ (ap (λ r. r >>= λ first. if_indented first.0 first.1 first_line)
+              q.starts ∙ q.stays first_line),
+          q.left,
+        )
     by_lines (inr g) =
         let p = spoken ls rest g.0 (block-read f.block ∙ ap (λ (xs : List LineModel). Ok (xs, rest)) g.1) in
         let q = quiet (lines_after p.first p.others) rest p.none in
         let restat = line-restat p.after p.end g.0 p.reads g.2 in
-        let end : p.end ≡ Between (lines_after p.first p.others) = line-inside keys.All (without_spaces p.first) p.others g.0 p.end (ap (line_next keys.All) (sym p.is) ∙ p.reads) in
-        let second : called (start_line_of p.end) ≡ Ok (q.begun, q.after) = ap (λ (t : State). called (start_line_of t)) end ∙ q.starts in
-        (q.after, block-lines (Between ls) ∙ (ap (λ r. r >>= λ first. if_indented first.0 first.1 first_line) p.starts ∙ rw (restat, second) (q.stays line_too_many)), q.left)
+        let end : p.end ≡ Between (lines_after p.first p.others) =
+        line-inside keys.All (without_spaces p.first) p.others g.0 p.end
+        (ap (line_next keys.All) (sym p.is) ∙ p.reads) in
+        let second : called (start_line_of p.end) ≡ Ok (q.begun, q.after) =
+        ap (λ (t : State). called (start_line_of t)) end ∙ q.starts in (
+          q.after,
+          block-lines (Between ls) ∙ (ap (λ r. r >>= λ first. if_indented first.0 first.1 first_line)
+              p.starts ∙ rw (restat, second) (q.stays line_too_many)),
+          q.left,
+        )
 
 -- ---- the next entry
 
-next_by_kind : (l : Line) (ls : List Line) (k : Kind) → kind_of l ≡ k → next_entry (l ∷ ls) ≡ (opening_by k l ls (opening ls) >>= entry_from)
+next_by_kind : (l : Line) (ls : List Line) (k : Kind) → kind_of l ≡ k
+    → next_entry (l ∷ ls) ≡ (opening_by k l ls (opening ls) >>= entry_from)
 unfolding next_entry opening
 next_by_kind l ls k h = ap (λ (k : Kind). opening_by k l ls (opening ls) >>= entry_from) h
 
@@ -215,54 +289,82 @@ next_is : (ls : List Line) → next_entry ls ≡ (opening ls >>= entry_from)
 unfolding next_entry
 next_is ls = refl
 
-at_is : (l : Line) (ls : List Line) → entry_here l ls ≡ (entry_line (Inside l ls) >>= λ entry. restat_block entry.1 >>= λ end. Ok (Some entry.0, lines_from end))
+at_is : (l : Line) (ls : List Line) → entry_here l ls
+    ≡ (entry_line (Inside l ls) >>= λ entry. restat_block entry.1 >>=
+    λ end. Ok (Some entry.0, lines_from end))
 at_is l ls = refl
 
 nothing_next : next_entry [] ≡ Ok (None, [])
 unfolding next_entry opening
 nothing_next = refl
 
-as_found : (ls rest : List Line) (one found : Option EntryModel) (there : List Line) → ◌≡◌ {A = Parse (Option EntryModel)} (Ok (one, there)) (Ok (found, rest)) → NextEntryForm ls one there → NextEntryForm ls found rest
-as_found ls rest one found there h f = subst (λ (r : Option EntryModel × List Line). NextEntryForm ls r.0 r.1) (oks h) f
+as_found : (ls rest : List Line) (one found : Option EntryModel) (there : List Line)
+    → ◌≡◌ {A = Parse (Option EntryModel)} (Ok (one, there)) (Ok (found, rest)) → NextEntryForm ls one there
+    → NextEntryForm ls found rest
+as_found ls rest one found there h f = subst (λ (r : Option EntryModel × List Line). NextEntryForm ls r.0 r.1)
+    (oks h) f
 
-at_form : (l : Line) (ls : List Line) (found : Option EntryModel) (rest : List Line) → kind_of l ≡ PlainLine → entry_here l ls ≡ Ok (found, rest) → NextEntryForm (l ∷ ls) found rest
+at_form : (l : Line) (ls : List Line) (found : Option EntryModel) (rest : List Line) → kind_of l ≡ PlainLine
+    → entry_here l ls ≡ Ok (found, rest) → NextEntryForm (l ∷ ls) found rest
 at_form l ls found rest k h =
     let entry = bind-ok (entry_line (Inside l ls)) _ (found, rest) (sym (at_is l ls) ∙ h) in
-    let end = bind-ok (restat_block entry.0.1) (λ end. Ok (Some entry.0.0, lines_from end)) (found, rest) entry.2 in
+    let end = bind-ok (restat_block entry.0.1) (λ end. Ok (Some entry.0.0, lines_from end)) (found, rest)
+    entry.2 in
     let form = (entries_are l ls entry.0.0 entry.0.1).0 entry.1 in
     let block = restat-form (lines_after l ls) end.0 (ap restat_block (sym form.1) ∙ end.1) in
-    as_found (l ∷ ls) rest (Some entry.0.0) found (lines_from end.0) end.2 (NextEntryForm.statement k form.0 block)
+    as_found (l ∷ ls) rest (Some entry.0.0) found (lines_from end.0) end.2
+    (NextEntryForm.statement k form.0 block)
 
-next_form : (ls : List Line) (found : Option EntryModel) (rest : List Line) → next_entry ls ≡ Ok (found, rest) → NextEntryForm ls found rest
+next_form : (ls : List Line) (found : Option EntryModel) (rest : List Line) → next_entry ls ≡ Ok (found, rest)
+    → NextEntryForm ls found rest
 next_form [] found rest h = as_found [] rest None found [] (sym nothing_next ∙ h) NextEntryForm.nothing
 next_form (l ∷ ls) found rest h = by_kind (kind_of l) refl (λ e. next_form ls found rest (next_is ls ∙ e))
   where
-    by_last_comment : (t : Bool) → l.is_last ≡ t → kind_of l ≡ CommentLine → ((opening ls >>= entry_from) ≡ Ok (found, rest) → NextEntryForm ls found rest) → (cond t (ended (lines_after l (without_comments ls))) (opening ls) >>= entry_from) ≡ Ok (found, rest) → NextEntryForm (l ∷ ls) found rest
-    by_last_comment true e k others g = as_found (l ∷ ls) rest None found (lines_after l (without_comments ls)) g (NextEntryForm.last_comment k e)
+    by_last_comment : (t : Bool) → l.is_last ≡ t → kind_of l ≡ CommentLine
+        → ((opening ls >>= entry_from) ≡ Ok (found, rest) → NextEntryForm ls found rest)
+        → (cond t (ended (lines_after l (without_comments ls))) (opening ls) >>= entry_from)
+        ≡ Ok (found, rest) → NextEntryForm (l ∷ ls) found rest
+    by_last_comment true e k others g = as_found (l ∷ ls) rest None found
+        (lines_after l (without_comments ls)) g (NextEntryForm.last_comment k e)
     by_last_comment false e k others g = NextEntryForm.comment k e (others g)
 
-    by_last_blank : (t : Bool) → l.is_last ≡ t → kind_of l ≡ BlankLine → ((opening ls >>= entry_from) ≡ Ok (found, rest) → NextEntryForm ls found rest) → (cond t (ended (lines_after l ls)) (opening ls) >>= entry_from) ≡ Ok (found, rest) → NextEntryForm (l ∷ ls) found rest
-    by_last_blank true e k others g = as_found (l ∷ ls) rest None found (lines_after l ls) g (NextEntryForm.last_blank k e)
+    by_last_blank : (t : Bool) → l.is_last ≡ t → kind_of l ≡ BlankLine
+        → ((opening ls >>= entry_from) ≡ Ok (found, rest) → NextEntryForm ls found rest)
+        → (cond t (ended (lines_after l ls)) (opening ls) >>= entry_from) ≡ Ok (found, rest)
+        → NextEntryForm (l ∷ ls) found rest
+    by_last_blank true e k others g = as_found (l ∷ ls) rest None found (lines_after l ls) g
+        (NextEntryForm.last_blank k e)
     by_last_blank false e k others g = NextEntryForm.blank k e (others g)
 
-    by_kind : (k : Kind) → kind_of l ≡ k → ((opening ls >>= entry_from) ≡ Ok (found, rest) → NextEntryForm ls found rest) → NextEntryForm (l ∷ ls) found rest
-    by_kind CommentLine k others = by_last_comment l.is_last refl k others (sym (next_by_kind l ls CommentLine k) ∙ h)
+    by_kind : (k : Kind) → kind_of l ≡ k → ((opening ls >>= entry_from) ≡ Ok (found, rest)
+        → NextEntryForm ls found rest) → NextEntryForm (l ∷ ls) found rest
+    by_kind CommentLine k others = by_last_comment l.is_last refl k others
+        (sym (next_by_kind l ls CommentLine k) ∙ h)
     by_kind (TabLine tab) k others = no_err (sym h ∙ next_by_kind l ls (TabLine tab) k)
     by_kind IndentedLine k others = no_err (sym h ∙ next_by_kind l ls IndentedLine k)
-    by_kind BlankLine k others = by_last_blank l.is_last refl k others (sym (next_by_kind l ls BlankLine k) ∙ h)
+    by_kind BlankLine k others = by_last_blank l.is_last refl k others
+        (sym (next_by_kind l ls BlankLine k) ∙ h)
     by_kind PlainLine k others = at_form l ls found rest k (sym (next_by_kind l ls PlainLine k) ∙ h)
 
-next_read : {ls rest : List Line} {found : Option EntryModel} → NextEntryForm ls found rest → next_entry ls ≡ Ok (found, rest)
+next_read : {ls rest : List Line} {found : Option EntryModel} → NextEntryForm ls found rest
+    → next_entry ls ≡ Ok (found, rest)
 next_read (NextEntryForm.statement {l = l} {ls = ls} {rest = rest} {entry = entry} k f b) =
     let read = (entries_are l ls entry (Between (lines_after l ls))).1 (f, refl) in
     let block = restat-read (lines_after l ls) rest b in
-    next_by_kind l ls PlainLine k ∙ (at_is l ls ∙ rw (read, block.1) (ap (λ (r : List Line). Ok (Some entry, r)) block.2))
+    next_by_kind l ls PlainLine k ∙ (at_is l ls
+    ∙ rw (read, block.1) (ap (λ (r : List Line). Ok (Some entry, r)) block.2))
 next_read (NextEntryForm.blank {l = l} {ls = ls} k e others) =
-    next_by_kind l ls BlankLine k ∙ (ap (λ (t : Bool). cond t (ended (lines_after l ls)) (opening ls) >>= entry_from) e ∙ (sym (next_is ls) ∙ next_read others))
+    next_by_kind l ls BlankLine k ∙ (ap (λ (t : Bool). cond t (ended (lines_after l ls)) (opening ls) >>=
+    entry_from) e ∙ (sym (next_is ls) ∙ next_read others))
 next_read (NextEntryForm.comment {l = l} {ls = ls} k e others) =
-    next_by_kind l ls CommentLine k ∙ (ap (λ (t : Bool). cond t (ended (lines_after l (without_comments ls))) (opening ls) >>= entry_from) e ∙ (sym (next_is ls) ∙ next_read others))
-next_read (NextEntryForm.last_blank {l = l} {ls = ls} k e) = next_by_kind l ls BlankLine k ∙ ap (λ (t : Bool). cond t (ended (lines_after l ls)) (opening ls) >>= entry_from) e
-next_read (NextEntryForm.last_comment {l = l} {ls = ls} k e) = next_by_kind l ls CommentLine k ∙ ap (λ (t : Bool). cond t (ended (lines_after l (without_comments ls))) (opening ls) >>= entry_from) e
+    next_by_kind l ls CommentLine k ∙ (ap (λ (t : Bool). cond t (ended (lines_after l (without_comments ls)))
+    (opening ls) >>= entry_from) e ∙ (sym (next_is ls) ∙ next_read others))
+next_read (NextEntryForm.last_blank {l = l} {ls = ls} k e) =
+    next_by_kind l ls BlankLine k ∙ ap (λ (t : Bool). cond t (ended (lines_after l ls)) (opening ls) >>=
+    entry_from) e
+next_read (NextEntryForm.last_comment {l = l} {ls = ls} k e) =
+    next_by_kind l ls CommentLine k ∙ ap (λ (t : Bool). cond t (ended (lines_after l (without_comments ls)))
+    (opening ls) >>= entry_from) e
 next_read NextEntryForm.nothing = nothing_next
 
 pub next_entries_are : NextEntriesAreTheForms

@@ -10,12 +10,16 @@ use Rattle.nj_manifest.specs.Faults.{Fault, Placed}
 use Rattle.nj_manifest.specs.LineSteps.{name_next, expect_sign, words_within, words_next, section_next}
 use Rattle.nj_manifest.specs.Statements.{equals_value}
 use Rattle.nj_manifest.specs.Openings.{Parse, opening}
-use Rattle.nj_manifest.specs.Dyndeps.{EntryModel, version_line, version_next, word_of_form, no_path, no_section, output_next, added_inputs, entry_line, restat_block, next_entry, WholeFile, entry_of}
+use Rattle.nj_manifest.specs.Dyndeps.{EntryModel, version_line, version_next, word_of_form, no_path}
+use Rattle.nj_manifest.specs.Dyndeps.{no_section, output_next, added_inputs, entry_line, restat_block}
+use Rattle.nj_manifest.specs.Dyndeps.{next_entry, WholeFile, entry_of}
 use Rattle.nj_manifest.proofs.StatementRows.{at}
 
 -- the definitions that a row unfolds to compute on its text
 unfoldable on_dyndeps : ⊤
-unfolding cut opening next_entry restat_block entry_line added_inputs output_next no_section no_path word_of_form version_next version_line equals_value name_next expect_sign words_next words_within section_next
+unfolding cut opening next_entry restat_block entry_line added_inputs output_next no_section no_path
+    word_of_form version_next version_line equals_value name_next expect_sign words_next words_within
+    section_next
 on_dyndeps = tt
 
 -- ---- the facts of a row
@@ -48,7 +52,8 @@ entry out outs ins = Ok (Some (record { out = out; outs = outs; ins = ins }))
 
 -- ---- entries
 
-whole_file : first_of (codes "ninja_dyndep_version = 1\nbuild o | o2: dyndep | extra\n") ≡ entry (word 2 7 (codes "o")) (word 2 11 (codes "o2") ∷ []) (word 2 24 (codes "extra") ∷ [])
+whole_file : first_of (codes "ninja_dyndep_version = 1\nbuild o | o2: dyndep | extra\n")
+    ≡ entry (word 2 7 (codes "o")) (word 2 11 (codes "o2") ∷ []) (word 2 24 (codes "extra") ∷ [])
 unfolding on_dyndeps
 whole_file = refl
 
@@ -68,7 +73,8 @@ restat_is_read : entry_in (codes "build o: dyndep\n# c\n  restat = 1") ≡ entry
 unfolding on_dyndeps
 restat_is_read = refl
 
-reference_is_a_part : entry_in (codes "build $x: dyndep") ≡ entry (record { spot = at 1 7; parts = Name (codes "x") ∷ [] }) [] []
+reference_is_a_part : entry_in (codes "build $x: dyndep")
+    ≡ entry (record { spot = at 1 7; parts = Name (codes "x") ∷ [] }) [] []
 unfolding on_dyndeps
 reference_is_a_part = refl
 
@@ -86,7 +92,8 @@ comments_alone : first_of (codes "# c\n\n  ") ≡ Err (Placed (at 3 3) cause.Dyn
 unfolding on_dyndeps
 comments_alone = refl
 
-newer_version : first_of (codes "ninja_dyndep_version = 1.1\nbuild o p") ≡ Err (Placed (at 1 1) cause.DyndepVersion)
+newer_version : first_of (codes "ninja_dyndep_version = 1.1\nbuild o p")
+    ≡ Err (Placed (at 1 1) cause.DyndepVersion)
 unfolding on_dyndeps
 newer_version = refl
 
@@ -98,7 +105,8 @@ second_major_version : first_of (codes "ninja_dyndep_version = 2") ≡ Err (Plac
 unfolding on_dyndeps
 second_major_version = refl
 
-version_of_a_reference : first_of (codes "ninja_dyndep_version = ${one}") ≡ Err (Placed (at 1 1) cause.DyndepVersion)
+version_of_a_reference : first_of (codes "ninja_dyndep_version = ${one}")
+    ≡ Err (Placed (at 1 1) cause.DyndepVersion)
 unfolding on_dyndeps
 version_of_a_reference = refl
 
@@ -106,7 +114,8 @@ other_statement_first : first_of (codes "build o$!: dyndep") ≡ Err (Placed (at
 unfolding on_dyndeps
 other_statement_first = refl
 
-version_without_sign : first_of (codes "ninja_dyndep_version 1") ≡ Err (Placed (at 1 22) (cause.Expected wanted.Equals))
+version_without_sign : first_of (codes "ninja_dyndep_version 1")
+    ≡ Err (Placed (at 1 22) (cause.Expected wanted.Equals))
 unfolding on_dyndeps
 version_without_sign = refl
 
@@ -118,7 +127,8 @@ no_identifier : first_of (codes "= 1") ≡ Err (Placed (at 1 1) (cause.Expected 
 unfolding on_dyndeps
 no_identifier = refl
 
-indented_version : first_of (codes "  ninja_dyndep_version = 1") ≡ Err (Placed (at 1 1) cause.UnexpectedIndent)
+indented_version : first_of (codes "  ninja_dyndep_version = 1")
+    ≡ Err (Placed (at 1 1) cause.UnexpectedIndent)
 unfolding on_dyndeps
 indented_version = refl
 
@@ -152,7 +162,8 @@ no_output : entry_in (codes "build : dyndep") ≡ Err (Placed (at 1 7) (cause.Ex
 unfolding on_dyndeps
 no_output = refl
 
-order_only_outputs : entry_in (codes "build o || p: dyndep") ≡ Err (Placed (at 1 9) (cause.Expected wanted.Colon))
+order_only_outputs : entry_in (codes "build o || p: dyndep")
+    ≡ Err (Placed (at 1 9) (cause.Expected wanted.Colon))
 unfolding on_dyndeps
 order_only_outputs = refl
 
@@ -184,7 +195,8 @@ second_colon : entry_in (codes "build o: dyndep :") ≡ Err (Placed (at 1 17) (c
 unfolding on_dyndeps
 second_colon = refl
 
-second_pipe : entry_in (codes "build o: dyndep | i | j") ≡ Err (Placed (at 1 21) (cause.Expected wanted.Newline))
+second_pipe : entry_in (codes "build o: dyndep | i | j")
+    ≡ Err (Placed (at 1 21) (cause.Expected wanted.Newline))
 unfolding on_dyndeps
 second_pipe = refl
 
@@ -194,15 +206,18 @@ other_key : entry_in (codes "build o: dyndep\n  foo") ≡ Err (Placed (at 2 3) c
 unfolding on_dyndeps
 other_key = refl
 
-second_line : entry_in (codes "build o: dyndep\n  restat = 1\n  restat = 1") ≡ Err (Placed (at 3 3) cause.DyndepShape)
+second_line : entry_in (codes "build o: dyndep\n  restat = 1\n  restat = 1")
+    ≡ Err (Placed (at 3 3) cause.DyndepShape)
 unfolding on_dyndeps
 second_line = refl
 
-second_line_without_key : entry_in (codes "build o: dyndep\n  restat = 1\n  = 1") ≡ Err (Placed (at 3 3) (cause.Expected wanted.VariableName))
+second_line_without_key : entry_in (codes "build o: dyndep\n  restat = 1\n  = 1")
+    ≡ Err (Placed (at 3 3) (cause.Expected wanted.VariableName))
 unfolding on_dyndeps
 second_line_without_key = refl
 
-second_line_after_a_join : entry_in (codes "build o: dyndep\n  restat = 1\n  $\n  restat = 1") ≡ Err (Placed (at 4 3) cause.DyndepShape)
+second_line_after_a_join : entry_in (codes "build o: dyndep\n  restat = 1\n  $\n  restat = 1")
+    ≡ Err (Placed (at 4 3) cause.DyndepShape)
 unfolding on_dyndeps
 second_line_after_a_join = refl
 
@@ -210,6 +225,7 @@ tab_in_block : entry_in (codes "build o: dyndep\n\trestat = 1") ≡ Err (Placed 
 unfolding on_dyndeps
 tab_in_block = refl
 
-indent_after_blank : second_of (codes "ninja_dyndep_version = 1\nbuild o: dyndep\n\n  restat = 1") ≡ Err (Placed (at 4 1) cause.UnexpectedIndent)
+indent_after_blank : second_of (codes "ninja_dyndep_version = 1\nbuild o: dyndep\n\n  restat = 1")
+    ≡ Err (Placed (at 4 1) cause.UnexpectedIndent)
 unfolding on_dyndeps
 indent_after_blank = refl

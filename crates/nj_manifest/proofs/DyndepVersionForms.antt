@@ -1,8 +1,10 @@
 -- The version of a dyndep file: its reading and its form.
-use Rattle.std.proofs.Common.{◌≡◌, ℕ, Bool, true, false, cond, ◌==◌, Result, Ok, Err, List, [], ◌∷◌, refl, sym, ap, subst, ◌∙◌, codes}
+use Rattle.std.proofs.Common.{◌≡◌, ℕ, Bool, true, false, cond, ◌==◌, Result, Ok, Err, List, [], ◌∷◌, refl}
+use Rattle.std.proofs.Common.{sym, ap, subst, ◌∙◌, codes}
 use Rattle.std.proofs.lemmas.Bool.{and_parts, eqb-true}
 use Rattle.nj_text.specs.Numbers.{version_pair_of}
-use Rattle.nj_text.specs.Lines.{Line, lines_after, Kind, CommentLine, TabLine, BlankLine, IndentedLine, PlainLine, kind_of}
+use Rattle.nj_text.specs.Lines.{Line, lines_after, Kind, CommentLine, TabLine, BlankLine, IndentedLine}
+use Rattle.nj_text.specs.Lines.{PlainLine, kind_of}
 use Rattle.nj_text.specs.Calls.{State, Between, Inside, without_comments}
 use Rattle.nj_manifest.specs.declared.cause.SyntaxCause.TheVariants as cause
 use Rattle.nj_manifest.specs.declared.cause.Wanted.TheVariants as wanted
@@ -28,7 +30,8 @@ is_the_first v h =
     let both = and_parts (v.0 == 1) (v.1 == 0) h in
     ap (λ (n : ℕ). (n, v.1)) (eqb-true v.0 1 both.0) ∙ ap (λ (n : ℕ). (1, n)) (eqb-true v.1 0 both.1)
 
-line-form : (l : Line) (ls : List Line) (s : State) → version_line (Inside l ls) ≡ Ok s → VersionLineForm l × (s ≡ Between (lines_after l ls))
+line-form : (l : Line) (ls : List Line) (s : State) → version_line (Inside l ls) ≡ Ok s
+    → VersionLineForm l × (s ≡ Between (lines_after l ls))
 unfolding version_line
 line-form l ls s h =
     let name = bind-ok (name_next wanted.Statement (Inside l ls)) _ s h in
@@ -41,23 +44,33 @@ line-form l ls s h =
       record {
         spot = word.spot;
         value = value.0.0;
-        binding = record { after_name = it.0; after_sign = is.0; of_name = word.here; equals = is.1; of_value = is.2 };
+        binding = record {
+          after_name = it.0;
+          after_sign = is.0;
+          of_name = word.here;
+          equals = is.1;
+          of_value = is.2;
+        };
         version = is_the_first (version_pair_of (expanded no_values value.0.0.parts)) k.0;
       },
       sym (oks k.1) ∙ is.3,
     )
 
-line-read : (l : Line) (ls : List Line) → VersionLineForm l → version_line (Inside l ls) ≡ Ok (Between (lines_after l ls))
+line-read : (l : Line) (ls : List Line) → VersionLineForm l
+    → version_line (Inside l ls) ≡ Ok (Between (lines_after l ls))
 unfolding version_line
 line-read l ls f =
     rw (
       name-read wanted.Statement l ls l.units f.binding.after_name _ f.binding.of_name,
-      equals_value-read l ls f.binding.after_name f.binding.after_sign f.value f.binding.equals f.binding.of_value,
-    ) (ap (λ (v : ℕ × ℕ). unless_missing (is_first_version v) (Placed f.spot cause.DyndepVersion) (Ok (Between (lines_after l ls)))) f.version)
+      equals_value-read l ls f.binding.after_name f.binding.after_sign f.value f.binding.equals
+          f.binding.of_value,
+    ) (ap (λ (v : ℕ × ℕ). unless_missing (is_first_version v) (Placed f.spot cause.DyndepVersion)
+    (Ok (Between (lines_after l ls)))) f.version)
 
 -- ---- the lines
 
-next_by_kind : (l : Line) (ls : List Line) (k : Kind) → kind_of l ≡ k → version_next (l ∷ ls) ≡ (opening_by k l ls (opening ls) >>= version_from)
+next_by_kind : (l : Line) (ls : List Line) (k : Kind) → kind_of l ≡ k
+    → version_next (l ∷ ls) ≡ (opening_by k l ls (opening ls) >>= version_from)
 unfolding version_next opening
 next_by_kind l ls k h = ap (λ (k : Kind). opening_by k l ls (opening ls) >>= version_from) h
 
@@ -76,13 +89,17 @@ next-form : (ls rest : List Line) → version_next ls ≡ Ok rest → VersionFor
 next-form [] rest h = no_lines rest h
 next-form (l ∷ ls) rest h = by_kind (kind_of l) refl (λ e. next-form ls rest (next_is ls ∙ e))
   where
-    by_last : (t : Bool) (left : List Line) → l.is_last ≡ t → (cond t (ended left) (opening ls) >>= version_from) ≡ Ok rest → (l.is_last ≡ false) × ((opening ls >>= version_from) ≡ Ok rest)
+    by_last : (t : Bool) (left : List Line) → l.is_last ≡ t
+        → (cond t (ended left) (opening ls) >>= version_from) ≡ Ok rest
+        → (l.is_last ≡ false) × ((opening ls >>= version_from) ≡ Ok rest)
     by_last true left e g = no_err (sym g)
     by_last false left e g = (e, g)
 
-    by_kind : (k : Kind) → kind_of l ≡ k → ((opening ls >>= version_from) ≡ Ok rest → VersionForm ls rest) → VersionForm (l ∷ ls) rest
+    by_kind : (k : Kind) → kind_of l ≡ k → ((opening ls >>= version_from) ≡ Ok rest → VersionForm ls rest)
+        → VersionForm (l ∷ ls) rest
     by_kind CommentLine k others =
-        let more = by_last l.is_last (lines_after l (without_comments ls)) refl (sym (next_by_kind l ls CommentLine k) ∙ h) in
+        let more = by_last l.is_last (lines_after l (without_comments ls)) refl
+        (sym (next_by_kind l ls CommentLine k) ∙ h) in
         VersionForm.comment k more.0 (others more.1)
     by_kind (TabLine tab) k others = no_err (sym h ∙ next_by_kind l ls (TabLine tab) k)
     by_kind IndentedLine k others = no_err (sym h ∙ next_by_kind l ls IndentedLine k)
@@ -90,15 +107,22 @@ next-form (l ∷ ls) rest h = by_kind (kind_of l) refl (λ e. next-form ls rest 
         let more = by_last l.is_last (lines_after l ls) refl (sym (next_by_kind l ls BlankLine k) ∙ h) in
         VersionForm.blank k more.0 (others more.1)
     by_kind PlainLine k others =
-        let line = bind-ok (version_line (Inside l ls)) (λ end. Ok (lines_from end)) rest (sym (next_by_kind l ls PlainLine k) ∙ h) in
+        let line = bind-ok (version_line (Inside l ls)) (λ end. Ok (lines_from end)) rest
+        (sym (next_by_kind l ls PlainLine k) ∙ h) in
         let form = line-form l ls line.0 line.1 in
-        subst (VersionForm (l ∷ ls)) (sym (ap lines_from form.1) ∙ oks line.2) (VersionForm.version {l = l} {ls = ls} k form.0)
+        subst (VersionForm (l ∷ ls)) (sym (ap lines_from form.1) ∙ oks line.2)
+        (VersionForm.version {l = l} {ls = ls} k form.0)
 
 next-read : {ls rest : List Line} → VersionForm ls rest → version_next ls ≡ Ok rest
-next-read (VersionForm.version {l = l} {ls = ls} k f) = next_by_kind l ls PlainLine k ∙ ap (λ (r : Result State Fault). r >>= λ end. Ok (lines_from end)) (line-read l ls f)
-next-read (VersionForm.blank {l = l} {ls = ls} k e others) = next_by_kind l ls BlankLine k ∙ (ap (λ (t : Bool). cond t (ended (lines_after l ls)) (opening ls) >>= version_from) e ∙ (sym (next_is ls) ∙ next-read others))
+next-read (VersionForm.version {l = l} {ls = ls} k f) =
+    next_by_kind l ls PlainLine k ∙ ap (λ (r : Result State Fault). r >>= λ end. Ok (lines_from end))
+    (line-read l ls f)
+next-read (VersionForm.blank {l = l} {ls = ls} k e others) =
+    next_by_kind l ls BlankLine k ∙ (ap (λ (t : Bool). cond t (ended (lines_after l ls)) (opening ls) >>=
+    version_from) e ∙ (sym (next_is ls) ∙ next-read others))
 next-read (VersionForm.comment {l = l} {ls = ls} k e others) =
-    next_by_kind l ls CommentLine k ∙ (ap (λ (t : Bool). cond t (ended (lines_after l (without_comments ls))) (opening ls) >>= version_from) e ∙ (sym (next_is ls) ∙ next-read others))
+    next_by_kind l ls CommentLine k ∙ (ap (λ (t : Bool). cond t (ended (lines_after l (without_comments ls)))
+    (opening ls) >>= version_from) e ∙ (sym (next_is ls) ∙ next-read others))
 
 pub versions_are : VersionsAreTheForms
 versions_are ls rest = (λ h. next-form ls rest h, λ f. next-read f)

@@ -1,5 +1,6 @@
 -- The output and the block of an entry, step by step.
-use Rattle.std.proofs.Common.{◌≡◌, Bool, true, false, cond, not, Option, Some, None, Result, Ok, Err, refl, codes}
+use Rattle.std.proofs.Common.{◌≡◌, Bool, true, false, cond, not, Option, Some, None, Result, Ok, Err, refl}
+use Rattle.std.proofs.Common.{codes}
 use Rattle.std.specs.Option.{option_map_or}
 use Rattle.nj_text.specs.declared.sign.Sign.TheVariants as sign
 use Rattle.nj_text.specs.declared.line_start.LineStart.{LineStart}
@@ -18,29 +19,41 @@ use Rattle.nj_manifest.proofs.Choices.{unless_missing}
 
 abbrev pub first_output : Option WordModel → State → Step WordModel
 first_output (Some word) after = Ok (word, after)
-first_output None after = called (sign_of sign.Pipe after) >>= λ pipe. unless_missing (not pipe.0) (Placed (spot_of after) cause.DyndepShape) (Err (Placed (spot_of after) (cause.Expected wanted.Path)))
+first_output None after = called (sign_of sign.Pipe after) >>=
+    λ pipe. unless_missing (not pipe.0) (Placed (spot_of after) cause.DyndepShape)
+    (Err (Placed (spot_of after) (cause.Expected wanted.Path)))
 
-pub output-steps : (s : State) → output_next s ≡ (called (path_word_of s) >>= λ found. first_output found.0 found.1 >>= λ out. no_path out.1 >>= λ end. Ok (out.0, end))
+pub output-steps : (s : State) → output_next s
+    ≡ (called (path_word_of s) >>= λ found. first_output found.0 found.1 >>= λ out. no_path out.1 >>=
+    λ end. Ok (out.0, end))
 unfolding output_next
 output-steps s = by_found (called (path_word_of s))
   where
     none : State → Step Bool → Result WordModel Fault
-    none after r = r >>= λ pipe. Err (cond pipe.0 (Placed (spot_of after) cause.DyndepShape) (Placed (spot_of after) (cause.Expected wanted.Path)))
+    none after r = r >>= λ pipe. Err (cond pipe.0 (Placed (spot_of after) cause.DyndepShape)
+        (Placed (spot_of after) (cause.Expected wanted.Path)))
 
     by_pipe : (after : State) (r : Step Bool)
         → ◌≡◌ {A = Step WordModel} (none after r >>= λ out. no_path after >>= λ end. Ok (out, end))
-        (◌>>=◌ {A = WordModel × State} (r >>= λ pipe. unless_missing (not pipe.0) (Placed (spot_of after) cause.DyndepShape) (Err (Placed (spot_of after) (cause.Expected wanted.Path)))) (λ out. no_path out.1 >>= λ end. Ok (out.0, end)))
+        (◌>>=◌ {A = WordModel × State} (r >>=
+        λ pipe. unless_missing (not pipe.0) (Placed (spot_of after) cause.DyndepShape)
+        (Err (Placed (spot_of after) (cause.Expected wanted.Path))))
+        (λ out. no_path out.1 >>= λ end. Ok (out.0, end)))
     by_pipe after (Ok (true, there)) = refl
     by_pipe after (Ok (false, there)) = refl
     by_pipe after (Err f) = refl
 
     by_word : (found : Option WordModel) (after : State)
-        → ◌≡◌ {A = Step WordModel} (option_map_or Ok found (none after (called (sign_of sign.Pipe after))) >>= λ out. no_path after >>= λ end. Ok (out, end)) (first_output found after >>= λ out. no_path out.1 >>= λ end. Ok (out.0, end))
+        → ◌≡◌ {A = Step WordModel} (option_map_or Ok found (none after (called (sign_of sign.Pipe after))) >>=
+        λ out. no_path after >>= λ end. Ok (out, end))
+        (first_output found after >>= λ out. no_path out.1 >>= λ end. Ok (out.0, end))
     by_word (Some word) after = refl
     by_word None after = by_pipe after (called (sign_of sign.Pipe after))
 
     by_found : (r : Step (Option WordModel))
-        → ◌≡◌ {A = Step WordModel} (r >>= λ found. option_map_or Ok found.0 (none found.1 (called (sign_of sign.Pipe found.1))) >>= λ out. no_path found.1 >>= λ end. Ok (out, end))
+        → ◌≡◌ {A = Step WordModel} (r >>= λ found. option_map_or Ok found.0
+        (none found.1 (called (sign_of sign.Pipe found.1))) >>= λ out. no_path found.1 >>=
+        λ end. Ok (out, end))
         (r >>= λ found. first_output found.0 found.1 >>= λ out. no_path out.1 >>= λ end. Ok (out.0, end))
     by_found (Ok found) = by_word found.0 found.1
     by_found (Err f) = refl
@@ -60,22 +73,29 @@ line_too_many s = name_next wanted.VariableName s >>= λ name. Err (Placed name.
 
 -- after a line of the block
 abbrev pub first_line : State → Result State Fault
-first_line line = restat_line line >>= λ restat. called (start_line_of restat) >>= λ second. if_indented second.0 second.1 line_too_many
+first_line line = restat_line line >>= λ restat. called (start_line_of restat) >>=
+    λ second. if_indented second.0 second.1 line_too_many
 
-pub block-lines : (s : State) → restat_block s ≡ (called (start_line_of s) >>= λ first. if_indented first.0 first.1 first_line)
+pub block-lines : (s : State) → restat_block s
+    ≡ (called (start_line_of s) >>= λ first. if_indented first.0 first.1 first_line)
 unfolding restat_block restat_line
 block-lines s = by_start (called (start_line_of s))
   where
-    by_value : (r : Step WordModel) → (r >>= λ value. in_block value.1 line_too_many) ≡ ((r >>= λ value. Ok value.1) >>= λ restat. in_block restat line_too_many)
+    by_value : (r : Step WordModel) → (r >>= λ value. in_block value.1 line_too_many)
+        ≡ ((r >>= λ value. Ok value.1) >>= λ restat. in_block restat line_too_many)
     by_value (Ok value) = refl
     by_value (Err f) = refl
 
-    by_key : (r : Result State Fault) → (r >>= λ key. equals_value key >>= λ value. in_block value.1 line_too_many) ≡ ((r >>= λ key. equals_value key >>= λ value. Ok value.1) >>= λ restat. in_block restat line_too_many)
+    by_key : (r : Result State Fault) → (r >>= λ key. equals_value key >>=
+        λ value. in_block value.1 line_too_many)
+        ≡ ((r >>= λ key. equals_value key >>= λ value. Ok value.1) >>=
+        λ restat. in_block restat line_too_many)
     by_key (Ok key) = by_value (equals_value key)
     by_key (Err f) = refl
 
     new : State → Result State Fault
-    new line = word_of_form (codes "restat") wanted.VariableName line >>= λ key. equals_value key >>= λ value. in_block value.1 line_too_many
+    new line = word_of_form (codes "restat") wanted.VariableName line >>= λ key. equals_value key >>=
+        λ value. in_block value.1 line_too_many
 
     by_line : (x : LineStart) (m : State) → if_indented x m new ≡ if_indented x m first_line
     by_line start.Indented m = by_key (word_of_form (codes "restat") wanted.VariableName m)
@@ -84,6 +104,7 @@ block-lines s = by_start (called (start_line_of s))
     by_line start.Blank m = refl
     by_line start.Plain m = refl
 
-    by_start : (r : Step LineStart) → (r >>= λ first. if_indented first.0 first.1 new) ≡ (r >>= λ first. if_indented first.0 first.1 first_line)
+    by_start : (r : Step LineStart) → (r >>= λ first. if_indented first.0 first.1 new)
+        ≡ (r >>= λ first. if_indented first.0 first.1 first_line)
     by_start (Ok first) = by_line first.0 first.1
     by_start (Err f) = refl

@@ -9,7 +9,8 @@ use Rattle.nj_text.proofs.Cuts.{plain_units}
 use Rattle.nj_manifest.specs.Faults.{Fault}
 use Rattle.nj_manifest.specs.LineSteps.{NameModel}
 use Rattle.nj_manifest.specs.Statements.{OutputsModel, InputsModel, PlacedModel, BuildModel}
-use Rattle.nj_manifest.specs.Grammar.{IdentifierForm, KeywordForm, WordForm, WordsForm, SignForm, SectionForm, BuildForm, HeadForm, BlockForm, StatementForm, NextForm}
+use Rattle.nj_manifest.specs.Grammar.{IdentifierForm, KeywordForm, WordForm, WordsForm, SignForm, SectionForm}
+use Rattle.nj_manifest.specs.Grammar.{BuildForm, HeadForm, BlockForm, StatementForm, NextForm}
 use Rattle.nj_manifest.proofs.StatementRows.{on_strings, first_of, item_of, at}
 use Rattle.nj_manifest.proofs.FormsStatements.{next-read}
 
@@ -32,19 +33,73 @@ inputs = record { explicit = []; implicit = []; order_only = []; validations = [
 
 keyword_row : KeywordForm (codes "build") (units_at 1 (codes "build a: r |")) (units_at 6 (codes " a: r |"))
 keyword_row =
-    record { spot = at 1 1; here = record { gap = []; first = unit_at 1 98; others = units_at 2 (codes "uild"); cut = refl; blanks = refl; of_name = refl; longest = refl; place = refl; bytes = refl; some_byte = refl } }
+    record {
+      spot = at 1 1;
+      here = record {
+        gap = [];
+        first = unit_at 1 98;
+        others =
+            units_at 2 (codes "uild");
+        cut = refl;
+        blanks = refl;
+        of_name = refl;
+        longest = refl;
+        place = refl;
+        bytes = refl;
+        some_byte = refl;
+      };
+    }
 
-output_row : WordForm (units_at 6 (codes " a: r |")) (record { spot = at 1 7; parts = Text (codes "a") ∷ [] }) (units_at 8 (codes ": r |"))
-output_row = record { gap = units_at 6 (codes " "); first = unit_at 7 97; others = []; cut = refl; blanks = refl; opens = refl; of_word = refl; longest = refl; place = refl; parts = refl }
+output_row : WordForm (units_at 6 (codes " a: r |")) (record { spot = at 1 7; parts = Text (codes "a") ∷ [] })
+    (units_at 8 (codes ": r |"))
+output_row = record {
+  gap = units_at 6 (codes " ");
+  first = unit_at 7 97;
+  others = [];
+  cut = refl;
+  blanks =
+      refl;
+  opens = refl;
+  of_word = refl;
+  longest = refl;
+  place = refl;
+  parts = refl;
+}
 
 colon_row : SignForm sign.Colon (units_at 8 (codes ": r |")) (units_at 9 (codes " r |"))
-colon_row = record { gap = []; run = units_at 8 (codes ":"); cut = refl; blanks = refl; of_sign = refl; longest = refl }
+colon_row = record {
+  gap = [];
+  run = units_at 8 (codes ":");
+  cut = refl;
+  blanks = refl;
+  of_sign = refl;
+  longest = refl;
+}
 
 rule_row : IdentifierForm (units_at 9 (codes " r |")) rule (units_at 11 (codes " |"))
-rule_row = record { gap = units_at 9 (codes " "); first = unit_at 10 114; others = []; cut = refl; blanks = refl; of_name = refl; longest = refl; place = refl; bytes = refl; some_byte = refl }
+rule_row = record {
+  gap = units_at 9 (codes " ");
+  first = unit_at 10 114;
+  others = [];
+  cut = refl;
+  blanks =
+      refl;
+  of_name = refl;
+  longest = refl;
+  place = refl;
+  bytes = refl;
+  some_byte = refl;
+}
 
 pipe_row : SignForm sign.Pipe (units_at 11 (codes " |")) []
-pipe_row = record { gap = units_at 11 (codes " "); run = units_at 12 (codes "|"); cut = refl; blanks = refl; of_sign = refl; longest = refl }
+pipe_row = record {
+  gap = units_at 11 (codes " ");
+  run = units_at 12 (codes "|");
+  cut = refl;
+  blanks = refl;
+  of_sign = refl;
+  longest = refl;
+}
 
 -- an empty section is one
 build_row : BuildForm (units_at 1 (codes "build a: r |")) outputs rule inputs
@@ -76,9 +131,11 @@ build_row =
 abbrev end_of : (column : ℕ) → Line
 end_of column = record { units = []; end = at 1 column; is_last = true }
 
-statement_row : NextForm (text_lines (codes "build a: r |")) (Some (record { spot = at 1 1; item = BuildModel outputs rule inputs [] })) (end_of 13 ∷ [])
+statement_row : NextForm (text_lines (codes "build a: r |"))
+    (Some (record { spot = at 1 1; item = BuildModel outputs rule inputs [] })) (end_of 13 ∷ [])
 unfolding on_strings
-statement_row = NextForm.statement refl (HeadForm.build build_row) (StatementForm.build (BlockForm.blank refl))
+statement_row = NextForm.statement refl (HeadForm.build build_row)
+    (StatementForm.build (BlockForm.blank refl))
 
 -- ---- files that no form matches
 

@@ -13,7 +13,8 @@ pub both_parts : (p : TextUnit → Bool) (us : List TextUnit) → us ≡ take_wh
 both_parts p [] = refl
 both_parts p (u ∷ us) = by_test (p u) refl (both_parts p us)
   where
-    by_test : (t : Bool) → p u ≡ t → us ≡ take_while p us ++ drop_while p us → u ∷ us ≡ take_while p (u ∷ us) ++ cond t (drop_while p us) (u ∷ us)
+    by_test : (t : Bool) → p u ≡ t → us ≡ take_while p us ++ drop_while p us
+        → u ∷ us ≡ take_while p (u ∷ us) ++ cond t (drop_while p us) (u ∷ us)
     by_test true e rest = rw (take_while-cons_yes p u us e) (ap (λ (vs : List TextUnit). u ∷ vs) rest)
     by_test false e rest = rw (take_while-cons_no p u us e) refl
 
@@ -21,7 +22,8 @@ pub front_passes : (p : TextUnit → Bool) (us : List TextUnit) → list_all p (
 front_passes p [] = refl
 front_passes p (u ∷ us) = by_test (p u) refl (front_passes p us)
   where
-    by_test : (t : Bool) → p u ≡ t → list_all p (take_while p us) ≡ true → list_all p (take_while p (u ∷ us)) ≡ true
+    by_test : (t : Bool) → p u ≡ t → list_all p (take_while p us) ≡ true
+        → list_all p (take_while p (u ∷ us)) ≡ true
     by_test true e rest = rw (take_while-cons_yes p u us e, e) rest
     by_test false e rest = rw (take_while-cons_no p u us e) refl
 
@@ -29,12 +31,14 @@ pub after_stops : (p : TextUnit → Bool) (us : List TextUnit) → begins_with p
 after_stops p [] = refl
 after_stops p (u ∷ us) = by_test (p u) refl (after_stops p us)
   where
-    by_test : (t : Bool) → p u ≡ t → begins_with p (drop_while p us) ≡ false → begins_with p (cond t (drop_while p us) (u ∷ us)) ≡ false
+    by_test : (t : Bool) → p u ≡ t → begins_with p (drop_while p us) ≡ false
+        → begins_with p (cond t (drop_while p us) (u ∷ us)) ≡ false
     by_test true e rest = rest
     by_test false e rest = e
 
 -- units that pass are passed over
-pub passed_over : (p : TextUnit → Bool) (run us : List TextUnit) → list_all p run ≡ true → drop_while p (run ++ us) ≡ drop_while p us
+pub passed_over : (p : TextUnit → Bool) (run us : List TextUnit) → list_all p run ≡ true
+    → drop_while p (run ++ us) ≡ drop_while p us
 passed_over p [] us h = refl
 passed_over p (u ∷ run) us h =
     let both = and_parts (p u) (list_all p run) h in
@@ -49,14 +53,17 @@ none_taken p [] h = refl
 none_taken p (u ∷ us) h = take_while-cons_no p u us h
 
 -- a run that is as long as can be
-pub run_passed : (p : TextUnit → Bool) (run us : List TextUnit) → list_all p run ≡ true → begins_with p us ≡ false → drop_while p (run ++ us) ≡ us
+pub run_passed : (p : TextUnit → Bool) (run us : List TextUnit) → list_all p run ≡ true
+    → begins_with p us ≡ false → drop_while p (run ++ us) ≡ us
 run_passed p run us h n = passed_over p run us h ∙ none_passed p us n
 
-pub run_taken : (p : TextUnit → Bool) (run us : List TextUnit) → list_all p run ≡ true → begins_with p us ≡ false → take_while p (run ++ us) ≡ run
+pub run_taken : (p : TextUnit → Bool) (run us : List TextUnit) → list_all p run ≡ true
+    → begins_with p us ≡ false → take_while p (run ++ us) ≡ run
 run_taken p [] us h n = none_taken p us n
 run_taken p (u ∷ run) us h n =
     let both = and_parts (p u) (list_all p run) h in
-    take_while-cons_yes p u (run ++ us) both.0 ∙ ap (λ (vs : List TextUnit). u ∷ vs) (run_taken p run us both.1 n)
+    take_while-cons_yes p u (run ++ us) both.0
+    ∙ ap (λ (vs : List TextUnit). u ∷ vs) (run_taken p run us both.1 n)
 
 -- ---- blanks
 
@@ -70,7 +77,8 @@ skip_again us = none_passed is_blank (skip us) (after_stops is_blank us)
 pub skip_stops : (us : List TextUnit) → begins_with is_blank (skip us) ≡ false
 skip_stops us = after_stops is_blank us
 
-pub skip_gap : (us gap others : List TextUnit) → us ≡ gap ++ others → AreBlanks gap → begins_with is_blank others ≡ false → skip us ≡ others
+pub skip_gap : (us gap others : List TextUnit) → us ≡ gap ++ others → AreBlanks gap
+    → begins_with is_blank others ≡ false → skip us ≡ others
 skip_gap us gap others e h n = ap skip e ∙ run_passed is_blank gap others h n
 
 abbrev pub gap_of : List TextUnit → List TextUnit
@@ -93,6 +101,7 @@ pub end_of_blanks : (us : List TextUnit) → skip us ≡ [] → AreBlanks us
 end_of_blanks [] h = refl
 end_of_blanks (u ∷ us) h = by_test (is_blank u) refl (end_of_blanks us) h
   where
-    by_test : (t : Bool) → is_blank u ≡ t → (skip us ≡ [] → list_all is_blank us ≡ true) → cond t (skip us) (u ∷ us) ≡ [] → (is_blank u && list_all is_blank us) ≡ true
+    by_test : (t : Bool) → is_blank u ≡ t → (skip us ≡ [] → list_all is_blank us ≡ true)
+        → cond t (skip us) (u ∷ us) ≡ [] → (is_blank u && list_all is_blank us) ≡ true
     by_test true e rest g = rw e (rest g)
     by_test false e rest g = absurd cc

@@ -1,5 +1,6 @@
 -- The required lines of a block: the keys of its lines, and the forms of the grammar.
-use Rattle.std.proofs.Common.{◌≡◌, ℕ, Bool, true, false, cond, ◌&&◌, not, Result, Ok, List, [], ◌∷◌, ◌++◌, refl, sym, ap, ◌∙◌, codes}
+use Rattle.std.proofs.Common.{◌≡◌, ℕ, Bool, true, false, cond, ◌&&◌, not, Result, Ok, List, [], ◌∷◌, ◌++◌}
+use Rattle.std.proofs.Common.{refl, sym, ap, ◌∙◌, codes}
 use mathlib.Core.Bool.{beq}
 use Rattle.std.specs.Prelude.{◌↔◌}
 use Rattle.std.specs.List.{list_any}
@@ -25,40 +26,72 @@ key_is_here name key e = (bytes_eq-Decides name key).1 e
 abbrev any_of : (key : List ℕ) → List LineModel → Bool
 any_of key lines = list_any (λ (l : LineModel). bytes_eq l.name key) lines
 
-gives_after : (key : List ℕ) (l : LineModel) (lines : List LineModel) → Gives key lines → Gives key (l ∷ lines)
+gives_after : (key : List ℕ) (l : LineModel) (lines : List LineModel) → Gives key lines
+    → Gives key (l ∷ lines)
 gives_after key l lines g =
-    record { before = l ∷ g.before; line = g.line; after = g.after; cut = ap (λ (ls : List LineModel). l ∷ ls) g.cut; of_key = g.of_key; is_last = g.is_last; some_part = g.some_part }
+    record {
+      before = l ∷ g.before;
+      line = g.line;
+      after = g.after;
+      cut =
+          ap (λ (ls : List LineModel). l ∷ ls) g.cut;
+      of_key = g.of_key;
+      is_last = g.is_last;
+      some_part =
+          g.some_part;
+    }
 
-gives_first : (key : List ℕ) (l : LineModel) (lines : List LineModel) → bytes_eq l.name key ≡ true → any_of key lines ≡ false → not (is_empty l.value.parts) ≡ true → Gives key (l ∷ lines)
-gives_first key l lines e n p = record { before = []; line = l; after = lines; cut = refl; of_key = same_bytes l.name key e; is_last = n; some_part = not-true (is_empty l.value.parts) p }
+gives_first : (key : List ℕ) (l : LineModel) (lines : List LineModel) → bytes_eq l.name key ≡ true
+    → any_of key lines ≡ false → not (is_empty l.value.parts) ≡ true → Gives key (l ∷ lines)
+gives_first key l lines e n p = record {
+  before = [];
+  line = l;
+  after = lines;
+  cut = refl;
+  of_key =
+      same_bytes l.name key e;
+  is_last = n;
+  some_part = not-true (is_empty l.value.parts) p;
+}
 
 pub gives-form : (key : List ℕ) (lines : List LineModel) → gives key lines ≡ true → Gives key lines
 gives-form key [] h = absurd cc
-gives-form key (l ∷ lines) h = by_tests (bytes_eq l.name key) (any_of key lines) refl refl (sym (gives-cons key l lines) ∙ h) (gives-form key lines)
+gives-form key (l ∷ lines) h = by_tests (bytes_eq l.name key) (any_of key lines) refl refl
+    (sym (gives-cons key l lines) ∙ h) (gives-form key lines)
   where
-    by_tests : (t a : Bool) → bytes_eq l.name key ≡ t → any_of key lines ≡ a → cond (t && not a) (not (is_empty l.value.parts)) (gives key lines) ≡ true → (gives key lines ≡ true → Gives key lines) → Gives key (l ∷ lines)
+    by_tests : (t a : Bool) → bytes_eq l.name key ≡ t → any_of key lines ≡ a
+        → cond (t && not a) (not (is_empty l.value.parts)) (gives key lines) ≡ true
+        → (gives key lines ≡ true → Gives key lines) → Gives key (l ∷ lines)
     by_tests true false e n g others = gives_first key l lines e n g
     by_tests true true e n g others = gives_after key l lines (others g)
     by_tests false a e n g others = gives_after key l lines (others g)
 
-has_key : (key : List ℕ) (before after : List LineModel) (l : LineModel) → bytes_eq l.name key ≡ true → any_of key (before ++ (l ∷ after)) ≡ true
+has_key : (key : List ℕ) (before after : List LineModel) (l : LineModel) → bytes_eq l.name key ≡ true
+    → any_of key (before ++ (l ∷ after)) ≡ true
 has_key key [] after l e = or_left (bytes_eq l.name key) (any_of key after) e
-has_key key (m ∷ before) after l e = or_right (bytes_eq m.name key) (any_of key (before ++ (l ∷ after))) (has_key key before after l e)
+has_key key (m ∷ before) after l e = or_right (bytes_eq m.name key) (any_of key (before ++ (l ∷ after)))
+    (has_key key before after l e)
 
-gives_at : (key : List ℕ) (before after : List LineModel) (l : LineModel) → bytes_eq l.name key ≡ true → any_of key after ≡ false → is_empty l.value.parts ≡ false → gives key (before ++ (l ∷ after)) ≡ true
+gives_at : (key : List ℕ) (before after : List LineModel) (l : LineModel) → bytes_eq l.name key ≡ true
+    → any_of key after ≡ false → is_empty l.value.parts ≡ false → gives key (before ++ (l ∷ after)) ≡ true
 gives_at key [] after l e n p = gives-cons key l after ∙ rw (e, n, p) refl
-gives_at key (m ∷ before) after l e n p = gives-cons key m (before ++ (l ∷ after)) ∙ rw (has_key key before after l e) (by_test (bytes_eq m.name key) (gives_at key before after l e n p))
+gives_at key (m ∷ before) after l e n p =
+    gives-cons key m (before ++ (l ∷ after))
+    ∙ rw (has_key key before after l e) (by_test (bytes_eq m.name key) (gives_at key before after l e n p))
   where
-    by_test : (t : Bool) → gives key (before ++ (l ∷ after)) ≡ true → cond (t && false) (not (is_empty m.value.parts)) (gives key (before ++ (l ∷ after))) ≡ true
+    by_test : (t : Bool) → gives key (before ++ (l ∷ after)) ≡ true
+        → cond (t && false) (not (is_empty m.value.parts)) (gives key (before ++ (l ∷ after))) ≡ true
     by_test true h = h
     by_test false h = h
 
 pub gives-read : (key : List ℕ) (lines : List LineModel) → Gives key lines → gives key lines ≡ true
-gives-read key lines g = ap (gives key) g.cut ∙ gives_at key g.before g.after g.line (key_is_here g.line.name key g.of_key) g.is_last g.some_part
+gives-read key lines g = ap (gives key) g.cut
+    ∙ gives_at key g.before g.after g.line (key_is_here g.line.name key g.of_key) g.is_last g.some_part
 
 -- ---- whole blocks
 
-pub unless_missing-ok : {A : Type 0} (there : Bool) (fault : Fault) (others : Result A Fault) (x : A) → unless_missing there fault others ≡ Ok x → (there ≡ true) × (others ≡ Ok x)
+pub unless_missing-ok : {A : Type 0} (there : Bool) (fault : Fault) (others : Result A Fault) (x : A)
+    → unless_missing there fault others ≡ Ok x → (there ≡ true) × (others ≡ Ok x)
 unless_missing-ok true fault others x h = (refl, h)
 unless_missing-ok false fault others x h = absurd cc
 
@@ -84,7 +117,9 @@ rsp = codes "rspfile"
 abbrev rsp_content : List ℕ
 rsp_content = codes "rspfile_content"
 
-pub rule-form : (spot : Spot) (lines whole : List LineModel) → whole_rule spot lines ≡ Ok whole → (lines ≡ whole) × Gives (codes "command") lines × (Gives (codes "rspfile") lines ↔ Gives (codes "rspfile_content") lines)
+pub rule-form : (spot : Spot) (lines whole : List LineModel) → whole_rule spot lines ≡ Ok whole
+    → (lines ≡ whole) × Gives (codes "command") lines
+    × (Gives (codes "rspfile") lines ↔ Gives (codes "rspfile_content") lines)
 unfolding whole_rule
 rule-form spot lines whole h =
     let pair = unless_missing-ok (beq (gives rsp lines) (gives rsp_content lines)) _ _ whole h in
@@ -92,21 +127,30 @@ rule-form spot lines whole h =
     let both = agree-forms (gives rsp lines) (gives rsp_content lines) pair.0 in (
       ok_is command.1,
       gives-form (codes "command") lines command.0,
-      (λ g. gives-form rsp_content lines (both.0 (gives-read rsp lines g)), λ g. gives-form rsp lines (both.1 (gives-read rsp_content lines g))),
+      (
+        λ g. gives-form rsp_content lines (both.0 (gives-read rsp lines g)),
+        λ g. gives-form rsp lines (both.1 (gives-read rsp_content lines g)),
+      ),
     )
   where
     ok_is : ◌≡◌ {A = Result (List LineModel) Fault} (Ok lines) (Ok whole) → lines ≡ whole
     ok_is e = cc
 
-pub rule-read : (spot : Spot) (lines : List LineModel) → Gives (codes "command") lines → (Gives (codes "rspfile") lines ↔ Gives (codes "rspfile_content") lines) → whole_rule spot lines ≡ Ok lines
+pub rule-read : (spot : Spot) (lines : List LineModel) → Gives (codes "command") lines
+    → (Gives (codes "rspfile") lines ↔ Gives (codes "rspfile_content") lines)
+    → whole_rule spot lines ≡ Ok lines
 unfolding whole_rule
 rule-read spot lines command pair =
     rw (
-      forms-agree (gives rsp lines) (gives rsp_content lines) (λ e. gives-read rsp_content lines (pair.0 (gives-form rsp lines e)), λ e. gives-read rsp lines (pair.1 (gives-form rsp_content lines e))),
+      forms-agree (gives rsp lines) (gives rsp_content lines) (
+        λ e. gives-read rsp_content lines (pair.0 (gives-form rsp lines e)),
+        λ e. gives-read rsp lines (pair.1 (gives-form rsp_content lines e)),
+      ),
       gives-read (codes "command") lines command,
     ) refl
 
-pub pool-form : (spot : Spot) (lines whole : List LineModel) → whole_pool spot lines ≡ Ok whole → (lines ≡ whole) × (list_any (λ (l : LineModel). bytes_eq l.name (codes "depth")) lines ≡ true)
+pub pool-form : (spot : Spot) (lines whole : List LineModel) → whole_pool spot lines ≡ Ok whole
+    → (lines ≡ whole) × (list_any (λ (l : LineModel). bytes_eq l.name (codes "depth")) lines ≡ true)
 unfolding whole_pool
 pool-form spot lines whole h =
     let depth = unless_missing-ok (names (codes "depth") lines) _ (Ok lines) whole h in
@@ -115,6 +159,8 @@ pool-form spot lines whole h =
     ok_is : ◌≡◌ {A = Result (List LineModel) Fault} (Ok lines) (Ok whole) → lines ≡ whole
     ok_is e = cc
 
-pub pool-read : (spot : Spot) (lines : List LineModel) → list_any (λ (l : LineModel). bytes_eq l.name (codes "depth")) lines ≡ true → whole_pool spot lines ≡ Ok lines
+pub pool-read : (spot : Spot) (lines : List LineModel)
+    → list_any (λ (l : LineModel). bytes_eq l.name (codes "depth")) lines ≡ true
+    → whole_pool spot lines ≡ Ok lines
 unfolding whole_pool
 pool-read spot lines h = rw h refl

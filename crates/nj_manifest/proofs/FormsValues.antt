@@ -1,5 +1,6 @@
 -- Values and bindings: the readings to the end of a line, and the forms of the grammar.
-use Rattle.std.proofs.Common.{◌≡◌, Bool, true, false, cond, Option, Some, None, Ok, List, [], ◌∷◌, ◌++◌, refl, sym, ap, subst, ◌∙◌, append_assoc}
+use Rattle.std.proofs.Common.{◌≡◌, Bool, true, false, cond, Option, Some, None, Ok, List, [], ◌∷◌, ◌++◌, refl}
+use Rattle.std.proofs.Common.{sym, ap, subst, ◌∙◌, append_assoc}
 use Rattle.std.proofs.lemmas.Bool.{false≢true}
 use Rattle.nj_text.specs.declared.fault.UnitFault.{UnitFault}
 use Rattle.nj_text.specs.declared.sign.Sign.TheVariants as sign
@@ -29,7 +30,8 @@ opening_here : (us : List TextUnit) → (opening : List TextUnit) × Opening us 
 opening_here [] = ([], record { cut = refl; opens = refl; longest = λ e. refl })
 opening_here (u ∷ us) = by_test (opens_line u) refl
   where
-    by_test : (t : Bool) → opens_line u ≡ t → (opening : List TextUnit) × Opening (u ∷ us) opening (cond t us (u ∷ us))
+    by_test : (t : Bool) → opens_line u ≡ t
+        → (opening : List TextUnit) × Opening (u ∷ us) opening (cond t us (u ∷ us))
     by_test true e = (u ∷ [], record { cut = refl; opens = e; longest = λ g. absurd (some_is_none g) })
       where
         some_is_none : u ∷ [] ≡ [] → ⊥
@@ -52,14 +54,25 @@ opening_passed us (u ∷ v ∷ ws) others o = absurd (false≢true o.opens)
 
 -- the result of a call, by its parts
 abbrev value_by : Line → List Line → Option UnitFault → List TextUnit → Step WordModel
-value_by l ls f us = called (calls.unless_fault f (reply (record { spot = spot_of_first us l.end; parts = parts_of us }) (within l ls [])))
+value_by l ls f us = called (calls.unless_fault f
+    (reply (record { spot = spot_of_first us l.end; parts = parts_of us }) (within l ls [])))
 
-value_by-read : (l : Line) (ls : List Line) (f : Option UnitFault) (us : List TextUnit) (value : WordModel) (s : State) → value_by l ls f us ≡ Ok (value, s) → (f ≡ None) × (value ≡ record { spot = spot_of_first us l.end; parts = parts_of us }) × (s ≡ within l ls [])
+value_by-read : (l : Line) (ls : List Line) (f : Option UnitFault) (us : List TextUnit) (value : WordModel)
+    (s : State) → value_by l ls f us ≡ Ok (value, s)
+    → (f ≡ None) × (value ≡ record { spot = spot_of_first us l.end; parts = parts_of us })
+    × (s ≡ within l ls [])
 value_by-read l ls (Some f) us value s h = absurd cc
-value_by-read l ls None us value s h = (refl, sym (value-is (record { spot = spot_of_first us l.end; parts = parts_of us }) (within l ls []) (value, s) h), sym (after-is (record { spot = spot_of_first us l.end; parts = parts_of us }) (within l ls []) (value, s) h))
+value_by-read l ls None us value s h = (
+  refl,
+  sym (value-is (record { spot = spot_of_first us l.end; parts = parts_of us }) (within l ls []) (value, s)
+      h),
+  sym (after-is (record { spot = spot_of_first us l.end; parts = parts_of us }) (within l ls [])
+      (value, s) h),
+)
 
 -- A value that is read is one.
-pub value-form : (l : Line) (ls : List Line) (us : List TextUnit) (value : WordModel) (s : State) → called (value_of (within l ls us)) ≡ Ok (value, s) → ValueForm us l.end value × (s ≡ within l ls [])
+pub value-form : (l : Line) (ls : List Line) (us : List TextUnit) (value : WordModel) (s : State)
+    → called (value_of (within l ls us)) ≡ Ok (value, s) → ValueForm us l.end value × (s ≡ within l ls [])
 value-form l ls us value s h =
     let vs = after_opening us in
     let opening = opening_here us in
@@ -68,7 +81,8 @@ value-form l ls us value s h =
         opening = opening.0;
         gap = gap_of vs;
         run = skip vs;
-        cut = opening.1.cut ∙ ap (λ (us : List TextUnit). opening.0 ++ us) (gap_cut vs) ∙ sym (append_assoc opening.0 (gap_of vs) (skip vs));
+        cut = opening.1.cut ∙ ap (λ (us : List TextUnit). opening.0 ++ us) (gap_cut vs)
+            ∙ sym (append_assoc opening.0 (gap_of vs) (skip vs));
         opens = opening.1.opens;
         longest_opening = opening.1.longest;
         blanks = gap_passes vs;
@@ -80,37 +94,61 @@ value-form l ls us value s h =
       read.2,
     )
 
-same_value : (value : WordModel) (spot : Spot) (run : List TextUnit) → value.spot ≡ spot → value.parts ≡ parts_of run → record { spot = spot; parts = parts_of run } ≡ value
+same_value : (value : WordModel) (spot : Spot) (run : List TextUnit) → value.spot ≡ spot
+    → value.parts ≡ parts_of run → record { spot = spot; parts = parts_of run } ≡ value
 same_value value spot run s p = rw (← s, ← p) refl
 
 -- A value that is there is read.
-pub value-read : (l : Line) (ls : List Line) (us : List TextUnit) (value : WordModel) → ValueForm us l.end value → called (value_of (within l ls us)) ≡ Ok (value, within l ls [])
+pub value-read : (l : Line) (ls : List Line) (us : List TextUnit) (value : WordModel)
+    → ValueForm us l.end value → called (value_of (within l ls us)) ≡ Ok (value, within l ls [])
 value-read l ls us value f =
-    let remainder = opening_passed us f.opening (f.gap ++ f.run) (record { cut = f.cut ∙ append_assoc f.opening f.gap f.run; opens = f.opens; longest = f.longest_opening }) in
+    let remainder = opening_passed us f.opening (f.gap ++ f.run)
+    (record {
+      cut = f.cut ∙ append_assoc f.opening f.gap f.run;
+      opens = f.opens;
+      longest =
+          f.longest_opening;
+    }) in
     let next = skip_gap (after_opening us) f.gap f.run remainder f.blanks f.longest in
     ap (λ (vs : List TextUnit). value_by l ls (first_fault vs) vs) next
     ∙ ap (λ (g : Option UnitFault). value_by l ls g f.run) f.good
-    ∙ ap (λ (w : WordModel). Ok (w, within l ls [])) (same_value value (spot_of_first f.run l.end) f.run f.place f.parts)
+    ∙ ap (λ (w : WordModel). Ok (w, within l ls []))
+    (same_value value (spot_of_first f.run l.end) f.run f.place f.parts)
 
 -- ---- `= VALUE`
 
 equals_ends : sign.Equals ≡ sign.LineEnd → ⊥
 equals_ends e = absurd cc
 
-pub equals_value-form : (l : Line) (ls : List Line) (us : List TextUnit) (value : WordModel) (s : State) → equals_value (within l ls us) ≡ Ok (value, s)
-    → (rest : List TextUnit) × SignForm sign.Equals us rest × ValueForm rest l.end value × (s ≡ Between (lines_after l ls))
+pub equals_value-form : (l : Line) (ls : List Line) (us : List TextUnit) (value : WordModel) (s : State)
+    → equals_value (within l ls us) ≡ Ok (value, s)
+    → (rest : List TextUnit) × SignForm sign.Equals us rest × ValueForm rest l.end value
+    × (s ≡ Between (lines_after l ls))
 unfolding equals_value
 equals_value-form l ls us value s h =
     let equals = bind-ok (expect_sign sign.Equals wanted.Equals (within l ls us)) _ (value, s) h in
     let read = bind-ok (called (value_of equals.0)) _ (value, s) equals.2 in
-    let end = bind-ok (expect_sign sign.LineEnd wanted.Newline read.0.1) (λ end. Ok (read.0.0, end)) (value, s) read.2 in
+    let end = bind-ok (expect_sign sign.LineEnd wanted.Newline read.0.1) (λ end. Ok (read.0.0, end))
+    (value, s) read.2 in
     let it = after-form sign.Equals wanted.Equals l ls us equals.0 equals_ends equals.1 in
     let same = value-is read.0.0 end.0 (value, s) end.2 in
-    let there = value-form l ls it.0 read.0.0 read.0.1 (ap (λ (t : State). called (value_of t)) (sym it.2) ∙ read.1) in
-    let ended = end-form wanted.Newline l ls [] end.0 (ap (expect_sign sign.LineEnd wanted.Newline) (sym there.1) ∙ end.1) in
-    (it.0, it.1, subst (λ (v : WordModel). ValueForm it.0 l.end v) same there.0, sym (after-is read.0.0 end.0 (value, s) end.2) ∙ ended.1)
+    let there = value-form l ls it.0 read.0.0 read.0.1
+    (ap (λ (t : State). called (value_of t)) (sym it.2) ∙ read.1) in
+    let ended = end-form wanted.Newline l ls [] end.0
+    (ap (expect_sign sign.LineEnd wanted.Newline) (sym there.1) ∙ end.1) in (
+      it.0,
+      it.1,
+      subst (λ (v : WordModel). ValueForm it.0 l.end v) same there.0,
+      sym (after-is read.0.0 end.0 (value, s) end.2) ∙ ended.1,
+    )
 
-pub equals_value-read : (l : Line) (ls : List Line) (us rest : List TextUnit) (value : WordModel) → SignForm sign.Equals us rest → ValueForm rest l.end value → equals_value (within l ls us) ≡ Ok (value, Between (lines_after l ls))
+pub equals_value-read : (l : Line) (ls : List Line) (us rest : List TextUnit) (value : WordModel)
+    → SignForm sign.Equals us rest → ValueForm rest l.end value
+    → equals_value (within l ls us) ≡ Ok (value, Between (lines_after l ls))
 unfolding equals_value
 equals_value-read l ls us rest value e f =
-    rw (after-read sign.Equals wanted.Equals l ls us rest equals_ends e, value-read l ls rest value f, end-read wanted.Newline l ls [] refl) refl
+    rw (
+      after-read sign.Equals wanted.Equals l ls us rest equals_ends e,
+      value-read l ls rest value f,
+      end-read wanted.Newline l ls [] refl,
+    ) refl

@@ -1,5 +1,6 @@
 -- Lines that end a block which was begun, whatever lines it has.
-use Rattle.std.proofs.Common.{◌≡◌, ℕ, Bool, true, false, cond, ◌&&◌, ◌||◌, not, Result, Ok, Err, List, [], ◌∷◌, ◌++◌, map, refl, sym, ap, ◌∙◌, codes}
+use Rattle.std.proofs.Common.{◌≡◌, ℕ, Bool, true, false, cond, ◌&&◌, ◌||◌, not, Result, Ok, Err, List, []}
+use Rattle.std.proofs.Common.{◌∷◌, ◌++◌, map, refl, sym, ap, ◌∙◌, codes}
 use mathlib.Core.Bool.{beq}
 use Rattle.std.specs.List.{list_any, list_all}
 use Rattle.std.specs.Str.{bytes_eq}
@@ -14,7 +15,8 @@ use Rattle.nj_manifest.specs.declared.block_lines.Keys.TheVariants as keys
 use Rattle.nj_manifest.specs.Faults.{Fault, Placed, is_syntax}
 use Rattle.nj_manifest.specs.LineSteps.{◌>>=◌, NameModel, name_next, expect_sign}
 use Rattle.nj_manifest.specs.Openings.{Parse}
-use Rattle.nj_manifest.specs.Statements.{LineModel, equals_value, line_next, block, OutputsModel, InputsModel, StatementModel, RuleModel, PoolModel, BuildModel, gives}
+use Rattle.nj_manifest.specs.Statements.{LineModel, equals_value, line_next, block, OutputsModel, InputsModel}
+use Rattle.nj_manifest.specs.Statements.{StatementModel, RuleModel, PoolModel, BuildModel, gives}
 use Rattle.nj_manifest.specs.Leftmost.{written, are_plain}
 use Rattle.nj_manifest.specs.Grammar.{HeadModel, Alone, RuleHead, PoolHead, BuildHead}
 use Rattle.nj_manifest.specs.Inside.Heads.{whole_rule, whole_pool, with_block, names}
@@ -43,11 +45,17 @@ closing_plain (PoolHead name) = refl
 closing_plain (BuildHead outputs rule inputs) = refl
 
 abbrev line_x : List ℕ → LineModel
-line_x key = record { spot = first_spot; name = key; value = record { spot = first_spot; parts = Text (120 ∷ []) ∷ [] } }
+line_x key = record {
+  spot = first_spot;
+  name = key;
+  value =
+      record { spot = first_spot; parts = Text (120 ∷ []) ∷ [] };
+}
 
 abbrev pub closing_model : HeadModel → List LineModel
 closing_model (Alone item) = []
-closing_model (RuleHead name) = line_x (codes "command") ∷ line_x (codes "rspfile") ∷ line_x (codes "rspfile_content") ∷ []
+closing_model (RuleHead name) = line_x (codes "command") ∷ line_x (codes "rspfile") ∷ line_x
+    (codes "rspfile_content") ∷ []
 closing_model (PoolHead name) = line_x (codes "depth") ∷ []
 closing_model (BuildHead outputs rule inputs) = []
 
@@ -60,7 +68,8 @@ closing_block (BuildHead outputs rule inputs) = refl
 
 -- ---- the last lines decide
 
-any_after : (p : LineModel → Bool) (front tail : List LineModel) → list_any p tail ≡ true → list_any p (front ++ tail) ≡ true
+any_after : (p : LineModel → Bool) (front tail : List LineModel) → list_any p tail ≡ true
+    → list_any p (front ++ tail) ≡ true
 any_after p [] tail h = h
 any_after p (l ∷ front) tail h = by_test (p l) (any_after p front tail h)
   where
@@ -68,51 +77,86 @@ any_after p (l ∷ front) tail h = by_test (p l) (any_after p front tail h)
     by_test true e = refl
     by_test false e = e
 
-gives_after : (key : List ℕ) (front tail : List LineModel) → names key tail ≡ true → gives key (front ++ tail) ≡ gives key tail
+gives_after : (key : List ℕ) (front tail : List LineModel) → names key tail ≡ true
+    → gives key (front ++ tail) ≡ gives key tail
 gives_after key [] tail h = refl
-gives_after key (l ∷ front) tail h = gives-cons key l (front ++ tail) ∙ by_test (list_any (λ (m : LineModel). bytes_eq m.name key) (front ++ tail)) (bytes_eq l.name key) (any_after (λ (m : LineModel). bytes_eq m.name key) front tail h) (gives_after key front tail h)
+gives_after key (l ∷ front) tail h = gives-cons key l (front ++ tail)
+    ∙ by_test (list_any (λ (m : LineModel). bytes_eq m.name key) (front ++ tail)) (bytes_eq l.name key)
+    (any_after (λ (m : LineModel). bytes_eq m.name key) front tail h) (gives_after key front tail h)
   where
-    by_test : (a p : Bool) → a ≡ true → gives key (front ++ tail) ≡ gives key tail → cond (p && not a) (not (is_empty l.value.parts)) (gives key (front ++ tail)) ≡ gives key tail
+    by_test : (a p : Bool) → a ≡ true → gives key (front ++ tail) ≡ gives key tail
+        → cond (p && not a) (not (is_empty l.value.parts)) (gives key (front ++ tail)) ≡ gives key tail
     by_test false p e rest = absurd cc
     by_test true true e rest = rest
     by_test true false e rest = rest
 
-rule_whole : (spot : Spot) (name : NameModel) (front : List LineModel) → whole_rule spot (front ++ closing_model (RuleHead name)) ≡ Ok (front ++ closing_model (RuleHead name))
+rule_whole : (spot : Spot) (name : NameModel) (front : List LineModel)
+    → whole_rule spot (front ++ closing_model (RuleHead name)) ≡ Ok (front ++ closing_model (RuleHead name))
 unfolding whole_rule
 rule_whole spot name front =
     let tail = closing_model (RuleHead name) in
-    rw (gives_after (codes "rspfile") front tail refl, gives_after (codes "rspfile_content") front tail refl, gives_after (codes "command") front tail refl) refl
+    rw (
+      gives_after (codes "rspfile") front tail refl,
+      gives_after (codes "rspfile_content") front tail refl,
+      gives_after (codes "command") front tail refl,
+    ) refl
 
-pool_whole : (spot : Spot) (name : NameModel) (front : List LineModel) → whole_pool spot (front ++ closing_model (PoolHead name)) ≡ Ok (front ++ closing_model (PoolHead name))
+pool_whole : (spot : Spot) (name : NameModel) (front : List LineModel)
+    → whole_pool spot (front ++ closing_model (PoolHead name)) ≡ Ok (front ++ closing_model (PoolHead name))
 unfolding whole_pool
-pool_whole spot name front = rw (any_after (λ (m : LineModel). bytes_eq m.name (codes "depth")) front (closing_model (PoolHead name)) refl) refl
+pool_whole spot name front = rw (any_after (λ (m : LineModel). bytes_eq m.name (codes "depth")) front
+    (closing_model (PoolHead name)) refl) refl
 
 -- A reading of a block up to these lines reads a statement with them.
-pub closed : (spot : Spot) (h : HeadModel) (ls : List Line) (front : List LineModel) → block (keys_of h) ls ≡ in_front front (block (keys_of h) (map written (closing h))) → (item : StatementModel) × (rest : List Line) × (with_block spot h ls ≡ Ok (item, rest))
+pub closed : (spot : Spot) (h : HeadModel) (ls : List Line) (front : List LineModel)
+    → block (keys_of h) ls ≡ in_front front (block (keys_of h) (map written (closing h)))
+    → (item : StatementModel) × (rest : List Line) × (with_block spot h ls ≡ Ok (item, rest))
 closed spot (Alone item) ls front e = (item, ls, refl)
 closed spot (RuleHead name) ls front e =
     let lines = front ++ closing_model (RuleHead name) in
-    let read : block keys.OfRule ls ≡ Ok (lines, []) = e ∙ ap (in_front front) (closing_block (RuleHead name)) in
-    (RuleModel name lines, [], ap (λ (r : Parse (List LineModel)). r >>= λ ls. whole_rule spot ls.0 >>= λ whole. Ok (RuleModel name whole, ls.1)) read ∙ ap (λ (r : Result (List LineModel) Fault). r >>= λ whole. Ok (RuleModel name whole, [])) (rule_whole spot name front))
+    let read : block keys.OfRule ls ≡ Ok (lines, []) = e ∙ ap (in_front front) (closing_block (RuleHead name))
+    in (
+      RuleModel name lines,
+      [],
+      ap (λ (r : Parse (List LineModel)). r >>= λ ls. whole_rule spot ls.0 >>=
+          λ whole. Ok (RuleModel name whole, ls.1)) read
+          ∙ ap (λ (r : Result (List LineModel) Fault). r >>= λ whole. Ok (RuleModel name whole, []))
+          (rule_whole spot name front),
+    )
 closed spot (PoolHead name) ls front e =
     let lines = front ++ closing_model (PoolHead name) in
-    let read : block keys.OfPool ls ≡ Ok (lines, []) = e ∙ ap (in_front front) (closing_block (PoolHead name)) in
-    (PoolModel name lines, [], ap (λ (r : Parse (List LineModel)). r >>= λ ls. whole_pool spot ls.0 >>= λ whole. Ok (PoolModel name whole, ls.1)) read ∙ ap (λ (r : Result (List LineModel) Fault). r >>= λ whole. Ok (PoolModel name whole, [])) (pool_whole spot name front))
+    let read : block keys.OfPool ls ≡ Ok (lines, []) = e ∙ ap (in_front front) (closing_block (PoolHead name))
+    in (
+      PoolModel name lines,
+      [],
+      ap (λ (r : Parse (List LineModel)). r >>= λ ls. whole_pool spot ls.0 >>=
+          λ whole. Ok (PoolModel name whole, ls.1)) read
+          ∙ ap (λ (r : Result (List LineModel) Fault). r >>= λ whole. Ok (PoolModel name whole, []))
+          (pool_whole spot name front),
+    )
 closed spot (BuildHead outputs rule inputs) ls front e =
     let lines = front ++ [] in
-    let read : block keys.All ls ≡ Ok (lines, []) = e ∙ ap (in_front front) (closing_block (BuildHead outputs rule inputs)) in
-    (BuildModel outputs rule inputs lines, [], ap (λ (r : Parse (List LineModel)). r >>= λ ls. Ok (BuildModel outputs rule inputs ls.0, ls.1)) read)
+    let read : block keys.All ls ≡ Ok (lines, []) =
+    e ∙ ap (in_front front) (closing_block (BuildHead outputs rule inputs)) in (
+      BuildModel outputs rule inputs lines,
+      [],
+      ap (λ (r : Parse (List LineModel)). r >>= λ ls. Ok (BuildModel outputs rule inputs ls.0, ls.1)) read,
+    )
 
 -- ---- where a statement fails after its first line
 
 -- A fault of its block is the statement's.
-pub block_refuses : (spot : Spot) (h : HeadModel) (ls : List Line) (f : Fault) (all : (item : StatementModel) → h ≡ Alone item → ⊥) → block (keys_of h) ls ≡ Err f → with_block spot h ls ≡ Err f
+pub block_refuses : (spot : Spot) (h : HeadModel) (ls : List Line) (f : Fault)
+    (all : (item : StatementModel) → h ≡ Alone item → ⊥) → block (keys_of h) ls ≡ Err f
+    → with_block spot h ls ≡ Err f
 block_refuses spot (Alone item) ls f all e = absurd (all item refl)
 block_refuses spot (RuleHead name) ls f all e = rw e refl
 block_refuses spot (PoolHead name) ls f all e = rw e refl
 block_refuses spot (BuildHead outputs rule inputs) ls f all e = rw e refl
 
-fault_of_missing : {A B : Type 0} (there : Bool) (fault f : Fault) (others : Result A Fault) (k : A → Result B Fault) → is_syntax fault ≡ false → is_syntax f ≡ true → (unless_missing there fault others >>= k) ≡ Err f → (others >>= k) ≡ Err f
+fault_of_missing : {A B : Type 0} (there : Bool) (fault f : Fault) (others : Result A Fault)
+    (k : A → Result B Fault) → is_syntax fault ≡ false → is_syntax f ≡ true
+    → (unless_missing there fault others >>= k) ≡ Err f → (others >>= k) ≡ Err f
 fault_of_missing true fault f others k n s h = h
 fault_of_missing {B = B} false fault f others k n s h = absurd (apart (sym n ∙ (ap is_syntax (errs h) ∙ s)))
   where
@@ -122,7 +166,8 @@ fault_of_missing {B = B} false fault f others k n s h = absurd (apart (sym n ∙
     apart : false ≡ true → ⊥
     apart e = absurd cc
 
-same_err : {A B : Type 0} (g f : Fault) → ◌≡◌ {A = Result A Fault} (Err g) (Err f) → ◌≡◌ {A = Result B Fault} (Err g) (Err f)
+same_err : {A B : Type 0} (g f : Fault) → ◌≡◌ {A = Result A Fault} (Err g) (Err f)
+    → ◌≡◌ {A = Result B Fault} (Err g) (Err f)
 same_err {A = A} g f e = ap Err (errs e)
   where
     errs : ◌≡◌ {A = Result A Fault} (Err g) (Err f) → g ≡ f
@@ -140,23 +185,43 @@ pool_then spot name lines = whole_pool spot lines.0 >>= λ whole. Ok (PoolModel 
 abbrev build_then : OutputsModel → NameModel → InputsModel → List LineModel × List Line → Parse StatementModel
 build_then outputs rule inputs lines = Ok (BuildModel outputs rule inputs lines.0, lines.1)
 
-rule_fault : (spot : Spot) (name : NameModel) (lines : List LineModel × List Line) (f : Fault) → is_syntax f ≡ true → rule_then spot name lines ≡ Err f → ⊥
+rule_fault : (spot : Spot) (name : NameModel) (lines : List LineModel × List Line) (f : Fault)
+    → is_syntax f ≡ true → rule_then spot name lines ≡ Err f → ⊥
 unfolding whole_rule
 rule_fault spot name lines f s h =
-    no_err (fault_of_missing (gives (codes "command") lines.0) (Placed spot cause.MissingCommand) f _ (λ whole. Ok (RuleModel name whole, lines.1)) refl s
-    (fault_of_missing (beq (gives (codes "rspfile") lines.0) (gives (codes "rspfile_content") lines.0)) (Placed spot cause.RspPair) f _ (λ whole. Ok (RuleModel name whole, lines.1)) refl s h))
+    no_err (fault_of_missing (gives (codes "command") lines.0) (Placed spot cause.MissingCommand) f _
+    (λ whole. Ok (RuleModel name whole, lines.1)) refl s
+    (fault_of_missing (beq (gives (codes "rspfile") lines.0) (gives (codes "rspfile_content") lines.0))
+    (Placed spot cause.RspPair) f _ (λ whole. Ok (RuleModel name whole, lines.1)) refl s h))
 
-pool_fault : (spot : Spot) (name : NameModel) (lines : List LineModel × List Line) (f : Fault) → is_syntax f ≡ true → pool_then spot name lines ≡ Err f → ⊥
+pool_fault : (spot : Spot) (name : NameModel) (lines : List LineModel × List Line) (f : Fault)
+    → is_syntax f ≡ true → pool_then spot name lines ≡ Err f → ⊥
 unfolding whole_pool
-pool_fault spot name lines f s h = no_err (fault_of_missing (names (codes "depth") lines.0) (Placed spot cause.MissingDepth) f _ (λ whole. Ok (PoolModel name whole, lines.1)) refl s h)
+pool_fault spot name lines f s h = no_err
+    (fault_of_missing (names (codes "depth") lines.0) (Placed spot cause.MissingDepth) f _
+    (λ whole. Ok (PoolModel name whole, lines.1)) refl s h)
 
-by_block : {A : Type 0} (r : Parse (List LineModel)) (k : List LineModel × List Line → Result A Fault) (f : Fault) → ((lines : List LineModel × List Line) → k lines ≡ Err f → ⊥) → (r >>= k) ≡ Err f → r ≡ Err f
+by_block : {A : Type 0} (r : Parse (List LineModel)) (k : List LineModel × List Line → Result A Fault)
+    (f : Fault) → ((lines : List LineModel × List Line) → k lines ≡ Err f → ⊥) → (r >>= k) ≡ Err f → r ≡ Err f
 by_block (Ok lines) k f n h = absurd (n lines h)
 by_block (Err g) k f n h = same_err g f h
 
 -- A fault of syntax after the first line is one of the block.
-pub fault_of_block : (spot : Spot) (h : HeadModel) (ls : List Line) (f : Fault) → with_block spot h ls ≡ Err f → is_syntax f ≡ true → ((item : StatementModel) → h ≡ Alone item → ⊥) × (block (keys_of h) ls ≡ Err f)
+pub fault_of_block : (spot : Spot) (h : HeadModel) (ls : List Line) (f : Fault) → with_block spot h ls ≡ Err f
+    → is_syntax f ≡ true → ((item : StatementModel) → h ≡ Alone item → ⊥) × (block (keys_of h) ls ≡ Err f)
 fault_of_block spot (Alone item) ls f e s = absurd (no_err e)
-fault_of_block spot (RuleHead name) ls f e s = ((λ item h. absurd cc), by_block (block keys.OfRule ls) (rule_then spot name) f (λ lines. rule_fault spot name lines f s) e)
-fault_of_block spot (PoolHead name) ls f e s = ((λ item h. absurd cc), by_block (block keys.OfPool ls) (pool_then spot name) f (λ lines. pool_fault spot name lines f s) e)
-fault_of_block spot (BuildHead outputs rule inputs) ls f e s = ((λ item h. absurd cc), by_block (block keys.All ls) (build_then outputs rule inputs) f (λ lines h. no_err h) e)
+fault_of_block spot (RuleHead name) ls f e s = (
+  (λ item h. absurd cc),
+  by_block (block keys.OfRule ls) (rule_then spot name) f
+      (λ lines. rule_fault spot name lines f s) e,
+)
+fault_of_block spot (PoolHead name) ls f e s = (
+  (λ item h. absurd cc),
+  by_block (block keys.OfPool ls) (pool_then spot name) f
+      (λ lines. pool_fault spot name lines f s) e,
+)
+fault_of_block spot (BuildHead outputs rule inputs) ls f e s = (
+  (λ item h. absurd cc),
+  by_block (block keys.All ls) (build_then outputs rule inputs) f
+      (λ lines h. no_err h) e,
+)

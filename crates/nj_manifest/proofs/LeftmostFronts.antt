@@ -1,6 +1,7 @@
 -- ` and `|@` both. || The units before a reading that it sees: the first one, and both of `||` and
 -- `|@`.||` and `|@` both.
-use Rattle.std.proofs.Common.{◌≡◌, ℕ, Bool, true, false, ◌&&◌, ◌||◌, not, eqb, List, [], ◌∷◌, ◌++◌, take, refl, sym, ap, ◌∙◌}
+use Rattle.std.proofs.Common.{◌≡◌, ℕ, Bool, true, false, ◌&&◌, ◌||◌, not, eqb, List, [], ◌∷◌, ◌++◌, take}
+use Rattle.std.proofs.Common.{refl, sym, ap, ◌∙◌}
 use Rattle.std.specs.List.{take_while}
 use Rattle.nj_text.specs.declared.sign.Sign.{Sign}
 use Rattle.nj_text.specs.declared.sign.Sign.TheVariants as sign
@@ -33,17 +34,20 @@ begins-head : (p : TextUnit → Bool) (x : List TextUnit) → begins_with p x �
 begins-head p [] = refl
 begins-head p (u ∷ us) = refl
 
-begins-heads : (p : TextUnit → Bool) (x y : List TextUnit) → take 1 x ≡ take 1 y → begins_with p x ≡ begins_with p y
+begins-heads : (p : TextUnit → Bool) (x y : List TextUnit) → take 1 x ≡ take 1 y
+    → begins_with p x ≡ begins_with p y
 begins-heads p x y h = begins-head p x ∙ (ap (begins_with p) h ∙ sym (begins-head p y))
 
-pub begins-same : (p : TextUnit → Bool) (x y : List TextUnit) → front x ≡ front y → begins_with p x ≡ begins_with p y
+pub begins-same : (p : TextUnit → Bool) (x y : List TextUnit) → front x ≡ front y
+    → begins_with p x ≡ begins_with p y
 begins-same p x y h = begins-heads p x y (same-head x y h)
 
 byte-head : (b : ℕ) (x : List TextUnit) → begins_with_byte b x ≡ begins_with_byte b (take 1 x)
 byte-head b [] = refl
 byte-head b (u ∷ us) = refl
 
-pub byte-same : (b : ℕ) (x y : List TextUnit) → front x ≡ front y → begins_with_byte b x ≡ begins_with_byte b y
+pub byte-same : (b : ℕ) (x y : List TextUnit) → front x ≡ front y
+    → begins_with_byte b x ≡ begins_with_byte b y
 byte-same b x y h = byte-head b x ∙ (ap (begins_with_byte b) (same-head x y h) ∙ sym (byte-head b y))
 
 fault-head : (x : List TextUnit) → next_fault x ≡ next_fault (take 1 x)
@@ -76,7 +80,9 @@ bare_pipe true false true h = absurd cc
 bare_pipe true false false h = refl
 bare_pipe false q r h = refl
 
-sign-two : (s : Sign) (u v : TextUnit) (vs : List TextUnit) (t : Bool) → (is_sign sign.Pipe2 (u ∷ v ∷ vs) || is_sign sign.PipeAt (u ∷ v ∷ vs)) ≡ t → is_sign s (u ∷ v ∷ vs) ≡ is_sign s (element_by false t (u ∷ v ∷ vs))
+sign-two : (s : Sign) (u v : TextUnit) (vs : List TextUnit) (t : Bool)
+    → (is_sign sign.Pipe2 (u ∷ v ∷ vs) || is_sign sign.PipeAt (u ∷ v ∷ vs)) ≡ t
+    → is_sign s (u ∷ v ∷ vs) ≡ is_sign s (element_by false t (u ∷ v ∷ vs))
 sign-two sign.Colon u v vs true h = refl
 sign-two sign.Equals u v vs true h = refl
 sign-two sign.Pipe u v vs true h = refl
@@ -85,9 +91,12 @@ sign-two sign.PipeAt u v vs true h = refl
 sign-two sign.LineEnd u v vs true h = refl
 sign-two sign.Colon u v vs false h = refl
 sign-two sign.Equals u v vs false h = refl
-sign-two sign.Pipe u v vs false h = bare_pipe (begins_with_byte 124 (u ∷ [])) (begins_with_byte 124 (v ∷ [])) (begins_with_byte 64 (v ∷ [])) h
-sign-two sign.Pipe2 u v vs false h = no_pipe2 (begins_with_byte 124 (u ∷ [])) (begins_with_byte 124 (v ∷ [])) (begins_with_byte 64 (v ∷ [])) h
-sign-two sign.PipeAt u v vs false h = no_pipe_at (begins_with_byte 124 (u ∷ [])) (begins_with_byte 124 (v ∷ [])) (begins_with_byte 64 (v ∷ [])) h
+sign-two sign.Pipe u v vs false h = bare_pipe (begins_with_byte 124 (u ∷ [])) (begins_with_byte 124 (v ∷ []))
+    (begins_with_byte 64 (v ∷ [])) h
+sign-two sign.Pipe2 u v vs false h = no_pipe2 (begins_with_byte 124 (u ∷ [])) (begins_with_byte 124 (v ∷ []))
+    (begins_with_byte 64 (v ∷ [])) h
+sign-two sign.PipeAt u v vs false h = no_pipe_at (begins_with_byte 124 (u ∷ []))
+    (begins_with_byte 124 (v ∷ [])) (begins_with_byte 64 (v ∷ [])) h
 sign-two sign.LineEnd u v vs false h = refl
 
 sign-front : (s : Sign) (x : List TextUnit) → is_sign s x ≡ is_sign s (front x)
@@ -100,7 +109,8 @@ sign-same s x y h = sign-front s x ∙ (ap (is_sign s) h ∙ sym (sign-front s y
 
 -- ---- after other units
 
-element-pair : (t : Bool) (u v : TextUnit) (x y : List TextUnit) → element_by false t (u ∷ v ∷ x) ≡ element_by false t (u ∷ v ∷ y)
+element-pair : (t : Bool) (u v : TextUnit) (x y : List TextUnit)
+    → element_by false t (u ∷ v ∷ x) ≡ element_by false t (u ∷ v ∷ y)
 element-pair true u v x y = refl
 element-pair false u v x y = refl
 
@@ -110,9 +120,11 @@ front-two u v x y = element-pair (is_sign sign.Pipe2 (u ∷ v ∷ []) || is_sign
 
 -- the front of a unit before others, by whether they begin with `|` or `@`
 abbrev front_with : TextUnit → List TextUnit → (pipe at : Bool) → List TextUnit
-front_with u x pipe at = element_by false ((begins_with_byte 124 (u ∷ []) && pipe) || (begins_with_byte 124 (u ∷ []) && at)) (u ∷ x)
+front_with u x pipe at = element_by false
+    ((begins_with_byte 124 (u ∷ []) && pipe) || (begins_with_byte 124 (u ∷ []) && at)) (u ∷ x)
 
-element-after : (t : Bool) (u : TextUnit) (x y : List TextUnit) → take 1 x ≡ take 1 y → element_by false t (u ∷ x) ≡ element_by false t (u ∷ y)
+element-after : (t : Bool) (u : TextUnit) (x y : List TextUnit) → take 1 x ≡ take 1 y
+    → element_by false t (u ∷ x) ≡ element_by false t (u ∷ y)
 element-after true u x y h = ap (λ (vs : List TextUnit). u ∷ vs) h
 element-after false u x y h = refl
 
@@ -120,7 +132,8 @@ front-after : (u : TextUnit) (x y : List TextUnit) → front x ≡ front y → f
 front-after u x y h =
     ap (λ (t : Bool). front_with u x t (begins_with_byte 64 x)) (byte-same 124 x y h)
     ∙ (ap (λ (t : Bool). front_with u x (begins_with_byte 124 y) t) (byte-same 64 x y h)
-    ∙ element-after ((begins_with_byte 124 (u ∷ []) && begins_with_byte 124 y) || (begins_with_byte 124 (u ∷ []) && begins_with_byte 64 y)) u x y (same-head x y h))
+    ∙ element-after ((begins_with_byte 124 (u ∷ []) && begins_with_byte 124 y)
+    || (begins_with_byte 124 (u ∷ []) && begins_with_byte 64 y)) u x y (same-head x y h))
 
 pub front-append : (used x y : List TextUnit) → front x ≡ front y → front (used ++ x) ≡ front (used ++ y)
 front-append [] x y h = h
@@ -128,13 +141,17 @@ front-append (u ∷ []) x y h = front-after u x y h
 front-append (u ∷ v ∷ used) x y h = front-two u v (used ++ x) (used ++ y)
 
 -- a unit that is not `|` is seen alone
-pub front-alone : (u : TextUnit) (x : List TextUnit) → begins_with_byte 124 (u ∷ []) ≡ false → front (u ∷ x) ≡ u ∷ []
-front-alone u x h = ap (λ (t : Bool). element_by false ((t && begins_with_byte 124 x) || (t && begins_with_byte 64 x)) (u ∷ x)) h
+pub front-alone : (u : TextUnit) (x : List TextUnit) → begins_with_byte 124 (u ∷ []) ≡ false
+    → front (u ∷ x) ≡ u ∷ []
+front-alone u x h = ap (λ (t : Bool). element_by false
+    ((t && begins_with_byte 124 x) || (t && begins_with_byte 64 x)) (u ∷ x)) h
 
 -- neither `|` nor `@` follows
-pub front-bare : (u : TextUnit) (x : List TextUnit) → begins_with_byte 124 x ≡ false → begins_with_byte 64 x ≡ false → front (u ∷ x) ≡ u ∷ []
+pub front-bare : (u : TextUnit) (x : List TextUnit) → begins_with_byte 124 x ≡ false
+    → begins_with_byte 64 x ≡ false → front (u ∷ x) ≡ u ∷ []
 front-bare u x h g =
-    ap (λ (t : Bool). front_with u x t (begins_with_byte 64 x)) h ∙ (ap (λ (t : Bool). front_with u x false t) g ∙ by_test (begins_with_byte 124 (u ∷ [])))
+    ap (λ (t : Bool). front_with u x t (begins_with_byte 64 x)) h
+    ∙ (ap (λ (t : Bool). front_with u x false t) g ∙ by_test (begins_with_byte 124 (u ∷ [])))
   where
     by_test : (t : Bool) → element_by false ((t && false) || (t && false)) (u ∷ x) ≡ u ∷ []
     by_test true = refl
@@ -143,19 +160,22 @@ front-bare u x h g =
 -- ---- elements
 
 pub identifier_no_pipe : (u : TextUnit) → in_identifier u ≡ true → begins_with_byte 124 (u ∷ []) ≡ false
-identifier_no_pipe u h = no_other is_identifier_byte (is_ordinary_in (λ c. eqb c 124)) (not_byte is_identifier_byte 124 refl) u.means h
+identifier_no_pipe u h = no_other is_identifier_byte (is_ordinary_in (λ c. eqb c 124))
+    (not_byte is_identifier_byte 124 refl) u.means h
 
 identifier-front : (x : List TextUnit) → begins_with in_identifier x ≡ true → front x ≡ take 1 x
 identifier-front [] h = absurd cc
 identifier-front (u ∷ us) h = front-alone u us (identifier_no_pipe u h)
 
-pub element-identifier : (x : List TextUnit) → begins_with in_identifier x ≡ true → element x ≡ take_while in_identifier x
+pub element-identifier : (x : List TextUnit) → begins_with in_identifier x ≡ true
+    → element x ≡ take_while in_identifier x
 element-identifier x h = ap (λ (t : Bool). element_by t (is_sign sign.Pipe2 x || is_sign sign.PipeAt x) x) h
 
 pub element-other : (x : List TextUnit) → begins_with in_identifier x ≡ false → element x ≡ front x
 element-other x h = ap (λ (t : Bool). element_by t (is_sign sign.Pipe2 x || is_sign sign.PipeAt x) x) h
 
-run-head : (x : List TextUnit) → begins_with in_identifier x ≡ true → take 1 (take_while in_identifier x) ≡ take 1 x
+run-head : (x : List TextUnit) → begins_with in_identifier x ≡ true
+    → take 1 (take_while in_identifier x) ≡ take 1 x
 run-head [] h = absurd cc
 run-head (u ∷ us) h = ap (take 1) (take_while-cons_yes in_identifier u us h)
 
@@ -174,5 +194,7 @@ pub element-front : (x y : List TextUnit) → element x ≡ element y → front 
 element-front x y h = by_test (begins_with in_identifier y) refl
   where
     by_test : (t : Bool) → begins_with in_identifier y ≡ t → front x ≡ front y
-    by_test true e = identifier-front x (begins-heads in_identifier x y (element-heads x y h) ∙ e) ∙ (element-heads x y h ∙ sym (identifier-front y e))
-    by_test false e = sym (element-other x (begins-heads in_identifier x y (element-heads x y h) ∙ e)) ∙ (h ∙ element-other y e)
+    by_test true e = identifier-front x (begins-heads in_identifier x y (element-heads x y h) ∙ e)
+        ∙ (element-heads x y h ∙ sym (identifier-front y e))
+    by_test false e = sym (element-other x (begins-heads in_identifier x y (element-heads x y h) ∙ e))
+        ∙ (h ∙ element-other y e)

@@ -3,16 +3,19 @@ use Rattle.std.proofs.Common.{◌≡◌, ℕ, Bool, true, false, cond, eqb, List
 use Rattle.std.specs.List.{take_while}
 use Rattle.std.proofs.lemmas.Bool.{eqb-true, false≢true}
 use Rattle.nj_text.specs.Bytes.{drop_while, begins_with}
-use Rattle.nj_text.specs.Units.{Meaning, Ordinary, Escape, Reference, Join, OpeningJoin, Comment, LeadingTab, LineEnd, TextEnd, BadByte, BadEscape, TextUnit, is_ordinary_in}
+use Rattle.nj_text.specs.Units.{Meaning, Ordinary, Escape, Reference, Join, OpeningJoin, Comment, LeadingTab}
+use Rattle.nj_text.specs.Units.{LineEnd, TextEnd, BadByte, BadEscape, TextUnit, is_ordinary_in}
 use Rattle.nj_text.specs.Words.{is_blank}
-use Rattle.nj_text.proofs.Lists.{AllIn, AllIn-take_while, take_while-cons_yes, take_while-cons_no, drop_while-append}
+use Rattle.nj_text.proofs.Lists.{AllIn, AllIn-take_while, take_while-cons_yes, take_while-cons_no}
+use Rattle.nj_text.proofs.Lists.{drop_while-append}
 
 -- the front and the rest
 pub both_parts : (p : TextUnit → Bool) (us : List TextUnit) → us ≡ take_while p us ++ drop_while p us
 both_parts p [] = refl
 both_parts p (u ∷ us) = by_test (p u) refl (both_parts p us)
   where
-    by_test : (t : Bool) → p u ≡ t → us ≡ take_while p us ++ drop_while p us → u ∷ us ≡ take_while p (u ∷ us) ++ cond t (drop_while p us) (u ∷ us)
+    by_test : (t : Bool) → p u ≡ t → us ≡ take_while p us ++ drop_while p us
+        → u ∷ us ≡ take_while p (u ∷ us) ++ cond t (drop_while p us) (u ∷ us)
     by_test true e rest = rw (take_while-cons_yes p u us e) (ap (λ (vs : List TextUnit). u ∷ vs) rest)
     by_test false e rest = rw (take_while-cons_no p u us e) refl
 
@@ -20,7 +23,8 @@ pub after_stops : (p : TextUnit → Bool) (us : List TextUnit) → begins_with p
 after_stops p [] = refl
 after_stops p (u ∷ us) = by_test (p u) refl (after_stops p us)
   where
-    by_test : (t : Bool) → p u ≡ t → begins_with p (drop_while p us) ≡ false → begins_with p (cond t (drop_while p us) (u ∷ us)) ≡ false
+    by_test : (t : Bool) → p u ≡ t → begins_with p (drop_while p us) ≡ false
+        → begins_with p (cond t (drop_while p us) (u ∷ us)) ≡ false
     by_test true e rest = rest
     by_test false e rest = e
 
@@ -33,12 +37,15 @@ none_taken p [] h = refl
 none_taken p (u ∷ us) h = take_while-cons_no p u us h
 
 -- a run that is as long as can be
-pub run_passed : (p : TextUnit → Bool) (run us : List TextUnit) → AllIn p run → begins_with p us ≡ false → drop_while p (run ++ us) ≡ us
+pub run_passed : (p : TextUnit → Bool) (run us : List TextUnit) → AllIn p run → begins_with p us ≡ false
+    → drop_while p (run ++ us) ≡ us
 run_passed p run us h n = drop_while-append p run us h ∙ none_passed p us n
 
-pub run_taken : (p : TextUnit → Bool) (run us : List TextUnit) → AllIn p run → begins_with p us ≡ false → take_while p (run ++ us) ≡ run
+pub run_taken : (p : TextUnit → Bool) (run us : List TextUnit) → AllIn p run → begins_with p us ≡ false
+    → take_while p (run ++ us) ≡ run
 run_taken p [] us h n = none_taken p us n
-run_taken p (u ∷ run) us h n = take_while-cons_yes p u (run ++ us) h.0 ∙ ap (λ (vs : List TextUnit). u ∷ vs) (run_taken p run us h.1 n)
+run_taken p (u ∷ run) us h n = take_while-cons_yes p u (run ++ us) h.0
+    ∙ ap (λ (vs : List TextUnit). u ∷ vs) (run_taken p run us h.1 n)
 
 -- ---- blanks
 
@@ -67,7 +74,8 @@ skip_gap gap us h = drop_while-append is_blank gap us h
 -- ---- tests on the meaning of a unit
 
 -- an ordinary byte that passes one test and so not another
-pub no_other : (p : ℕ → Bool) (test : Meaning → Bool) → ((b : ℕ) → p b ≡ true → test (Ordinary b) ≡ false) → (m : Meaning) → is_ordinary_in p m ≡ true → test m ≡ false
+pub no_other : (p : ℕ → Bool) (test : Meaning → Bool) → ((b : ℕ) → p b ≡ true → test (Ordinary b) ≡ false)
+    → (m : Meaning) → is_ordinary_in p m ≡ true → test m ≡ false
 no_other p test f (Ordinary b) h = f b h
 no_other p test f (Escape x) h = absurd (false≢true h)
 no_other p test f (Reference x) h = absurd (false≢true h)

@@ -1,5 +1,6 @@
 -- ` or `|@`. || The sections of a build statement that begin with `|`, `||` or `|@`.||` or `|@`.
-use Rattle.std.proofs.Common.{◌≡◌, ℕ, Bool, true, false, cond, ◌&&◌, not, eqb, Option, None, Ok, inl, inr, List, [], ◌∷◌, ◌++◌, refl, sym, ap, ◌∙◌, append_assoc}
+use Rattle.std.proofs.Common.{◌≡◌, ℕ, Bool, true, false, cond, ◌&&◌, not, eqb, Option, None, Ok, inl, inr}
+use Rattle.std.proofs.Common.{List, [], ◌∷◌, ◌++◌, refl, sym, ap, ◌∙◌, append_assoc}
 use Rattle.nj_text.specs.declared.fault.UnitFault.{UnitFault}
 use Rattle.nj_text.specs.declared.sign.Sign.{Sign}
 use Rattle.nj_text.specs.declared.sign.Sign.TheVariants as sign
@@ -13,9 +14,13 @@ use Rattle.nj_manifest.specs.Faults.{Fault}
 use Rattle.nj_manifest.specs.LineSteps.{Step, ◌>>=◌, called, words_next, section_next}
 use Rattle.nj_manifest.proofs.Choices.{words_if}
 use Rattle.nj_manifest.proofs.LeftmostRuns.{none_passed}
-use Rattle.nj_manifest.proofs.LeftmostFronts.{front, byte-same, sign-same, front-append, front-two, front-bare, element-front}
-use Rattle.nj_manifest.proofs.LeftmostSteps.{at, Fits, Passes, FailsAt, opens-none, opens-no_fault, after_words, is_colon, colon_is}
-use Rattle.nj_manifest.proofs.LeftmostWords.{settled, settled_blank, settled_fault, settled_so, settled_same, one_more, WordsRun, WordsPass, WordsSeen, there, broken, words_seen}
+use Rattle.nj_manifest.proofs.LeftmostFronts.{front, byte-same, sign-same, front-append, front-two}
+use Rattle.nj_manifest.proofs.LeftmostFronts.{front-bare, element-front}
+use Rattle.nj_manifest.proofs.LeftmostSteps.{at, Fits, Passes, FailsAt, opens-none, opens-no_fault}
+use Rattle.nj_manifest.proofs.LeftmostSteps.{after_words, is_colon, colon_is}
+use Rattle.nj_manifest.proofs.LeftmostWords.{settled, settled_blank, settled_fault, settled_so, settled_same}
+use Rattle.nj_manifest.proofs.LeftmostWords.{one_more, WordsRun, WordsPass, WordsSeen, there, broken}
+use Rattle.nj_manifest.proofs.LeftmostWords.{words_seen}
 use Rattle.nj_manifest.specs.Leftmost.{offers}
 
 -- ---- units that may follow words
@@ -24,11 +29,14 @@ pub colon_settled : (us : List TextUnit) → after_words us ≡ true → settled
 colon_settled us h =
     settled_so us
     (opens-none is_colon is_blank_meaning (colon_is (λ b. eqb b 32 ≡ false) refl) us h)
-    (opens-none is_colon opens_word_meaning (colon_is (λ b. opens_word_meaning (Ordinary b) ≡ false) refl) us h)
+    (opens-none is_colon opens_word_meaning (colon_is (λ b. opens_word_meaning (Ordinary b) ≡ false) refl) us
+    h)
     (opens-no_fault is_colon us h)
 
-colon_is_not : (n : ℕ) → eqb 58 n ≡ false → (us : List TextUnit) → after_words us ≡ true → begins_with_byte n us ≡ false
-colon_is_not n e us h = opens-none is_colon (is_ordinary_in (λ c. eqb c n)) (colon_is (λ b. eqb b n ≡ false) e) us h
+colon_is_not : (n : ℕ) → eqb 58 n ≡ false → (us : List TextUnit) → after_words us ≡ true
+    → begins_with_byte n us ≡ false
+colon_is_not n e us h = opens-none is_colon (is_ordinary_in (λ c. eqb c n))
+    (colon_is (λ b. eqb b n ≡ false) e) us h
 
 colon_no_pipe : (us : List TextUnit) → after_words us ≡ true → begins_with_byte 124 us ≡ false
 colon_no_pipe us h = colon_is_not 124 refl us h
@@ -42,19 +50,26 @@ no_and t s h = rw h refl
 -- ---- a sign before a section
 
 abbrev section_by : Option UnitFault → Bool → (on other : State) → Step (List WordModel)
-section_by f t on other = called (unless_fault f (cond t (reply true on) (reply false other))) >>= λ so. words_if so.0 so.1
+section_by f t on other = called (unless_fault f (cond t (reply true on) (reply false other))) >>=
+    λ so. words_if so.0 so.1
 
-section_is : (want : Sign) (us : List TextUnit) (e : Line) (ms : List Line) → settled us ≡ true → section_next want (at us e ms) ≡ section_by (next_fault us) (is_sign want us) (state_after_sign want (with_units us e) ms) (at us e ms)
+section_is : (want : Sign) (us : List TextUnit) (e : Line) (ms : List Line) → settled us ≡ true
+    → section_next want (at us e ms) ≡ section_by (next_fault us) (is_sign want us)
+    (state_after_sign want (with_units us e) ms) (at us e ms)
 unfolding section_next
-section_is want us e ms h = ap (λ (y : List TextUnit). section_by (next_fault y) (is_sign want y) (state_after_sign want (with_units y e) ms) (at y e ms)) (none_passed is_blank us (settled_blank us h))
+section_is want us e ms h = ap (λ (y : List TextUnit). section_by (next_fault y) (is_sign want y)
+    (state_after_sign want (with_units y e) ms) (at y e ms)) (none_passed is_blank us (settled_blank us h))
 
-section_there : (f : Option UnitFault) (t : Bool) (on other : State) → f ≡ None → t ≡ true → section_by f t on other ≡ words_next on
+section_there : (f : Option UnitFault) (t : Bool) (on other : State) → f ≡ None → t ≡ true
+    → section_by f t on other ≡ words_next on
 section_there f t on other h g = rw (h, g) refl
 
-section_absent : (f : Option UnitFault) (t : Bool) (on other : State) → f ≡ None → t ≡ false → section_by f t on other ≡ Ok ([], other)
+section_absent : (f : Option UnitFault) (t : Bool) (on other : State) → f ≡ None → t ≡ false
+    → section_by f t on other ≡ Ok ([], other)
 section_absent f t on other h g = rw (h, g) refl
 
-pub section_none : (want : Sign) (us : List TextUnit) (e : Line) (ms : List Line) → settled us ≡ true → is_sign want us ≡ false → section_next want (at us e ms) ≡ Ok ([], at us e ms)
+pub section_none : (want : Sign) (us : List TextUnit) (e : Line) (ms : List Line) → settled us ≡ true
+    → is_sign want us ≡ false → section_next want (at us e ms) ≡ Ok ([], at us e ms)
 section_none want us e ms h g = section_is want us e ms h ∙ section_absent _ _ _ _ (settled_fault us h) g
 
 -- The units of a sign, the units that may follow it so that it stays that sign, and how it is read.
@@ -68,7 +83,8 @@ pub record Mark (want : Sign) (us : List TextUnit) : Type 0 where
   pub colons : (x : List TextUnit) → after_words x ≡ true → follows x ≡ true
   pub spaces : (x : List TextUnit) → follows (one_more x) ≡ true
   pub seen : (x : List TextUnit) → follows x ≡ true → front (mark ++ x) ≡ front us
-  pub reads : (x : List TextUnit) (e : Line) (ms : List Line) → follows x ≡ true → section_next want (at (mark ++ x) e ms) ≡ words_next (at x e ms)
+  pub reads : (x : List TextUnit) (e : Line) (ms : List Line) → follows x ≡ true
+      → section_next want (at (mark ++ x) e ms) ≡ words_next (at x e ms)
 
 -- the test that `|` is alone
 abbrev bare : List TextUnit → Bool
@@ -104,13 +120,15 @@ pipe_mark (u ∷ us) h g =
       follows = bare;
       cut = refl;
       so = both_not _ _ p.1 p.2;
-      same = λ x y e. ap (λ (t : Bool). not t && not (begins_with_byte 64 x)) (byte-same 124 x y e) ∙ ap (λ (t : Bool). not (begins_with_byte 124 y) && not t) (byte-same 64 x y e);
+      same = λ x y e. ap (λ (t : Bool). not t && not (begins_with_byte 64 x)) (byte-same 124 x y e)
+          ∙ ap (λ (t : Bool). not (begins_with_byte 124 y) && not t) (byte-same 64 x y e);
       colons = λ x c. both_not _ _ (colon_is_not 124 refl x c) (colon_is_not 64 refl x c);
       spaces = λ x. refl;
       seen = λ x f. let n = not_both _ _ f in front-bare u x n.0 n.1 ∙ sym (front-bare u us p.1 p.2);
       reads = λ x e ms f.
           let n = not_both _ _ f in
-          section_is sign.Pipe (u ∷ x) e ms h ∙ section_there _ _ (at x e ms) _ (settled_fault (u ∷ us) h) (pipe_whole _ _ _ p.0 n.0 n.1);
+          section_is sign.Pipe (u ∷ x) e ms h
+          ∙ section_there _ _ (at x e ms) _ (settled_fault (u ∷ us) h) (pipe_whole _ _ _ p.0 n.0 n.1);
     }
 
 pipe2_mark : (us : List TextUnit) → settled us ≡ true → is_sign sign.Pipe2 us ≡ true → Mark sign.Pipe2 us
@@ -130,7 +148,8 @@ pipe2_mark (u ∷ v ∷ us) h g = record {
   colons = λ x c. refl;
   spaces = λ x. refl;
   seen = λ x f. front-two u v x us;
-  reads = λ x e ms f. section_is sign.Pipe2 (u ∷ v ∷ x) e ms h ∙ section_there _ _ (at x e ms) _ (settled_fault (u ∷ v ∷ us) h) g;
+  reads = λ x e ms f. section_is sign.Pipe2 (u ∷ v ∷ x) e ms h
+      ∙ section_there _ _ (at x e ms) _ (settled_fault (u ∷ v ∷ us) h) g;
 }
 
 pipe_at_mark : (us : List TextUnit) → settled us ≡ true → is_sign sign.PipeAt us ≡ true → Mark sign.PipeAt us
@@ -150,7 +169,8 @@ pipe_at_mark (u ∷ v ∷ us) h g = record {
   colons = λ x c. refl;
   spaces = λ x. refl;
   seen = λ x f. front-two u v x us;
-  reads = λ x e ms f. section_is sign.PipeAt (u ∷ v ∷ x) e ms h ∙ section_there _ _ (at x e ms) _ (settled_fault (u ∷ v ∷ us) h) g;
+  reads = λ x e ms f. section_is sign.PipeAt (u ∷ v ∷ x) e ms h
+      ∙ section_there _ _ (at x e ms) _ (settled_fault (u ∷ v ∷ us) h) g;
 }
 
 -- the signs that begin sections
@@ -177,18 +197,21 @@ pub record SectionRun (want : Sign) (us : List TextUnit) : Type 0 where
   pub fits : (z : List TextUnit) → Fits after_words us (used ++ one_more z)
   pub word : WordModel
   pub words : List WordModel
-  pub more : (z : List TextUnit) (e : Line) (ms : List Line) → settled z ≡ true → section_next want (at (used ++ one_more z) e ms) ≡ Ok (word ∷ words, at z e ms)
+  pub more : (z : List TextUnit) (e : Line) (ms : List Line) → settled z ≡ true
+      → section_next want (at (used ++ one_more z) e ms) ≡ Ok (word ∷ words, at z e ms)
 
 pub record SectionPass (want : Sign) (us : List TextUnit) (run : SectionRun want us) : Type 0 where
   pub value : List WordModel
   pub stops : settled run.left ≡ true
-  pub goes : (x : List TextUnit) (e : Line) (ms : List Line) → Fits after_words run.left x → section_next want (at (run.used ++ x) e ms) ≡ Ok (value, at x e ms)
+  pub goes : (x : List TextUnit) (e : Line) (ms : List Line) → Fits after_words run.left x
+      → section_next want (at (run.used ++ x) e ms) ≡ Ok (value, at x e ms)
   pub settles : (x : List TextUnit) → Fits after_words run.left x → Fits after_words us (run.used ++ x)
 
 pub data SectionSeen (want : Sign) (us : List TextUnit) (e : Line) : Type 0 where
   absent : (so : is_sign want us ≡ false) → SectionSeen want us e
   present : (run : SectionRun want us) (words : SectionPass want us run) → SectionSeen want us e
-  faulty : (fault : Fault) (of : (bytes : List ℕ) → offers fault bytes ≡ true) (run : SectionRun want us) (here : FailsAt (section_next want) us e fault run.used run.left) → SectionSeen want us e
+  faulty : (fault : Fault) (of : (bytes : List ℕ) → offers fault bytes ≡ true) (run : SectionRun want us)
+      (here : FailsAt (section_next want) us e fault run.used run.left) → SectionSeen want us e
 
 -- units that fit here are settled, where these are
 pub fits_settled : (us x : List TextUnit) → settled us ≡ true → Fits after_words us x → settled x ≡ true
@@ -197,48 +220,62 @@ fits_settled us x h (inr f) = settled_same x us f ∙ h
 
 module _ (want : Sign) (us : List TextUnit) (e : Line) (m : Mark want us) where
   -- after the words of the section the sign stays that sign
-  still_follows : (run : WordsRun m.rest) (x : List TextUnit) → Fits m.follows m.rest (run.used ++ x) → m.follows (run.used ++ x) ≡ true
+  still_follows : (run : WordsRun m.rest) (x : List TextUnit) → Fits m.follows m.rest (run.used ++ x)
+      → m.follows (run.used ++ x) ≡ true
   still_follows run x (inl h) = h
   still_follows run x (inr h) = m.same (run.used ++ x) m.rest h ∙ m.so
 
-  follows_fit : (run : WordsRun m.rest) (x : List TextUnit) → Fits after_words run.left x → m.follows (run.used ++ x) ≡ true
+  follows_fit : (run : WordsRun m.rest) (x : List TextUnit) → Fits after_words run.left x
+      → m.follows (run.used ++ x) ≡ true
   follows_fit run x (inl h) = still_follows run x (run.fits m.follows x (m.colons x h))
-  follows_fit run x (inr h) = m.same (run.used ++ x) m.rest (front-append run.used x run.left h ∙ ap front (sym run.cut)) ∙ m.so
+  follows_fit run x (inr h) = m.same (run.used ++ x) m.rest
+      (front-append run.used x run.left h ∙ ap front (sym run.cut)) ∙ m.so
 
-  section_reads : (run : WordsRun m.rest) (x : List TextUnit) (d : Line) (ms : List Line) → m.follows (run.used ++ x) ≡ true → section_next want (at ((m.mark ++ run.used) ++ x) d ms) ≡ words_next (at (run.used ++ x) d ms)
-  section_reads run x d ms h = ap (λ (y : List TextUnit). section_next want (at y d ms)) (append_assoc m.mark run.used x) ∙ m.reads (run.used ++ x) d ms h
+  section_reads : (run : WordsRun m.rest) (x : List TextUnit) (d : Line) (ms : List Line)
+      → m.follows (run.used ++ x) ≡ true → section_next want (at ((m.mark ++ run.used) ++ x) d ms)
+      ≡ words_next (at (run.used ++ x) d ms)
+  section_reads run x d ms h = ap (λ (y : List TextUnit). section_next want (at y d ms))
+      (append_assoc m.mark run.used x) ∙ m.reads (run.used ++ x) d ms h
 
-  section_sees : (run : WordsRun m.rest) (x : List TextUnit) → m.follows (run.used ++ x) ≡ true → Fits after_words us ((m.mark ++ run.used) ++ x)
+  section_sees : (run : WordsRun m.rest) (x : List TextUnit) → m.follows (run.used ++ x) ≡ true
+      → Fits after_words us ((m.mark ++ run.used) ++ x)
   section_sees run x h = inr (ap front (append_assoc m.mark run.used x) ∙ m.seen (run.used ++ x) h)
 
   abbrev marked : WordsRun m.rest → SectionRun want us
   marked run = record {
     used = m.mark ++ run.used;
     left = run.left;
-    cut = m.cut ∙ (ap (λ (y : List TextUnit). m.mark ++ y) run.cut ∙ sym (append_assoc m.mark run.used run.left));
-    fits = λ z. section_sees run (one_more z) (still_follows run (one_more z) (run.fits m.follows (one_more z) (m.spaces z)));
+    cut = m.cut ∙ (ap (λ (y : List TextUnit). m.mark ++ y) run.cut
+        ∙ sym (append_assoc m.mark run.used run.left));
+    fits = λ z. section_sees run (one_more z)
+        (still_follows run (one_more z) (run.fits m.follows (one_more z) (m.spaces z)));
     word = run.word;
     words = run.words;
-    more = λ z d ms h. section_reads run (one_more z) d ms (still_follows run (one_more z) (run.fits m.follows (one_more z) (m.spaces z))) ∙ run.more z d ms h;
+    more = λ z d ms h. section_reads run (one_more z) d ms
+        (still_follows run (one_more z) (run.fits m.follows (one_more z) (m.spaces z))) ∙ run.more z d ms h;
   }
 
   by_words : WordsSeen m.rest e → SectionSeen want us e
   by_words (there words) = present (marked words.run) (record {
     value = words.value;
     stops = words.stops;
-    goes = λ x d ms fit. section_reads words.run x d ms (follows_fit words.run x fit) ∙ words.goes x d ms (fits_settled words.run.left x words.stops fit);
+    goes = λ x d ms fit. section_reads words.run x d ms (follows_fit words.run x fit)
+        ∙ words.goes x d ms (fits_settled words.run.left x words.stops fit);
     settles = λ x fit. section_sees words.run x (follows_fit words.run x fit);
   })
   by_words (broken fault of run n) = faulty fault of (marked run) (record {
     cut = (marked run).cut;
     place = n.place;
-    fails = λ ms. ap (λ (y : List TextUnit). section_next want (at y e ms)) m.cut ∙ (m.reads m.rest e ms m.so ∙ n.fails ms);
+    fails = λ ms. ap (λ (y : List TextUnit). section_next want (at y e ms)) m.cut
+        ∙ (m.reads m.rest e ms m.so ∙ n.fails ms);
     refuses = λ x d ms same.
-        let seen = front-append run.used x run.left (element-front x run.left same) ∙ ap front (sym run.cut) in
+        let seen = front-append run.used x run.left (element-front x run.left same) ∙ ap front (sym run.cut)
+        in
         section_reads run x d ms (m.same (run.used ++ x) m.rest seen ∙ m.so) ∙ n.refuses x d ms same;
   })
 
-pub section_seen : (want : Sign) (us : List TextUnit) (e : Line) → IsMark want → settled us ≡ true → SectionSeen want us e
+pub section_seen : (want : Sign) (us : List TextUnit) (e : Line) → IsMark want → settled us ≡ true
+    → SectionSeen want us e
 section_seen want us e is h = by_sign (is_sign want us) refl
   where
     by_sign : (b : Bool) → is_sign want us ≡ b → SectionSeen want us e
@@ -249,7 +286,9 @@ section_seen want us e is h = by_sign (is_sign want us) refl
 
 -- ---- as readings that pass
 
-abbrev pub pass_words : (t : List TextUnit → Bool) (us : List TextUnit) → ((x : List TextUnit) → after_words x ≡ true → t x ≡ true) → WordsPass us → Passes words_next t after_words us
+abbrev pub pass_words : (t : List TextUnit → Bool) (us : List TextUnit)
+    → ((x : List TextUnit) → after_words x ≡ true → t x ≡ true) → WordsPass us
+    → Passes words_next t after_words us
 pass_words t us more words = record {
   used = words.run.used;
   left = words.run.left;
@@ -263,7 +302,8 @@ pass_words t us more words = record {
     by_fit x (inl h) = words.run.fits t x (more x h)
     by_fit x (inr h) = inr (front-append words.run.used x words.run.left h ∙ ap front (sym words.run.cut))
 
-abbrev pub pass_absent : (want : Sign) (us : List TextUnit) → IsMark want → settled us ≡ true → is_sign want us ≡ false → Passes (section_next want) after_words after_words us
+abbrev pub pass_absent : (want : Sign) (us : List TextUnit) → IsMark want → settled us ≡ true
+    → is_sign want us ≡ false → Passes (section_next want) after_words after_words us
 pass_absent want us is h g = record {
   used = [];
   left = us;
@@ -277,7 +317,8 @@ pass_absent want us is h g = record {
     no_sign x (inl f) = is.none x f
     no_sign x (inr f) = sign-same want x us f ∙ g
 
-abbrev pub pass_present : (want : Sign) (us : List TextUnit) (run : SectionRun want us) → SectionPass want us run → Passes (section_next want) after_words after_words us
+abbrev pub pass_present : (want : Sign) (us : List TextUnit) (run : SectionRun want us)
+    → SectionPass want us run → Passes (section_next want) after_words after_words us
 pass_present want us run words = record {
   used = run.used;
   left = run.left;

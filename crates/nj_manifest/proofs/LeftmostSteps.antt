@@ -1,6 +1,8 @@
 -- Reading on along a line: where a reading passes, where it fails, and the consequences of both for
 -- a whole line.
-use Rattle.std.proofs.Common.{◌≡◌, ℕ, Bool, true, false, ◌||◌, ◌==◌, eqb, Option, Some, None, Result, Ok, Err, ◌⊎◌, inl, inr, List, [], ◌∷◌, ◌++◌, map, refl, sym, ap, subst, ◌∙◌, append_assoc}
+use Rattle.std.proofs.Common.{◌≡◌, ℕ, Bool, true, false, ◌||◌, ◌==◌, eqb, Option, Some, None, Result, Ok, Err}
+use Rattle.std.proofs.Common.{◌⊎◌, inl, inr, List, [], ◌∷◌, ◌++◌, map, refl, sym, ap, subst, ◌∙◌}
+use Rattle.std.proofs.Common.{append_assoc}
 use Rattle.std.proofs.lemmas.Bool.{eqb-true}
 use Rattle.nj_text.specs.declared.fault.UnitFault.{UnitFault}
 use Rattle.nj_text.specs.declared.fault.UnitFault.TheVariants as lex
@@ -15,7 +17,8 @@ use Rattle.nj_text.proofs.Lists.{AllIn}
 use Rattle.nj_manifest.specs.declared.cause.Wanted.{Wanted}
 use Rattle.nj_manifest.specs.Faults.{Fault, bad_unit}
 use Rattle.nj_manifest.specs.LineSteps.{Step, ◌>>=◌}
-use Rattle.nj_manifest.specs.Leftmost.{element, written_unit, written, are_plain, NamesThePlaceOf, met_before, offers_next, offers}
+use Rattle.nj_manifest.specs.Leftmost.{element, written_unit, written, are_plain, NamesThePlaceOf, met_before}
+use Rattle.nj_manifest.specs.Leftmost.{offers_next, offers}
 use Rattle.nj_manifest.proofs.LeftmostRuns.{no_other, not_byte, gap_of, skip, gap_passes, gap_cut}
 use Rattle.nj_manifest.proofs.LeftmostFronts.{front, front-append, front-alone, element-front}
 
@@ -74,19 +77,23 @@ separator_is Q p q r b h = by_test (eqb b 32) (eqb b 58) refl refl h
     by_test false true e f g = subst Q (sym (eqb-true b 58 f)) q
     by_test false false e f g = subst Q (sym (eqb-true b 61 g)) r
 
-pub opens-none : (t : ℕ → Bool) (test : Meaning → Bool) → ((b : ℕ) → t b ≡ true → test (Ordinary b) ≡ false) → (us : List TextUnit) → opens t us ≡ true → begins_with (λ u. test u.means) us ≡ false
+pub opens-none : (t : ℕ → Bool) (test : Meaning → Bool) → ((b : ℕ) → t b ≡ true → test (Ordinary b) ≡ false)
+    → (us : List TextUnit) → opens t us ≡ true → begins_with (λ u. test u.means) us ≡ false
 opens-none t test f [] h = refl
 opens-none t test f (u ∷ us) h = no_other t test f u.means h
 
-ordinary-more : (t t' : ℕ → Bool) → ((b : ℕ) → t b ≡ true → t' b ≡ true) → (m : Meaning) → is_ordinary_in t m ≡ true → is_ordinary_in t' m ≡ true
+ordinary-more : (t t' : ℕ → Bool) → ((b : ℕ) → t b ≡ true → t' b ≡ true) → (m : Meaning)
+    → is_ordinary_in t m ≡ true → is_ordinary_in t' m ≡ true
 ordinary-more t t' f (Ordinary b) h = f b h
 ordinary-more t t' f m h = absurd cc
 
-pub opens-more : (t t' : ℕ → Bool) → ((b : ℕ) → t b ≡ true → t' b ≡ true) → (us : List TextUnit) → opens t us ≡ true → opens t' us ≡ true
+pub opens-more : (t t' : ℕ → Bool) → ((b : ℕ) → t b ≡ true → t' b ≡ true) → (us : List TextUnit)
+    → opens t us ≡ true → opens t' us ≡ true
 opens-more t t' f [] h = refl
 opens-more t t' f (u ∷ us) h = ordinary-more t t' f u.means h
 
-pub ordinary_no_fault : (t : ℕ → Bool) (m : Meaning) (spot : Spot) → is_ordinary_in t m ≡ true → fault_of m spot ≡ None
+pub ordinary_no_fault : (t : ℕ → Bool) (m : Meaning) (spot : Spot) → is_ordinary_in t m ≡ true
+    → fault_of m spot ≡ None
 ordinary_no_fault t (Ordinary b) spot h = refl
 ordinary_no_fault t m spot h = absurd cc
 
@@ -101,18 +108,23 @@ abbrev pub Fits : (List TextUnit → Bool) → List TextUnit → List TextUnit �
 Fits t us x = (t x ≡ true) ⊎ (front x ≡ front us)
 
 -- the tests that a text passes as the units here do
-pub by_fits : {t : List TextUnit → Bool} (us x : List TextUnit) (p : List TextUnit → Bool) → ((y : List TextUnit) → t y ≡ true → p y ≡ false) → ((y : List TextUnit) → front y ≡ front us → p y ≡ p us) → p us ≡ false → Fits t us x → p x ≡ false
+pub by_fits : {t : List TextUnit → Bool} (us x : List TextUnit) (p : List TextUnit → Bool)
+    → ((y : List TextUnit) → t y ≡ true → p y ≡ false)
+    → ((y : List TextUnit) → front y ≡ front us → p y ≡ p us) → p us ≡ false → Fits t us x → p x ≡ false
 by_fits us x p f g h (inl e) = f x e
 by_fits us x p f g h (inr e) = g x e ∙ h
 
-pub fits-alone : (t : List TextUnit → Bool) (us : List TextUnit) (u : TextUnit) (used left x : List TextUnit) → begins_with_byte 124 (u ∷ []) ≡ false → us ≡ (u ∷ used) ++ left → Fits t us ((u ∷ used) ++ x)
-fits-alone t us u used left x h e = inr (front-alone u (used ++ x) h ∙ (sym (front-alone u (used ++ left) h) ∙ ap front (sym e)))
+pub fits-alone : (t : List TextUnit → Bool) (us : List TextUnit) (u : TextUnit) (used left x : List TextUnit)
+    → begins_with_byte 124 (u ∷ []) ≡ false → us ≡ (u ∷ used) ++ left → Fits t us ((u ∷ used) ++ x)
+fits-alone t us u used left x h e = inr
+    (front-alone u (used ++ x) h ∙ (sym (front-alone u (used ++ left) h) ∙ ap front (sym e)))
 
 pub blank_no_pipe : (m : Meaning) → is_blank_meaning m ≡ true → is_ordinary_in (λ c. eqb c 124) m ≡ false
 blank_no_pipe (Ordinary b) h = not_byte is_space 124 refl b h
 blank_no_pipe m h = refl
 
-fits-blanks : (t : List TextUnit → Bool) (us gap left x : List TextUnit) → AllIn is_blank gap → us ≡ gap ++ left → t x ≡ true → Fits t us (gap ++ x)
+fits-blanks : (t : List TextUnit → Bool) (us gap left x : List TextUnit) → AllIn is_blank gap
+    → us ≡ gap ++ left → t x ≡ true → Fits t us (gap ++ x)
 fits-blanks t us [] left x h e g = inl g
 fits-blanks t us (u ∷ gap) left x h e g = fits-alone t us u gap left x (blank_no_pipe u.means h.0) e
 
@@ -122,23 +134,28 @@ fits-gap t us x g = fits-blanks t us (gap_of us) (skip us) x (gap_passes us) (ga
 -- ---- one reading
 
 -- It passes some units and is then after them, whatever follows that fits.
-pub record Passes {A : Type 0} (f : State → Step A) (t t' : List TextUnit → Bool) (us : List TextUnit) : Type 0 where
+pub record Passes {A : Type 0} (f : State → Step A) (t t' : List TextUnit → Bool) (us : List TextUnit) : Type
+    0 where
   pub used : List TextUnit
   pub left : List TextUnit
   pub value : A
   pub cut : us ≡ used ++ left
-  pub goes : (x : List TextUnit) (e : Line) (ms : List Line) → Fits t' left x → f (at (used ++ x) e ms) ≡ Ok (value, at x e ms)
+  pub goes : (x : List TextUnit) (e : Line) (ms : List Line) → Fits t' left x
+      → f (at (used ++ x) e ms) ≡ Ok (value, at x e ms)
   pub settled : (x : List TextUnit) → Fits t' left x → Fits t us (used ++ x)
 
 -- It fails after some units, and so with each rest that begins with the same element.
-pub record FailsAt {A : Type 0} (f : State → Step A) (us : List TextUnit) (e : Line) (fault : Fault) (used left : List TextUnit) : Type 0 where
+pub record FailsAt {A : Type 0} (f : State → Step A) (us : List TextUnit) (e : Line) (fault : Fault)
+    (used left : List TextUnit) : Type 0 where
   pub cut : us ≡ used ++ left
   pub place : NamesThePlaceOf fault (with_units left e)
   pub fails : (ms : List Line) → f (at us e ms) ≡ Err fault
-  pub refuses : (x : List TextUnit) (d : Line) (ms : List Line) → element x ≡ element left → f (at (used ++ x) d ms) ≡ Err (met_before (with_units x d) fault)
+  pub refuses : (x : List TextUnit) (d : Line) (ms : List Line) → element x ≡ element left
+      → f (at (used ++ x) d ms) ≡ Err (met_before (with_units x d) fault)
 
 -- the place of the first of the units, if that is a bad one
-pub fault-place : (us : List TextUnit) (end : Spot) (f : UnitFault) → next_fault us ≡ Some f → fault_spot f ≡ spot_of_first us end
+pub fault-place : (us : List TextUnit) (end : Spot) (f : UnitFault) → next_fault us ≡ Some f
+    → fault_spot f ≡ spot_of_first us end
 fault-place [] end f h = absurd cc
 fault-place (u ∷ us) end f h = by_meaning u.means h
   where
@@ -152,13 +169,15 @@ fault-place (u ∷ us) end f h = by_meaning u.means h
     by_meaning m h = absurd cc
 
 -- a bad unit names the place of the first of the units
-pub bad-place : (us : List TextUnit) (e : Line) (bad : UnitFault) → next_fault us ≡ Some bad → NamesThePlaceOf (bad_unit bad) (with_units us e)
+pub bad-place : (us : List TextUnit) (e : Line) (bad : UnitFault) → next_fault us ≡ Some bad
+    → NamesThePlaceOf (bad_unit bad) (with_units us e)
 bad-place us e (lex.BadByte spot) h = fault-place us e.end (lex.BadByte spot) h
 bad-place us e (lex.Tab spot) h = fault-place us e.end (lex.Tab spot) h
 bad-place us e (lex.BadEscape spot) h = fault-place us e.end (lex.BadEscape spot) h
 
 -- it keeps its place
-pub bad-kept : {A : Type 0} (l : Line) (bad : UnitFault) → ◌≡◌ {A = Result A Fault} (Err (bad_unit bad)) (Err (met_before l (bad_unit bad)))
+pub bad-kept : {A : Type 0} (l : Line) (bad : UnitFault)
+    → ◌≡◌ {A = Result A Fault} (Err (bad_unit bad)) (Err (met_before l (bad_unit bad)))
 bad-kept l (lex.BadByte spot) = refl
 bad-kept l (lex.Tab spot) = refl
 bad-kept l (lex.BadEscape spot) = refl
@@ -171,7 +190,8 @@ bad-offers (lex.BadEscape spot) bytes = refl
 
 -- A text that begins with this wanted element begins with one that the fault expects.
 abbrev pub OfWanted : Wanted → Fault → Type 0
-OfWanted want fault = (bytes : List ℕ) → offers_next want (drop_while is_space bytes) ≡ true → offers fault bytes ≡ true
+OfWanted want fault = (bytes : List ℕ) → offers_next want (drop_while is_space bytes) ≡ true
+    → offers fault bytes ≡ true
 
 -- ---- a whole line
 
@@ -180,10 +200,12 @@ abbrev pub Claim : Type 0 → Type 1
 Claim B = List TextUnit → Line → List Line → Step B → Type 0
 
 -- The reading of the whole continues from here with k.
-pub record Along {B : Type 0} (P : Claim B) (whole : List TextUnit) (k : State → Step B) (t : List TextUnit → Bool) (us : List TextUnit) : Type 0 where
+pub record Along {B : Type 0} (P : Claim B) (whole : List TextUnit) (k : State → Step B)
+    (t : List TextUnit → Bool) (us : List TextUnit) : Type 0 where
   pub begun : List TextUnit
   pub cut : whole ≡ begun ++ us
-  pub goes : (x : List TextUnit) (e : Line) (ms : List Line) → Fits t us x → P (begun ++ x) e ms (k (at x e ms))
+  pub goes : (x : List TextUnit) (e : Line) (ms : List Line) → Fits t us x
+      → P (begun ++ x) e ms (k (at x e ms))
 
 -- The reading of the whole fails where no element like this one helps, and some text does.
 pub record Stuck {B : Type 0} (P : Claim B) (whole : List TextUnit) (e : Line) (fault : Fault) : Type 0 where
@@ -192,7 +214,8 @@ pub record Stuck {B : Type 0} (P : Claim B) (whole : List TextUnit) (e : Line) (
   pub cut : whole ≡ begun ++ left
   pub place : NamesThePlaceOf fault (with_units left e)
   pub fails : (ms : List Line) → P whole e ms (Err fault)
-  pub refuses : (x : List TextUnit) (d : Line) (ms : List Line) → element x ≡ element left → P (begun ++ x) d ms (Err (met_before (with_units x d) fault))
+  pub refuses : (x : List TextUnit) (d : Line) (ms : List Line) → element x ≡ element left
+      → P (begun ++ x) d ms (Err (met_before (with_units x d) fault))
   pub bytes : List ℕ
   pub plain : are_plain bytes ≡ true
   pub offered : offers fault bytes ≡ true
@@ -201,51 +224,75 @@ pub record Stuck {B : Type 0} (P : Claim B) (whole : List TextUnit) (e : Line) (
 
 pub data Outcome {B : Type 0} (P : Claim B) (whole : List TextUnit) (e : Line) : Type 0 where
   stuck : (fault : Fault) (here : Stuck P whole e fault) → Outcome P whole e
-  through : (value : B) (so : (ms : List Line) → P whole e ms (Ok (value, Between (lines_after e ms)))) → Outcome P whole e
+  through : (value : B) (so : (ms : List Line) → P whole e ms (Ok (value, Between (lines_after e ms))))
+      → Outcome P whole e
 
-pub begin : {B : Type 0} (P : Claim B) (k : State → Step B) (t : List TextUnit → Bool) (us : List TextUnit) → ((x : List TextUnit) (e : Line) (ms : List Line) → Fits t us x → P x e ms (k (at x e ms))) → Along P us k t us
+pub begin : {B : Type 0} (P : Claim B) (k : State → Step B) (t : List TextUnit → Bool) (us : List TextUnit)
+    → ((x : List TextUnit) (e : Line) (ms : List Line) → Fits t us x → P x e ms (k (at x e ms)))
+    → Along P us k t us
 begin P k t us h = record { begun = []; cut = refl; goes = h }
 
-pub pass : {A B : Type 0} {P : Claim B} {whole : List TextUnit} {t t' : List TextUnit → Bool} {us : List TextUnit} (k : State → Step B) (f : State → Step A) (g : A × State → Step B) → ((s : State) → k s ≡ (f s >>= g)) → Along P whole k t us
+pub pass : {A B : Type 0} {P : Claim B} {whole : List TextUnit} {t t' : List TextUnit → Bool}
+    {us : List TextUnit} (k : State → Step B) (f : State → Step A) (g : A × State → Step B)
+    → ((s : State) → k s ≡ (f s >>= g)) → Along P whole k t us
     → (p : Passes f t t' us) → Along P whole (λ s. g (p.value, s)) t' p.left
 pass {P = P} {whole = whole} {us = us} k f g so a p = record {
   begun = a.begun ++ p.used;
   cut = a.cut ∙ (ap (λ (x : List TextUnit). a.begun ++ x) p.cut ∙ sym (append_assoc a.begun p.used p.left));
   goes = λ x e ms fit.
       let on = so (at (p.used ++ x) e ms) ∙ ap (λ r. r >>= g) (p.goes x e ms fit) in
-      subst (λ (y : List TextUnit). P y e ms (g (p.value, at x e ms))) (sym (append_assoc a.begun p.used x)) (subst (P (a.begun ++ (p.used ++ x)) e ms) on (a.goes (p.used ++ x) e ms (p.settled x fit)));
+      subst (λ (y : List TextUnit). P y e ms (g (p.value, at x e ms))) (sym (append_assoc a.begun p.used x))
+      (subst (P (a.begun ++ (p.used ++ x)) e ms) on (a.goes (p.used ++ x) e ms (p.settled x fit)));
 }
 
-pub err_bind : {A B : Type 0} (r : Result A Fault) (g : A → Result B Fault) (f : Fault) → r ≡ Err f → (r >>= g) ≡ Err f
+pub err_bind : {A B : Type 0} (r : Result A Fault) (g : A → Result B Fault) (f : Fault) → r ≡ Err f
+    → (r >>= g) ≡ Err f
 err_bind r g f h = rw h refl
 
-pub stick : {A B : Type 0} {P : Claim B} {whole : List TextUnit} {t : List TextUnit → Bool} {us : List TextUnit} {e : Line} {fault : Fault} {used left : List TextUnit} (k : State → Step B) (f : State → Step A) (g : A × State → Step B)
-    → ((s : State) → k s ≡ (f s >>= g)) → Along P whole k t us → FailsAt f us e fault used left → (bytes : List ℕ) → are_plain bytes ≡ true → offers fault bytes ≡ true → (value : B) → Fits t us (used ++ text bytes)
-    → ((ms : List Line) → k (at (used ++ text bytes) (written []) ms) ≡ Ok (value, Between ms)) → Stuck P whole e fault
-stick {P = P} {whole = whole} {us = us} {e = e} {fault = fault} {used = used} {left = left} k f g so a n bytes plain offered value fit some = record {
-  begun = a.begun ++ used;
-  left = left;
-  cut = a.cut ∙ (ap (λ (x : List TextUnit). a.begun ++ x) n.cut ∙ sym (append_assoc a.begun used left));
-  place = n.place;
-  fails = λ ms.
-      let failed = so (at us e ms) ∙ ap (λ r. r >>= g) (n.fails ms) in
-      subst (λ (y : List TextUnit). P y e ms (Err fault)) (sym a.cut) (subst (P (a.begun ++ us) e ms) failed (a.goes us e ms (inr refl)));
-  refuses = λ x d ms same.
-      let there = met_before (with_units x d) fault in
-      let failed = err_bind (f (at (used ++ x) d ms)) g there (n.refuses x d ms same) in
-      let seen = front-append used x left (element-front x left same) ∙ ap front (sym n.cut) in
-      subst (λ (y : List TextUnit). P y d ms (Err there)) (sym (append_assoc a.begun used x)) (subst (P (a.begun ++ (used ++ x)) d ms) (so (at (used ++ x) d ms) ∙ failed) (a.goes (used ++ x) d ms (inr seen)));
-  bytes = bytes;
-  plain = plain;
-  offered = offered;
-  value = value;
-  some = λ ms. subst (λ (y : List TextUnit). P y (written []) ms (Ok (value, Between ms))) (sym (append_assoc a.begun used (text bytes))) (subst (P (a.begun ++ (used ++ text bytes)) (written []) ms) (some ms) (a.goes (used ++ text bytes) (written []) ms fit));
-}
+pub stick : {A B : Type 0} {P : Claim B} {whole : List TextUnit} {t : List TextUnit → Bool}
+    {us : List TextUnit} {e : Line} {fault : Fault} {used left : List TextUnit} (k : State → Step B)
+    (f : State → Step A) (g : A × State → Step B)
+    → ((s : State) → k s ≡ (f s >>= g)) → Along P whole k t us → FailsAt f us e fault used left
+    → (bytes : List ℕ) → are_plain bytes ≡ true → offers fault bytes ≡ true → (value : B)
+    → Fits t us (used ++ text bytes)
+    → ((ms : List Line) → k (at (used ++ text bytes) (written []) ms) ≡ Ok (value, Between ms))
+    → Stuck P whole e fault
+stick {P = P} {whole = whole} {us = us} {e = e} {fault = fault} {used = used} {left = left} k f g so a n bytes
+    plain offered value fit some = record {
+      begun = a.begun ++ used;
+      left = left;
+      cut = a.cut ∙ (ap (λ (x : List TextUnit). a.begun ++ x) n.cut ∙ sym (append_assoc a.begun used left));
+      place = n.place;
+      fails = λ ms.
+          let failed = so (at us e ms) ∙ ap (λ r. r >>= g) (n.fails ms) in
+          subst (λ (y : List TextUnit). P y e ms (Err fault)) (sym a.cut)
+          (subst (P (a.begun ++ us) e ms) failed (a.goes us e ms (inr refl)));
+      refuses = λ x d ms same.
+          let there = met_before (with_units x d) fault in
+          let failed = err_bind (f (at (used ++ x) d ms)) g there (n.refuses x d ms same) in
+          let seen = front-append used x left (element-front x left same) ∙ ap front (sym n.cut) in
+          subst (λ (y : List TextUnit). P y d ms (Err there)) (sym (append_assoc a.begun used x))
+          (subst (P (a.begun ++ (used ++ x)) d ms) (so (at (used ++ x) d ms) ∙ failed)
+          (a.goes (used ++ x) d ms (inr seen)));
+      bytes = bytes;
+      plain = plain;
+      offered = offered;
+      value = value;
+      some = λ ms. subst (λ (y : List TextUnit). P y (written []) ms (Ok (value, Between ms)))
+          (sym (append_assoc a.begun used (text bytes)))
+          (subst (P (a.begun ++ (used ++ text bytes)) (written []) ms) (some ms)
+          (a.goes (used ++ text bytes) (written []) ms fit));
+    }
 
 -- a reading to the end of the line
-pub arrive : {B : Type 0} {P : Claim B} {whole : List TextUnit} {t : List TextUnit → Bool} {us : List TextUnit} (e : Line) (k : State → Step B) (value : B) → Along P whole k t us → ((ms : List Line) → k (at us e ms) ≡ Ok (value, Between (lines_after e ms))) → Outcome P whole e
-arrive {P = P} {us = us} e k value a so = through value (λ ms. subst (λ (y : List TextUnit). P y e ms (Ok (value, Between (lines_after e ms)))) (sym a.cut) (subst (P (a.begun ++ us) e ms) (so ms) (a.goes us e ms (inr refl))))
+pub arrive : {B : Type 0} {P : Claim B} {whole : List TextUnit} {t : List TextUnit → Bool}
+    {us : List TextUnit} (e : Line) (k : State → Step B) (value : B) → Along P whole k t us
+    → ((ms : List Line) → k (at us e ms) ≡ Ok (value, Between (lines_after e ms))) → Outcome P whole e
+arrive {P = P} {us = us} e k value a so =
+    through value (λ ms. subst (λ (y : List TextUnit). P y e ms (Ok (value, Between (lines_after e ms))))
+    (sym a.cut) (subst (P (a.begun ++ us) e ms) (so ms) (a.goes us e ms (inr refl))))
 
-pub bind-bind : {A B C : Type 0} (r : Result A Fault) (f : A → Result B Fault) (g : B → Result C Fault) → ((r >>= f) >>= g) ≡ (r >>= λ x. f x >>= g)
+pub bind-bind : {A B C : Type 0} (r : Result A Fault) (f : A → Result B Fault) (g : B → Result C Fault)
+    → ((r >>= f) >>= g) ≡ (r >>= λ x. f x >>= g)
 bind-bind (Ok x) f g = refl
 bind-bind (Err e) f g = refl

@@ -1,10 +1,14 @@
 -- The text of a cause whose name was made of another.
 use Rattle.std.proofs.Common.{◌≡◌, ℕ, List, refl}
 use Rattle.nj_manifest.specs.declared.cause.SyntaxCause.{SyntaxCause}
-use Rattle.nj_manifest.specs.declared.cause.SyntaxCause.TheVariants.{BadByte, Tab, BadEscape, Expected, UnexpectedIndent, MissingCommand, RspPair, UnknownKey, MissingDepth, DyndepVersion, DyndepShape}
+use Rattle.nj_manifest.specs.declared.cause.SyntaxCause.TheVariants.{BadByte, Tab, BadEscape, Expected}
+use Rattle.nj_manifest.specs.declared.cause.SyntaxCause.TheVariants.{UnexpectedIndent, MissingCommand}
+use Rattle.nj_manifest.specs.declared.cause.SyntaxCause.TheVariants.{RspPair, UnknownKey, MissingDepth}
+use Rattle.nj_manifest.specs.declared.cause.SyntaxCause.TheVariants.{DyndepVersion, DyndepShape}
 use Rattle.nj_manifest.specs.Faults.{named_by, syntax_text}
 
-pub named_text : {N M : Type 0} (named : N → M) (shown : M → List ℕ) (cause : SyntaxCause N) → syntax_text shown (named_by named cause) ≡ syntax_text (λ name. shown (named name)) cause
+pub named_text : {N M : Type 0} (named : N → M) (shown : M → List ℕ) (cause : SyntaxCause N)
+    → syntax_text shown (named_by named cause) ≡ syntax_text (λ name. shown (named name)) cause
 named_text named shown BadByte = refl
 named_text named shown Tab = refl
 named_text named shown BadEscape = refl

@@ -7,7 +7,10 @@ pub lossy_nil : utf8_lossy [] ≡ []
 lossy_nil = utf8_lossy_empty [] refl
 
 pub shown_fixed : (text : List ℕ) → text ++ utf8_lossy [] ++ [] ++ utf8_lossy [] ++ [] ≡ text
-shown_fixed text = rw lossy_nil (append-nil (text ++ [] ++ [] ++ []) ∙ append-nil (text ++ [] ++ []) ∙ append-nil (text ++ []) ∙ append-nil text)
+shown_fixed text = rw lossy_nil (append-nil (text ++ [] ++ [] ++ []) ∙ append-nil (text ++ [] ++ [])
+    ∙ append-nil (text ++ []) ∙ append-nil text)
 
-pub shown_pair : (before after : List ℕ) → before ++ utf8_lossy [] ++ after ++ utf8_lossy [] ++ [] ≡ before ++ after
-shown_pair before after = rw lossy_nil (append-nil (before ++ [] ++ after ++ []) ∙ append-nil (before ++ [] ++ after) ∙ ap (λ text. text ++ after) (append-nil before))
+pub shown_pair : (before after : List ℕ)
+    → before ++ utf8_lossy [] ++ after ++ utf8_lossy [] ++ [] ≡ before ++ after
+shown_pair before after = rw lossy_nil (append-nil (before ++ [] ++ after ++ [])
+    ∙ append-nil (before ++ [] ++ after) ∙ ap (λ text. text ++ after) (append-nil before))

@@ -1,5 +1,6 @@
 -- Where the next statement of lines begins, by the lexer's result at their start.
-use Rattle.std.proofs.Common.{◌≡◌, ℕ, suc, ◌<◌, ◌≤◌, Bool, true, false, cond, ◌&&◌, Option, Some, Ok, Err, List, [], ◌∷◌, refl, sym, ap, subst, ◌∙◌, arith}
+use Rattle.std.proofs.Common.{◌≡◌, ℕ, suc, ◌<◌, ◌≤◌, Bool, true, false, cond, ◌&&◌, Option, Some, Ok, Err}
+use Rattle.std.proofs.Common.{List, [], ◌∷◌, refl, sym, ap, subst, ◌∙◌, arith}
 use Rattle.std.proofs.lemmas.Bool.{false≢true}
 use Rattle.nj_text.specs.declared.fault.UnitFault.TheVariants as unit_fault
 use Rattle.nj_text.specs.declared.fault.LexFault.{LexFault}
@@ -8,9 +9,11 @@ use Rattle.nj_text.specs.declared.line_start.LineStart.{LineStart}
 use Rattle.nj_text.specs.declared.line_start.LineStart.TheVariants as start
 use Rattle.nj_text.specs.declared.spot.Spot.{Spot}
 use Rattle.nj_text.specs.Units.{TextUnit}
-use Rattle.nj_text.specs.Lines.{Line, with_units, lines_after, Kind, CommentLine, TabLine, BlankLine, IndentedLine, PlainLine, kind_of}
+use Rattle.nj_text.specs.Lines.{Line, with_units, lines_after, Kind, CommentLine, TabLine, BlankLine}
+use Rattle.nj_text.specs.Lines.{IndentedLine, PlainLine, kind_of}
 use Rattle.nj_text.specs.Inside.States.{reply}
-use Rattle.nj_text.specs.Calls.{State, Reply, Between, Inside, Failed, Answers, start_line_of, begun, begun_by, is_comment, is_empty, without_comments, spot_of}
+use Rattle.nj_text.specs.Calls.{State, Reply, Between, Inside, Failed, Answers, start_line_of, begun}
+use Rattle.nj_text.specs.Calls.{begun_by, is_comment, is_empty, without_comments, spot_of}
 use Rattle.nj_manifest.specs.declared.cause.SyntaxCause.TheVariants as cause
 use Rattle.nj_manifest.specs.declared.parse_fault.ParseFault.TheVariants as fault
 use Rattle.nj_manifest.specs.Faults.{Placed, bad_unit}
@@ -28,7 +31,8 @@ front_at spot = record { line = spot.line; column = 1 }
 
 -- The lexer is at the first unit of a line with which a statement begins.
 abbrev pub BeginsHere : Next → State → Type 0
-BeginsHere next s = (l : Line) × (ls : List Line) × (s ≡ Inside l ls) × (kind_of l ≡ PlainLine) × (next ≡ Ok (Some l, ls))
+BeginsHere next s = (l : Line) × (ls : List Line) × (s ≡ Inside l ls) × (kind_of l ≡ PlainLine)
+    × (next ≡ Ok (Some l, ls))
 
 -- the next statement that the start of a line implies
 abbrev pub Begins : Next → Reply LineStart → Type 0
@@ -40,7 +44,8 @@ Begins next (Ok (start.Middle, s)) = BeginsHere next s
 Begins next (Err f) = next ≡ Err (bad_unit f)
 
 -- a last line without units is blank, and nothing comes after it
-next-empty : (l : Line) (ls : List Line) → l.is_last ≡ true → opening (with_units [] l ∷ ls) ≡ ended (with_units [] l ∷ ls)
+next-empty : (l : Line) (ls : List Line) → l.is_last ≡ true
+    → opening (with_units [] l ∷ ls) ≡ ended (with_units [] l ∷ ls)
 unfolding opening
 next-empty l ls e = rw e refl
 
@@ -54,14 +59,17 @@ without-units l h = ap (λ (us : List TextUnit). with_units us l) (sym (no-units
 abbrev BeginsBlank : Line → List Line → (last empty : Bool) → Type 0
 BeginsBlank l ls last empty =
     Begins (cond last (ended (cond last (with_units [] l ∷ ls) ls)) (opening ls))
-    (cond (last && empty) (reply start.End (Between (l ∷ ls))) (reply start.Blank (Between (cond last (with_units [] l ∷ ls) ls))))
+    (cond (last && empty) (reply start.End (Between (l ∷ ls)))
+    (reply start.Blank (Between (cond last (with_units [] l ∷ ls) ls))))
 
-begun-blank : (l : Line) (ls : List Line) (last empty : Bool) → l.is_last ≡ last → is_empty l.units ≡ empty → BeginsBlank l ls last empty
+begun-blank : (l : Line) (ls : List Line) (last empty : Bool) → l.is_last ≡ last → is_empty l.units ≡ empty
+    → BeginsBlank l ls last empty
 begun-blank l ls false empty e h = (ls, refl, refl)
 begun-blank l ls true true e h = (ap (λ (m : Line). ended (m ∷ ls)) (without-units l h), l ∷ ls, refl)
 begun-blank l ls true false e h = (with_units [] l ∷ ls, refl, sym (next-empty l ls e))
 
-begun-kind : (k : Kind) (l : Line) (ls : List Line) → kind_of l ≡ k → is_comment k ≡ false → Begins (opening_by k l ls (opening ls)) (begun_by k l ls)
+begun-kind : (k : Kind) (l : Line) (ls : List Line) → kind_of l ≡ k → is_comment k ≡ false
+    → Begins (opening_by k l ls (opening ls)) (begun_by k l ls)
 begun-kind CommentLine l ls e h = absurd cc
 begun-kind (TabLine tab) l ls e h = refl
 begun-kind BlankLine l ls e h = begun-blank l ls l.is_last (is_empty l.units) refl refl
@@ -71,7 +79,8 @@ begun-kind PlainLine l ls e h = (l, ls, refl, e, refl)
 abbrev BeginsAt : Next → List Line → Type 0
 BeginsAt next ls = Begins next (begun ls)
 
-next-comment : (k : Kind) (l : Line) (ls : List Line) (others : Next) → is_comment k ≡ true → opening_by k l ls others ≡ or_last l (ended (lines_after l (without_comments ls))) others
+next-comment : (k : Kind) (l : Line) (ls : List Line) (others : Next) → is_comment k ≡ true
+    → opening_by k l ls others ≡ or_last l (ended (lines_after l (without_comments ls))) others
 next-comment CommentLine l ls others h = refl
 next-comment (TabLine tab) l ls others h = absurd cc
 next-comment BlankLine l ls others h = absurd cc
@@ -84,11 +93,14 @@ begun-next [] = (refl, [], refl)
 begun-next (l ∷ ls) = by_comment (is_comment (kind_of l)) refl (begun-next ls)
   where
     by_last : (t : Bool) → l.is_last ≡ t → BeginsAt (opening ls) (without_comments ls)
-        → BeginsAt (cond t (ended (cond t (with_units [] l ∷ without_comments ls) (without_comments ls))) (opening ls)) (cond t (with_units [] l ∷ without_comments ls) (without_comments ls))
+        → BeginsAt (cond t (ended (cond t (with_units [] l ∷ without_comments ls) (without_comments ls)))
+        (opening ls)) (cond t (with_units [] l ∷ without_comments ls) (without_comments ls))
     by_last true e rest = rw e (refl, _, refl)
     by_last false e rest = rest
 
-    by_comment : (t : Bool) → is_comment (kind_of l) ≡ t → BeginsAt (opening ls) (without_comments ls) → BeginsAt (opening_by (kind_of l) l ls (opening ls)) (cond t (lines_after l (without_comments ls)) (l ∷ ls))
+    by_comment : (t : Bool) → is_comment (kind_of l) ≡ t → BeginsAt (opening ls) (without_comments ls)
+        → BeginsAt (opening_by (kind_of l) l ls (opening ls))
+        (cond t (lines_after l (without_comments ls)) (l ∷ ls))
     by_comment false e rest = begun-kind (kind_of l) l ls refl e
     by_comment true e rest = rw (next-comment (kind_of l) l ls (opening ls) e) (by_last l.is_last refl rest)
 
@@ -97,24 +109,30 @@ start-begins : (ls : List Line) (r : Reply LineStart) → start_line_of (Between
 start-begins ls r h = subst (Begins (opening ls)) h (begun-next ls)
 
 -- The line that was begun is a plain one.
-middle-begins : (l : Line) (ls : List Line) (r : Reply LineStart) → kind_of l ≡ PlainLine → start_line_of (Inside l ls) ≡ r → Begins (opening (l ∷ ls)) r
+middle-begins : (l : Line) (ls : List Line) (r : Reply LineStart) → kind_of l ≡ PlainLine
+    → start_line_of (Inside l ls) ≡ r → Begins (opening (l ∷ ls)) r
 unfolding opening
 middle-begins l ls r e h =
     let here : opening_by (kind_of l) l ls (opening ls) ≡ Ok (Some l, ls) = rw e refl in
-    let begun : BeginsHere (opening_by (kind_of l) l ls (opening ls)) (Inside l ls) = (l, ls, refl, e, here) in
+    let begun : BeginsHere (opening_by (kind_of l) l ls (opening ls)) (Inside l ls) = (l, ls, refl, e, here)
+    in
     subst (Begins (opening_by (kind_of l) l ls (opening ls))) h begun
 
-pub begins : (before : State) (r : Reply LineStart) → IsBetweenStatements before → start_line_of before ≡ r → Begins (opening (lines_from before)) r
+pub begins : (before : State) (r : Reply LineStart) → IsBetweenStatements before → start_line_of before ≡ r
+    → Begins (opening (lines_from before)) r
 begins (Between ls) r comes h = start-begins ls r h
 begins (Inside l ls) r comes h = middle-begins l ls r comes h
 begins (Failed f) r comes h = absurd comes
 
 -- the fault at a line's start, as it is answered
-pub begins-badly : (before after : State) (f : LexFault) → IsBetweenStatements before → Answers {X = LineStart} (λ start. start) (Err f) after (start_line_of before) → Fails (fault.Lex f) (opening (lines_from before))
+pub begins-badly : (before after : State) (f : LexFault) → IsBetweenStatements before
+    → Answers {X = LineStart} (λ start. start) (Err f) after (start_line_of before)
+    → Fails (fault.Lex f) (opening (lines_from before))
 begins-badly before after lex.OutOfMemory comes h = tt
 begins-badly before after (lex.BadByte spot) comes h = begins before (Err (unit_fault.BadByte spot)) comes h.0
 begins-badly before after (lex.Tab spot) comes h = begins before (Err (unit_fault.Tab spot)) comes h.0
-begins-badly before after (lex.BadEscape spot) comes h = begins before (Err (unit_fault.BadEscape spot)) comes h.0
+begins-badly before after (lex.BadEscape spot) comes h =
+    begins before (Err (unit_fault.BadEscape spot)) comes h.0
 
 -- ---- a measure of the lines that are left
 
@@ -127,10 +145,12 @@ lines_ahead (Between ls) = ahead ls
 lines_ahead (Inside l ls) = 0
 lines_ahead (Failed f) = 0
 
-ahead-after : (l : Line) (ls : List Line) → (l.is_last && is_empty l.units) ≡ false → ahead (lines_after l ls) < ahead (l ∷ ls)
+ahead-after : (l : Line) (ls : List Line) → (l.is_last && is_empty l.units) ≡ false
+    → ahead (lines_after l ls) < ahead (l ∷ ls)
 ahead-after l ls h = by_last l.is_last (is_empty l.units) refl h
   where
-    by_last : (last empty : Bool) → l.is_last ≡ last → (last && empty) ≡ false → ahead (cond last (with_units [] l ∷ ls) ls) < cond last (cond empty 0 1) (suc (ahead ls))
+    by_last : (last empty : Bool) → l.is_last ≡ last → (last && empty) ≡ false
+        → ahead (cond last (with_units [] l ∷ ls) ls) < cond last (cond empty 0 1) (suc (ahead ls))
     by_last true true e g = absurd cc
     by_last true false e g = rw e (omega arith)
     by_last false empty e g = omega arith
@@ -139,11 +159,14 @@ ahead-comments : (ls : List Line) → ahead (without_comments ls) ≤ ahead ls
 ahead-comments [] = omega arith
 ahead-comments (l ∷ ls) = by_comment (is_comment (kind_of l)) (ahead-comments ls)
   where
-    by_last : (last : Bool) → l.is_last ≡ last → ahead (without_comments ls) ≤ ahead ls → ahead (cond last (with_units [] l ∷ without_comments ls) (without_comments ls)) ≤ cond last (cond (is_empty l.units) 0 1) (suc (ahead ls))
+    by_last : (last : Bool) → l.is_last ≡ last → ahead (without_comments ls) ≤ ahead ls
+        → ahead (cond last (with_units [] l ∷ without_comments ls) (without_comments ls)) ≤ cond last
+        (cond (is_empty l.units) 0 1) (suc (ahead ls))
     by_last true e h = rw e (omega arith)
     by_last false e h = omega arith
 
-    by_comment : (t : Bool) → ahead (without_comments ls) ≤ ahead ls → ahead (cond t (lines_after l (without_comments ls)) (l ∷ ls)) ≤ ahead (l ∷ ls)
+    by_comment : (t : Bool) → ahead (without_comments ls) ≤ ahead ls
+        → ahead (cond t (lines_after l (without_comments ls)) (l ∷ ls)) ≤ ahead (l ∷ ls)
     by_comment false h = omega arith
     by_comment true h = by_last l.is_last refl h
 
@@ -152,7 +175,8 @@ abbrev begins_blank : Reply LineStart → Bool
 begins_blank (Ok (start.Blank, s)) = true
 begins_blank other = false
 
-not_blank : {P : Type 0} (r : Reply LineStart) (after : State) → begins_blank r ≡ false → r ≡ Ok (start.Blank, after) → P
+not_blank : {P : Type 0} (r : Reply LineStart) (after : State) → begins_blank r ≡ false
+    → r ≡ Ok (start.Blank, after) → P
 not_blank r after n h = absurd (false≢true (sym n ∙ ap begins_blank h))
 
 abbrev state_in : Reply LineStart → State
@@ -160,23 +184,29 @@ state_in (Ok (x, s)) = s
 state_in (Err f) = Failed f
 
 -- the lines after a blank one
-blank-kind : (k : Kind) (l : Line) (ls : List Line) (after : State) → begun_by k l ls ≡ Ok (start.Blank, after) → lines_ahead after < ahead (l ∷ ls)
+blank-kind : (k : Kind) (l : Line) (ls : List Line) (after : State)
+    → begun_by k l ls ≡ Ok (start.Blank, after) → lines_ahead after < ahead (l ∷ ls)
 blank-kind CommentLine l ls after h = not_blank (begun_by CommentLine l ls) after refl h
 blank-kind (TabLine tab) l ls after h = not_blank (begun_by (TabLine tab) l ls) after refl h
 blank-kind IndentedLine l ls after h = not_blank (begun_by IndentedLine l ls) after refl h
 blank-kind PlainLine l ls after h = not_blank (begun_by PlainLine l ls) after refl h
 blank-kind BlankLine l ls after h = by_end (l.is_last && is_empty l.units) refl h
   where
-    by_end : (t : Bool) → (l.is_last && is_empty l.units) ≡ t → cond t (reply start.End (Between (l ∷ ls))) (reply start.Blank (Between (lines_after l ls))) ≡ Ok (start.Blank, after) → lines_ahead after < ahead (l ∷ ls)
+    by_end : (t : Bool) → (l.is_last && is_empty l.units) ≡ t
+        → cond t (reply start.End (Between (l ∷ ls))) (reply start.Blank (Between (lines_after l ls)))
+        ≡ Ok (start.Blank, after) → lines_ahead after < ahead (l ∷ ls)
     by_end true e g = not_blank (reply start.End (Between (l ∷ ls))) after refl g
     by_end false e g = subst (λ s. lines_ahead s < ahead (l ∷ ls)) (ap state_in g) (ahead-after l ls e)
 
-blank-begun : (ls : List Line) (after : State) → begun ls ≡ Ok (start.Blank, after) → lines_ahead after < ahead ls
+blank-begun : (ls : List Line) (after : State) → begun ls ≡ Ok (start.Blank, after)
+    → lines_ahead after < ahead ls
 blank-begun [] after h = not_blank (begun []) after refl h
 blank-begun (l ∷ ls) after h = blank-kind (kind_of l) l ls after h
 
 -- After a blank line there are fewer.
-pub blank-falls : (before after : State) → Answers (λ start. start) (Ok start.Blank) after (start_line_of before) → lines_ahead after < lines_ahead before
+pub blank-falls : (before after : State)
+    → Answers (λ start. start) (Ok start.Blank) after (start_line_of before)
+    → lines_ahead after < lines_ahead before
 blank-falls (Between ls) after h =
     let within = blank-begun (without_comments ls) after h in
     let comments = ahead-comments ls in
@@ -184,18 +214,26 @@ blank-falls (Between ls) after h =
 blank-falls (Inside l ls) after h = not_blank (start_line_of (Inside l ls)) after refl h
 blank-falls (Failed f) after h = not_blank (start_line_of (Failed f)) after refl h
 
-pub begins-as : (before after : State) (got want : LineStart) → got ≡ want → IsBetweenStatements before → Answers (λ start. start) (Ok got) after (start_line_of before) → Begins (opening (lines_from before)) (Ok (want, after))
-begins-as before after got want e comes h = subst (λ x. Begins (opening (lines_from before)) (Ok (x, after))) e (begins before (Ok (got, after)) comes h)
+pub begins-as : (before after : State) (got want : LineStart) → got ≡ want → IsBetweenStatements before
+    → Answers (λ start. start) (Ok got) after (start_line_of before)
+    → Begins (opening (lines_from before)) (Ok (want, after))
+begins-as before after got want e comes h =
+    subst (λ x. Begins (opening (lines_from before)) (Ok (x, after))) e
+    (begins before (Ok (got, after)) comes h)
 
-pub blank-falls-as : (before after : State) (got : LineStart) → got ≡ start.Blank → Answers (λ start. start) (Ok got) after (start_line_of before) → lines_ahead after < lines_ahead before
-blank-falls-as before after got e h = blank-falls before after (subst (λ x. Answers (λ start. start) (Ok x) after (start_line_of before)) e h)
+pub blank-falls-as : (before after : State) (got : LineStart) → got ≡ start.Blank
+    → Answers (λ start. start) (Ok got) after (start_line_of before) → lines_ahead after < lines_ahead before
+blank-falls-as before after got e h = blank-falls before after
+    (subst (λ x. Answers (λ start. start) (Ok x) after (start_line_of before)) e h)
 
 -- ---- the code's search
 
-pub found-end : (before after : State) → opening (lines_from before) ≡ ended (lines_from after) × (ls : List Line) × (after ≡ Between ls) → FindsOpening before after (Ok false)
+pub found-end : (before after : State) → opening (lines_from before) ≡ ended (lines_from after)
+    × (ls : List Line) × (after ≡ Between ls) → FindsOpening before after (Ok false)
 found-end before (Between ls) h = (h.0, tt, refl)
 found-end before (Inside l ls) h = absurd cc
 found-end before (Failed f) h = absurd cc
 
-pub found-line : (before after : State) → BeginsHere (opening (lines_from before)) after → FindsOpening before after (Ok true)
+pub found-line : (before after : State) → BeginsHere (opening (lines_from before)) after
+    → FindsOpening before after (Ok true)
 found-line before after h = subst (λ s. FindsOpening before s (Ok true)) (sym h.2) (h.4, h.3, refl)

@@ -7,13 +7,20 @@ use Rattle.nj_text.specs.Lines.{Line, text_lines}
 use Rattle.nj_text.specs.Words.{WordModel, Text, Name}
 use Rattle.nj_manifest.specs.declared.cause.SyntaxCause.TheVariants as cause
 use Rattle.nj_manifest.specs.Faults.{Fault, Placed}
-use Rattle.nj_manifest.specs.LineSteps.{NameModel, name_next, expect_sign, words_within, words_next, section_next}
+use Rattle.nj_manifest.specs.LineSteps.{NameModel, name_next, expect_sign, words_within, words_next}
+use Rattle.nj_manifest.specs.LineSteps.{section_next}
 use Rattle.nj_manifest.specs.Openings.{Parse, opening}
-use Rattle.nj_manifest.specs.Statements.{LineModel, OutputsModel, InputsModel, PlacedModel, StatementModel, BindingModel, RuleModel, PoolModel, BuildModel, DefaultModel, IncludeModel, SubninjaModel, equals_value, line_next, outputs_next, inputs_next, build_next, rule_next, pool_next, targets_next, file_next, statement_after, block, next_statement}
+use Rattle.nj_manifest.specs.Statements.{LineModel, OutputsModel, InputsModel, PlacedModel, StatementModel}
+use Rattle.nj_manifest.specs.Statements.{BindingModel, RuleModel, PoolModel, BuildModel, DefaultModel}
+use Rattle.nj_manifest.specs.Statements.{IncludeModel, SubninjaModel, equals_value, line_next, outputs_next}
+use Rattle.nj_manifest.specs.Statements.{inputs_next, build_next, rule_next, pool_next, targets_next}
+use Rattle.nj_manifest.specs.Statements.{file_next, statement_after, block, next_statement}
 
 -- the definitions that a row unfolds to compute on its text
 unfoldable pub on_strings : ⊤
-unfolding cut opening next_statement statement_after name_next expect_sign words_next words_within section_next outputs_next inputs_next build_next rule_next pool_next targets_next file_next equals_value line_next block
+unfolding cut opening next_statement statement_after name_next expect_sign words_next words_within
+    section_next outputs_next inputs_next build_next rule_next pool_next targets_next file_next equals_value
+    line_next block
 on_strings = tt
 
 -- ---- the facts of a row
@@ -28,7 +35,8 @@ abbrev pub first_of : List ℕ → Result (Option PlacedModel) Fault
 first_of text = item_of (next_statement (text_lines text))
 
 -- a result before those that follow it; a fault ends them
-abbrev outcomes_from : Parse (Option PlacedModel) → (List Line → List (Result (Option PlacedModel) Fault)) → List (Result (Option PlacedModel) Fault)
+abbrev outcomes_from : Parse (Option PlacedModel) → (List Line → List (Result (Option PlacedModel) Fault))
+    → List (Result (Option PlacedModel) Fault)
 outcomes_from (Ok r) others = Ok r.0 ∷ others r.1
 outcomes_from (Err f) others = Err f ∷ []
 
@@ -67,7 +75,8 @@ placed line column item = Ok (Some (record { spot = at line column; item = item 
 escapes : first_of (codes "build o$ 1: cp it's$ x") ≡ placed 1 1 (BuildModel
     (to (record { spot = at 1 7; parts = Text (codes "o") ∷ Text (codes " ") ∷ Text (codes "1") ∷ [] } ∷ []))
     (name_at 1 13 (codes "cp"))
-    (from (record { spot = at 1 16; parts = Text (codes "it's") ∷ Text (codes " ") ∷ Text (codes "x") ∷ [] } ∷ []))
+    (from (record { spot = at 1 16; parts = Text (codes "it's") ∷ Text (codes " ") ∷ Text (codes "x") ∷ [] } ∷
+    []))
     [])
 unfolding on_strings
 escapes = refl
@@ -93,25 +102,35 @@ parted_words = refl
 -- ---- statements
 
 -- a section may have no words
-empty_section : first_of (codes "build a: r |") ≡ placed 1 1 (BuildModel (to (word 1 7 (codes "a") ∷ [])) (name_at 1 10 (codes "r")) (from []) [])
+empty_section : first_of (codes "build a: r |")
+    ≡ placed 1 1 (BuildModel (to (word 1 7 (codes "a") ∷ [])) (name_at 1 10 (codes "r")) (from []) [])
 unfolding on_strings
 empty_section = refl
 
 all_sections : first_of (codes "build a | b: r c | d || e |@ f") ≡ placed 1 1 (BuildModel
     (record { explicit = word 1 7 (codes "a") ∷ []; implicit = word 1 11 (codes "b") ∷ [] })
     (name_at 1 14 (codes "r"))
-    (record { explicit = word 1 16 (codes "c") ∷ []; implicit = word 1 20 (codes "d") ∷ []; order_only = word 1 25 (codes "e") ∷ []; validations = word 1 30 (codes "f") ∷ [] })
+    (record {
+      explicit = word 1 16 (codes "c") ∷ [];
+      implicit = word 1 20 (codes "d") ∷ [];
+      order_only =
+          word 1 25 (codes "e") ∷ [];
+      validations = word 1 30 (codes "f") ∷ [];
+    })
     [])
 unfolding on_strings
 all_sections = refl
 
 -- an implicit output is enough
-implicit_output : first_of (codes "build | a: r") ≡ placed 1 1 (BuildModel (record { explicit = []; implicit = word 1 9 (codes "a") ∷ [] }) (name_at 1 12 (codes "r")) (from []) [])
+implicit_output : first_of (codes "build | a: r")
+    ≡ placed 1 1 (BuildModel (record { explicit = []; implicit = word 1 9 (codes "a") ∷ [] })
+    (name_at 1 12 (codes "r")) (from []) [])
 unfolding on_strings
 implicit_output = refl
 
 -- an identifier that only begins like a keyword
-dotted_name : first_of (codes "build.dir = x") ≡ placed 1 1 (BindingModel (codes "build.dir") (word 1 13 (codes "x")))
+dotted_name : first_of (codes "build.dir = x")
+    ≡ placed 1 1 (BindingModel (codes "build.dir") (word 1 13 (codes "x")))
 unfolding on_strings
 dotted_name = refl
 
@@ -120,17 +139,23 @@ joined_value : first_of (codes "x = $\n  1") ≡ placed 1 1 (BindingModel (codes
 unfolding on_strings
 joined_value = refl
 
-after_comment : first_of (codes "# c\n\nx = 1\r\n") ≡ placed 3 1 (BindingModel (codes "x") (word 3 5 (codes "1")))
+after_comment : first_of (codes "# c\n\nx = 1\r\n")
+    ≡ placed 3 1 (BindingModel (codes "x") (word 3 5 (codes "1")))
 unfolding on_strings
 after_comment = refl
 
-whole_of_pool : first_of (codes "pool p\n  depth = 1") ≡ placed 1 1 (PoolModel (name_at 1 6 (codes "p")) (line_at 2 3 (codes "depth") (word 2 11 (codes "1")) ∷ []))
+whole_of_pool : first_of (codes "pool p\n  depth = 1")
+    ≡ placed 1 1 (PoolModel (name_at 1 6 (codes "p"))
+    (line_at 2 3 (codes "depth") (word 2 11 (codes "1")) ∷ []))
 unfolding on_strings
 whole_of_pool = refl
 
 -- comments are among the lines of a block
-whole_of_rule : first_of (codes "rule r\n# c\n  command = x $in\n  # d\n  restat =\n") ≡ placed 1 1 (RuleModel (name_at 1 6 (codes "r"))
-    (line_at 3 3 (codes "command") (record { spot = at 3 13; parts = Text (codes "x ") ∷ Name (codes "in") ∷ [] }) ∷ line_at 5 3 (codes "restat") (record { spot = at 5 11; parts = [] }) ∷ []))
+whole_of_rule : first_of (codes "rule r\n# c\n  command = x $in\n  # d\n  restat =\n")
+    ≡ placed 1 1 (RuleModel (name_at 1 6 (codes "r"))
+    (line_at 3 3 (codes "command") (record
+    { spot = at 3 13; parts = Text (codes "x ") ∷ Name (codes "in") ∷ [] }) ∷ line_at 5 3 (codes "restat")
+    (record { spot = at 5 11; parts = [] }) ∷ []))
 unfolding on_strings
 whole_of_rule = refl
 
@@ -142,24 +167,30 @@ no_statement = refl
 
 -- the end of a text is answered again and again
 to_the_end : outcomes 5 (text_lines (codes "include a\nsubninja b\ndefault c d")) ≡
-    placed 1 1 (IncludeModel (word 1 9 (codes "a"))) ∷ placed 2 1 (SubninjaModel (word 2 10 (codes "b"))) ∷ placed 3 1 (DefaultModel (word 3 9 (codes "c") ∷ word 3 11 (codes "d") ∷ [])) ∷ Ok None ∷ Ok None ∷ []
+    placed 1 1 (IncludeModel (word 1 9 (codes "a"))) ∷ placed 2 1 (SubninjaModel (word 2 10 (codes "b"))) ∷
+    placed 3 1 (DefaultModel (word 3 9 (codes "c") ∷ word 3 11 (codes "d") ∷ [])) ∷ Ok None ∷ Ok None ∷ []
 unfolding on_strings
 to_the_end = refl
 
 -- a blank line ends a block
 after_block : outcomes 2 (text_lines (codes "build a: r\n  x = 1\n\n  y = 2\n")) ≡
-    placed 1 1 (BuildModel (to (word 1 7 (codes "a") ∷ [])) (name_at 1 10 (codes "r")) (from []) (line_at 2 3 (codes "x") (word 2 7 (codes "1")) ∷ [])) ∷ Err (Placed (at 4 1) cause.UnexpectedIndent) ∷ []
+    placed 1 1 (BuildModel (to (word 1 7 (codes "a") ∷ [])) (name_at 1 10 (codes "r")) (from [])
+    (line_at 2 3 (codes "x") (word 2 7 (codes "1")) ∷ [])) ∷ Err (Placed (at 4 1) cause.UnexpectedIndent)
+    ∷ []
 unfolding on_strings
 after_block = refl
 
 -- a comment may end the text, within a block too
 comment_at_end : outcomes 3 (text_lines (codes "rule r\n  command = x\n  # c")) ≡
-    placed 1 1 (RuleModel (name_at 1 6 (codes "r")) (line_at 2 3 (codes "command") (word 2 13 (codes "x")) ∷ [])) ∷ Ok None ∷ Ok None ∷ []
+    placed 1 1 (RuleModel (name_at 1 6 (codes "r"))
+    (line_at 2 3 (codes "command") (word 2 13 (codes "x")) ∷ [])) ∷ Ok None ∷ Ok None ∷ []
 unfolding on_strings
 comment_at_end = refl
 
 -- a statement ends the block before it
 at_once : outcomes 3 (text_lines (codes "pool p\n  depth = 1\nbuild a: r\n\n\n")) ≡
-    placed 1 1 (PoolModel (name_at 1 6 (codes "p")) (line_at 2 3 (codes "depth") (word 2 11 (codes "1")) ∷ [])) ∷ placed 3 1 (BuildModel (to (word 3 7 (codes "a") ∷ [])) (name_at 3 10 (codes "r")) (from []) []) ∷ Ok None ∷ []
+    placed 1 1 (PoolModel (name_at 1 6 (codes "p"))
+    (line_at 2 3 (codes "depth") (word 2 11 (codes "1")) ∷ [])) ∷ placed 3 1
+    (BuildModel (to (word 3 7 (codes "a") ∷ [])) (name_at 3 10 (codes "r")) (from []) []) ∷ Ok None ∷ []
 unfolding on_strings
 at_once = refl

@@ -1,5 +1,6 @@
 -- Lemmas on sets of numbers.
-use Rattle.std.proofs.Common.{◌≡◌, ◌≢◌, ◌<◌, ◌≤◌, ◌+◌, ◌==◌, ◌||◌, ◌⊎◌, inl, inr, ℕ, Bool, true, false, List, [], ◌∷◌, ◌++◌, length, get_or, set, nat_eq, refl, sym, ap, subst, ◌∙◌, arith}
+use Rattle.std.proofs.Common.{◌≡◌, ◌≢◌, ◌<◌, ◌≤◌, ◌+◌, ◌==◌, ◌||◌, ◌⊎◌, inl, inr, ℕ, Bool, true, false, List}
+use Rattle.std.proofs.Common.{[], ◌∷◌, ◌++◌, length, get_or, set, nat_eq, refl, sym, ap, subst, ◌∙◌, arith}
 use Rattle.std.specs.Prelude.{Contains, sum_by}
 use Rattle.std.specs.List.{All, AllByRecursion, IsDistinct}
 use Rattle.std.proofs.lemmas.Bool.{cases_lt}
@@ -32,19 +33,24 @@ contains-has numbers n is = list_any-from_Contains nat_eq_equiv n numbers is
 
 -- ---- one more number
 
-pub has-push : (numbers : List ℕ) (number n : ℕ) → has (numbers ++ number ∷ []) n ≡ (has numbers n || nat_eq n number)
-has-push numbers number n = list_any-append (nat_eq n) numbers (number ∷ []) ∙ ap (λ b. has numbers n || b) (or-false (nat_eq n number))
+pub has-push : (numbers : List ℕ) (number n : ℕ)
+    → has (numbers ++ number ∷ []) n ≡ (has numbers n || nat_eq n number)
+has-push numbers number n = list_any-append (nat_eq n) numbers (number ∷ [])
+    ∙ ap (λ b. has numbers n || b) (or-false (nat_eq n number))
 
-module _ (flags : List Bool) (numbers : List ℕ) (number : ℕ) (below : number < length flags) (held : AreFlagged flags numbers) (unset : get_or flags number false ≡ false) where
+module _ (flags : List Bool) (numbers : List ℕ) (number : ℕ) (below : number < length flags)
+    (held : AreFlagged flags numbers) (unset : get_or flags number false ≡ false) where
   pub new-number : has numbers number ≡ false
   new-number = sym (held.tell number) ∙ unset
 
   tells : (n : ℕ) → get_or (set flags number true) n false ≡ has (numbers ++ number ∷ []) n
   tells n = by (eqb_tells n number)
     where
-      by : ((n == number) ≡ true × (n ≡ number)) ⊎ ((n == number) ≡ false × (n ≢ number)) → get_or (set flags number true) n false ≡ has (numbers ++ number ∷ []) n
+      by : ((n == number) ≡ true × (n ≡ number)) ⊎ ((n == number) ≡ false × (n ≢ number))
+          → get_or (set flags number true) n false ≡ has (numbers ++ number ∷ []) n
       by (inl same) =
-          ap (λ k. get_or (set flags number true) k false) same.1 ∙ get_or-set_same flags number true false below
+          ap (λ k. get_or (set flags number true) k false) same.1
+          ∙ get_or-set_same flags number true false below
           ∙ sym (has-push numbers number n ∙ ap (λ b. has numbers n || b) same.0 ∙ or-true (has numbers n))
       by (inr apart) =
           get_or-set_other flags number n true false apart.1 ∙ held.tell n
@@ -53,7 +59,9 @@ module _ (flags : List Bool) (numbers : List ℕ) (number : ℕ) (below : number
   pub flagged-push : AreFlagged (set flags number true) (numbers ++ number ∷ [])
   flagged-push = record {
     tell = tells;
-    below = subst (λ (count : ℕ). All (λ n. n < count) (numbers ++ number ∷ [])) (sym (length-set flags number true)) (All-push (λ n. n < length flags) numbers number held.below below);
+    below = subst (λ (count : ℕ). All (λ n. n < count) (numbers ++ number ∷ []))
+        (sym (length-set flags number true))
+        (All-push (λ n. n < length flags) numbers number held.below below);
     distinct = IsDistinct-push nat_eq_equiv numbers number held.distinct new-number;
     as_many = omega (
       arith,
@@ -67,10 +75,12 @@ module _ (flags : List Bool) (numbers : List ℕ) (number : ℕ) (below : number
 
 -- ---- none
 
-all-unflagged : (flags : List Bool) → AllByRecursion (λ flag. flag ≡ false) flags → sum_by unflagged flags ≡ length flags
+all-unflagged : (flags : List Bool) → AllByRecursion (λ flag. flag ≡ false) flags
+    → sum_by unflagged flags ≡ length flags
 all-unflagged [] none = refl
 all-unflagged (flag ∷ flags) none =
-    let rest : 1 + sum_by unflagged flags ≡ length (flag ∷ flags) = omega (arith, all-unflagged flags none.1) in
+    let rest : 1 + sum_by unflagged flags ≡ length (flag ∷ flags) = omega (arith, all-unflagged flags none.1)
+    in
     sum_by-cons unflagged flag flags ∙ ap (λ n. n + sum_by unflagged flags) (ap unflagged none.0) ∙ rest
 
 no-flag : (flags : List Bool) → All (λ flag. flag ≡ false) flags → (n : ℕ) → get_or flags n false ≡ false
@@ -89,5 +99,6 @@ flagged-none flags none = record {
 }
 
 -- there are no more of them than flags
-pub flagged-fit : (flags : List Bool) (numbers : List ℕ) → AreFlagged flags numbers → length numbers ≤ length flags
+pub flagged-fit : (flags : List Bool) (numbers : List ℕ) → AreFlagged flags numbers
+    → length numbers ≤ length flags
 flagged-fit flags numbers held = omega (arith, held.as_many)

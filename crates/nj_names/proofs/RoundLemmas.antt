@@ -1,5 +1,7 @@
 -- Lemmas on sets of numbers that are emptied at once.
-use Rattle.std.proofs.Common.{◌≡◌, ◌≢◌, ◌<◌, ◌≤◌, ◌+◌, ◌==◌, ◌||◌, ◌⊎◌, inl, inr, ℕ, Bool, true, false, cond, List, [], ◌∷◌, ◌++◌, length, get_or, set, nat_eq, refl, sym, ap, subst, ◌∙◌, arith}
+use Rattle.std.proofs.Common.{◌≡◌, ◌≢◌, ◌<◌, ◌≤◌, ◌+◌, ◌==◌, ◌||◌, ◌⊎◌, inl, inr, ℕ, Bool, true, false, cond}
+use Rattle.std.proofs.Common.{List, [], ◌∷◌, ◌++◌, length, get_or, set, nat_eq, refl, sym, ap, subst, ◌∙◌}
+use Rattle.std.proofs.Common.{arith}
 use Rattle.std.specs.Prelude.{sum_by}
 use Rattle.std.specs.List.{All, AllByRecursion, IsDistinct}
 use Rattle.std.proofs.lemmas.Bool.Decides.{Decides-eqb, eqb_tells}
@@ -34,30 +36,48 @@ counted b c same = ap count same
 
 -- ---- one more number
 
-module _ (marks : List ℕ) (round : ℕ) (numbers : List ℕ) (number : ℕ) (below : number < length marks) (held : AreMarked marks round numbers) (unset : nat_eq (get_or marks number 0) round ≡ false) where
-  tells : (n : ℕ) → n < length (set marks number round) → nat_eq (get_or (set marks number round) n 0) round ≡ has (numbers ++ number ∷ []) n
+module _ (marks : List ℕ) (round : ℕ) (numbers : List ℕ) (number : ℕ) (below : number < length marks)
+    (held : AreMarked marks round numbers) (unset : nat_eq (get_or marks number 0) round ≡ false) where
+  tells : (n : ℕ) → n < length (set marks number round)
+      → nat_eq (get_or (set marks number round) n 0) round ≡ has (numbers ++ number ∷ []) n
   tells n within = by (eqb_tells n number)
     where
-      by : ((n == number) ≡ true × (n ≡ number)) ⊎ ((n == number) ≡ false × (n ≢ number)) → nat_eq (get_or (set marks number round) n 0) round ≡ has (numbers ++ number ∷ []) n
+      by : ((n == number) ≡ true × (n ≡ number)) ⊎ ((n == number) ≡ false × (n ≢ number))
+          → nat_eq (get_or (set marks number round) n 0) round ≡ has (numbers ++ number ∷ []) n
       by (inl same) =
-          same-eqb (get_or (set marks number round) n 0) round (ap (λ k. get_or (set marks number round) k 0) same.1 ∙ get_or-set_same marks number round 0 below)
+          same-eqb (get_or (set marks number round) n 0) round
+          (ap (λ k. get_or (set marks number round) k 0) same.1
+          ∙ get_or-set_same marks number round 0 below)
           ∙ sym (has-push numbers number n ∙ ap (λ b. has numbers n || b) same.0 ∙ or-true (has numbers n))
       by (inr apart) =
-          ap (λ m. nat_eq m round) (get_or-set_other marks number n round 0 apart.1) ∙ held.tell n (omega (arith, within, length-set marks number round))
+          ap (λ m. nat_eq m round) (get_or-set_other marks number n round 0 apart.1)
+          ∙ held.tell n (omega (arith, within, length-set marks number round))
           ∙ sym (has-push numbers number n ∙ ap (λ b. has numbers n || b) apart.0 ∙ or-false (has numbers n))
 
   not-later : (n : ℕ) → n < length (set marks number round) → get_or (set marks number round) n 0 ≤ round
   not-later n within = by (eqb_tells n number)
     where
-      by : ((n == number) ≡ true × (n ≡ number)) ⊎ ((n == number) ≡ false × (n ≢ number)) → get_or (set marks number round) n 0 ≤ round
-      by (inl same) = omega (arith, ap (λ k. get_or (set marks number round) k 0) same.1, get_or-set_same marks number round 0 below)
-      by (inr apart) = omega (arith, get_or-set_other marks number n round 0 apart.1, held.earlier n (omega (arith, within, length-set marks number round)))
+      by : ((n == number) ≡ true × (n ≡ number)) ⊎ ((n == number) ≡ false × (n ≢ number))
+          → get_or (set marks number round) n 0 ≤ round
+      by (inl same) = omega (
+        arith,
+        ap (λ k. get_or (set marks number round) k 0) same.1,
+        get_or-set_same marks number round 0 below,
+      )
+      by (inr apart) = omega (
+        arith,
+        get_or-set_other marks number n round 0 apart.1,
+        held.earlier n (omega (arith, within, length-set marks number round)),
+      )
 
   pub marked-push : AreMarked (set marks number round) round (numbers ++ number ∷ [])
   marked-push = record {
     tell = tells;
-    below = subst (λ (count : ℕ). All (λ n. n < count) (numbers ++ number ∷ [])) (sym (length-set marks number round)) (All-push (λ n. n < length marks) numbers number held.below below);
-    distinct = IsDistinct-push nat_eq_equiv numbers number held.distinct (sym (held.tell number below) ∙ unset);
+    below = subst (λ (count : ℕ). All (λ n. n < count) (numbers ++ number ∷ []))
+        (sym (length-set marks number round))
+        (All-push (λ n. n < length marks) numbers number held.below below);
+    distinct = IsDistinct-push nat_eq_equiv numbers number held.distinct
+        (sym (held.tell number below) ∙ unset);
     earlier = not-later;
     as_many = omega (
       arith,
@@ -72,11 +92,13 @@ module _ (marks : List ℕ) (round : ℕ) (numbers : List ℕ) (number : ℕ) (b
 
 -- ---- none
 
-all-unmarked : (round : ℕ) (marks : List ℕ) → AllByRecursion (λ mark. mark < round) marks → sum_by (unmarked round) marks ≡ length marks
+all-unmarked : (round : ℕ) (marks : List ℕ) → AllByRecursion (λ mark. mark < round) marks
+    → sum_by (unmarked round) marks ≡ length marks
 all-unmarked round [] none = refl
 all-unmarked round (mark ∷ marks) none =
     let first = counted (nat_eq mark round) false (apart-eqb mark round (λ is. omega (arith, none.0, is))) in
-    let rest : 1 + sum_by (unmarked round) marks ≡ length (mark ∷ marks) = omega (arith, all-unmarked round marks none.1) in
+    let rest : 1 + sum_by (unmarked round) marks ≡ length (mark ∷ marks) =
+    omega (arith, all-unmarked round marks none.1) in
     sum_by-cons (unmarked round) mark marks ∙ ap (λ n. n + sum_by (unmarked round) marks) first ∙ rest
 
 pub marked-none : (round : ℕ) (marks : List ℕ) → All (λ mark. mark < round) marks → AreMarked marks round []
@@ -90,5 +112,7 @@ marked-none round marks before = record {
 }
 
 -- the next round
-pub marked-next : (round : ℕ) (marks numbers : List ℕ) → AreMarked marks round numbers → AreMarked marks (round + 1) []
-marked-next round marks numbers held = marked-none (round + 1) marks (λ n d within. omega (arith, held.earlier n within, get_or_default marks n d 0 within))
+pub marked-next : (round : ℕ) (marks numbers : List ℕ) → AreMarked marks round numbers
+    → AreMarked marks (round + 1) []
+marked-next round marks numbers held = marked-none (round + 1) marks
+    (λ n d within. omega (arith, held.earlier n within, get_or_default marks n d 0 within))

@@ -22,14 +22,17 @@ module _ (makers : ℕ → List (Option ℕ)) (count : ℕ) (within : (e f : ℕ
   inputs-within None e c = absurd (omega (arith, c.1))
   inputs-within (Some m) e c = within m e c
 
-  pub edge_at-below : (row : List (Option ℕ)) → AreWithin row count → (mark : List ℕ) (e : ℕ) → edge_at makers row mark ≡ Some e → e < count
+  pub edge_at-below : (row : List (Option ℕ)) → AreWithin row count → (mark : List ℕ) (e : ℕ)
+      → edge_at makers row mark ≡ Some e → e < count
   edge_at-below row inside [] e is = absurd cc
   edge_at-below row inside (p ∷ []) e is = inside e (Contains-from_Among row e (Among-at row p e is))
   edge_at-below row inside (p ∷ q ∷ mark) e is =
-      edge_at-below (made_by makers (slice_index_or row p None)) (inputs-within (slice_index_or row p None)) (q ∷ mark) e is
+      edge_at-below (made_by makers (slice_index_or row p None)) (inputs-within (slice_index_or row p None))
+      (q ∷ mark) e is
 
 -- the edge of a first place
-pub first-below : (g : EdgeGraph) (targets : List FileNo) (mark : List ℕ) (e : ℕ) → IsAcyclic (makers_of g) (count_of g) → AreWithin (row_of g targets) (count_of g)
+pub first-below : (g : EdgeGraph) (targets : List FileNo) (mark : List ℕ) (e : ℕ)
+    → IsAcyclic (makers_of g) (count_of g) → AreWithin (row_of g targets) (count_of g)
     → IsFirstPlaceOf g targets mark e → e < count_of g
 first-below g targets mark e acyclic inside first =
     edge_at-below (makers_of g) (count_of g) acyclic.1.within (row_of g targets) inside mark e first.0

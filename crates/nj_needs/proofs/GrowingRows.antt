@@ -58,7 +58,8 @@ mutual-two_rounds = refl
 
 -- `build t: mk p`; `build p: phony |@ s v`; `build v: mk`
 abbrev by_phony : List EdgePaths
-by_phony = build (t ∷ []) (p ∷ []) [] false ∷ build (p ∷ []) [] (s ∷ v ∷ []) true ∷ build (v ∷ []) [] [] false ∷ []
+by_phony = build (t ∷ []) (p ∷ []) [] false ∷ build (p ∷ []) [] (s ∷ v ∷ []) true ∷ build (v ∷ []) [] [] false
+    ∷ []
 
 by_phony-t : grown_targets by_phony (t ∷ []) ≡ t ∷ s ∷ v ∷ []
 by_phony-t = refl

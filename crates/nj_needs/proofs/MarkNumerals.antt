@@ -1,12 +1,15 @@
 -- Numbers without leading zeros.
-use Rattle.std.proofs.Common.{◌≡◌, ◌≢◌, ℕ, zero, suc, ◌^◌, ◌<◌, Bool, true, false, not, eqb, leb, Some, None, Ok, Err, List, [], ◌∷◌, ◌++◌, length, get_or, refl, sym, ap, ◌∙◌, subst, arith}
+use Rattle.std.proofs.Common.{◌≡◌, ◌≢◌, ℕ, zero, suc, ◌^◌, ◌<◌, Bool, true, false, not, eqb, leb, Some, None}
+use Rattle.std.proofs.Common.{Ok, Err, List, [], ◌∷◌, ◌++◌, length, get_or, refl, sym, ap, ◌∙◌, subst, arith}
 use Rattle.std.specs.Prelude.{◌&&◌, decimal, codes}
 use Rattle.std.specs.Char.{is_ascii_digit}
 use Rattle.std.specs.Str.{all_ascii_digits}
 use Rattle.std.specs.Str.Parse.{digits_value, ParsesUnsigned}
 use Rattle.std.proofs.lemmas.Bool.Decides.{nat_tests}
-use Rattle.std.proofs.lemmas.Str.Parse.{IsNumeralModel, numerals_by_value, tells_all_ascii_digits, parse_plain}
-use Rattle.std.proofs.lemmas.Fmt.{digits_decimal, digits_value-decimal, decimal-digits_value, decimal_nonempty, first_decimal}
+use Rattle.std.proofs.lemmas.Str.Parse.{IsNumeralModel, numerals_by_value, tells_all_ascii_digits}
+use Rattle.std.proofs.lemmas.Str.Parse.{parse_plain}
+use Rattle.std.proofs.lemmas.Fmt.{digits_decimal, digits_value-decimal, decimal-digits_value}
+use Rattle.std.proofs.lemmas.Fmt.{decimal_nonempty, first_decimal}
 use Rattle.std.specs.List.{list_any}
 use Rattle.std.specs.Fmt.{digits}
 use Rattle.nj_needs.specs.MarkTexts.{is_numeral, number_of}
@@ -26,7 +29,8 @@ and_of s t a b = rw (a, b) refl
 numeral_of : (bs : List ℕ) → has_plain_front bs ≡ true → all_ascii_digits bs ≡ true → is_numeral bs ≡ true
 numeral_of [] f h = f
 numeral_of (d ∷ []) f h = (and_true (is_ascii_digit d) true h).0
-numeral_of (d ∷ e ∷ ds) f h = and_of (not (eqb d 48)) (all_ascii_digits (d ∷ e ∷ ds)) (and_true (not (eqb d 43)) (not (eqb d 48)) f).1 h
+numeral_of (d ∷ e ∷ ds) f h = and_of (not (eqb d 48)) (all_ascii_digits (d ∷ e ∷ ds))
+    (and_true (not (eqb d 43)) (not (eqb d 48)) f).1 h
 
 numeral_digits : (bs : List ℕ) → is_numeral bs ≡ true → (all_ascii_digits bs ≡ true) × (0 < length bs)
 numeral_digits [] h = absurd (cc)
@@ -39,9 +43,11 @@ numeral_front [] h = h
 numeral_front (d ∷ []) h = by_test (eqb d 43) refl
   where
     by_test : (t : Bool) → eqb d 43 ≡ t → not t ≡ true
-    by_test true e = let p : d ≡ 43 = grind (arith, nat_tests, e) in absurd (let x : is_ascii_digit 43 ≡ true = ap is_ascii_digit (sym p) ∙ h in cc)
+    by_test true e = let p : d ≡ 43 = grind (arith, nat_tests, e)
+        in absurd (let x : is_ascii_digit 43 ≡ true = ap is_ascii_digit (sym p) ∙ h in cc)
     by_test false e = refl
-numeral_front (d ∷ e ∷ ds) h = and_of (not (eqb d 43)) (not (eqb d 48)) (by_test (eqb d 43) refl) (and_true (not (eqb d 48)) (all_ascii_digits (d ∷ e ∷ ds)) h).0
+numeral_front (d ∷ e ∷ ds) h = and_of (not (eqb d 43)) (not (eqb d 48)) (by_test (eqb d 43) refl)
+    (and_true (not (eqb d 48)) (all_ascii_digits (d ∷ e ∷ ds)) h).0
   where
     by_test : (t : Bool) → eqb d 43 ≡ t → not t ≡ true
     by_test true p =
@@ -53,13 +59,16 @@ numeral_front (d ∷ e ∷ ds) h = and_of (not (eqb d 43)) (not (eqb d 48)) (by_
 
 -- ---- the number
 
-number-some : (bs : List ℕ) → is_numeral bs ≡ true → digits_value 10 bs < 2 ^ 64 → number_of bs ≡ Some (digits_value 10 bs)
-number-some bs h l = let e : leb (digits_value 10 bs) 18446744073709551615 ≡ true = grind (arith, nat_tests) in rw (h, e) refl
+number-some : (bs : List ℕ) → is_numeral bs ≡ true → digits_value 10 bs < 2 ^ 64
+    → number_of bs ≡ Some (digits_value 10 bs)
+number-some bs h l = let e : leb (digits_value 10 bs) 18446744073709551615 ≡ true = grind (arith, nat_tests)
+    in rw (h, e) refl
 
 number-none : (bs : List ℕ) → (is_numeral bs ≡ true → digits_value 10 bs < 2 ^ 64 → ⊥) → number_of bs ≡ None
 number-none bs h = by_tests (is_numeral bs) (leb (digits_value 10 bs) 18446744073709551615) refl refl
   where
-    by_tests : (s t : Bool) → is_numeral bs ≡ s → leb (digits_value 10 bs) 18446744073709551615 ≡ t → number_of bs ≡ None
+    by_tests : (s t : Bool) → is_numeral bs ≡ s → leb (digits_value 10 bs) 18446744073709551615 ≡ t
+        → number_of bs ≡ None
     by_tests false t a b = rw a refl
     by_tests true false a b = rw (a, b) refl
     by_tests true true a b = absurd (h a (grind (arith, nat_tests, b)))
@@ -67,18 +76,21 @@ number-none bs h = by_tests (is_numeral bs) (leb (digits_value 10 bs) 1844674407
 no_plus : (bs : List ℕ) → has_plain_front bs ≡ true → get_or bs 0 0 ≢ 43
 no_plus [] f = absurd (cc)
 no_plus (d ∷ []) f = λ e. let x : not (eqb 43 43) ≡ true = ap (λ b. not (eqb b 43)) (sym e) ∙ f in cc
-no_plus (d ∷ e ∷ ds) f = λ p. let x : not (eqb 43 43) ≡ true = ap (λ b. not (eqb b 43)) (sym p) ∙ (and_true (not (eqb d 43)) (not (eqb d 48)) f).0 in cc
+no_plus (d ∷ e ∷ ds) f = λ p. let x : not (eqb 43 43) ≡ true =
+    ap (λ b. not (eqb b 43)) (sym p) ∙ (and_true (not (eqb d 43)) (not (eqb d 48)) f).0 in cc
 
 pub number-no_front : (bs : List ℕ) → has_plain_front bs ≡ false → number_of bs ≡ None
 number-no_front bs f = number-none bs (λ h l. let x = numeral_front bs h in cc)
 
 -- the result of `parse` for a part with a plain front; the error does not matter
-pub number-parsed : (bs : List ℕ) (x : ℕ) → ParsesUnsigned {E = ℕ} 64 10 bs (Ok x) → has_plain_front bs ≡ true → number_of bs ≡ Some x
+pub number-parsed : (bs : List ℕ) (x : ℕ) → ParsesUnsigned {E = ℕ} 64 10 bs (Ok x) → has_plain_front bs ≡ true
+    → number_of bs ≡ Some x
 number-parsed bs x p f =
     let meant = parse_plain own {E = ℕ} 64 bs (Ok x) p (no_plus bs f) in
     number-some bs (numeral_of bs f meant.0.0) meant.0.2 ∙ ap Some (sym meant.1)
 
-pub number-not_parsed : (bs : List ℕ) → ParsesUnsigned {E = ℕ} 64 10 bs (Err 0) → has_plain_front bs ≡ true → number_of bs ≡ None
+pub number-not_parsed : (bs : List ℕ) → ParsesUnsigned {E = ℕ} 64 10 bs (Err 0) → has_plain_front bs ≡ true
+    → number_of bs ≡ None
 number-not_parsed bs p f =
     let meant = parse_plain own {E = ℕ} 64 bs (Err 0) p (no_plus bs f) in
     number-none bs (λ h l. let d = numeral_digits bs h in meant (d.0, d.1, l))
@@ -93,24 +105,30 @@ number-written bs n e = by_tests (is_numeral bs) (leb (digits_value 10 bs) 18446
     first [] h z = absurd (cc)
     first (d ∷ []) h z = refl
     first (d ∷ c ∷ ds) h z =
-        let no_zero : not (eqb d 48) ≡ true = (and_true (not (eqb d 48)) (all_ascii_digits (d ∷ c ∷ ds)) h).0 in
+        let no_zero : not (eqb d 48) ≡ true = (and_true (not (eqb d 48)) (all_ascii_digits (d ∷ c ∷ ds)) h).0
+        in
         let x : not (eqb 48 48) ≡ true = ap (λ b. not (eqb b 48)) (sym z) ∙ no_zero in absurd (cc)
 
-    by_tests : (s t : Bool) → is_numeral bs ≡ s → leb (digits_value 10 bs) 18446744073709551615 ≡ t → (decimal n ≡ bs) × (n < 2 ^ 64)
+    by_tests : (s t : Bool) → is_numeral bs ≡ s → leb (digits_value 10 bs) 18446744073709551615 ≡ t
+        → (decimal n ≡ bs) × (n < 2 ^ 64)
     by_tests false t a b = let x : number_of bs ≡ None = rw a refl in absurd (cc)
     by_tests true false a b = let x : number_of bs ≡ None = rw (a, b) refl in absurd (cc)
     by_tests true true a b =
         let x : number_of bs ≡ Some (digits_value 10 bs) = rw (a, b) refl in
         let same : digits_value 10 bs ≡ n = cc in
         let small : digits_value 10 bs < 2 ^ 64 = grind (arith, nat_tests, b) in
-        let digits = numeral_digits bs a in
-        (ap decimal (sym same) ∙ decimal-digits_value own bs digits.0 digits.1 (first bs a) small, subst (λ k. k < 2 ^ 64) same small)
+        let digits = numeral_digits bs a in (
+          ap decimal (sym same) ∙ decimal-digits_value own bs digits.0 digits.1 (first bs a) small,
+          subst (λ k. k < 2 ^ 64) same small,
+        )
 
 -- digits that do not begin with a zero are a numeral
-numeral_digits_of : (bs : List ℕ) → all_ascii_digits bs ≡ true → 0 < length bs → (48 < get_or bs 0 0) → is_numeral bs ≡ true
+numeral_digits_of : (bs : List ℕ) → all_ascii_digits bs ≡ true → 0 < length bs → (48 < get_or bs 0 0)
+    → is_numeral bs ≡ true
 numeral_digits_of [] h l f = absurd (omega arith)
 numeral_digits_of (d ∷ []) h l f = (and_true (is_ascii_digit d) true h).0
-numeral_digits_of (d ∷ c ∷ ds) h l f = let e : eqb d 48 ≡ false = grind (arith, nat_tests) in and_of (not (eqb d 48)) (all_ascii_digits (d ∷ c ∷ ds)) (ap not e) h
+numeral_digits_of (d ∷ c ∷ ds) h l f = let e : eqb d 48 ≡ false = grind (arith, nat_tests)
+    in and_of (not (eqb d 48)) (all_ascii_digits (d ∷ c ∷ ds)) (ap not e) h
 
 decimal_zero : is_numeral (decimal 0) ≡ true
 unfolding digits
@@ -118,7 +136,8 @@ decimal_zero = refl
 
 pub numeral-decimal : (n : ℕ) → n < 2 ^ 64 → is_numeral (decimal n) ≡ true
 numeral-decimal zero h = decimal_zero
-numeral-decimal (suc n) h = numeral_digits_of (decimal (suc n)) (digits_decimal own (suc n) h) (decimal_nonempty (suc n) h) (first_decimal (suc n) (omega arith) h)
+numeral-decimal (suc n) h = numeral_digits_of (decimal (suc n)) (digits_decimal own (suc n) h)
+    (decimal_nonempty (suc n) h) (first_decimal (suc n) (omega arith) h)
 
 -- the written form of a number writes that number
 pub number-decimal : (n : ℕ) → n < 2 ^ 64 → number_of (decimal n) ≡ Some n
@@ -134,7 +153,8 @@ plain-digits (d ∷ ds) h =
     rw (no_dot (eqb d 46) refl both.0) (plain-digits ds both.1)
   where
     no_dot : (t : Bool) → eqb d 46 ≡ t → is_ascii_digit d ≡ true → eqb d 46 ≡ false
-    no_dot true e f = let p : d ≡ 46 = grind (arith, nat_tests, e) in absurd (let x : is_ascii_digit 46 ≡ true = ap is_ascii_digit (sym p) ∙ f in cc)
+    no_dot true e f = let p : d ≡ 46 = grind (arith, nat_tests, e)
+        in absurd (let x : is_ascii_digit 46 ≡ true = ap is_ascii_digit (sym p) ∙ f in cc)
     no_dot false e f = e
 
 pub no_dot-decimal : (n : ℕ) → n < 2 ^ 64 → list_any is_dot (decimal n) ≡ false
@@ -146,4 +166,5 @@ not_start [] more h e = cc
 not_start (d ∷ ds) more h e =
     let p : d ≡ 115 = cc in
     let all = (numeral_digits (d ∷ ds) h).0 in
-    let x : is_ascii_digit 115 ≡ true = ap is_ascii_digit (sym p) ∙ (and_true (is_ascii_digit d) (all_ascii_digits ds) all).0 in cc
+    let x : is_ascii_digit 115 ≡ true = ap is_ascii_digit (sym p)
+    ∙ (and_true (is_ascii_digit d) (all_ascii_digits ds) all).0 in cc

@@ -1,5 +1,6 @@
 -- Lists of edges as sets, and the makers in a row.
-use Rattle.std.proofs.Common.{◌≡◌, ℕ, zero, suc, ◌<◌, get_or, take, Bool, true, false, Option, Some, List, [], ◌∷◌, ◌++◌, length, refl, sym, ◌∙◌, ◌⊎◌, inl, inr, arith}
+use Rattle.std.proofs.Common.{◌≡◌, ℕ, zero, suc, ◌<◌, get_or, take, Bool, true, false, Option, Some, List, []}
+use Rattle.std.proofs.Common.{◌∷◌, ◌++◌, length, refl, sym, ◌∙◌, ◌⊎◌, inl, inr, arith}
 use Rattle.std.specs.Prelude.{nat_eq, Contains, slice_get}
 use Rattle.std.specs.List.{list_any}
 use Rattle.std.specs.Cmp.{nat_eq_equiv}
@@ -19,10 +20,12 @@ pub Contains-from_In : (xs : List ℕ) (x : ℕ) → In xs x → Contains xs x
 Contains-from_In xs x h = Contains-from_any (λ a b e. eqb-true a b e) x xs h
 
 pub In-append_left : (xs ys : List ℕ) (x : ℕ) → In xs x → In (xs ++ ys) x
-In-append_left xs ys x h = list_any-append (nat_eq x) xs ys ∙ or_left (list_any (nat_eq x) xs) (list_any (nat_eq x) ys) h
+In-append_left xs ys x h = list_any-append (nat_eq x) xs ys
+    ∙ or_left (list_any (nat_eq x) xs) (list_any (nat_eq x) ys) h
 
 pub In-append_right : (xs ys : List ℕ) (x : ℕ) → In ys x → In (xs ++ ys) x
-In-append_right xs ys x h = list_any-append (nat_eq x) xs ys ∙ or_right (list_any (nat_eq x) xs) (list_any (nat_eq x) ys) h
+In-append_right xs ys x h = list_any-append (nat_eq x) xs ys
+    ∙ or_right (list_any (nat_eq x) xs) (list_any (nat_eq x) ys) h
 
 pub In-head : (x : ℕ) (xs : List ℕ) → In (x ∷ xs) x
 In-head x xs = or_left (nat_eq x x) (list_any (nat_eq x) xs) (eq-eqb x x refl)
@@ -31,10 +34,12 @@ pub In-tail : (y : ℕ) (xs : List ℕ) (x : ℕ) → In xs x → In (y ∷ xs) 
 In-tail y xs x h = or_right (nat_eq x y) (list_any (nat_eq x) xs) h
 
 pub In-cons_cases : (y : ℕ) (xs : List ℕ) (x : ℕ) → In (y ∷ xs) x → (x ≡ y) ⊎ In xs x
-In-cons_cases y xs x h = elim (or_cases (nat_eq x y) (list_any (nat_eq x) xs) h) [ inl e ↦ inl (eqb-true x y e) | inr i ↦ inr i ]
+In-cons_cases y xs x h = elim (or_cases (nat_eq x y) (list_any (nat_eq x) xs) h)
+    [ inl e ↦ inl (eqb-true x y e) | inr i ↦ inr i ]
 
 pub In-append_cases : (xs ys : List ℕ) (x : ℕ) → In (xs ++ ys) x → In xs x ⊎ In ys x
-In-append_cases xs ys x h = or_cases (list_any (nat_eq x) xs) (list_any (nat_eq x) ys) (sym (list_any-append (nat_eq x) xs ys) ∙ h)
+In-append_cases xs ys x h = or_cases (list_any (nat_eq x) xs) (list_any (nat_eq x) ys)
+    (sym (list_any-append (nat_eq x) xs ys) ∙ h)
 
 pub In-single : (y x : ℕ) → In (y ∷ []) x → x ≡ y
 In-single y x i = elim (In-cons_cases y [] x i) [ inl e ↦ e | inr t ↦ absurd cc ]
@@ -66,7 +71,8 @@ Among-get (x ∷ row) (suc p) m h = inr (Among-get row p m h)
 pub Contains-from_Among : (row : List (Option ℕ)) (m : ℕ) → Among row m → Contains row (Some m)
 Contains-from_Among [] m h = absurd h
 Contains-from_Among (x ∷ row) m (inl is) = (0, omega arith, is)
-Contains-from_Among (x ∷ row) m (inr h) = Contains-append_right (x ∷ []) row (Some m) (Contains-from_Among row m h)
+Contains-from_Among (x ∷ row) m (inr h) =
+    Contains-append_right (x ∷ []) row (Some m) (Contains-from_Among row m h)
 
 among_at : (row : List (Option ℕ)) (k m : ℕ) → k < length row → get_or row k (Some m) ≡ Some m → Among row m
 among_at [] k m lt at = absurd (omega (arith, lt))

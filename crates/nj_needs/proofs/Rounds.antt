@@ -1,5 +1,7 @@
--- Rounds of validations: each list begins with the one before, and after as many rounds as there are edges it stays.
-use Rattle.std.proofs.Common.{◌≡◌, ℕ, zero, suc, ◌+◌, ◌<◌, ◌≤◌, Option, List, [], ◌∷◌, ◌++◌, length, map, refl, sym, ap, subst, ◌∙◌, ◌⊎◌, inl, inr, arith, length-append}
+-- Rounds of validations: each list begins with the one before, and after as many rounds as there are edges it
+-- stays.
+use Rattle.std.proofs.Common.{◌≡◌, ℕ, zero, suc, ◌+◌, ◌<◌, ◌≤◌, Option, List, [], ◌∷◌, ◌++◌, length, map}
+use Rattle.std.proofs.Common.{refl, sym, ap, subst, ◌∙◌, ◌⊎◌, inl, inr, arith, length-append}
 use Rattle.std.specs.List.{flat_map}
 use Rattle.std.proofs.lemmas.Bool.{cases_lt}
 use Rattle.std.proofs.lemmas.List.{append-nil}
@@ -7,7 +9,8 @@ use Rattle.nj_needs.specs.Order.{order, made_by, unfolded, unfolded_row}
 use Rattle.nj_needs.proofs.Fronts.{IsFront, front-append, front-map, front-flat_map, front-first}
 
 -- X is the type of files, `maker` the edge that makes one, and `checks` are the validations of an edge
-module _ (X : Type 0) (makers : ℕ → List (Option ℕ)) (count : ℕ) (maker : X → Option ℕ) (checks : ℕ → List X) (targets : List X) where
+module _ (X : Type 0) (makers : ℕ → List (Option ℕ)) (count : ℕ) (maker : X → Option ℕ) (checks : ℕ → List X)
+    (targets : List X) where
   abbrev pub order_of : List X → List ℕ
   order_of files = order makers count (map maker files)
 
@@ -18,12 +21,14 @@ module _ (X : Type 0) (makers : ℕ → List (Option ℕ)) (count : ℕ) (maker 
   next_round files = with_checks (order_of files)
 
   pub front-checks : (es fs : List ℕ) → IsFront es fs → IsFront (with_checks es) (with_checks fs)
-  front-checks es fs h = front-append targets (flat_map checks es) (flat_map checks fs) (front-flat_map checks es fs h)
+  front-checks es fs h = front-append targets (flat_map checks es) (flat_map checks fs)
+      (front-flat_map checks es fs h)
 
   pub front-order : (xs ys : List X) → IsFront xs ys → IsFront (order_of xs) (order_of ys)
   front-order xs ys h =
       front-first (unfolded_row makers count (map maker xs)) (unfolded_row makers count (map maker ys))
-      (front-flat_map (made_by (unfolded makers count)) (map maker xs) (map maker ys) (front-map maker xs ys h))
+      (front-flat_map (made_by (unfolded makers count)) (map maker xs) (map maker ys)
+      (front-map maker xs ys h))
 
   pub front-round : (xs ys : List X) → IsFront xs ys → IsFront (next_round xs) (next_round ys)
   front-round xs ys h = front-checks (order_of xs) (order_of ys) (front-order xs ys h)
@@ -32,13 +37,21 @@ module _ (X : Type 0) (makers : ℕ → List (Option ℕ)) (count : ℕ) (maker 
   module _ (R : ℕ → List X) (start : R 0 ≡ targets) (next : (n : ℕ) → R (suc n) ≡ next_round (R n)) where
     -- any list that a round leaves unchanged begins with each of them
     pub front-fixed : (files : List X) → files ≡ next_round files → (n : ℕ) → IsFront (R n) files
-    front-fixed files fixed zero = (flat_map checks (order_of files), fixed ∙ ap (λ (ts : List X). ts ++ flat_map checks (order_of files)) (sym start))
+    front-fixed files fixed zero = (
+      flat_map checks (order_of files),
+      fixed
+          ∙ ap (λ (ts : List X). ts ++ flat_map checks (order_of files)) (sym start),
+    )
     front-fixed files fixed (suc n) =
         let r = front-round (R n) files (front-fixed files fixed n) in
         (r.0, fixed ∙ r.1 ∙ ap (λ (ts : List X). ts ++ r.0) (sym (next n)))
 
     pub front-more : (n : ℕ) → IsFront (R n) (R (suc n))
-    front-more zero = (flat_map checks (order_of (R 0)), next 0 ∙ ap (λ (ts : List X). ts ++ flat_map checks (order_of (R 0))) (sym start))
+    front-more zero = (
+      flat_map checks (order_of (R 0)),
+      next 0
+          ∙ ap (λ (ts : List X). ts ++ flat_map checks (order_of (R 0))) (sym start),
+    )
     front-more (suc n) =
         let r = front-round (R n) (R (suc n)) (front-more n) in
         (r.0, next (suc n) ∙ r.1 ∙ ap (λ (ts : List X). ts ++ r.0) (sym (next n)))
@@ -61,8 +74,10 @@ module _ (X : Type 0) (makers : ℕ → List (Option ℕ)) (count : ℕ) (maker 
       | inr lt ↦ let r = front-order (R n) (R (suc n)) (front-more n) in by r.0 r.1 lt
     ]
       where
-        by : (more : List ℕ) → order_of (R (suc n)) ≡ order_of (R n) ++ more → n < length (order_of (R n)) → Stays (suc n) ⊎ (suc n < length (order_of (R (suc n))))
-        by [] none lt = inl (next (suc n) ∙ ap with_checks (none ∙ append-nil (order_of (R n))) ∙ sym (next n))
+        by : (more : List ℕ) → order_of (R (suc n)) ≡ order_of (R n) ++ more → n < length (order_of (R n))
+            → Stays (suc n) ⊎ (suc n < length (order_of (R (suc n))))
+        by [] none lt = inl (next (suc n) ∙ ap with_checks (none ∙ append-nil (order_of (R n)))
+            ∙ sym (next n))
         by (e ∷ es) some lt = inr (omega (arith, lt, ap length some, length-append (order_of (R n)) (e ∷ es)))
 
     module _ (short : (n : ℕ) → length (order_of (R n)) ≤ count) where

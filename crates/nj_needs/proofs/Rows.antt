@@ -55,7 +55,8 @@ not_1 = refl
 
 -- a run of two edges, then one of one
 two-one : ArePages diamond 4 none_phony last [] (2 ∷ 1 ∷ []) ((0 ∷ 1 ∷ []) ∷ (2 ∷ []) ∷ []) (3 ∷ [])
-two-one = stops 2 (3 ∷ []) (0 ∷ 0 ∷ []) refl refl (refl, (0 ∷ [], refl, refl)) (stops 3 [] (0 ∷ 1 ∷ []) refl refl (refl, (0 ∷ 1 ∷ 0 ∷ [], refl, refl)) (no_runs refl))
+two-one = stops 2 (3 ∷ []) (0 ∷ 0 ∷ []) refl refl (refl, (0 ∷ [], refl, refl))
+    (stops 3 [] (0 ∷ 1 ∷ []) refl refl (refl, (0 ∷ 1 ∷ 0 ∷ [], refl, refl)) (no_runs refl))
 
 -- and one that ends, though it would take three
 two-all : ArePages diamond 4 none_phony last [] (2 ∷ 3 ∷ []) ((0 ∷ 1 ∷ []) ∷ (2 ∷ 3 ∷ []) ∷ []) []
@@ -63,7 +64,8 @@ two-all = stops 2 (3 ∷ []) (0 ∷ 0 ∷ []) refl refl (refl, (0 ∷ [], refl, 
 
 -- `a`; `c: a`; `b1: c`; `b2: c a`; `d: b1 b2`
 abbrev five : ℕ → List (Option ℕ)
-five e = slice_index_or (([]) ∷ (Some 0 ∷ []) ∷ (Some 1 ∷ []) ∷ (Some 1 ∷ Some 0 ∷ []) ∷ (Some 2 ∷ Some 3 ∷ []) ∷ []) e []
+five e = slice_index_or (([]) ∷ (Some 0 ∷ []) ∷ (Some 1 ∷ []) ∷ (Some 1 ∷ Some 0 ∷ []) ∷
+    (Some 2 ∷ Some 3 ∷ []) ∷ []) e []
 
 five-order : order five 5 (Some 4 ∷ []) ≡ 0 ∷ 1 ∷ 2 ∷ 3 ∷ 4 ∷ []
 five-order = refl

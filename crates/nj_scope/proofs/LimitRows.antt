@@ -18,5 +18,6 @@ passed_over = refl
 sign : is_depth (codes "-1") ≡ false
 sign = refl
 
-description : parts_written (Text (codes "CC ") ∷ Name (codes "out") ∷ Text (codes " done") ∷ []) ≡ codes "CC ${out} done"
+description : parts_written (Text (codes "CC ") ∷ Name (codes "out") ∷ Text (codes " done") ∷ [])
+    ≡ codes "CC ${out} done"
 description = refl

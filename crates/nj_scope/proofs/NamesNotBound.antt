@@ -4,12 +4,17 @@ use Rattle.std.specs.Option.{option_or}
 use Rattle.nj_scope.specs.Scopes.{ScopeModel, first_given, value_in, bound_at}
 use Rattle.nj_scope.specs.Inside.PoolOrDyndep.{is_pool_or_dyndep, BindNeither}
 
-none-given : {X : Type 0} (own : ℕ → Option X) → ((n : ℕ) → own n ≡ None) → (scope : List ℕ) → first_given own scope ≡ None
+none-given : {X : Type 0} (own : ℕ → Option X) → ((n : ℕ) → own n ≡ None) → (scope : List ℕ)
+    → first_given own scope ≡ None
 none-given own none [] = refl
-none-given own none (s ∷ around) = ap (λ o. option_or o (first_given own around)) (none s) ∙ none-given own none around
+none-given own none (s ∷ around) = ap (λ o. option_or o (first_given own around)) (none s)
+    ∙ none-given own none around
 
-pub none-bound : (scopes : List ScopeModel) (scope name : List ℕ) → BindNeither scopes → is_pool_or_dyndep name ≡ true → None ≡ first_given (λ s. bound_at scopes s name) scope
-none-bound scopes scope name neither h = sym (none-given (λ s. bound_at scopes s name) (λ n. neither n name h) scope)
+pub none-bound : (scopes : List ScopeModel) (scope name : List ℕ) → BindNeither scopes
+    → is_pool_or_dyndep name ≡ true → None ≡ first_given (λ s. bound_at scopes s name) scope
+none-bound scopes scope name neither h =
+    sym (none-given (λ s. bound_at scopes s name) (λ n. neither n name h) scope)
 
-pub value-empty : (scopes : List ScopeModel) (scope name : List ℕ) → BindNeither scopes → is_pool_or_dyndep name ≡ true → [] ≡ value_in (bound_at scopes) scope name
+pub value-empty : (scopes : List ScopeModel) (scope name : List ℕ) → BindNeither scopes
+    → is_pool_or_dyndep name ≡ true → [] ≡ value_in (bound_at scopes) scope name
 value-empty scopes scope name neither h = ap (λ o. unwrap_or o []) (none-bound scopes scope name neither h)

@@ -1,5 +1,6 @@
 -- Lemmas on rules and pools.
-use Rattle.std.proofs.Common.{◌≡◌, ℕ, Bool, true, false, ◌||◌, if◌then◌else◌, List, [], ◌∷◌, ◌++◌, map, bytes_eq, refl, sym, ap, ◌∙◌, true≢false, codes}
+use Rattle.std.proofs.Common.{◌≡◌, ℕ, Bool, true, false, ◌||◌, if◌then◌else◌, List, [], ◌∷◌, ◌++◌, map}
+use Rattle.std.proofs.Common.{bytes_eq, refl, sym, ap, ◌∙◌, true≢false, codes}
 use Rattle.std.specs.List.{list_any}
 use Rattle.std.specs.Global.{Vec}
 use Rattle.std.proofs.lemmas.List.{map_push}
@@ -8,20 +9,28 @@ use Rattle.nj_scope.specs.Pools.{is_pool}
 
 -- ---- keys, seen as lists
 
-pub among-text : (keys : List (Vec ℕ)) (name : List ℕ) → list_any (bytes_eq name) (map (λ k. k.items) keys) ≡ list_any (λ k. bytes_eq name k.items) keys
+pub among-text : (keys : List (Vec ℕ)) (name : List ℕ)
+    → list_any (bytes_eq name) (map (λ k. k.items) keys) ≡ list_any (λ k. bytes_eq name k.items) keys
 among-text [] name = refl
 among-text (k ∷ keys) name = ap (λ b. bytes_eq name k.items || b) (among-text keys name)
 
-pub key-pushed : (keys after : List (Vec ℕ)) (k : Vec ℕ) → list_any (λ q. bytes_eq k.items q.items) keys ≡ false → after ≡ insert_key (λ x y. bytes_eq x.items y.items) keys k
+pub key-pushed : (keys after : List (Vec ℕ)) (k : Vec ℕ)
+    → list_any (λ q. bytes_eq k.items q.items) keys ≡ false
+    → after ≡ insert_key (λ x y. bytes_eq x.items y.items) keys k
     → map (λ q. q.items) after ≡ map (λ q. q.items) keys ++ k.items ∷ []
 key-pushed keys after k absent is =
-    ap (map (λ q. q.items)) (is ∙ ap (λ b. if b then keys else keys ++ k ∷ []) absent) ∙ map_push (λ q. q.items) keys k
+    ap (map (λ q. q.items)) (is ∙ ap (λ b. if b then keys else keys ++ k ∷ []) absent)
+    ∙ map_push (λ q. q.items) keys k
 
 pub or_false : (a b : Bool) → (a || b) ≡ false → b ≡ false
 or_false true b h = absurd (true≢false h)
 or_false false b h = h
 
 -- a name of no pool is none of those that were declared
-pub none-declared : (keys : List (Vec ℕ)) (declared : List (List ℕ)) (name key : List ℕ) → map (λ k. k.items) keys ≡ declared → key ≡ name → is_pool declared name ≡ false → list_any (λ k. bytes_eq key k.items) keys ≡ false
+pub none-declared : (keys : List (Vec ℕ)) (declared : List (List ℕ)) (name key : List ℕ)
+    → map (λ k. k.items) keys ≡ declared → key ≡ name → is_pool declared name ≡ false
+    → list_any (λ k. bytes_eq key k.items) keys ≡ false
 none-declared keys declared name key held same none =
-    sym (among-text keys key) ∙ ap (λ ks. list_any (bytes_eq key) ks) held ∙ ap (λ k. list_any (bytes_eq k) declared) same ∙ or_false (bytes_eq name (codes "console")) (list_any (bytes_eq name) declared) none
+    sym (among-text keys key) ∙ ap (λ ks. list_any (bytes_eq key) ks) held
+    ∙ ap (λ k. list_any (bytes_eq k) declared) same
+    ∙ or_false (bytes_eq name (codes "console")) (list_any (bytes_eq name) declared) none

@@ -4,14 +4,16 @@ use Rattle.std.specs.Prelude.{codes, reverse, Option, option_and_then, slice_get
 use Rattle.nj_text.specs.Units.{first_spot}
 use Rattle.nj_text.specs.Words.{PartModel, Text, Name, WordModel}
 use Rattle.nj_manifest.specs.Statements.{BindingModel, RuleModel, PoolModel, DefaultModel, SubninjaModel}
-use Rattle.nj_scope.specs.ReadingList.{ReadStatement, bounds, value_after, rules, rule_in_force, rules_read, pools, scopes_opened, files_opened}
+use Rattle.nj_scope.specs.ReadingList.{ReadStatement, bounds, value_after, rules, rule_in_force, rules_read}
+use Rattle.nj_scope.specs.ReadingList.{pools, scopes_opened, files_opened}
 use Rattle.nj_scope.specs.Pools.{is_pool}
 use Rattle.nj_scope.specs.Rules as kept
 use Rattle.nj_scope.specs.Rules.{phony_rule, rule_names}
 
 -- the rule that is in force under a name
 abbrev rule_text_in_force : List ReadStatement → (scope name : List ℕ) → Option kept.RuleModel
-rule_text_in_force entries scope name = option_and_then (slice_get (rules_read entries)) (rule_in_force entries scope name)
+rule_text_in_force entries scope name =
+    option_and_then (slice_get (rules_read entries)) (rule_in_force entries scope name)
 
 abbrev main : List ℕ
 main = 0 ∷ []
@@ -25,10 +27,30 @@ word parts = record { spot = first_spot; parts = parts }
 
 -- where the statements are; their spots do not matter here
 abbrev at_main : ReadStatement
-at_main = record { file = codes "build.ninja"; spot = first_spot; depth = 0; scope = 0; around = []; item = DefaultModel []; was_joined = false; discovered = None }
+at_main = record {
+  file = codes "build.ninja";
+  spot = first_spot;
+  depth = 0;
+  scope = 0;
+  around = [];
+  item =
+      DefaultModel [];
+  was_joined = false;
+  discovered = None;
+}
 
 abbrev at_child : ReadStatement
-at_child = record { file = codes "s"; spot = first_spot; depth = 1; scope = 1; around = 0 ∷ []; item = DefaultModel []; was_joined = false; discovered = None }
+at_child = record {
+  file = codes "s";
+  spot = first_spot;
+  depth = 1;
+  scope = 1;
+  around = 0 ∷ [];
+  item =
+      DefaultModel [];
+  was_joined = false;
+  discovered = None;
+}
 
 -- x = 1, y = a$x, x = 2: a value expands at once
 abbrev at_once : List ReadStatement

@@ -1,12 +1,18 @@
 -- The state while dyndep files are joined is that of the statements.
-use Rattle.std.proofs.Common.{◌≡◌, ◌⊎◌, inl, inr, ℕ, zero, suc, ◌+◌, ◌-◌, ◌<◌, ◌≤◌, ◌==◌, Bool, true, false, not, if◌then◌else◌, true≢false, ◌≢◌, List, [], ◌∷◌, length, get_or, set, map, slice_get, Option, Some, None, Result, Ok, Err, IsErrAnd, option_map, option_and_then, IfSome, is_some, unwrap_or, find, bytes_eq, refl, sym, ap, subst, ◌∙◌, arith}
+use Rattle.std.proofs.Common.{◌≡◌, ◌⊎◌, inl, inr, ℕ, zero, suc, ◌+◌, ◌-◌, ◌<◌, ◌≤◌, ◌==◌, Bool, true, false}
+use Rattle.std.proofs.Common.{not, if◌then◌else◌, true≢false, ◌≢◌, List, [], ◌∷◌, length, get_or, set, map}
+use Rattle.std.proofs.Common.{slice_get, Option, Some, None, Result, Ok, Err, IsErrAnd, option_map}
+use Rattle.std.proofs.Common.{option_and_then, IfSome, is_some, unwrap_or, find, bytes_eq, refl, sym, ap}
+use Rattle.std.proofs.Common.{subst, ◌∙◌, arith}
 use Rattle.nj_scope.specs.Scopes.{first_given}
 use Rattle.std.specs.Bool.{then_some}
 use Rattle.std.specs.Option.{option_or}
 use Rattle.std.specs.List.{AllByRecursion, IsDistinct, filter}
-use Rattle.std.proofs.lemmas.List.{get_or_read, length-map, length-append, length-set, get_or-set_same, get_or-set_other}
+use Rattle.std.proofs.lemmas.List.{get_or_read, length-map, length-append, length-set, get_or-set_same}
+use Rattle.std.proofs.lemmas.List.{get_or-set_other}
 use Rattle.std.proofs.lemmas.Bool.Decides.{eqb_tells}
-use Rattle.std.proofs.lemmas.Option.{same_Some, slice_get-get_or, slice_get_within, slice_get-map, get_or_from_slice_get}
+use Rattle.std.proofs.lemmas.Option.{same_Some, slice_get-get_or, slice_get_within, slice_get-map}
+use Rattle.std.proofs.lemmas.Option.{get_or_from_slice_get}
 use Rattle.nj_text.specs.Words.{WordModel}
 use Rattle.nj_manifest.specs.Dyndeps.{EntryModel}
 use Rattle.nj_scope.specs.Readings.{IsPrefix}
@@ -23,22 +29,32 @@ use Rattle.nj_faults.specs.declared.fault.Cause.TheVariants.{DyndepExtra, Dyndep
 use Rattle.nj_faults.specs.Faults.{IsFault, fault_at}
 use Rattle.nj_statements.specs.declared.edge_record.Detail.{Detail}
 use Rattle.nj_statements.specs.declared.building.DyndepEdge.{DyndepEdge}
-use Rattle.nj_statements.specs.EdgeList.{Pending, EdgeModel, path_given, edges_read, paths_of_edges, pending_read}
+use Rattle.nj_statements.specs.EdgeList.{Pending, EdgeModel, path_given, edges_read, paths_of_edges}
+use Rattle.nj_statements.specs.EdgeList.{pending_read}
 use Rattle.nj_statements.specs.BuildFaults.{empty_path, outputs_fault}
 use Rattle.nj_statements.specs.Built.{EdgeDetail, detail_at, detail_of}
 use Rattle.nj_statements.specs.Inside.BuiltHeld.{detail_named, pending_named}
-use Rattle.nj_statements.specs.Joining.{no_values, discover, discovered_by, edge_meant, with_entry, pending_on, meaning_fault, entry_fault, no_statement, lacking_fault}
-use Rattle.nj_statements.specs.JoiningHeld.{unless_joined, still_pending, pending_from, left_pending_from, KeepsEdges, JoiningModel, HasJoined, JoinsEntry, JoinsNothing}
-use Rattle.nj_statements.specs.Inside.JoiningSteps.{is_bound_to, count_pending, fault_of_pending, file_named, if_bound, maker_fault, edge_bound, IsMeant, joining_of, JoiningIsHeld, discover_for}
+use Rattle.nj_statements.specs.Joining.{no_values, discover, discovered_by, edge_meant, with_entry}
+use Rattle.nj_statements.specs.Joining.{pending_on, meaning_fault, entry_fault, no_statement, lacking_fault}
+use Rattle.nj_statements.specs.JoiningHeld.{unless_joined, still_pending, pending_from, left_pending_from}
+use Rattle.nj_statements.specs.JoiningHeld.{KeepsEdges, JoiningModel, HasJoined, JoinsEntry, JoinsNothing}
+use Rattle.nj_statements.specs.Inside.JoiningSteps.{is_bound_to, count_pending, fault_of_pending, file_named}
+use Rattle.nj_statements.specs.Inside.JoiningSteps.{if_bound, maker_fault, edge_bound, IsMeant, joining_of}
+use Rattle.nj_statements.specs.Inside.JoiningSteps.{JoiningIsHeld, discover_for}
 use Rattle.nj_statements.proofs.Lists.{get-longer}
-use Rattle.nj_statements.proofs.PendingLemmas.{is_path, find-first, find-none, none-first, first-passes, still-at, still-length, still-map, still-changed, unjoined-at, without-one, count-removed, count-less}
+use Rattle.nj_statements.proofs.PendingLemmas.{is_path, find-first, find-none, none-first, first-passes}
+use Rattle.nj_statements.proofs.PendingLemmas.{still-at, still-length, still-map, still-changed, unjoined-at}
+use Rattle.nj_statements.proofs.PendingLemmas.{without-one, count-removed, count-less}
 use Rattle.nj_statements.proofs.DiscoverLemmas.{defaults_read-discover}
-use Rattle.nj_statements.proofs.DiscoverEdges.{details-discover, assigned-discover, block_at-discover, block_names_at-discover, pending-discover, paths-discover, is_pending-from_pending}
+use Rattle.nj_statements.proofs.DiscoverEdges.{details-discover, assigned-discover, block_at-discover}
+use Rattle.nj_statements.proofs.DiscoverEdges.{block_names_at-discover, pending-discover, paths-discover}
+use Rattle.nj_statements.proofs.DiscoverEdges.{is_pending-from_pending}
 
 -- ---- results
 
 -- the error that the exit of a `?` returns
-pub joins-err : (after : JoiningModel) (expected : Option GraphFault) (stated joined : List ReadStatement) (r : Result (Unit {0}) GraphFault) (f : GraphFault)
+pub joins-err : (after : JoiningModel) (expected : Option GraphFault) (stated joined : List ReadStatement)
+    (r : Result (Unit {0}) GraphFault) (f : GraphFault)
     → IsErrAnd r (λ y. y ≡ f) → IsFault expected f → JoinsEntry after expected stated joined r
 joins-err after expected stated joined (Err y) f is h = subst (IsFault expected) (sym is) h
 joins-err after expected stated joined (Ok x) f is h = absurd is
@@ -49,57 +65,75 @@ joins-err after expected stated joined (Ok x) f is h = absurd is
 abbrev pub AreKnown : (count : ℕ) → List (Option FileNo) → Type 0
 AreKnown count bound = AllByRecursion (λ file. IfSome file (λ f. f.0 < count)) bound
 
-pub path-there : (files : List (List ℕ)) (f : FileNo) → f.0 < length files → slice_get files f.0 ≡ Some (path_at files f)
-path-there files f below = let at = slice_get-get_or files f.0 [] below in at ∙ sym (ap (λ o. Some (unwrap_or o [])) at)
+pub path-there : (files : List (List ℕ)) (f : FileNo) → f.0 < length files
+    → slice_get files f.0 ≡ Some (path_at files f)
+path-there files f below = let at = slice_get-get_or files f.0 [] below
+    in at ∙ sym (ap (λ o. Some (unwrap_or o [])) at)
 
-known-at : (count : ℕ) (bound : List (Option FileNo)) → AreKnown count bound → (n : ℕ) → IfSome (get_or bound n None) (λ f. f.0 < count)
+known-at : (count : ℕ) (bound : List (Option FileNo)) → AreKnown count bound → (n : ℕ)
+    → IfSome (get_or bound n None) (λ f. f.0 < count)
 known-at count [] known n = tt
 known-at count (b ∷ bound) (here, known) zero = here
 known-at count (b ∷ bound) (here, known) (suc n) = known-at count bound known n
 
-pub known-weaker : (count more : ℕ) (bound : List (Option FileNo)) → count ≤ more → AreKnown count bound → AreKnown more bound
+pub known-weaker : (count more : ℕ) (bound : List (Option FileNo)) → count ≤ more → AreKnown count bound
+    → AreKnown more bound
 known-weaker count more [] rises known = tt
 known-weaker count more (None ∷ bound) rises (here, known) = (tt, known-weaker count more bound rises known)
-known-weaker count more (Some f ∷ bound) rises (here, known) = (omega (arith, here, rises), known-weaker count more bound rises known)
+known-weaker count more (Some f ∷ bound) rises (here, known) =
+    (omega (arith, here, rises), known-weaker count more bound rises known)
 
-pub known-still : (count : ℕ) (bound : List (Option FileNo)) (was : List Bool) → AreKnown count bound → AreKnown count (still_pending bound was)
+pub known-still : (count : ℕ) (bound : List (Option FileNo)) (was : List Bool) → AreKnown count bound
+    → AreKnown count (still_pending bound was)
 known-still count [] was known = tt
 known-still count (b ∷ bound) [] known = known
 known-still count (b ∷ bound) (true ∷ was) (here, known) = (tt, known-still count bound was known)
 known-still count (b ∷ bound) (false ∷ was) (here, known) = (here, known-still count bound was known)
 
-pub get-named : (files : List (List ℕ)) (bound : List (Option FileNo)) (n : ℕ) → get_or (map (file_named files) bound) n None ≡ file_named files (get_or bound n None)
+pub get-named : (files : List (List ℕ)) (bound : List (Option FileNo)) (n : ℕ)
+    → get_or (map (file_named files) bound) n None ≡ file_named files (get_or bound n None)
 get-named files [] n = refl
 get-named files (b ∷ bound) zero = refl
 get-named files (b ∷ bound) (suc n) = get-named files bound n
 
 -- A path is the path of one file.
-pub path-bound : (files : List (List ℕ)) → IsDistinct bytes_eq files → (b : Option FileNo) (file : FileNo) (path : List ℕ) → slice_get files file.0 ≡ Some path → IfSome b (λ f. f.0 < length files)
+pub path-bound : (files : List (List ℕ)) → IsDistinct bytes_eq files
+    → (b : Option FileNo) (file : FileNo) (path : List ℕ) → slice_get files file.0 ≡ Some path
+    → IfSome b (λ f. f.0 < length files)
     → is_path (file_named files b) path ≡ is_bound_to b file
 path-bound files once None file path here known = refl
 path-bound files once (Some f) file path here known =
     ap (bytes_eq (path_at files f)) (sym (ap (λ o. unwrap_or o []) here))
-    ∙ sym (same-number files once f.0 (path_at files f) (path-there files f known) file (slice_get_within files file.0 path here))
+    ∙ sym (same-number files once f.0 (path_at files f) (path-there files f known) file
+    (slice_get_within files file.0 path here))
 
-pub first-path : (files : List (List ℕ)) → IsDistinct bytes_eq files → (ws : List (Option FileNo)) (file : FileNo) (path : List ℕ) → slice_get files file.0 ≡ Some path → AreKnown (length files) ws
+pub first-path : (files : List (List ℕ)) → IsDistinct bytes_eq files
+    → (ws : List (Option FileNo)) (file : FileNo) (path : List ℕ) → slice_get files file.0 ≡ Some path
+    → AreKnown (length files) ws
     → first_edge (λ w. is_path w path) (map (file_named files) ws) ≡ first_edge (λ w. is_bound_to w file) ws
 first-path files once [] file path here known = refl
 first-path files once (w ∷ ws) file path here (first, known) =
-    ap (λ b. if b then Some 0 else option_map (λ n. n + 1) (first_edge (λ w. is_path w path) (map (file_named files) ws))) (path-bound files once w file path here first)
-    ∙ ap (λ o. if is_bound_to w file then Some 0 else option_map (λ n. n + 1) o) (first-path files once ws file path here known)
+    ap (λ b. if b then Some 0 else option_map (λ n. n + 1)
+    (first_edge (λ w. is_path w path) (map (file_named files) ws)))
+    (path-bound files once w file path here first)
+    ∙ ap (λ o. if is_bound_to w file then Some 0 else option_map (λ n. n + 1) o)
+    (first-path files once ws file path here known)
 
 -- the first of some files
-pub file-first : (files : List (List ℕ)) (ns : List FileNo) (paths : List (List ℕ)) (n : FileNo) → AreFiles files ns paths → slice_get ns 0 ≡ Some n
+pub file-first : (files : List (List ℕ)) (ns : List FileNo) (paths : List (List ℕ)) (n : FileNo)
+    → AreFiles files ns paths → slice_get ns 0 ≡ Some n
     → (path : List ℕ) × (slice_get files n.0 ≡ Some path) × (slice_get paths 0 ≡ Some path)
 file-first files [] paths n are first = absurd (true≢false (sym (ap is_some first)))
 file-first files (m ∷ ns) [] n are first = absurd (omega (arith, ap length are))
-file-first files (m ∷ ns) (p ∷ paths) n are first = (p, ap (λ (f : FileNo). slice_get files f.0) (sym (same_Some m n first)) ∙ ap head are, refl)
+file-first files (m ∷ ns) (p ∷ paths) n are first =
+    (p, ap (λ (f : FileNo). slice_get files f.0) (sym (same_Some m n first)) ∙ ap head are, refl)
   where
     head : List (Option (List ℕ)) → Option (List ℕ)
     head [] = None
     head (o ∷ os) = o
 
-pub no-first : (files : List (List ℕ)) (ns : List FileNo) (paths : List (List ℕ)) → AreFiles files ns paths → slice_get ns 0 ≡ None → slice_get paths 0 ≡ None
+pub no-first : (files : List (List ℕ)) (ns : List FileNo) (paths : List (List ℕ)) → AreFiles files ns paths
+    → slice_get ns 0 ≡ None → slice_get paths 0 ≡ None
 no-first files [] [] are none = refl
 no-first files [] (p ∷ paths) are none = absurd (omega (arith, ap length are))
 no-first files (m ∷ ns) paths are none = absurd (true≢false (ap is_some none))
@@ -112,7 +146,8 @@ length-changed f n [] = refl
 length-changed f zero (x ∷ xs) = refl
 length-changed f (suc n) (x ∷ xs) = ap suc (length-changed f n xs)
 
-changed-other : {A : Type 0} (f : A → A) (n : ℕ) (xs : List A) (m : ℕ) → m ≢ n → slice_get (changed_at f n xs) m ≡ slice_get xs m
+changed-other : {A : Type 0} (f : A → A) (n : ℕ) (xs : List A) (m : ℕ) → m ≢ n
+    → slice_get (changed_at f n xs) m ≡ slice_get xs m
 unfolding changed_at
 changed-other f n [] m apart = refl
 changed-other f zero (x ∷ xs) zero apart = absurd (apart refl)
@@ -121,7 +156,8 @@ changed-other f (suc n) (x ∷ xs) zero apart = refl
 changed-other f (suc n) (x ∷ xs) (suc m) apart = changed-other f n xs m (λ e. apart (ap suc e))
 
 -- those to which nothing is joined after one more was
-was-other : (n : ℕ) (was : List Bool) (m : ℕ) → n < length was → get_or (changed_at (λ w. true) n was) m false ≡ false → (m ≢ n) × (get_or was m false ≡ false)
+was-other : (n : ℕ) (was : List Bool) (m : ℕ) → n < length was
+    → get_or (changed_at (λ w. true) n was) m false ≡ false → (m ≢ n) × (get_or was m false ≡ false)
 unfolding changed_at
 was-other n [] m below h = absurd (omega arith)
 was-other zero (w ∷ was) zero below h = absurd (true≢false h)
@@ -133,51 +169,72 @@ was-other (suc n) (w ∷ was) (suc m) below h =
 
 -- ---- files that are named besides
 
-path-kept : (files more : List (List ℕ)) (f : FileNo) → IsPrefix files more → f.0 < length files → path_at more f ≡ path_at files f
+path-kept : (files more : List (List ℕ)) (f : FileNo) → IsPrefix files more → f.0 < length files
+    → path_at more f ≡ path_at files f
 path-kept files more f (added, is) below =
-    ap (λ o. unwrap_or o []) (ap (λ fs. slice_get fs f.0) is ∙ get-longer files added f.0 (path_at files f) (path-there files f below))
+    ap (λ o. unwrap_or o []) (ap (λ fs. slice_get fs f.0) is
+    ∙ get-longer files added f.0 (path_at files f) (path-there files f below))
 
-numbers-kept : (files more : List (List ℕ)) (ns : List FileNo) → IsPrefix files more → AreNumbers (length files) ns → paths_at more ns ≡ paths_at files ns
+numbers-kept : (files more : List (List ℕ)) (ns : List FileNo) → IsPrefix files more
+    → AreNumbers (length files) ns → paths_at more ns ≡ paths_at files ns
 numbers-kept files more [] grows known = refl
-numbers-kept files more (n ∷ ns) grows (here, known) = ap (λ p. p ∷ paths_at more ns) (path-kept files more n grows here) ∙ ap (λ ps. path_at files n ∷ ps) (numbers-kept files more ns grows known)
+numbers-kept files more (n ∷ ns) grows (here, known) =
+    ap (λ p. p ∷ paths_at more ns) (path-kept files more n grows here)
+    ∙ ap (λ ps. path_at files n ∷ ps) (numbers-kept files more ns grows known)
 
-firsts-kept : (files more : List (List ℕ)) (ds : List DyndepEdge) → IsPrefix files more → AllByRecursion (λ d. d.file.0 < length files) ds → map (pending_named more) ds ≡ map (pending_named files) ds
+firsts-kept : (files more : List (List ℕ)) (ds : List DyndepEdge) → IsPrefix files more
+    → AllByRecursion (λ d. d.file.0 < length files) ds
+    → map (pending_named more) ds ≡ map (pending_named files) ds
 firsts-kept files more [] grows known = refl
 firsts-kept files more (d ∷ ds) grows (here, known) =
-    ap (λ p. record { edge = d.edge; file = p } ∷ map (pending_named more) ds) (path-kept files more d.file grows here) ∙ ap (λ ps. pending_named files d ∷ ps) (firsts-kept files more ds grows known)
+    ap (λ p. record { edge = d.edge; file = p } ∷ map (pending_named more) ds)
+    (path-kept files more d.file grows here)
+    ∙ ap (λ ps. pending_named files d ∷ ps) (firsts-kept files more ds grows known)
 
-bound-kept : (files more : List (List ℕ)) (bs : List (Option FileNo)) → IsPrefix files more → AreKnown (length files) bs → map (file_named more) bs ≡ map (file_named files) bs
+bound-kept : (files more : List (List ℕ)) (bs : List (Option FileNo)) → IsPrefix files more
+    → AreKnown (length files) bs → map (file_named more) bs ≡ map (file_named files) bs
 bound-kept files more [] grows known = refl
-bound-kept files more (None ∷ bs) grows (here, known) = ap (λ os. None ∷ os) (bound-kept files more bs grows known)
+bound-kept files more (None ∷ bs) grows (here, known) =
+    ap (λ os. None ∷ os) (bound-kept files more bs grows known)
 bound-kept files more (Some f ∷ bs) grows (here, known) =
-    ap (λ p. Some p ∷ map (file_named more) bs) (path-kept files more f grows here) ∙ ap (λ os. Some (path_at files f) ∷ os) (bound-kept files more bs grows known)
+    ap (λ p. Some p ∷ map (file_named more) bs) (path-kept files more f grows here)
+    ∙ ap (λ os. Some (path_at files f) ∷ os) (bound-kept files more bs grows known)
 
 longer : (files more : List (List ℕ)) → IsPrefix files more → length files ≤ length more
 longer files more (added, is) = let count = ap length is ∙ length-append files added in omega (arith, count)
 
-all-below : {X : Type 0} (of : X → ℕ) (count more : ℕ) → count ≤ more → (xs : List X) → AllByRecursion (λ x. of x < count) xs → AllByRecursion (λ x. of x < more) xs
+all-below : {X : Type 0} (of : X → ℕ) (count more : ℕ) → count ≤ more → (xs : List X)
+    → AllByRecursion (λ x. of x < count) xs → AllByRecursion (λ x. of x < more) xs
 all-below of count more rises [] known = tt
-all-below of count more rises (x ∷ xs) (here, known) = (omega (arith, here, rises), all-below of count more rises xs known)
+all-below of count more rises (x ∷ xs) (here, known) =
+    (omega (arith, here, rises), all-below of count more rises xs known)
 
 -- the edge that is meant is bound to the file
-pub meant-binds : (bound : List (Option FileNo)) (file : FileNo) (edge : ℕ) (maker : Option ℕ) → if_bound bound file maker ≡ Some edge → (maker ≡ Some edge) × (is_bound_to (get_or bound edge None) file ≡ true)
+pub meant-binds : (bound : List (Option FileNo)) (file : FileNo) (edge : ℕ) (maker : Option ℕ)
+    → if_bound bound file maker ≡ Some edge
+    → (maker ≡ Some edge) × (is_bound_to (get_or bound edge None) file ≡ true)
 meant-binds bound file edge None h = absurd (true≢false (sym (ap is_some h)))
 meant-binds bound file edge (Some m) h = by (is_bound_to (get_or bound m None) file) refl h
   where
-    by : (b : Bool) → is_bound_to (get_or bound m None) file ≡ b → (if b then Some m else None) ≡ Some edge → (Some m ≡ Some edge) × (is_bound_to (get_or bound edge None) file ≡ true)
+    by : (b : Bool) → is_bound_to (get_or bound m None) file ≡ b → (if b then Some m else None) ≡ Some edge
+        → (Some m ≡ Some edge) × (is_bound_to (get_or bound edge None) file ≡ true)
     by true binds h = (h, ap (λ n. is_bound_to (get_or bound n None) file) (sym (same_Some m edge h)) ∙ binds)
     by false binds h = absurd (true≢false (sym (ap is_some h)))
 
 -- ---- the fields
 
-module _ (table : JoinTable) (blocks : BlocksModel) (names : List (List ℕ)) (details : List Detail) (defaults : List FileNo) (firsts : List DyndepEdge) (bound : List (Option FileNo)) (unjoined : List ℕ)
+module _ (table : JoinTable) (blocks : BlocksModel) (names : List (List ℕ)) (details : List Detail)
+    (defaults : List FileNo) (firsts : List DyndepEdge) (bound : List (Option FileNo)) (unjoined : List ℕ)
     (held : JoiningIsHeld table names details defaults firsts bound unjoined) where
   pub bound-files : AreKnown (length table.files) bound
   bound-files = known-weaker (length unjoined) (length table.files) bound held.pending_known held.bound_known
 
-  pub unjoined-known : (file : FileNo) (edge : ℕ) → first_edge (λ w. is_bound_to w file) (still_pending bound table.was_joined) ≡ Some edge → edge < length table.stated
+  pub unjoined-known : (file : FileNo) (edge : ℕ)
+      → first_edge (λ w. is_bound_to w file) (still_pending bound table.was_joined) ≡ Some edge
+      → edge < length table.stated
   unjoined-known file edge first =
-      let h = (first-passes (λ (w : Option FileNo). is_bound_to w file) (still_pending bound table.was_joined) edge None first).0 in
+      let h = (first-passes (λ (w : Option FileNo). is_bound_to w file) (still_pending bound table.was_joined)
+      edge None first).0 in
       let a = still-length bound table.was_joined in
       let b = held.as_many_bound in
       omega (arith, h, a, b)
@@ -195,15 +252,21 @@ module _ (table : JoinTable) (blocks : BlocksModel) (names : List (List ℕ)) (d
           as_many_was = ap length keeps.was_joined ∙ held.as_many_was ∙ sym (ap length keeps.stated);
           as_many_details = held.as_many_details ∙ sym (ap length keeps.stated);
           as_many_bound = held.as_many_bound ∙ sym (ap length keeps.stated);
-          unchanged = λ n h. ap (λ (es : List EdgePaths). slice_get es n) keeps.joined ∙ held.unchanged n (ap (λ was. get_or was n false) (sym keeps.was_joined) ∙ h) ∙ ap (λ (es : List EdgePaths). slice_get es n) (sym keeps.stated);
+          unchanged = λ n h. ap (λ (es : List EdgePaths). slice_get es n) keeps.joined
+              ∙ held.unchanged n (ap (λ was. get_or was n false) (sym keeps.was_joined) ∙ h)
+              ∙ ap (λ (es : List EdgePaths). slice_get es n) (sym keeps.stated);
           names_known = held.names_known;
           assigned_known = held.assigned_known;
-          defaults_known = all-below (λ (f : FileNo). f.0) (length table.files) (length after.files) rises defaults held.defaults_known;
-          dyndep_files_known = all-below (λ (d : DyndepEdge). d.file.0) (length table.files) (length after.files) rises firsts held.dyndep_files_known;
-          dyndep_edges_known = subst (λ (es : List EdgePaths). AllByRecursion (λ (d : DyndepEdge). d.edge < length es) firsts) (sym keeps.stated) held.dyndep_edges_known;
+          defaults_known = all-below (λ (f : FileNo). f.0) (length table.files) (length after.files) rises
+              defaults held.defaults_known;
+          dyndep_files_known = all-below (λ (d : DyndepEdge). d.file.0) (length table.files)
+              (length after.files) rises firsts held.dyndep_files_known;
+          dyndep_edges_known = subst (λ (es : List EdgePaths). AllByRecursion
+              (λ (d : DyndepEdge). d.edge < length es) firsts) (sym keeps.stated) held.dyndep_edges_known;
           bound_known = held.bound_known;
           pending_known = omega (arith, rises, known);
-          enough_pending = λ file. subst (λ was. count_pending file (still_pending bound was) ≤ get_or unjoined file.0 0) (sym keeps.was_joined) (held.enough_pending file);
+          enough_pending = λ file. subst (λ was. count_pending file (still_pending bound was) ≤ get_or
+              unjoined file.0 0) (sym keeps.was_joined) (held.enough_pending file);
         }
 
     pub same-defaults : paths_at after.files defaults ≡ paths_at table.files defaults
@@ -216,31 +279,48 @@ module _ (table : JoinTable) (blocks : BlocksModel) (names : List (List ℕ)) (d
     same-bound = bound-kept table.files after.files bound keeps.files bound-files
 
     -- the fields then
-    pub joins-nothing : (b : JoiningModel) → joining_of table blocks names details defaults firsts bound ≡ b → JoinsNothing b (joining_of after blocks names details defaults firsts bound)
+    pub joins-nothing : (b : JoiningModel) → joining_of table blocks names details defaults firsts bound ≡ b
+        → JoinsNothing b (joining_of after blocks names details defaults firsts bound)
     joins-nothing b is =
-        subst (λ (h : JoiningModel). JoinsNothing h (joining_of after blocks names details defaults firsts bound)) is
-        (record { edges = keeps; blocks = refl; details = refl; defaults = same-defaults; dyndep_files = same-firsts; bound = same-bound; assigned = refl })
+        subst (λ (h : JoiningModel). JoinsNothing h
+        (joining_of after blocks names details defaults firsts bound)) is
+        (record {
+          edges = keeps;
+          blocks = refl;
+          details = refl;
+          defaults = same-defaults;
+          dyndep_files =
+              same-firsts;
+          bound = same-bound;
+          assigned = refl;
+        })
 
   -- ---- with one
 
-  module _ (edge : ℕ) (file : FileNo) (below : edge < length table.stated) (first : is_joined table edge ≡ false) (binds : is_bound_to (get_or bound edge None) file ≡ true) where
+  module _ (edge : ℕ) (file : FileNo) (below : edge < length table.stated)
+      (first : is_joined table edge ≡ false) (binds : is_bound_to (get_or bound edge None) file ≡ true) where
     pends : is_bound_to (get_or (still_pending bound table.was_joined) edge None) file ≡ true
-    pends = ap (λ b. is_bound_to b file) (still-at bound table.was_joined edge ∙ ap (unless_joined (get_or bound edge None)) first) ∙ binds
+    pends = ap (λ b. is_bound_to b file) (still-at bound table.was_joined edge
+        ∙ ap (unless_joined (get_or bound edge None)) first) ∙ binds
 
     inside : edge < length table.was_joined
     inside = subst (λ n. edge < n) (sym held.as_many_was) below
 
-    left : still_pending bound (with_joined table edge).was_joined ≡ changed_at (λ w. None) edge (still_pending bound table.was_joined)
+    left : still_pending bound (with_joined table edge).was_joined
+        ≡ changed_at (λ w. None) edge (still_pending bound table.was_joined)
     left = still-changed bound table.was_joined edge inside
 
     pub unjoined-inside : file.0 < length unjoined
-    unjoined-inside = by (get_or bound edge None) binds (known-at (length unjoined) bound held.bound_known edge)
+    unjoined-inside = by (get_or bound edge None) binds
+        (known-at (length unjoined) bound held.bound_known edge)
       where
-        by : (b : Option FileNo) → is_bound_to b file ≡ true → IfSome b (λ f. f.0 < length unjoined) → file.0 < length unjoined
+        by : (b : Option FileNo) → is_bound_to b file ≡ true → IfSome b (λ f. f.0 < length unjoined)
+            → file.0 < length unjoined
         by None h known = absurd (true≢false (sym h))
         by (Some f) h known = same (eqb_tells f.0 file.0) known
           where
-            same : ((f.0 == file.0) ≡ true × (f.0 ≡ file.0)) ⊎ ((f.0 == file.0) ≡ false × (f.0 ≢ file.0)) → f.0 < length unjoined → file.0 < length unjoined
+            same : ((f.0 == file.0) ≡ true × (f.0 ≡ file.0)) ⊎ ((f.0 == file.0) ≡ false × (f.0 ≢ file.0))
+                → f.0 < length unjoined → file.0 < length unjoined
             same (inl (is, e)) known = subst (λ n. n < length unjoined) e known
             same (inr (is, apart)) known = absurd (true≢false (sym h ∙ is))
 
@@ -250,7 +330,9 @@ module _ (table : JoinTable) (blocks : BlocksModel) (names : List (List ℕ)) (d
         let one = count-removed file (still_pending bound table.was_joined) edge pends in
         omega (arith, enough, one)
 
-    pub joined-held : (count : ℕ) → count ≡ get_or unjoined file.0 0 → JoiningIsHeld (with_joined table edge) names details defaults firsts bound (set unjoined file.0 (count - 1))
+    pub joined-held : (count : ℕ) → count ≡ get_or unjoined file.0 0
+        → JoiningIsHeld (with_joined table edge) names details defaults firsts bound
+        (set unjoined file.0 (count - 1))
     joined-held count is = record {
       each_path_once = held.each_path_once;
       as_many_joined = length-changed (with_added table.«open») edge table.joined ∙ held.as_many_joined;
@@ -265,24 +347,32 @@ module _ (table : JoinTable) (blocks : BlocksModel) (names : List (List ℕ)) (d
       defaults_known = held.defaults_known;
       dyndep_files_known = held.dyndep_files_known;
       dyndep_edges_known = held.dyndep_edges_known;
-      bound_known = subst (λ n. AreKnown n bound) (sym (length-set unjoined file.0 (count - 1))) held.bound_known;
-      pending_known = subst (λ n. n ≤ length table.files) (sym (length-set unjoined file.0 (count - 1))) held.pending_known;
-      enough_pending = λ other. subst (λ ws. count_pending other ws ≤ get_or (set unjoined file.0 (count - 1)) other.0 0) (sym left) (enough other (eqb_tells file.0 other.0));
+      bound_known = subst (λ n. AreKnown n bound) (sym (length-set unjoined file.0 (count - 1)))
+          held.bound_known;
+      pending_known = subst (λ n. n ≤ length table.files) (sym (length-set unjoined file.0 (count - 1)))
+          held.pending_known;
+      enough_pending = λ other. subst (λ ws. count_pending other ws ≤ get_or (set unjoined file.0 (count - 1))
+          other.0 0) (sym left) (enough other (eqb_tells file.0 other.0));
     }
       where
         ws : List (Option FileNo)
         ws = still_pending bound table.was_joined
 
-        enough : (other : FileNo) → ((file.0 == other.0) ≡ true × (file.0 ≡ other.0)) ⊎ ((file.0 == other.0) ≡ false × (file.0 ≢ other.0))
-            → count_pending other (changed_at (λ w. None) edge ws) ≤ get_or (set unjoined file.0 (count - 1)) other.0 0
+        enough : (other : FileNo) → ((file.0 == other.0) ≡ true × (file.0 ≡ other.0))
+            ⊎ ((file.0 == other.0) ≡ false × (file.0 ≢ other.0))
+            → count_pending other (changed_at (λ w. None) edge ws) ≤ get_or (set unjoined file.0 (count - 1))
+            other.0 0
         enough other (inl (same, e)) =
-            let now : get_or (set unjoined file.0 (count - 1)) other.0 0 ≡ count - 1 = ap (λ n. get_or (set unjoined file.0 (count - 1)) n 0) (sym e) ∙ get_or-set_same unjoined file.0 (count - 1) 0 unjoined-inside in
+            let now : get_or (set unjoined file.0 (count - 1)) other.0 0 ≡ count - 1 =
+            ap (λ n. get_or (set unjoined file.0 (count - 1)) n 0) (sym e)
+            ∙ get_or-set_same unjoined file.0 (count - 1) 0 unjoined-inside in
             let one = count-removed other ws edge (same-bound-to (get_or ws edge None) e pends) in
             let most = held.enough_pending other in
             let was : count ≡ get_or unjoined other.0 0 = is ∙ ap (λ n. get_or unjoined n 0) e in
             omega (arith, now, one, most, was)
           where
-            same-bound-to : (b : Option FileNo) → file.0 ≡ other.0 → is_bound_to b file ≡ true → is_bound_to b other ≡ true
+            same-bound-to : (b : Option FileNo) → file.0 ≡ other.0 → is_bound_to b file ≡ true
+                → is_bound_to b other ≡ true
             same-bound-to None e h = h
             same-bound-to (Some f) e h = ap (λ n. f.0 == n) (sym e) ∙ h
         enough other (inr (differ, apart)) =
@@ -293,50 +383,80 @@ module _ (table : JoinTable) (blocks : BlocksModel) (names : List (List ℕ)) (d
 
   -- ---- by the statements
 
-  module _ (stated joined : List ReadStatement) (has : HasJoined (joining_of table blocks names details defaults firsts bound) stated joined) where
+  module _ (stated joined : List ReadStatement)
+      (has : HasJoined (joining_of table blocks names details defaults firsts bound) stated joined) where
     module _ (file : FileNo) (name : List ℕ) (here : slice_get table.files file.0 ≡ Some name) where
-      pub bound-pends : (edge : ℕ) → pending_on name (pending_read stated) (Some edge) ≡ is_bound_to (get_or bound edge None) file
+      pub bound-pends : (edge : ℕ) → pending_on name (pending_read stated) (Some edge)
+          ≡ is_bound_to (get_or bound edge None) file
       bound-pends edge =
           ap (λ ps. pending_on name ps (Some edge)) has.bound
-          ∙ unjoined-at name 0 (map (file_named table.files) bound) edge edge (let e : edge ≡ 0 + edge = omega arith in e)
+          ∙ unjoined-at name 0 (map (file_named table.files) bound) edge edge
+          (let e : edge ≡ 0 + edge = omega arith in e)
           ∙ ap (λ o. is_path o name) (get-named table.files bound edge)
-          ∙ path-bound table.files held.each_path_once (get_or bound edge None) file name here (known-at (length table.files) bound bound-files edge)
+          ∙ path-bound table.files held.each_path_once (get_or bound edge None) file name here
+          (known-at (length table.files) bound bound-files edge)
 
-      pub still-pends : (edge : ℕ) → pending_on name (pending_read joined) (Some edge) ≡ is_bound_to (unless_joined (get_or bound edge None) (is_joined table edge)) file
+      pub still-pends : (edge : ℕ) → pending_on name (pending_read joined) (Some edge)
+          ≡ is_bound_to (unless_joined (get_or bound edge None) (is_joined table edge)) file
       still-pends edge =
           let ws = still_pending bound table.was_joined in
-          ap (λ ps. pending_on name ps (Some edge)) (has.unjoined ∙ ap (pending_from 0) (sym (still-map (path_at table.files) bound table.was_joined)))
-          ∙ unjoined-at name 0 (map (file_named table.files) ws) edge edge (let e : edge ≡ 0 + edge = omega arith in e)
+          ap (λ ps. pending_on name ps (Some edge))
+          (has.unjoined ∙ ap (pending_from 0)
+          (sym (still-map (path_at table.files) bound table.was_joined)))
+          ∙ unjoined-at name 0 (map (file_named table.files) ws) edge edge
+          (let e : edge ≡ 0 + edge = omega arith in e)
           ∙ ap (λ o. is_path o name) (get-named table.files ws edge)
-          ∙ path-bound table.files held.each_path_once (get_or ws edge None) file name here (known-at (length table.files) ws (known-still (length table.files) bound table.was_joined bound-files) edge)
+          ∙ path-bound table.files held.each_path_once (get_or ws edge None) file name here
+          (known-at (length table.files) ws (known-still (length table.files) bound table.was_joined
+          bound-files) edge)
           ∙ ap (λ b. is_bound_to b file) (still-at bound table.was_joined edge)
 
       -- the first edge that is pending on a file
-      pub first-lacking : find (λ p. bytes_eq p.file name) (pending_read joined) ≡ find (λ p. bytes_eq p.file name) (pending_from 0 (map (file_named table.files) (still_pending bound table.was_joined)))
-      first-lacking = ap (find (λ (p : Pending). bytes_eq p.file name)) (has.unjoined ∙ ap (pending_from 0) (sym (still-map (path_at table.files) bound table.was_joined)))
+      pub first-lacking : find (λ p. bytes_eq p.file name) (pending_read joined)
+          ≡ find (λ p. bytes_eq p.file name) (pending_from 0
+          (map (file_named table.files) (still_pending bound table.was_joined)))
+      first-lacking = ap (find (λ (p : Pending). bytes_eq p.file name))
+          (has.unjoined ∙ ap (pending_from 0) (sym (still-map (path_at table.files) bound table.was_joined)))
 
-      pub first-unjoined : first_edge (λ w. is_path w name) (map (file_named table.files) (still_pending bound table.was_joined)) ≡ first_edge (λ w. is_bound_to w file) (still_pending bound table.was_joined)
-      first-unjoined = first-path table.files held.each_path_once (still_pending bound table.was_joined) file name here (known-still (length table.files) bound table.was_joined bound-files)
+      pub first-unjoined : first_edge (λ w. is_path w name)
+          (map (file_named table.files) (still_pending bound table.was_joined))
+          ≡ first_edge (λ w. is_bound_to w file) (still_pending bound table.was_joined)
+      first-unjoined = first-path table.files held.each_path_once (still_pending bound table.was_joined) file
+          name here (known-still (length table.files) bound table.was_joined bound-files)
 
-      pub none-lacks : first_edge (λ w. is_bound_to w file) (still_pending bound table.was_joined) ≡ None → lacking_fault name joined ≡ None
+      pub none-lacks : first_edge (λ w. is_bound_to w file) (still_pending bound table.was_joined) ≡ None
+          → lacking_fault name joined ≡ None
       none-lacks none =
-          ap (λ o. option_and_then (λ (p : Pending). option_map (no_statement name) (slice_get (edges_read joined) p.edge)) o)
-          (first-lacking ∙ find-none name 0 (map (file_named table.files) (still_pending bound table.was_joined)) (first-unjoined ∙ none))
+          ap (λ o. option_and_then (λ (p : Pending). option_map (no_statement name)
+          (slice_get (edges_read joined) p.edge)) o)
+          (first-lacking ∙ find-none name 0 (map (file_named table.files)
+          (still_pending bound table.was_joined)) (first-unjoined ∙ none))
 
       pub zero-lacks : get_or unjoined file.0 0 ≡ 0 → lacking_fault name joined ≡ None
       zero-lacks zero_is =
           let enough = held.enough_pending file in
-          none-lacks (none-first file (still_pending bound table.was_joined) (let e : count_pending file (still_pending bound table.was_joined) ≡ 0 = omega (arith, enough, zero_is) in e))
+          none-lacks (none-first file (still_pending bound table.was_joined)
+          (let e : count_pending file (still_pending bound table.was_joined) ≡ 0 =
+          omega (arith, enough, zero_is) in e))
 
-      pub one-lacks : (edge : ℕ) → first_edge (λ w. is_bound_to w file) (still_pending bound table.was_joined) ≡ Some edge
-          → lacking_fault name joined ≡ Some (fault_of_pending name (detail_at (map (detail_named names) details) edge) (edge_at table.stated edge))
+      pub one-lacks : (edge : ℕ) → first_edge (λ w. is_bound_to w file) (still_pending bound table.was_joined)
+          ≡ Some edge
+          → lacking_fault name joined ≡ Some (fault_of_pending name
+          (detail_at (map (detail_named names) details) edge) (edge_at table.stated edge))
       one-lacks edge first =
-          ap (λ o. option_and_then (λ (p : Pending). option_map (no_statement name) (slice_get (edges_read joined) p.edge)) o)
-          (first-lacking ∙ find-first name 0 (map (file_named table.files) ws) edge edge path (let e : edge ≡ 0 + edge = omega arith in e) (first-unjoined ∙ first) (get-named table.files ws edge ∙ path-is))
+          ap (λ o. option_and_then (λ (p : Pending). option_map (no_statement name)
+          (slice_get (edges_read joined) p.edge)) o)
+          (first-lacking ∙ find-first name 0 (map (file_named table.files) ws) edge edge path
+          (let e : edge ≡ 0 + edge = omega arith in e) (first-unjoined ∙ first)
+          (get-named table.files ws edge ∙ path-is))
           ∙ ap (option_map (no_statement name)) there.1
           ∙ ap Some (
-          ap (λ (d : EdgeDetail). fault_at d.file d.spot (DyndepNoStatement (unwrap_or (slice_get (outputs_of there.0.paths) 0) []) name)) (sym detail-is)
-          ∙ ap (λ (p : EdgePaths). fault_at (detail_at (map (detail_named names) details) edge).file (detail_at (map (detail_named names) details) edge).spot (DyndepNoStatement (unwrap_or (slice_get (outputs_of p) 0) []) name)) (sym paths-are)
+          ap (λ (d : EdgeDetail). fault_at d.file d.spot
+          (DyndepNoStatement (unwrap_or (slice_get (outputs_of there.0.paths) 0) []) name))
+          (sym detail-is)
+          ∙ ap (λ (p : EdgePaths). fault_at (detail_at (map (detail_named names) details) edge).file
+          (detail_at (map (detail_named names) details) edge).spot
+          (DyndepNoStatement (unwrap_or (slice_get (outputs_of p) 0) []) name)) (sym paths-are)
           )
         where
           ws : List (Option FileNo)
@@ -346,14 +466,17 @@ module _ (table : JoinTable) (blocks : BlocksModel) (names : List (List ℕ)) (d
           passes = first-passes (λ (w : Option FileNo). is_bound_to w file) ws edge None first
 
           below : edge < length table.stated
-          below = let h = passes.0 in let a = still-length bound table.was_joined in let b = held.as_many_bound in omega (arith, h, a, b)
+          below = let h = passes.0 in let a = still-length bound table.was_joined in let b =
+              held.as_many_bound in omega (arith, h, a, b)
 
-          free : (b : Option FileNo) (was : Bool) → is_bound_to (unless_joined b was) file ≡ true → was ≡ false
+          free : (b : Option FileNo) (was : Bool) → is_bound_to (unless_joined b was) file ≡ true
+              → was ≡ false
           free b false h = refl
           free b true h = absurd (true≢false (sym h))
 
           not-joined : is_joined table edge ≡ false
-          not-joined = free (get_or bound edge None) (is_joined table edge) (ap (λ b. is_bound_to b file) (sym (still-at bound table.was_joined edge)) ∙ passes.1)
+          not-joined = free (get_or bound edge None) (is_joined table edge)
+              (ap (λ b. is_bound_to b file) (sym (still-at bound table.was_joined edge)) ∙ passes.1)
 
           named : (b : Option FileNo) → is_bound_to b file ≡ true → (f : FileNo) × (b ≡ Some f)
           named None h = absurd (true≢false (sym h))
@@ -369,9 +492,11 @@ module _ (table : JoinTable) (blocks : BlocksModel) (names : List (List ℕ)) (d
           path-is = ap (file_named table.files) bound-file.1
 
           edges-count : length table.stated ≡ length (edges_read joined)
-          edges-count = sym held.as_many_joined ∙ ap length has.joined_paths ∙ length-map (edges_read joined) (λ (e : EdgeModel). e.paths)
+          edges-count = sym held.as_many_joined ∙ ap length has.joined_paths
+              ∙ length-map (edges_read joined) (λ (e : EdgeModel). e.paths)
 
-          get-some : (es : List EdgeModel) (n : ℕ) → n < length es → (e : EdgeModel) × (slice_get es n ≡ Some e)
+          get-some : (es : List EdgeModel) (n : ℕ) → n < length es
+              → (e : EdgeModel) × (slice_get es n ≡ Some e)
           get-some [] n h = absurd (omega (arith, h))
           get-some (e ∷ es) zero h = (e, refl)
           get-some (e ∷ es) (suc n) h = get-some es n (omega (arith, h))
@@ -382,19 +507,36 @@ module _ (table : JoinTable) (blocks : BlocksModel) (names : List (List ℕ)) (d
           detail-is : detail_at (map (detail_named names) details) edge ≡ detail_of there.0
           detail-is =
               ap (λ ds. detail_at ds edge) has.details
-              ∙ get_or_from_slice_get (map detail_of (edges_read joined)) edge (detail_of there.0) (record { file = []; spot = record { line = 0; column = 0 }; scope = 0; rule = 0 })
+              ∙ get_or_from_slice_get (map detail_of (edges_read joined)) edge (detail_of there.0)
+              (record { file = []; spot = record { line = 0; column = 0 }; scope = 0; rule = 0 })
               (slice_get-map detail_of (edges_read joined) edge ∙ ap (option_map detail_of) there.1)
 
           paths-are : edge_at table.stated edge ≡ there.0.paths
           paths-are =
-              get_or_from_slice_get table.stated edge there.0.paths (record { explicit_outputs = []; implicit_outputs = []; explicit_inputs = []; implicit_inputs = []; order_only_inputs = []; validations = []; is_phony = false })
-              (sym (held.unchanged edge not-joined) ∙ ap (λ (es : List EdgePaths). slice_get es edge) has.joined_paths ∙ slice_get-map (λ (e : EdgeModel). e.paths) (edges_read joined) edge ∙ ap (option_map (λ (e : EdgeModel). e.paths)) there.1)
+              get_or_from_slice_get table.stated edge there.0.paths
+              (record {
+                explicit_outputs = [];
+                implicit_outputs = [];
+                explicit_inputs = [];
+                implicit_inputs = [];
+                order_only_inputs = [];
+                validations = [];
+                is_phony = false;
+              })
+              (sym (held.unchanged edge not-joined)
+              ∙ ap (λ (es : List EdgePaths). slice_get es edge) has.joined_paths
+              ∙ slice_get-map (λ (e : EdgeModel). e.paths) (edges_read joined) edge
+              ∙ ap (option_map (λ (e : EdgeModel). e.paths)) there.1)
 
       -- which statement an entry means
-      pub meaning-held : (entry : EntryModel) → maker_fault name entry.out table (edge_bound table bound file entry.out) ≡ meaning_fault name stated joined entry
+      pub meaning-held : (entry : EntryModel)
+          → maker_fault name entry.out table (edge_bound table bound file entry.out)
+          ≡ meaning_fault name stated joined entry
       meaning-held entry =
           by (maker_of table.stated path)
-          ∙ ap (λ (es : List EdgePaths). option_or (then_some (not (pending_on name (pending_read stated) (maker_of es path))) extra) (then_some (not (pending_on name (pending_read joined) (maker_of es path))) twice)) has.stated_paths
+          ∙ ap (λ (es : List EdgePaths). option_or
+          (then_some (not (pending_on name (pending_read stated) (maker_of es path))) extra)
+          (then_some (not (pending_on name (pending_read joined) (maker_of es path))) twice)) has.stated_paths
         where
           path : List ℕ
           path = path_given no_values entry.out
@@ -405,15 +547,20 @@ module _ (table : JoinTable) (blocks : BlocksModel) (names : List (List ℕ)) (d
           twice : GraphFault
           twice = fault_at name entry.out.spot (DyndepTwice path)
 
-          unless : (b : Option FileNo) (was : Bool) → is_bound_to b file ≡ true → is_bound_to (unless_joined b was) file ≡ not was
+          unless : (b : Option FileNo) (was : Bool) → is_bound_to b file ≡ true
+              → is_bound_to (unless_joined b was) file ≡ not was
           unless b true h = refl
           unless b false h = h
 
           step : (edge : ℕ) (binds : Bool) → is_bound_to (get_or bound edge None) file ≡ binds
               → maker_fault name entry.out table (if binds then Some edge else None)
-              ≡ option_or (then_some (not binds) extra) (then_some (not (is_bound_to (unless_joined (get_or bound edge None) (is_joined table edge)) file)) twice)
+              ≡ option_or (then_some (not binds) extra)
+              (then_some (not (is_bound_to (unless_joined (get_or bound edge None) (is_joined table edge))
+              file)) twice)
           step edge false is = refl
-          step edge true is = sym (ap (λ b. then_some (not b) twice) (unless (get_or bound edge None) (is_joined table edge) is) ∙ ap (λ b. then_some b twice) (not-not (is_joined table edge)))
+          step edge true is = sym (ap (λ b. then_some (not b) twice)
+              (unless (get_or bound edge None) (is_joined table edge) is)
+              ∙ ap (λ b. then_some b twice) (not-not (is_joined table edge)))
             where
               not-not : (b : Bool) → not (not b) ≡ b
               not-not true = refl
@@ -421,23 +568,36 @@ module _ (table : JoinTable) (blocks : BlocksModel) (names : List (List ℕ)) (d
 
           by : (maker : Option ℕ)
               → maker_fault name entry.out table (if_bound bound file maker)
-              ≡ option_or (then_some (not (pending_on name (pending_read stated) maker)) extra) (then_some (not (pending_on name (pending_read joined) maker)) twice)
+              ≡ option_or (then_some (not (pending_on name (pending_read stated) maker)) extra)
+              (then_some (not (pending_on name (pending_read joined) maker)) twice)
           by None = refl
           by (Some edge) =
               step edge (is_bound_to (get_or bound edge None) file) refl
-              ∙ ap (λ b. option_or (then_some (not b) extra) (then_some (not (is_bound_to (unless_joined (get_or bound edge None) (is_joined table edge)) file)) twice)) (sym (bound-pends edge))
-              ∙ ap (λ b. option_or (then_some (not (pending_on name (pending_read stated) (Some edge))) extra) (then_some (not b) twice)) (sym (still-pends edge))
+              ∙ ap (λ b. option_or (then_some (not b) extra)
+              (then_some (not (is_bound_to (unless_joined (get_or bound edge None) (is_joined table edge))
+              file)) twice)) (sym (bound-pends edge))
+              ∙ ap (λ b. option_or (then_some (not (pending_on name (pending_read stated) (Some edge))) extra)
+              (then_some (not b) twice)) (sym (still-pends edge))
 
       -- the fault of an entry
       pub fault-is : (entry : EntryModel)
           → entry_fault name stated joined entry
-          ≡ option_or (option_or (empty_path name no_values entry.out) (maker_fault name entry.out table (edge_bound table bound file entry.out)))
-          (option_or (outputs_fault name no_values table.joined table.«open».outputs entry.outs) (first_given (empty_path name no_values) entry.ins))
+          ≡ option_or (option_or (empty_path name no_values entry.out)
+          (maker_fault name entry.out table (edge_bound table bound file entry.out)))
+          (option_or (outputs_fault name no_values table.joined table.«open».outputs entry.outs)
+          (first_given (empty_path name no_values) entry.ins))
       fault-is entry =
-          ap (λ o. option_or (empty_path name no_values entry.out) (option_or o (option_or (outputs_fault name no_values (paths_of_edges (edges_read joined)) [] entry.outs) inputs))) (sym (meaning-held entry))
-          ∙ ap (λ (es : List EdgePaths). option_or (empty_path name no_values entry.out) (option_or meaning (option_or (outputs_fault name no_values es [] entry.outs) inputs))) (sym has.joined_paths)
-          ∙ ap (λ (added : AddedFiles). option_or (empty_path name no_values entry.out) (option_or meaning (option_or (outputs_fault name no_values table.joined added.outputs entry.outs) inputs))) (sym has.none_open)
-          ∙ sym (or_then-assoc (empty_path name no_values entry.out) meaning (option_or (outputs_fault name no_values table.joined table.«open».outputs entry.outs) inputs))
+          ap (λ o. option_or (empty_path name no_values entry.out)
+          (option_or o (option_or (outputs_fault name no_values (paths_of_edges (edges_read joined)) []
+          entry.outs) inputs))) (sym (meaning-held entry))
+          ∙ ap (λ (es : List EdgePaths). option_or (empty_path name no_values entry.out)
+          (option_or meaning (option_or (outputs_fault name no_values es [] entry.outs) inputs)))
+          (sym has.joined_paths)
+          ∙ ap (λ (added : AddedFiles). option_or (empty_path name no_values entry.out)
+          (option_or meaning (option_or (outputs_fault name no_values table.joined added.outputs entry.outs)
+          inputs))) (sym has.none_open)
+          ∙ sym (or_then-assoc (empty_path name no_values entry.out) meaning
+          (option_or (outputs_fault name no_values table.joined table.«open».outputs entry.outs) inputs))
         where
           meaning : Option GraphFault
           meaning = maker_fault name entry.out table (edge_bound table bound file entry.out)
@@ -445,29 +605,41 @@ module _ (table : JoinTable) (blocks : BlocksModel) (names : List (List ℕ)) (d
           inputs : Option GraphFault
           inputs = first_given (empty_path name no_values) entry.ins
 
-          or_then-assoc : (a b d : Option GraphFault) → option_or (option_or a b) d ≡ option_or a (option_or b d)
+          or_then-assoc : (a b d : Option GraphFault)
+              → option_or (option_or a b) d ≡ option_or a (option_or b d)
           or_then-assoc (Some x) b d = refl
           or_then-assoc None b d = refl
 
       -- the statements with the additions of an entry
-      pub joined-has : (entry : EntryModel) (edge : ℕ) → IsMeant table bound file entry.out edge → (after last : JoinTable) → KeepsEdges table after
-          → after.«open» ≡ record { outputs = (discovered_by entry).outputs; inputs = (discovered_by entry).inputs } → last ≡ with_joined after edge
-          → HasJoined (joining_of last blocks names details defaults firsts bound) stated (with_entry stated joined entry)
+      pub joined-has : (entry : EntryModel) (edge : ℕ) → IsMeant table bound file entry.out edge
+          → (after last : JoinTable) → KeepsEdges table after
+          → after.«open» ≡ record {
+            outputs = (discovered_by entry).outputs;
+            inputs =
+                (discovered_by entry).inputs;
+          } → last ≡ with_joined after edge
+          → HasJoined (joining_of last blocks names details defaults firsts bound) stated
+          (with_entry stated joined entry)
       joined-has entry edge meant after last keeps opens is =
-          subst (λ (t : JoinTable). HasJoined (joining_of t blocks names details defaults firsts bound) stated (with_entry stated joined entry)) (sym is)
-          (subst (λ es. HasJoined (joining_of (with_joined after edge) blocks names details defaults firsts bound) stated es) (sym (ap (λ m. discover_for m found joined) means)) has-after)
+          subst (λ (t : JoinTable). HasJoined (joining_of t blocks names details defaults firsts bound) stated
+          (with_entry stated joined entry)) (sym is)
+          (subst (λ es. HasJoined (joining_of (with_joined after edge) blocks names details defaults firsts
+          bound) stated es) (sym (ap (λ m. discover_for m found joined) means)) has-after)
         where
           found : Discovered
           found = discovered_by entry
 
-          of : (maker_of table.stated (path_given no_values entry.out) ≡ Some edge) × (is_bound_to (get_or bound edge None) file ≡ true)
+          of : (maker_of table.stated (path_given no_values entry.out) ≡ Some edge)
+              × (is_bound_to (get_or bound edge None) file ≡ true)
           of = meant-binds bound file edge (maker_of table.stated (path_given no_values entry.out)) meant.is
 
           means : edge_meant stated entry ≡ Some edge
-          means = ap (λ (es : List EdgePaths). maker_of es (path_given no_values entry.out)) (sym has.stated_paths) ∙ of.0
+          means = ap (λ (es : List EdgePaths). maker_of es (path_given no_values entry.out))
+              (sym has.stated_paths) ∙ of.0
 
           waited : pending_on name (pending_read joined) (Some edge) ≡ true
-          waited = still-pends edge ∙ ap (λ was. is_bound_to (unless_joined (get_or bound edge None) was) file) meant.first ∙ of.1
+          waited = still-pends edge ∙ ap (λ was. is_bound_to (unless_joined (get_or bound edge None) was)
+              file) meant.first ∙ of.1
 
           inside : edge < length table.was_joined
           inside = subst (λ n. edge < n) (sym held.as_many_was) meant.known
@@ -475,28 +647,38 @@ module _ (table : JoinTable) (blocks : BlocksModel) (names : List (List ℕ)) (d
           named : List (Option (List ℕ))
           named = map (file_named table.files) bound
 
-          unjoined-after : pending_read (discover edge found joined) ≡ left_pending_from 0 (map (file_named after.files) bound) (changed_at (λ was. true) edge after.was_joined)
+          unjoined-after : pending_read (discover edge found joined)
+              ≡ left_pending_from 0 (map (file_named after.files) bound)
+              (changed_at (λ was. true) edge after.was_joined)
           unjoined-after =
               pending-discover edge found joined
               ∙ ap (filter (λ (p : Pending). not (p.edge == edge))) has.unjoined
-              ∙ without-one 0 (still_pending named table.was_joined) edge edge (let e : edge ≡ 0 + edge = omega arith in e)
+              ∙ without-one 0 (still_pending named table.was_joined) edge edge
+              (let e : edge ≡ 0 + edge = omega arith in e)
               ∙ ap (pending_from 0) (sym (still-changed named table.was_joined edge inside))
-              ∙ ap (λ (bs : List (Option (List ℕ))). left_pending_from 0 bs (changed_at (λ was. true) edge table.was_joined)) (sym (same-bound after keeps))
-              ∙ ap (λ was. left_pending_from 0 (map (file_named after.files) bound) (changed_at (λ w. true) edge was)) (sym keeps.was_joined)
+              ∙ ap (λ (bs : List (Option (List ℕ))). left_pending_from 0 bs
+              (changed_at (λ was. true) edge table.was_joined)) (sym (same-bound after keeps))
+              ∙ ap (λ was. left_pending_from 0 (map (file_named after.files) bound)
+              (changed_at (λ w. true) edge was)) (sym keeps.was_joined)
 
-          has-after : HasJoined (joining_of (with_joined after edge) blocks names details defaults firsts bound) stated (discover edge found joined)
+          has-after : HasJoined (joining_of (with_joined after edge) blocks names details defaults firsts
+              bound) stated (discover edge found joined)
           has-after = record {
             stated_paths = keeps.stated ∙ has.stated_paths;
             joined_paths =
                 ap (λ added. changed_at (with_added added) edge after.joined) opens
-                ∙ ap (changed_at (with_added (record { outputs = found.outputs; inputs = found.inputs })) edge) (keeps.joined ∙ has.joined_paths)
+                ∙ ap (changed_at (with_added (record { outputs = found.outputs; inputs = found.inputs }))
+                edge) (keeps.joined ∙ has.joined_paths)
                 ∙ sym (paths-discover edge found joined (is_pending-from_pending name joined edge waited));
             none_open = refl;
             stated_details = has.stated_details;
             details = has.details ∙ sym (details-discover edge found joined);
-            blocks = λ number name. has.blocks number name ∙ sym (block_at-discover edge found joined number name);
-            block_names = λ number. has.block_names number ∙ sym (block_names_at-discover edge found joined number);
-            defaults = same-defaults after keeps ∙ has.defaults ∙ sym (defaults_read-discover edge found joined);
+            blocks = λ number name. has.blocks number name
+                ∙ sym (block_at-discover edge found joined number name);
+            block_names = λ number. has.block_names number
+                ∙ sym (block_names_at-discover edge found joined number);
+            defaults = same-defaults after keeps ∙ has.defaults
+                ∙ sym (defaults_read-discover edge found joined);
             dyndep_files = same-firsts after keeps ∙ has.dyndep_files;
             bound = has.bound ∙ ap (pending_from 0) (sym (same-bound after keeps));
             unjoined = unjoined-after;
@@ -504,30 +686,41 @@ module _ (table : JoinTable) (blocks : BlocksModel) (names : List (List ℕ)) (d
           }
 
 -- the fields after an entry, whose files were collected
-module _ (table : JoinTable) (blocks : BlocksModel) (names : List (List ℕ)) (details : List Detail) (defaults : List FileNo) (firsts : List DyndepEdge) (bound : List (Option FileNo)) (unjoined : List ℕ)
-    (held : JoiningIsHeld table names details defaults firsts bound unjoined) (file : FileNo) (word : WordModel) (edge : ℕ) (meant : IsMeant table bound file word edge) where
+module _ (table : JoinTable) (blocks : BlocksModel) (names : List (List ℕ)) (details : List Detail)
+    (defaults : List FileNo) (firsts : List DyndepEdge) (bound : List (Option FileNo)) (unjoined : List ℕ)
+    (held : JoiningIsHeld table names details defaults firsts bound unjoined) (file : FileNo)
+    (word : WordModel) (edge : ℕ) (meant : IsMeant table bound file word edge) where
   binds : is_bound_to (get_or bound edge None) file ≡ true
   binds = (meant-binds bound file edge (maker_of table.stated (path_given no_values word)) meant.is).1
 
   pub entry-inside : file.0 < length unjoined
-  entry-inside = unjoined-inside table blocks names details defaults firsts bound unjoined held edge file meant.known meant.first binds
+  entry-inside = unjoined-inside table blocks names details defaults firsts bound unjoined held edge file
+      meant.known meant.first binds
 
   pub entry-pends : (count : ℕ) → count ≡ get_or unjoined file.0 count → count ≡ get_or unjoined file.0 0
   entry-pends count is = get_or_read unjoined file.0 count entry-inside is 0
 
   pub entry-some : (count : ℕ) → count ≡ get_or unjoined file.0 count → 1 ≤ count
   entry-some count is =
-      let some = unjoined-some table blocks names details defaults firsts bound unjoined held edge file meant.known meant.first binds in
+      let some = unjoined-some table blocks names details defaults firsts bound unjoined held edge file
+      meant.known meant.first binds in
       let same = entry-pends count is in
       omega (arith, some, same)
 
-  pub entry-held : (after last : JoinTable) (count : ℕ) → KeepsEdges table after → last ≡ with_joined after edge → count ≡ get_or unjoined file.0 count
+  pub entry-held : (after last : JoinTable) (count : ℕ) → KeepsEdges table after
+      → last ≡ with_joined after edge → count ≡ get_or unjoined file.0 count
       → JoiningIsHeld last names details defaults firsts bound (set unjoined file.0 (count - 1))
   entry-held after last count keeps is now =
-      subst (λ (t : JoinTable). JoiningIsHeld t names details defaults firsts bound (set unjoined file.0 (count - 1))) (sym is)
-      (joined-held after blocks names details defaults firsts bound unjoined (still-held table blocks names details defaults firsts bound unjoined held after keeps) edge file
-      (subst (λ (es : List EdgePaths). edge < length es) (sym keeps.stated) meant.known) (ap (λ was. get_or was edge false) keeps.was_joined ∙ meant.first) binds count (entry-pends count now))
+      subst (λ (t : JoinTable). JoiningIsHeld t names details defaults firsts bound
+      (set unjoined file.0 (count - 1))) (sym is)
+      (joined-held after blocks names details defaults firsts bound unjoined
+      (still-held table blocks names details defaults firsts bound unjoined held after keeps) edge file
+      (subst (λ (es : List EdgePaths). edge < length es) (sym keeps.stated) meant.known)
+      (ap (λ was. get_or was edge false) keeps.was_joined ∙ meant.first) binds count
+      (entry-pends count now))
 
-  pub entry-keeps : (after last : JoinTable) → KeepsEdges table after → last ≡ with_joined after edge → map (pending_named last.files) firsts ≡ map (pending_named table.files) firsts
+  pub entry-keeps : (after last : JoinTable) → KeepsEdges table after → last ≡ with_joined after edge
+      → map (pending_named last.files) firsts ≡ map (pending_named table.files) firsts
   entry-keeps after last keeps is =
-      ap (λ (t : JoinTable). map (pending_named t.files) firsts) is ∙ same-firsts table blocks names details defaults firsts bound unjoined held after keeps
+      ap (λ (t : JoinTable). map (pending_named t.files) firsts) is
+      ∙ same-firsts table blocks names details defaults firsts bound unjoined held after keeps

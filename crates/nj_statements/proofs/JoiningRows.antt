@@ -11,7 +11,8 @@ use Rattle.nj_scope.specs.ReadingList.{ReadStatement, bounds}
 use Rattle.nj_edges.specs.Edges.{edge_at}
 use Rattle.nj_faults.specs.declared.fault.GraphFault.{GraphFault}
 use Rattle.nj_faults.specs.declared.fault.Cause.{Cause}
-use Rattle.nj_faults.specs.declared.fault.Cause.TheVariants.{EmptyPath, TwoMakers, DyndepExtra, DyndepTwice, DyndepNoStatement}
+use Rattle.nj_faults.specs.declared.fault.Cause.TheVariants.{EmptyPath, TwoMakers, DyndepExtra, DyndepTwice}
+use Rattle.nj_faults.specs.declared.fault.Cause.TheVariants.{DyndepNoStatement}
 use Rattle.nj_faults.specs.Faults.{fault_at}
 use Rattle.nj_statements.specs.EdgeList.{Pending, edges_read, paths_of_edges, pending_read}
 use Rattle.nj_statements.specs.Joining.{discover, with_entry, entry_fault, lacking_fault, dyndep_files}
@@ -32,8 +33,15 @@ build line output implicit dyndep = record {
   depth = 0;
   scope = 0;
   around = [];
-  item = BuildModel (record { explicit = word 7 output ∷ []; implicit = word 9 implicit ∷ [] }) (record { spot = at 2 11; name = codes "phony" })
-      (record { explicit = word 17 (codes "x") ∷ []; implicit = word 19 (codes "y") ∷ []; order_only = word 21 (codes "dd") ∷ word 24 (codes "ee") ∷ []; validations = [] })
+  item = BuildModel (record { explicit = word 7 output ∷ []; implicit = word 9 implicit ∷ [] })
+      (record { spot = at 2 11; name = codes "phony" })
+      (record {
+        explicit = word 17 (codes "x") ∷ [];
+        implicit = word 19 (codes "y") ∷ [];
+        order_only =
+            word 21 (codes "dd") ∷ word 24 (codes "ee") ∷ [];
+        validations = [];
+      })
       (record { spot = at 2 3; name = codes "dyndep"; value = word 12 dyndep } ∷ []);
   was_joined = false;
   discovered = None;
@@ -41,7 +49,8 @@ build line output implicit dyndep = record {
 
 -- `build o | m: phony x | y || dd ee` and two more, with `dyndep = dd`, `dyndep = ee` and `dyndep = ./dd`
 abbrev stated : List ReadStatement
-stated = build 3 (codes "q") (codes "r") (codes "./dd") ∷ build 2 (codes "p") (codes "n") (codes "ee") ∷ build 1 (codes "o") (codes "m") (codes "dd") ∷ []
+stated = build 3 (codes "q") (codes "r") (codes "./dd") ∷ build 2 (codes "p") (codes "n") (codes "ee") ∷ build
+    1 (codes "o") (codes "m") (codes "dd") ∷ []
 
 abbrev pending : (edge : ℕ) → (file : List ℕ) → Pending
 pending edge file = record { edge = edge; file = file }
@@ -93,7 +102,8 @@ unfolding clean_path_of without_leftmost_pair edges_read bounds pending_read dis
 row-joined = refl
 
 -- no other edge has more
-pub row-others : edge_at (paths_of_edges (edges_read joined)) 2 ≡ edge_at (paths_of_edges (edges_read stated)) 2
+pub row-others : edge_at (paths_of_edges (edges_read joined)) 2
+    ≡ edge_at (paths_of_edges (edges_read stated)) 2
 unfolding clean_path_of without_leftmost_pair edges_read bounds pending_read discover
 row-others = refl
 
@@ -108,7 +118,9 @@ unfolding clean_path_of without_leftmost_pair edges_read bounds pending_read dis
 row-implicit = refl
 
 -- `build $e: dyndep`: a dyndep file binds no name
-pub row-empty_path : wrong_with (record { out = record { spot = at 2 7; parts = Name (codes "e") ∷ [] }; outs = []; ins = [] }) ≡ wrong 7 EmptyPath
+pub row-empty_path : wrong_with (record
+    { out = record { spot = at 2 7; parts = Name (codes "e") ∷ [] }; outs = []; ins = [] })
+    ≡ wrong 7 EmptyPath
 unfolding clean_path_of without_leftmost_pair edges_read bounds pending_read discover
 row-empty_path = refl
 
@@ -133,29 +145,34 @@ unfolding clean_path_of without_leftmost_pair edges_read bounds pending_read dis
 row-twice = refl
 
 -- `build o | n: dyndep`: the edge of `p` makes it
-pub row-two_makers : wrong_with (entry (codes "o") (word 11 (codes "n") ∷ []) []) ≡ wrong 11 (TwoMakers (codes "n"))
+pub row-two_makers : wrong_with (entry (codes "o") (word 11 (codes "n") ∷ []) [])
+    ≡ wrong 11 (TwoMakers (codes "n"))
 unfolding clean_path_of without_leftmost_pair edges_read bounds pending_read discover
 row-two_makers = refl
 
 -- `build q | o2: dyndep` after the entry that discovers `o2` for another edge
-pub row-discovered_before : wrong_after (entry (codes "q") (word 11 (codes "o2") ∷ []) []) ≡ wrong 11 (TwoMakers (codes "o2"))
+pub row-discovered_before : wrong_after (entry (codes "q") (word 11 (codes "o2") ∷ []) [])
+    ≡ wrong 11 (TwoMakers (codes "o2"))
 unfolding clean_path_of without_leftmost_pair edges_read bounds pending_read discover
 row-discovered_before = refl
 
 -- `build o | o2 o2: dyndep`
-pub row-named_twice : wrong_with (entry (codes "o") (word 11 (codes "o2") ∷ word 14 (codes "o2") ∷ []) []) ≡ wrong 14 (TwoMakers (codes "o2"))
+pub row-named_twice : wrong_with (entry (codes "o") (word 11 (codes "o2") ∷ word 14 (codes "o2") ∷ []) [])
+    ≡ wrong 14 (TwoMakers (codes "o2"))
 unfolding clean_path_of without_leftmost_pair edges_read bounds pending_read discover
 row-named_twice = refl
 
 -- `build zz | n: dyndep`: the meaning of the entry comes before its discoveries
-pub row-meaning_first : wrong_with (entry (codes "zz") (word 12 (codes "n") ∷ []) []) ≡ wrong 7 (DyndepExtra (codes "zz"))
+pub row-meaning_first : wrong_with (entry (codes "zz") (word 12 (codes "n") ∷ []) [])
+    ≡ wrong 7 (DyndepExtra (codes "zz"))
 unfolding clean_path_of without_leftmost_pair edges_read bounds pending_read discover
 row-meaning_first = refl
 
 -- ---- after the last entry
 
 -- the first edge without an entry is named by its first output
-pub row-lacking : lacking_fault (codes "dd") joined ≡ Some (fault_at (codes "build.ninja") (at 3 1) (DyndepNoStatement (codes "q") (codes "dd")))
+pub row-lacking : lacking_fault (codes "dd") joined
+    ≡ Some (fault_at (codes "build.ninja") (at 3 1) (DyndepNoStatement (codes "q") (codes "dd")))
 unfolding clean_path_of without_leftmost_pair edges_read bounds pending_read discover
 row-lacking = refl
 

@@ -6,8 +6,10 @@ use Rattle.nj_text.specs.Words.{part_model}
 use Rattle.nj_scope.specs.Scopes.{part_expanded, expanded}
 use Rattle.nj_statements.specs.EdgeList.{Values}
 
-pub text-turn : (values : Values) (text piece new : List ℕ) (items : List Part) (i : ℕ) (d : Part) → i < length items → piece ≡ part_expanded values (part_model (get_or items i d)) → new ≡ text ++ piece
-    → new ++ expanded values (map part_model (drop (i + 1) items)) ≡ text ++ expanded values (map part_model (drop i items))
+pub text-turn : (values : Values) (text piece new : List ℕ) (items : List Part) (i : ℕ) (d : Part)
+    → i < length items → piece ≡ part_expanded values (part_model (get_or items i d)) → new ≡ text ++ piece
+    → new ++ expanded values (map part_model (drop (i + 1) items))
+    ≡ text ++ expanded values (map part_model (drop i items))
 text-turn values text piece new items i d below gives is =
     ap (λ t. t ++ rest) (is ∙ ap (λ p. text ++ p) gives)
     ∙ append_assoc text (part_expanded values (part_model (get_or items i d))) rest

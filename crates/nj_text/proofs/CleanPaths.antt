@@ -1,5 +1,7 @@
 -- The clean paths: the results of cleaning, and the paths that it leaves unchanged.
-use Rattle.std.proofs.Common.{◌≡◌, ◌≢◌, ℕ, zero, suc, ◌+◌, ◌<◌, Bool, true, false, eqb, List, [], ◌∷◌, ◌++◌, length, drop, replicate, refl, sym, ap, ◌∙◌, subst, arith, append_assoc, length-append}
+use Rattle.std.proofs.Common.{◌≡◌, ◌≢◌, ℕ, zero, suc, ◌+◌, ◌<◌, Bool, true, false, eqb, List, [], ◌∷◌, ◌++◌}
+use Rattle.std.proofs.Common.{length, drop, replicate, refl, sym, ap, ◌∙◌, subst, arith, append_assoc}
+use Rattle.std.proofs.Common.{length-append}
 use Rattle.std.specs.Prelude.{◌||◌, ◌↔◌, IsTrue, codes}
 use Rattle.std.specs.List.{slice_split, AllByRecursion}
 use Rattle.std.proofs.lemmas.Bool.Decides.{nat_tests}
@@ -7,13 +9,18 @@ use Rattle.std.proofs.lemmas.List.Elements.{All-from_recursion, recursion_from_A
 use Rattle.std.proofs.lemmas.Slice.Eq.{bytes_eq-Decides}
 use Rattle.std.proofs.lemmas.List.Splits.{length-slice_split, join_with_byte-slice_split}
 use Rattle.nj_text.specs.Bytes.{drop_while}
-use Rattle.nj_text.specs.Paths.{is_slash, is_up, leads_nowhere, is_absolute, IsName, without_leftmost_pair, relative_text, absolute_text, clean_path_of}
-use Rattle.nj_text.specs.PathLaws.{IsCleanPath, IsHere, IsRoot, IsRelative, IsAbsolute, CleanedPathsAreClean, CleanPathsStay, CleaningIsIdempotent}
-use Rattle.nj_text.specs.Inside.Cleaning.{components_kept, nothing_kept, text_kept, all_stay, is_here, stays_clean}
+use Rattle.nj_text.specs.Paths.{is_slash, is_up, leads_nowhere, is_absolute, IsName, without_leftmost_pair}
+use Rattle.nj_text.specs.Paths.{relative_text, absolute_text, clean_path_of}
+use Rattle.nj_text.specs.PathLaws.{IsCleanPath, IsHere, IsRoot, IsRelative, IsAbsolute, CleanedPathsAreClean}
+use Rattle.nj_text.specs.PathLaws.{CleanPathsStay, CleaningIsIdempotent}
+use Rattle.nj_text.specs.Inside.Cleaning.{components_kept, nothing_kept, text_kept, all_stay, is_here}
+use Rattle.nj_text.specs.Inside.Cleaning.{stays_clean}
 use Rattle.nj_text.proofs.KeptComponents.{down_from_names, components_after, kept-ups, drop-kept}
 use Rattle.nj_text.proofs.SlashComponents.{slash_is}
 use Rattle.nj_text.proofs.WrittenComponents.{text_of, AllGo, go-kept, long_text}
-use Rattle.nj_text.proofs.CleanStrings.{AllWhole, kept_of, names-kept, relative-kept, absolute-kept, components-text, text-relative, stay-names, stay-ups, stay-kept, stay-down}
+use Rattle.nj_text.proofs.CleanStrings.{AllWhole, kept_of, names-kept, relative-kept, absolute-kept}
+use Rattle.nj_text.proofs.CleanStrings.{components-text, text-relative, stay-names, stay-ups, stay-kept}
+use Rattle.nj_text.proofs.CleanStrings.{stay-down}
 
 -- ---- the written path
 
@@ -37,11 +44,14 @@ clean_root : clean_path_of (47 ∷ []) ≡ 47 ∷ []
 unfolding clean_path_of without_leftmost_pair
 clean_root = refl
 
-pub pushed-absolute : (old new path : List ℕ) → is_absolute path ≡ true → new ≡ (old ++ 47 ∷ []) ++ text_kept true (kept_of path) → new ≡ old ++ clean_path_of path
+pub pushed-absolute : (old new path : List ℕ) → is_absolute path ≡ true
+    → new ≡ (old ++ 47 ∷ []) ++ text_kept true (kept_of path) → new ≡ old ++ clean_path_of path
 pushed-absolute old new path e n =
-    n ∙ append_assoc old (47 ∷ []) (text_kept true (kept_of path)) ∙ ap (λ xs. old ++ xs) (sym (absolute-kept path e))
+    n ∙ append_assoc old (47 ∷ []) (text_kept true (kept_of path))
+    ∙ ap (λ xs. old ++ xs) (sym (absolute-kept path e))
 
-relative_none : (ps : List (List ℕ)) → AllGo ps → length (text_of ps) ≡ 0 → text_of ps ++ 46 ∷ [] ≡ relative_text ps
+relative_none : (ps : List (List ℕ)) → AllGo ps → length (text_of ps) ≡ 0
+    → text_of ps ++ 46 ∷ [] ≡ relative_text ps
 relative_none [] h l = refl
 relative_none (p ∷ ps) h l = absurd (omega (arith, long_text p ps h.0))
 
@@ -49,59 +59,81 @@ relative_some : (ps : List (List ℕ)) → 0 < length (text_of ps) → text_of p
 relative_some [] l = absurd (omega arith)
 relative_some (p ∷ ps) l = refl
 
-pub pushed-none : (old new path : List ℕ) → is_absolute path ≡ false → new ≡ old ++ text_kept false (kept_of path) → length new ≡ length old → new ++ 46 ∷ [] ≡ old ++ clean_path_of path
+pub pushed-none : (old new path : List ℕ) → is_absolute path ≡ false
+    → new ≡ old ++ text_kept false (kept_of path) → length new ≡ length old
+    → new ++ 46 ∷ [] ≡ old ++ clean_path_of path
 pushed-none old new path e n l =
     let components = components_kept (kept_of path).ups (kept_of path).names in
-    let none : length (text_of components) ≡ 0 = omega (arith, l, ap length n, length-append old (text_of components)) in
+    let none : length (text_of components) ≡ 0 =
+    omega (arith, l, ap length n, length-append old (text_of components)) in
     ap (λ xs. xs ++ 46 ∷ []) n ∙ append_assoc old (text_of components) (46 ∷ [])
-    ∙ ap (λ xs. old ++ xs) (relative_none components (go-kept (kept_of path).ups (kept_of path).names (names-kept path)) none ∙ sym (relative-kept path e))
+    ∙ ap (λ xs. old ++ xs) (relative_none components
+    (go-kept (kept_of path).ups (kept_of path).names (names-kept path)) none ∙ sym (relative-kept path e))
 
-pub pushed-some : (old new path : List ℕ) → is_absolute path ≡ false → new ≡ old ++ text_kept false (kept_of path) → length new ≢ length old → new ≡ old ++ clean_path_of path
+pub pushed-some : (old new path : List ℕ) → is_absolute path ≡ false
+    → new ≡ old ++ text_kept false (kept_of path) → length new ≢ length old → new ≡ old ++ clean_path_of path
 pushed-some old new path e n l =
     let components = components_kept (kept_of path).ups (kept_of path).names in
-    let some : 0 < length (text_of components) = omega (arith, l, ap length n, length-append old (text_of components)) in
+    let some : 0 < length (text_of components) =
+    omega (arith, l, ap length n, length-append old (text_of components)) in
     n ∙ ap (λ xs. old ++ xs) (relative_some components some ∙ sym (relative-kept path e))
 
 -- ---- a path whose components all stay is clean
 
-relative_stays : (path : List ℕ) → is_absolute path ≡ false → all_stay false (slice_split is_slash path) ≡ true → clean_path_of path ≡ path
+relative_stays : (path : List ℕ) → is_absolute path ≡ false
+    → all_stay false (slice_split is_slash path) ≡ true → clean_path_of path ≡ path
 relative_stays path e h =
-    let components : components_kept (kept_of path).ups (kept_of path).names ≡ slice_split is_slash path = stay-kept (slice_split is_slash path) false 0 [] (λ c. refl) h in
-    relative-kept path e ∙ ap relative_text components ∙ relative_full (slice_split is_slash path) (omega (arith, length-slice_split is_slash path)) ∙ join_with_byte-slice_split 47 path
+    let components : components_kept (kept_of path).ups (kept_of path).names ≡ slice_split is_slash path =
+    stay-kept (slice_split is_slash path) false 0 [] (λ c. refl) h in
+    relative-kept path e ∙ ap relative_text components
+    ∙ relative_full (slice_split is_slash path) (omega (arith, length-slice_split is_slash path))
+    ∙ join_with_byte-slice_split 47 path
 
-absolute_stays : (bs : List ℕ) → all_stay true (slice_split is_slash bs) ≡ true → clean_path_of (47 ∷ bs) ≡ 47 ∷ bs
+absolute_stays : (bs : List ℕ) → all_stay true (slice_split is_slash bs) ≡ true
+    → clean_path_of (47 ∷ bs) ≡ 47 ∷ bs
 absolute_stays bs h =
-    let components : components_after nothing_kept (slice_split is_slash bs) ≡ slice_split is_slash bs = stay-kept (slice_split is_slash bs) true 0 [] (λ c. refl) h in
+    let components : components_after nothing_kept (slice_split is_slash bs) ≡ slice_split is_slash bs =
+    stay-kept (slice_split is_slash bs) true 0 [] (λ c. refl) h in
     let names : components_kept 0 (kept_of bs).names ≡ slice_split is_slash bs =
-    sym (drop-kept (kept_of bs).ups (kept_of bs).names (down_from_names (kept_of bs).names (names-kept bs))) ∙ ap (drop_while is_up) components ∙ stay-down (slice_split is_slash bs) h in
-    absolute-kept (47 ∷ bs) refl ∙ ap absolute_text names ∙ ap (λ xs. 47 ∷ xs) (join_with_byte-slice_split 47 bs)
+    sym (drop-kept (kept_of bs).ups (kept_of bs).names (down_from_names (kept_of bs).names (names-kept bs)))
+    ∙ ap (drop_while is_up) components ∙ stay-down (slice_split is_slash bs) h in
+    absolute-kept (47 ∷ bs) refl ∙ ap absolute_text names
+    ∙ ap (λ xs. 47 ∷ xs) (join_with_byte-slice_split 47 bs)
 
 pub clean-stays : (path : List ℕ) → stays_clean path ≡ true → clean_path_of path ≡ path
 clean-stays path h = by_front (is_absolute path) refl
   where
-    rooted : (bs : List ℕ) → eqb (length bs) 0 || all_stay true (slice_split is_slash bs) ≡ true → clean_path_of (47 ∷ bs) ≡ 47 ∷ bs
+    rooted : (bs : List ℕ) → eqb (length bs) 0 || all_stay true (slice_split is_slash bs) ≡ true
+        → clean_path_of (47 ∷ bs) ≡ 47 ∷ bs
     rooted [] h = clean_root
-    rooted (b ∷ bs) h = let some : eqb (suc (length bs)) 0 ≡ false = grind (arith, nat_tests) in absolute_stays (b ∷ bs) (sym (ap (λ t. t || all_stay true (slice_split is_slash (b ∷ bs))) some) ∙ h)
+    rooted (b ∷ bs) h = let some : eqb (suc (length bs)) 0 ≡ false = grind (arith, nat_tests)
+        in absolute_stays (b ∷ bs) (sym (ap (λ t. t || all_stay true (slice_split is_slash (b ∷ bs))) some)
+        ∙ h)
 
-    relative : (t : Bool) → is_here path ≡ t → t || all_stay false (slice_split is_slash path) ≡ true → is_absolute path ≡ false → clean_path_of path ≡ path
+    relative : (t : Bool) → is_here path ≡ t → t || all_stay false (slice_split is_slash path) ≡ true
+        → is_absolute path ≡ false → clean_path_of path ≡ path
     relative true t h e = ap clean_path_of (here_is path t) ∙ clean_here ∙ sym (here_is path t)
     relative false t h e = relative_stays path e h
 
     by_front : (t : Bool) → is_absolute path ≡ t → clean_path_of path ≡ path
-    by_front true e = ap clean_path_of (absolute_is path e) ∙ rooted (drop 1 path) (rw e at h) ∙ sym (absolute_is path e)
+    by_front true e = ap clean_path_of (absolute_is path e) ∙ rooted (drop 1 path) (rw e at h)
+        ∙ sym (absolute_is path e)
     by_front false e = relative (is_here path) refl (rw e at h) e
 
 -- ---- a cleaned path
 
-names_push : (ns : List (List ℕ)) (n : List ℕ) → AllByRecursion IsName ns → IsName n → AllByRecursion IsName (ns ++ n ∷ [])
+names_push : (ns : List (List ℕ)) (n : List ℕ) → AllByRecursion IsName ns → IsName n
+    → AllByRecursion IsName (ns ++ n ∷ [])
 names_push [] n h i = (i, tt)
 names_push (m ∷ ns) n h i = (h.0, names_push ns n h.1 i)
 
-names_in_order : (names : List (List ℕ)) → AllByRecursion IsName names → AllByRecursion IsName (components_kept 0 names)
+names_in_order : (names : List (List ℕ)) → AllByRecursion IsName names
+    → AllByRecursion IsName (components_kept 0 names)
 names_in_order [] h = tt
 names_in_order (n ∷ names) h = names_push (components_kept 0 names) n (names_in_order names h.1) h.0
 
-is_relative : (ups : ℕ) (ns : List (List ℕ)) → AllByRecursion IsName ns → IsCleanPath (relative_text (replicate ups (46 ∷ 46 ∷ []) ++ ns))
+is_relative : (ups : ℕ) (ns : List (List ℕ)) → AllByRecursion IsName ns
+    → IsCleanPath (relative_text (replicate ups (46 ∷ 46 ∷ []) ++ ns))
 is_relative zero [] h = IsHere refl
 is_relative zero (n ∷ ns) h = IsRelative 0 (n ∷ ns) (omega arith) (All-from_recursion IsName (n ∷ ns) h) refl
 is_relative (suc ups) ns h = IsRelative (suc ups) ns (omega arith) (All-from_recursion IsName ns h) refl
@@ -114,10 +146,14 @@ pub cleaning-clean : CleanedPathsAreClean
 cleaning-clean path = by_front (is_absolute path) refl
   where
     by_front : (t : Bool) → is_absolute path ≡ t → IsCleanPath (clean_path_of path)
-    by_front true e = subst IsCleanPath (sym (absolute-kept path e)) (is_rooted (components_kept 0 (kept_of path).names) (names_in_order (kept_of path).names (names-kept path)))
+    by_front true e = subst IsCleanPath (sym (absolute-kept path e))
+        (is_rooted (components_kept 0 (kept_of path).names)
+        (names_in_order (kept_of path).names (names-kept path)))
     by_front false e =
-        subst IsCleanPath (sym (relative-kept path e ∙ ap relative_text (kept-ups (kept_of path).ups (kept_of path).names)))
-        (is_relative (kept_of path).ups (components_kept 0 (kept_of path).names) (names_in_order (kept_of path).names (names-kept path)))
+        subst IsCleanPath (sym (relative-kept path e
+        ∙ ap relative_text (kept-ups (kept_of path).ups (kept_of path).names)))
+        (is_relative (kept_of path).ups (components_kept 0 (kept_of path).names)
+        (names_in_order (kept_of path).names (names-kept path)))
 
 -- ---- the components of a clean path stay
 
@@ -133,28 +169,38 @@ or_true : (s t : Bool) → t ≡ true → s || t ≡ true
 or_true true t e = refl
 or_true false t e = e
 
-stays_relative : (p : List ℕ) (ps : List (List ℕ)) → leads_nowhere p ≡ false → AllWhole (p ∷ ps) → all_stay false (p ∷ ps) ≡ true → stays_clean (text_of (p ∷ ps)) ≡ true
+stays_relative : (p : List ℕ) (ps : List (List ℕ)) → leads_nowhere p ≡ false → AllWhole (p ∷ ps)
+    → all_stay false (p ∷ ps) ≡ true → stays_clean (text_of (p ∷ ps)) ≡ true
 stays_relative p ps e w h =
     let low : is_absolute (text_of (p ∷ ps)) ≡ false = text-relative p ps e w.0 in
-    let all : all_stay false (slice_split is_slash (text_of (p ∷ ps))) ≡ true = ap (all_stay false) (components-text p ps w) ∙ h in
-    rw low (or_true (is_here (text_of (p ∷ ps))) (all_stay false (slice_split is_slash (text_of (p ∷ ps)))) all)
+    let all : all_stay false (slice_split is_slash (text_of (p ∷ ps))) ≡ true =
+    ap (all_stay false) (components-text p ps w) ∙ h in
+    rw low (or_true (is_here (text_of (p ∷ ps))) (all_stay false (slice_split is_slash (text_of (p ∷ ps))))
+    all)
 
-relative_components : (ups : ℕ) (ns : List (List ℕ)) → AllByRecursion IsName ns → 0 < ups + length ns → stays_clean (text_of (replicate ups (46 ∷ 46 ∷ []) ++ ns)) ≡ true
+relative_components : (ups : ℕ) (ns : List (List ℕ)) → AllByRecursion IsName ns → 0 < ups + length ns
+    → stays_clean (text_of (replicate ups (46 ∷ 46 ∷ []) ++ ns)) ≡ true
 relative_components zero [] h l = absurd (omega arith)
-relative_components zero (n ∷ ns) h l = stays_relative n ns h.0.leads_somewhere (whole_names (n ∷ ns) h) (stay-names false (n ∷ ns) h)
+relative_components zero (n ∷ ns) h l =
+    stays_relative n ns h.0.leads_somewhere (whole_names (n ∷ ns) h) (stay-names false (n ∷ ns) h)
 relative_components (suc ups) ns h l =
-    stays_relative (46 ∷ 46 ∷ []) (replicate ups (46 ∷ 46 ∷ []) ++ ns) refl (whole_ups (suc ups) ns (whole_names ns h)) (stay-ups (suc ups) ns (stay-names false ns h))
+    stays_relative (46 ∷ 46 ∷ []) (replicate ups (46 ∷ 46 ∷ []) ++ ns) refl
+    (whole_ups (suc ups) ns (whole_names ns h)) (stay-ups (suc ups) ns (stay-names false ns h))
 
-absolute_components : (ns : List (List ℕ)) → AllByRecursion IsName ns → 0 < length ns → stays_clean (47 ∷ text_of ns) ≡ true
+absolute_components : (ns : List (List ℕ)) → AllByRecursion IsName ns → 0 < length ns
+    → stays_clean (47 ∷ text_of ns) ≡ true
 absolute_components [] h l = absurd (omega arith)
 absolute_components (n ∷ ns) h l =
-    or_true (eqb (length (text_of (n ∷ ns))) 0) (all_stay true (slice_split is_slash (text_of (n ∷ ns)))) (ap (all_stay true) (components-text n ns (whole_names (n ∷ ns) h)) ∙ stay-names true (n ∷ ns) h)
+    or_true (eqb (length (text_of (n ∷ ns))) 0) (all_stay true (slice_split is_slash (text_of (n ∷ ns))))
+    (ap (all_stay true) (components-text n ns (whole_names (n ∷ ns) h)) ∙ stay-names true (n ∷ ns) h)
 
 stays_if_clean : (path : List ℕ) → IsCleanPath path → stays_clean path ≡ true
 stays_if_clean path (IsHere e) = ap stays_clean e
 stays_if_clean path (IsRoot e) = ap stays_clean e
-stays_if_clean path (IsRelative ups names l all e) = ap stays_clean e ∙ relative_components ups names (recursion_from_All IsName names all) l
-stays_if_clean path (IsAbsolute names l all e) = ap stays_clean e ∙ absolute_components names (recursion_from_All IsName names all) l
+stays_if_clean path (IsRelative ups names l all e) =
+    ap stays_clean e ∙ relative_components ups names (recursion_from_All IsName names all) l
+stays_if_clean path (IsAbsolute names l all e) =
+    ap stays_clean e ∙ absolute_components names (recursion_from_All IsName names all) l
 
 pub stays-clean : (path : List ℕ) → clean_path_of path ≡ path → stays_clean path ≡ true
 stays-clean path e = stays_if_clean path (subst IsCleanPath e (cleaning-clean path))

@@ -1,5 +1,7 @@
 -- The number that is read digit by digit.
-use Rattle.std.proofs.Common.{◌≡◌, ℕ, suc, ◌+◌, ◌-◌, ◌*◌, ◌<◌, ◌≤◌, min, Bool, true, false, cond, not, ◌==◌, Option, Some, List, [], ◌∷◌, ◌++◌, length, take, drop, get_or, refl, sym, subst, ap, ◌∙◌, arith}
+use Rattle.std.proofs.Common.{◌≡◌, ℕ, suc, ◌+◌, ◌-◌, ◌*◌, ◌<◌, ◌≤◌, min, Bool, true, false, cond, not, ◌==◌}
+use Rattle.std.proofs.Common.{Option, Some, List, [], ◌∷◌, ◌++◌, length, take, drop, get_or, refl, sym, subst}
+use Rattle.std.proofs.Common.{ap, ◌∙◌, arith}
 use Rattle.std.specs.Prelude.{unwrap_or}
 use Rattle.std.specs.List.{take_while, position_or_len, before_first, after_first}
 use Rattle.std.specs.Char.{digit_value}
@@ -26,10 +28,13 @@ held : (n d g : ℕ) → min (min n g * 10 + d) g ≡ min (n * 10 + d) g
 held n d g = omega arith
 
 -- a digit after: ten times the number, and the digit
-pub number_of-push : (ds : List ℕ) (d : ℕ) → is_digit d ≡ true → number_of (ds ++ d ∷ []) ≡ Some (min (unwrap_or (number_of ds) 0 * 10 + (d - 48)) greatest)
+pub number_of-push : (ds : List ℕ) (d : ℕ) → is_digit d ≡ true
+    → number_of (ds ++ d ∷ []) ≡ Some (min (unwrap_or (number_of ds) 0 * 10 + (d - 48)) greatest)
 number_of-push [] d h = ap (λ n. Some (min (0 * 10 + n) greatest)) (digit-is d h)
 number_of-push (c ∷ ds) d h =
-    ap (λ n. Some (min n greatest)) (digits_value_push 10 (c ∷ ds) d ∙ ap (λ n. digits_value 10 (c ∷ ds) * 10 + n) (digit-is d h)) ∙ ap Some (sym (held (digits_value 10 (c ∷ ds)) (d - 48) greatest))
+    ap (λ n. Some (min n greatest)) (digits_value_push 10 (c ∷ ds) d
+    ∙ ap (λ n. digits_value 10 (c ∷ ds) * 10 + n) (digit-is d h))
+    ∙ ap Some (sym (held (digits_value 10 (c ∷ ds)) (d - 48) greatest))
 
 -- ---- the loop over the digits
 
@@ -43,27 +48,38 @@ AllIn-push p (y ∷ xs) x all e = (all.0, AllIn-push p xs x all.1 e)
 
 take_while-all : (p : ℕ → Bool) (xs : List ℕ) → AllIn p xs → take_while p xs ≡ xs
 take_while-all p [] all = refl
-take_while-all p (x ∷ xs) all = take_while-cons_yes p x xs all.0 ∙ ap (λ ys. x ∷ ys) (take_while-all p xs all.1)
+take_while-all p (x ∷ xs) all = take_while-cons_yes p x xs all.0
+    ∙ ap (λ ys. x ∷ ys) (take_while-all p xs all.1)
 
 -- a digit is read
-pub read-digit : (text : List ℕ) (i : ℕ) (before : Option ℕ) (after : ℕ) → i < length text → IsRead text i before → is_digit (get_or text i 0) ≡ true
-    → after ≡ min (unwrap_or before 0 * 10 + (get_or text i 0 - 48)) greatest → IsRead text (i + 1) (Some after)
+pub read-digit : (text : List ℕ) (i : ℕ) (before : Option ℕ) (after : ℕ) → i < length text
+    → IsRead text i before → is_digit (get_or text i 0) ≡ true
+    → after ≡ min (unwrap_or before 0 * 10 + (get_or text i 0 - 48)) greatest
+    → IsRead text (i + 1) (Some after)
 read-digit text i before after h read e a =
     let more : take (i + 1) text ≡ take i text ++ get_or text i 0 ∷ [] = take_more text i 0 h in
     let all = AllIn-push is_digit (take i text) (get_or text i 0) read.0 e in
-    let number = ap Some a ∙ ap (λ (n : Option ℕ). Some (min (unwrap_or n 0 * 10 + (get_or text i 0 - 48)) greatest)) read.1 ∙ sym (number_of-push (take i text) (get_or text i 0) e) in
+    let number = ap Some a ∙ ap (λ (n : Option ℕ). Some
+    (min (unwrap_or n 0 * 10 + (get_or text i 0 - 48)) greatest)) read.1
+    ∙ sym (number_of-push (take i text) (get_or text i 0) e) in
     rw more (all, number)
 
 -- a byte that is not a digit ends the number
-pub read-other : (text : List ℕ) (i : ℕ) (number : Option ℕ) → i < length text → IsRead text i number → is_digit (get_or text i 0) ≡ false → number ≡ leading_number_of text
+pub read-other : (text : List ℕ) (i : ℕ) (number : Option ℕ) → i < length text → IsRead text i number
+    → is_digit (get_or text i 0) ≡ false → number ≡ leading_number_of text
 read-other text i number h read e =
-    let cut : text ≡ take i text ++ get_or text i 0 ∷ drop (suc i) text = sym (take-append-drop i text) ∙ ap (λ ys. take i text ++ ys) (drop-cons text i 0 h) in
+    let cut : text ≡ take i text ++ get_or text i 0 ∷ drop (suc i) text =
+    sym (take-append-drop i text) ∙ ap (λ ys. take i text ++ ys) (drop-cons text i 0 h) in
     let front = take_while-append is_digit (take i text) (get_or text i 0 ∷ drop (suc i) text) read.0 in
-    let digits : take_while is_digit text ≡ take i text = ap (take_while is_digit) cut ∙ front ∙ ap (λ ys. take i text ++ ys) (take_while-cons_no is_digit (get_or text i 0) (drop (suc i) text) e) ∙ append-nil (take i text) in
+    let digits : take_while is_digit text ≡ take i text =
+    ap (take_while is_digit) cut ∙ front
+    ∙ ap (λ ys. take i text ++ ys) (take_while-cons_no is_digit (get_or text i 0) (drop (suc i) text) e)
+    ∙ append-nil (take i text) in
     read.1 ∙ ap number_of (sym digits)
 
 -- the text is digits alone
-pub read-all : (text : List ℕ) (i : ℕ) (number : Option ℕ) → length text ≤ i → IsRead text i number → number ≡ leading_number_of text
+pub read-all : (text : List ℕ) (i : ℕ) (number : Option ℕ) → length text ≤ i → IsRead text i number
+    → number ≡ leading_number_of text
 read-all text i number h read =
     let whole : take i text ≡ text = take_all i text h in
     read.1 ∙ ap number_of (whole ∙ sym (take_while-all is_digit text (subst (AllIn is_digit) whole read.0)))
@@ -102,13 +118,17 @@ digits_before_dot : (text : List ℕ) → take_while is_digit (before_dot text) 
 digits_before_dot [] = refl
 digits_before_dot (b ∷ text) = by_digit (is_digit b) refl (digits_before_dot text)
   where
-    by_dot : (t : Bool) → not (is_dot b) ≡ t → is_digit b ≡ false → take_while is_digit (before_dot (b ∷ text)) ≡ []
-    by_dot true other e = ap (take_while is_digit) (take_while-cons_yes (λ b. not (is_dot b)) b text other) ∙ take_while-cons_no is_digit b (before_dot text) e
+    by_dot : (t : Bool) → not (is_dot b) ≡ t → is_digit b ≡ false
+        → take_while is_digit (before_dot (b ∷ text)) ≡ []
+    by_dot true other e = ap (take_while is_digit) (take_while-cons_yes (λ b. not (is_dot b)) b text other)
+        ∙ take_while-cons_no is_digit b (before_dot text) e
     by_dot false dot e = ap (take_while is_digit) (take_while-cons_no (λ b. not (is_dot b)) b text dot)
 
-    by_digit : (t : Bool) → is_digit b ≡ t → take_while is_digit (before_dot text) ≡ take_while is_digit text → take_while is_digit (before_dot (b ∷ text)) ≡ take_while is_digit (b ∷ text)
+    by_digit : (t : Bool) → is_digit b ≡ t → take_while is_digit (before_dot text) ≡ take_while is_digit text
+        → take_while is_digit (before_dot (b ∷ text)) ≡ take_while is_digit (b ∷ text)
     by_digit true e rest =
-        ap (take_while is_digit) (take_while-cons_yes (λ b. not (is_dot b)) b text (no_dot b e)) ∙ take_while-cons_yes is_digit b (before_dot text) e
+        ap (take_while is_digit) (take_while-cons_yes (λ b. not (is_dot b)) b text (no_dot b e))
+        ∙ take_while-cons_yes is_digit b (before_dot text) e
         ∙ ap (λ ds. b ∷ ds) rest ∙ sym (take_while-cons_yes is_digit b text e)
     by_digit false e rest = by_dot (not (is_dot b)) refl e ∙ sym (take_while-cons_no is_digit b text e)
 

@@ -1,5 +1,7 @@
--- The components that are left when a path is cleaned, one after another, are the components of its clean path.
-use Rattle.std.proofs.Common.{◌≡◌, ℕ, zero, suc, Bool, true, false, not, List, [], ◌∷◌, ◌++◌, replicate, refl, sym, ap, ◌∙◌, append_assoc}
+-- The components that are left when a path is cleaned, one after another, are the components of its clean
+-- path.
+use Rattle.std.proofs.Common.{◌≡◌, ℕ, zero, suc, Bool, true, false, not, List, [], ◌∷◌, ◌++◌, replicate, refl}
+use Rattle.std.proofs.Common.{sym, ap, ◌∙◌, append_assoc}
 use Rattle.std.specs.Prelude.{codes}
 use Rattle.std.specs.List.{filter, AllByRecursion}
 use Rattle.std.proofs.lemmas.List.{append-nil}
@@ -38,7 +40,8 @@ component-name p e u = rw (e, u) refl
 pub up_is : (p : List ℕ) → is_up p ≡ true → p ≡ 46 ∷ 46 ∷ []
 up_is p h = (bytes_eq-Decides p (codes "..")).0 h
 
-pub replicate-push : {X : Type 0} (n : ℕ) (x : X) (xs : List X) → replicate n x ++ x ∷ xs ≡ replicate (suc n) x ++ xs
+pub replicate-push : {X : Type 0} (n : ℕ) (x : X) (xs : List X)
+    → replicate n x ++ x ∷ xs ≡ replicate (suc n) x ++ xs
 replicate-push zero x xs = refl
 replicate-push (suc n) x xs = ap (λ ys. x ∷ ys) (replicate-push n x xs)
 
@@ -60,35 +63,54 @@ abbrev pub components_after : Kept → List (List ℕ) → List (List ℕ)
 components_after kept ps = components_kept (kept_after kept ps).ups (kept_after kept ps).names
 
 -- the components that are left when all pairs are taken out, those before them being clean
-pub pairs-kept : (ps : List (List ℕ)) (ups : ℕ) (names : List (List ℕ)) → AllDown names → without_pairs (components_kept ups names ++ going ps) ≡ components_after (record { ups = ups; names = names }) ps
-pairs-kept [] ups names h = ap without_pairs (append-nil (components_kept ups names)) ∙ pairs-none (components_kept ups names) (no_pair-kept ups names h)
-pairs-kept (p ∷ ps) ups names h = by_component (leads_nowhere p) (is_up p) refl refl names h (λ (u : ℕ) (ns : List (List ℕ)) (k : AllDown ns). pairs-kept ps u ns k)
+pub pairs-kept : (ps : List (List ℕ)) (ups : ℕ) (names : List (List ℕ)) → AllDown names
+    → without_pairs (components_kept ups names ++ going ps)
+    ≡ components_after (record { ups = ups; names = names }) ps
+pairs-kept [] ups names h = ap without_pairs (append-nil (components_kept ups names))
+    ∙ pairs-none (components_kept ups names) (no_pair-kept ups names h)
+pairs-kept (p ∷ ps) ups names h = by_component (leads_nowhere p) (is_up p) refl refl names h
+    (λ (u : ℕ) (ns : List (List ℕ)) (k : AllDown ns). pairs-kept ps u ns k)
   where
     by_component : (s t : Bool) → leads_nowhere p ≡ s → is_up p ≡ t → (ns : List (List ℕ)) → AllDown ns
-        → ((u : ℕ) (ns : List (List ℕ)) → AllDown ns → without_pairs (components_kept u ns ++ going ps) ≡ components_after (record { ups = u; names = ns }) ps)
-        → without_pairs (components_kept ups ns ++ going (p ∷ ps)) ≡ components_after (record { ups = ups; names = ns }) (p ∷ ps)
+        → ((u : ℕ) (ns : List (List ℕ)) → AllDown ns
+        → without_pairs (components_kept u ns ++ going ps)
+        ≡ components_after (record { ups = u; names = ns }) ps)
+        → without_pairs (components_kept ups ns ++ going (p ∷ ps))
+        ≡ components_after (record { ups = ups; names = ns }) (p ∷ ps)
     by_component true t e u ns h rest =
         ap (λ qs. without_pairs (components_kept ups ns ++ qs)) (going-no p ps e) ∙ rest ups ns h
-        ∙ ap (λ (x : Component). components_after (with_component x p (record { ups = ups; names = ns })) ps) (sym (component-nowhere p e))
+        ∙ ap (λ (x : Component). components_after (with_component x p (record { ups = ups; names = ns })) ps)
+        (sym (component-nowhere p e))
     by_component false false e u ns h rest =
-        ap (λ qs. without_pairs (components_kept ups ns ++ qs)) (going-yes p ps e) ∙ ap without_pairs (sym (append_assoc (components_kept ups ns) (p ∷ []) (going ps))) ∙ rest ups (p ∷ ns) (u, h)
-        ∙ ap (λ (x : Component). components_after (with_component x p (record { ups = ups; names = ns })) ps) (sym (component-name p e u))
+        ap (λ qs. without_pairs (components_kept ups ns ++ qs)) (going-yes p ps e)
+        ∙ ap without_pairs (sym (append_assoc (components_kept ups ns) (p ∷ []) (going ps)))
+        ∙ rest ups (p ∷ ns) (u, h)
+        ∙ ap (λ (x : Component). components_after (with_component x p (record { ups = ups; names = ns })) ps)
+        (sym (component-name p e u))
     by_component false true e u [] h rest =
-        ap (λ qs. without_pairs (components_kept ups [] ++ qs)) (going-yes p ps e) ∙ ap (λ (x : List ℕ). without_pairs (components_kept ups [] ++ x ∷ going ps)) (up_is p u)
+        ap (λ qs. without_pairs (components_kept ups [] ++ qs)) (going-yes p ps e)
+        ∙ ap (λ (x : List ℕ). without_pairs (components_kept ups [] ++ x ∷ going ps)) (up_is p u)
         ∙ ap without_pairs (replicate-push ups (46 ∷ 46 ∷ []) (going ps)) ∙ rest (suc ups) [] tt
-        ∙ ap (λ (x : Component). components_after (with_component x p (record { ups = ups; names = [] })) ps) (sym (component-up p e u))
+        ∙ ap (λ (x : Component). components_after (with_component x p (record { ups = ups; names = [] })) ps)
+        (sym (component-up p e u))
     by_component false true e u (n ∷ ns) h rest =
-        ap (λ qs. without_pairs (components_kept ups (n ∷ ns) ++ qs)) (going-yes p ps e) ∙ ap without_pairs (append_assoc (components_kept ups ns) (n ∷ []) (p ∷ going ps))
-        ∙ pairs-at (components_kept ups ns) n p (going ps) (no_pair-kept ups (n ∷ ns) h) (pair_of n p h.0 u) ∙ rest ups ns h.1
-        ∙ ap (λ (x : Component). components_after (with_component x p (record { ups = ups; names = n ∷ ns })) ps) (sym (component-up p e u))
+        ap (λ qs. without_pairs (components_kept ups (n ∷ ns) ++ qs)) (going-yes p ps e)
+        ∙ ap without_pairs (append_assoc (components_kept ups ns) (n ∷ []) (p ∷ going ps))
+        ∙ pairs-at (components_kept ups ns) n p (going ps) (no_pair-kept ups (n ∷ ns) h) (pair_of n p h.0 u)
+        ∙ rest ups ns h.1
+        ∙ ap (λ (x : Component). components_after (with_component x p (record { ups = ups; names = n ∷ ns }))
+        ps) (sym (component-up p e u))
 
 -- ---- the leading `..`
 
-pub kept-ups : (ups : ℕ) (names : List (List ℕ)) → components_kept ups names ≡ replicate ups (46 ∷ 46 ∷ []) ++ components_kept 0 names
+pub kept-ups : (ups : ℕ) (names : List (List ℕ))
+    → components_kept ups names ≡ replicate ups (46 ∷ 46 ∷ []) ++ components_kept 0 names
 kept-ups ups [] = sym (append-nil (replicate ups (46 ∷ 46 ∷ [])))
-kept-ups ups (n ∷ names) = ap (λ qs. qs ++ n ∷ []) (kept-ups ups names) ∙ append_assoc (replicate ups (46 ∷ 46 ∷ [])) (components_kept 0 names) (n ∷ [])
+kept-ups ups (n ∷ names) = ap (λ qs. qs ++ n ∷ []) (kept-ups ups names)
+    ∙ append_assoc (replicate ups (46 ∷ 46 ∷ [])) (components_kept 0 names) (n ∷ [])
 
-drop-ups : (n : ℕ) (ps : List (List ℕ)) → drop_while is_up (replicate n (46 ∷ 46 ∷ []) ++ ps) ≡ drop_while is_up ps
+drop-ups : (n : ℕ) (ps : List (List ℕ))
+    → drop_while is_up (replicate n (46 ∷ 46 ∷ []) ++ ps) ≡ drop_while is_up ps
 drop-ups zero ps = refl
 drop-ups (suc n) ps = drop-ups n ps
 
@@ -105,5 +127,7 @@ drop-down [] h = refl
 drop-down (p ∷ ps) h = rw h.0 refl
 
 -- an absolute path loses its leading `..`, and nothing else
-pub drop-kept : (ups : ℕ) (names : List (List ℕ)) → AllDown names → drop_while is_up (components_kept ups names) ≡ components_kept 0 names
-drop-kept ups names h = ap (drop_while is_up) (kept-ups ups names) ∙ drop-ups ups (components_kept 0 names) ∙ drop-down (components_kept 0 names) (down-kept names h)
+pub drop-kept : (ups : ℕ) (names : List (List ℕ)) → AllDown names
+    → drop_while is_up (components_kept ups names) ≡ components_kept 0 names
+drop-kept ups names h = ap (drop_while is_up) (kept-ups ups names) ∙ drop-ups ups (components_kept 0 names)
+    ∙ drop-down (components_kept 0 names) (down-kept names h)

@@ -5,11 +5,13 @@ use Rattle.std.specs.Str.Lossy.{utf8_lossy, utf8_valid_len, utf8_invalid_len}
 use Rattle.nj_text.specs.Inside.Chunks.{replaced}
 
 -- a chunk off the front, by whether bytes that are no text end it
-pub lossy-chunk : (bs valid invalid rest : List ℕ) → bs ≡ valid ++ (invalid ++ rest) → length valid ≡ utf8_valid_len bs
+pub lossy-chunk : (bs valid invalid rest : List ℕ) → bs ≡ valid ++ (invalid ++ rest)
+    → length valid ≡ utf8_valid_len bs
     → length invalid ≡ utf8_invalid_len (drop (utf8_valid_len bs) bs) → (length invalid ≡ 0 → length rest ≡ 0)
     → utf8_lossy bs ≡ (valid ++ replaced invalid) ++ utf8_lossy rest
 lossy-chunk bs valid [] rest parts valid_len invalid_len last =
-    utf8_lossy_last_chunk bs valid [] rest parts valid_len refl (last refl) ∙ sym (append_assoc valid [] (utf8_lossy rest))
+    utf8_lossy_last_chunk bs valid [] rest parts valid_len refl (last refl)
+    ∙ sym (append_assoc valid [] (utf8_lossy rest))
 lossy-chunk bs valid (b ∷ invalid) rest parts valid_len invalid_len last =
     utf8_lossy_chunk bs valid (b ∷ invalid) rest parts valid_len invalid_len (omega arith)
     ∙ sym (append_assoc valid (replaced (b ∷ invalid)) (utf8_lossy rest))

@@ -1,5 +1,6 @@
 -- Where no slash comes before a slash or a dot, and the ends are the ends of names, each component is a name.
-use Rattle.std.proofs.Common.{◌≡◌, ℕ, suc, Bool, true, false, not, List, [], ◌∷◌, drop, refl, sym, ap, ◌∙◌, subst, arith, get_or, length, ◌<◌, ◌-◌}
+use Rattle.std.proofs.Common.{◌≡◌, ℕ, suc, Bool, true, false, not, List, [], ◌∷◌, drop, refl, sym, ap, ◌∙◌}
+use Rattle.std.proofs.Common.{subst, arith, get_or, length, ◌<◌, ◌-◌}
 use Rattle.std.specs.Prelude.{◌||◌, ◌&&◌, ◌==◌, codes}
 use Rattle.std.specs.Str.{bytes_eq}
 use Rattle.std.specs.Bool.{OnTrue}
@@ -17,24 +18,33 @@ BeginsName b = is_slash b || b == 46 ≡ false
 name_begun : (b : ℕ) (p : List ℕ) → BeginsName b → list_any is_slash (b ∷ p) ≡ false → IsName (b ∷ p)
 name_begun b p begins whole =
     let low = (or_false (is_slash b) (b == 46) begins).1 in
-    record { leads_somewhere = ap (λ t. t && bytes_eq p []) low; leads_down = ap (λ t. t && bytes_eq p (codes ".")) low; has_no_slash = whole }
+    record {
+      leads_somewhere = ap (λ t. t && bytes_eq p []) low;
+      leads_down =
+          ap (λ t. t && bytes_eq p (codes ".")) low;
+      has_no_slash = whole;
+    }
 
 -- all components but the first are names
 abbrev Continues : List ℕ → Type 0
 Continues text = AllByRecursion IsName (drop 1 (slice_split is_slash text))
 
-onto_name : (b : ℕ) (ps : List (List ℕ)) → BeginsName b → AllWhole (onto_first b ps) → AllByRecursion IsName (drop 1 (onto_first b ps)) → AllByRecursion IsName (onto_first b ps)
+onto_name : (b : ℕ) (ps : List (List ℕ)) → BeginsName b → AllWhole (onto_first b ps)
+    → AllByRecursion IsName (drop 1 (onto_first b ps)) → AllByRecursion IsName (onto_first b ps)
 onto_name b [] begins whole rest = (name_begun b [] begins whole.0, tt)
 onto_name b (p ∷ ps) begins whole rest = (name_begun b p begins whole.0, rest)
 
 -- and the first too, where its first byte begins a name
-names_begun : (b : ℕ) (bs : List ℕ) → BeginsName b → Continues (b ∷ bs) → AllByRecursion IsName (slice_split is_slash (b ∷ bs))
+names_begun : (b : ℕ) (bs : List ℕ) → BeginsName b → Continues (b ∷ bs)
+    → AllByRecursion IsName (slice_split is_slash (b ∷ bs))
 names_begun b bs begins rest =
     let split = slice_split-cons_no is_slash b bs (or_false (is_slash b) (b == 46) begins).0 in
     subst (AllByRecursion IsName) (sym split)
-    (onto_name b (slice_split is_slash bs) begins (subst AllWhole split (whole-components (b ∷ bs))) (subst (λ ps. AllByRecursion IsName (drop 1 ps)) split rest))
+    (onto_name b (slice_split is_slash bs) begins (subst AllWhole split (whole-components (b ∷ bs)))
+    (subst (λ ps. AllByRecursion IsName (drop 1 ps)) split rest))
 
-drop_onto : (b : ℕ) (ps : List (List ℕ)) → AllByRecursion IsName (drop 1 ps) → AllByRecursion IsName (drop 1 (onto_first b ps))
+drop_onto : (b : ℕ) (ps : List (List ℕ)) → AllByRecursion IsName (drop 1 ps)
+    → AllByRecursion IsName (drop 1 (onto_first b ps))
 drop_onto b [] h = tt
 drop_onto b (p ∷ ps) h = h
 
@@ -45,23 +55,30 @@ continues (b ∷ c ∷ bs) none end =
     let each = or_false (is_suspect b c) (any (suspects (c ∷ bs))) none in
     by_test (is_slash b) refl each.0 (continues (c ∷ bs) each.1 end)
   where
-    by_test : (t : Bool) → is_slash b ≡ t → is_suspect b c ≡ false → Continues (c ∷ bs) → Continues (b ∷ c ∷ bs)
-    by_test false e fine rest = rw (slice_split-cons_no is_slash b (c ∷ bs) e) (drop_onto b (slice_split is_slash (c ∷ bs)) rest)
-    by_test true e fine rest = rw (slice_split-cons_yes is_slash b (c ∷ bs) e) (names_begun c bs (sym (ap (λ t. t && (is_slash c || c == 46)) e) ∙ fine) rest)
+    by_test : (t : Bool) → is_slash b ≡ t → is_suspect b c ≡ false → Continues (c ∷ bs)
+        → Continues (b ∷ c ∷ bs)
+    by_test false e fine rest = rw (slice_split-cons_no is_slash b (c ∷ bs) e)
+        (drop_onto b (slice_split is_slash (c ∷ bs)) rest)
+    by_test true e fine rest = rw (slice_split-cons_yes is_slash b (c ∷ bs) e)
+        (names_begun c bs (sym (ap (λ t. t && (is_slash c || c == 46)) e) ∙ fine) rest)
 
 begun_if : (t : Bool) → not t ≡ true → t ≡ false
 begun_if true e = absurd (cc)
 begun_if false e = refl
 
-names_if : (text : List ℕ) → begins_name text ≡ true → ends_with_slash text ≡ false → any (suspects text) ≡ false → AllByRecursion IsName (slice_split is_slash text)
+names_if : (text : List ℕ) → begins_name text ≡ true → ends_with_slash text ≡ false
+    → any (suspects text) ≡ false → AllByRecursion IsName (slice_split is_slash text)
 names_if [] begins end none = absurd (cc)
-names_if (b ∷ bs) begins end none = names_begun b bs (begun_if (is_slash b || b == 46) begins) (continues (b ∷ bs) none end)
+names_if (b ∷ bs) begins end none = names_begun b bs (begun_if (is_slash b || b == 46) begins)
+    (continues (b ∷ bs) none end)
 
-pub names_seen : (text : List ℕ) (suspect : Bool) → suspect ≡ any (suspects text) → begins_name text ≡ true → ends_with_slash text ≡ false → OnTrue (not suspect) (AllByRecursion IsName (slice_split is_slash text))
+pub names_seen : (text : List ℕ) (suspect : Bool) → suspect ≡ any (suspects text) → begins_name text ≡ true
+    → ends_with_slash text ≡ false → OnTrue (not suspect) (AllByRecursion IsName (slice_split is_slash text))
 names_seen text true e begins end = tt
 names_seen text false e begins end = names_if text begins end (sym e)
 
-pub ends_at_last : (text : List ℕ) → 0 < length text → ends_with_slash text ≡ is_slash (get_or text (length text - 1) 0)
+pub ends_at_last : (text : List ℕ) → 0 < length text
+    → ends_with_slash text ≡ is_slash (get_or text (length text - 1) 0)
 ends_at_last [] some = absurd (omega arith)
 ends_at_last (b ∷ []) some = refl
 ends_at_last (b ∷ c ∷ bs) some =

@@ -51,7 +51,8 @@ the_greatest = refl
 above_the_greatest : leading_number_of (codes "18446744073709551616") ≡ Some 18446744073709551615
 above_the_greatest = refl
 
-far_above_the_greatest : leading_number_of (codes "100000000000000000000000000007") ≡ Some 18446744073709551615
+far_above_the_greatest : leading_number_of (codes "100000000000000000000000000007")
+    ≡ Some 18446744073709551615
 far_above_the_greatest = refl
 
 -- ---- versions
@@ -89,5 +90,6 @@ space_after_the_dot = refl
 no_version : version_pair_of [] ≡ (0, 0)
 no_version = refl
 
-great_parts : version_pair_of (codes "18446744073709551616.18446744073709551617") ≡ (18446744073709551615, 18446744073709551615)
+great_parts : version_pair_of (codes "18446744073709551616.18446744073709551617")
+    ≡ (18446744073709551615, 18446744073709551615)
 great_parts = refl

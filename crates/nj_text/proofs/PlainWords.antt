@@ -1,5 +1,6 @@
 -- Plain words.
-use Rattle.std.proofs.Common.{◌≡◌, ℕ, Bool, true, false, eqb, List, [], ◌∷◌, ◌++◌, length, drop, Some, None, refl, sym, ap, subst, ◌∙◌}
+use Rattle.std.proofs.Common.{◌≡◌, ℕ, Bool, true, false, eqb, List, [], ◌∷◌, ◌++◌, length, drop, Some, None}
+use Rattle.std.proofs.Common.{refl, sym, ap, subst, ◌∙◌}
 use Rattle.std.specs.List.{take_while}
 use Rattle.std.proofs.lemmas.Bool.{eqb-true, false≢true}
 use Rattle.nj_text.specs.declared.spot.Spot.{Spot}
@@ -20,11 +21,15 @@ use Rattle.nj_text.proofs.Steps.{at_cursor, no_word_here, word_is_here}
 
 -- ---- one space
 
-pub over_space : (spot there : Spot) (b : ℕ) (bytes rest tail : List ℕ) → bytes ≡ b ∷ tail → b ≡ 32 → rest ≡ drop 1 bytes → there ≡ advance 1 spot → drop_while is_blank (units_within spot bytes) ≡ drop_while is_blank (units_within there rest)
+pub over_space : (spot there : Spot) (b : ℕ) (bytes rest tail : List ℕ) → bytes ≡ b ∷ tail → b ≡ 32
+    → rest ≡ drop 1 bytes → there ≡ advance 1 spot
+    → drop_while is_blank (units_within spot bytes) ≡ drop_while is_blank (units_within there rest)
 over_space spot there b bytes rest tail e is_space r t =
     let whole : bytes ≡ 32 ∷ tail = e ∙ ap (λ x. x ∷ tail) is_space in
     let here : rest ≡ tail = r ∙ ap (drop 1) e in
-    blanks_over_spaces spot bytes (32 ∷ []) tail whole (refl, tt) ∙ ap (λ p. drop_while is_blank (units_within p tail)) (sym t) ∙ ap (λ bs. drop_while is_blank (units_within there bs)) (sym here)
+    blanks_over_spaces spot bytes (32 ∷ []) tail whole (refl, tt)
+    ∙ ap (λ p. drop_while is_blank (units_within p tail)) (sym t)
+    ∙ ap (λ bs. drop_while is_blank (units_within there bs)) (sym here)
 
 -- ---- the beginning of a word
 
@@ -60,9 +65,11 @@ stop_is P b feed colon bar h = by_feed (eqb b 10) refl
     by_feed true e = subst P (sym (eqb-true b 10 e)) feed
     by_feed false e = by_colon (eqb b 58) refl e
 
-stop_starts : (spot : Spot) (bytes : List ℕ) → no_word_begins bytes ≡ true → StartsWith false (units_within spot bytes)
+stop_starts : (spot : Spot) (bytes : List ℕ) → no_word_begins bytes ≡ true
+    → StartsWith false (units_within spot bytes)
 stop_starts spot [] h = absurd (false≢true h)
-stop_starts spot (b ∷ bs) h = let P : ℕ → Type 0 = λ x. StartsWith false (units_within spot (x ∷ bs)) in stop_is P b (feed_starts spot bs) (colon_starts spot bs) (bar_starts spot bs) h
+stop_starts spot (b ∷ bs) h = let P : ℕ → Type 0 = λ x. StartsWith false (units_within spot (x ∷ bs))
+    in stop_is P b (feed_starts spot bs) (colon_starts spot bs) (bar_starts spot bs) h
 
 word_byte_is_ordinary : (b : ℕ) → is_word_byte b ≡ true → is_ordinary_byte b ≡ true
 word_byte_is_ordinary b h = by_test (is_ordinary_byte b) refl
@@ -78,7 +85,8 @@ word_byte_is_no_space b h = by_test (is_space b) refl
     by_test true e = absurd (false≢true (ap is_word_byte (sym (eqb-true b 32 e)) ∙ h))
     by_test false e = refl
 
-word_starts : (spot : Spot) (bytes : List ℕ) → eqb (length (take_while is_word_byte bytes)) 0 ≡ false → StartsWith true (units_within spot bytes)
+word_starts : (spot : Spot) (bytes : List ℕ) → eqb (length (take_while is_word_byte bytes)) 0 ≡ false
+    → StartsWith true (units_within spot bytes)
 word_starts spot [] h = absurd (false≢true (sym h))
 word_starts spot (b ∷ bs) h =
     let w = first_passes is_word_byte b bs h in
@@ -111,26 +119,37 @@ stop_ends spot [] h = absurd (false≢true h)
 stop_ends spot (b ∷ bs) h = by_space (eqb b 32) refl
   where
     by_space : (t : Bool) → eqb b 32 ≡ t → EndsWord (units_within spot (b ∷ bs))
-    by_space true e = let P : ℕ → Type 0 = λ x. EndsWord (units_within spot (x ∷ bs)) in subst P (sym (eqb-true b 32 e)) (space_ends spot bs)
-    by_space false e = let P : ℕ → Type 0 = λ x. EndsWord (units_within spot (x ∷ bs)) in stop_is P b (feed_ends spot bs) (colon_ends spot bs) (bar_ends spot bs) (rw e at h)
+    by_space true e = let P : ℕ → Type 0 = λ x. EndsWord (units_within spot (x ∷ bs))
+        in subst P (sym (eqb-true b 32 e)) (space_ends spot bs)
+    by_space false e = let P : ℕ → Type 0 = λ x. EndsWord (units_within spot (x ∷ bs))
+        in stop_is P b (feed_ends spot bs) (colon_ends spot bs) (bar_ends spot bs) (rw e at h)
 
 -- ---- the word
 
 -- after one space or none no word begins
-pub none_seen : (spot here : Spot) (bytes rest : List ℕ) → drop_while is_blank (units_within spot bytes) ≡ drop_while is_blank (units_within here rest) → no_word_begins rest ≡ true
+pub none_seen : (spot here : Spot) (bytes rest : List ℕ)
+    → drop_while is_blank (units_within spot bytes) ≡ drop_while is_blank (units_within here rest)
+    → no_word_begins rest ≡ true
     → path_word_of (inside (lines_within spot bytes)) ≡ reply None (inside (lines_within here rest))
 none_seen spot here bytes rest e h =
     let starts = stop_starts here rest h in
-    at_cursor (unless_bad word_at) spot here bytes rest (sym (e ∙ starts.0)) ∙ no_word_here here rest (sym starts.1) starts.2
+    at_cursor (unless_bad word_at) spot here bytes rest (sym (e ∙ starts.0))
+    ∙ no_word_here here rest (sym starts.1) starts.2
 
 -- after one space or none a run of its bytes is the whole word
-pub run_seen : (spot here there : Spot) (bytes rest xs ys : List ℕ) → drop_while is_blank (units_within spot bytes) ≡ drop_while is_blank (units_within here rest) → xs ≡ take_while is_word_byte rest → ys ≡ drop_while is_word_byte rest → rest ≡ xs ++ ys → there ≡ advance (length xs) here
+pub run_seen : (spot here there : Spot) (bytes rest xs ys : List ℕ)
+    → drop_while is_blank (units_within spot bytes) ≡ drop_while is_blank (units_within here rest)
+    → xs ≡ take_while is_word_byte rest → ys ≡ drop_while is_word_byte rest → rest ≡ xs ++ ys
+    → there ≡ advance (length xs) here
     → eqb (length xs) 0 ≡ false → word_ends ys ≡ true
-    → path_word_of (inside (lines_within spot bytes)) ≡ reply (Some (plain_model here xs)) (inside (lines_within there ys))
+    → path_word_of (inside (lines_within spot bytes))
+    ≡ reply (Some (plain_model here xs)) (inside (lines_within there ys))
 run_seen spot here there bytes rest xs ys e run_is after_is whole t nonempty stops =
     let starts = word_starts here rest (ap (λ zs. eqb (length zs) 0) (sym run_is) ∙ nonempty) in
     let read = run_read kind.Word run.Word here there rest xs ys refl run_is after_is whole t nonempty in
     let ends = stop_ends there ys stops in
     let parts = read.0 ∙ ap (λ ps. Text xs ∷ ps) ends.0 in
     let after = read.1 ∙ ends.1 in
-    at_cursor (unless_bad word_at) spot here bytes rest (sym (e ∙ starts.0)) ∙ word_is_here here rest (Text xs ∷ []) there ys (sym starts.1) starts.2 (ap next_fault after ∙ ends.2) (sym parts) (sym after)
+    at_cursor (unless_bad word_at) spot here bytes rest (sym (e ∙ starts.0))
+    ∙ word_is_here here rest (Text xs ∷ []) there ys (sym starts.1) starts.2
+    (ap next_fault after ∙ ends.2) (sym parts) (sym after)

@@ -1,5 +1,6 @@
 -- The states of a lexer, by where it is.
-use Rattle.std.proofs.Common.{◌≡◌, ℕ, Bool, true, false, List, [], ◌∷◌, map, Result, Ok, Err, refl, sym, ap, ◌∙◌}
+use Rattle.std.proofs.Common.{◌≡◌, ℕ, Bool, true, false, List, [], ◌∷◌, map, Result, Ok, Err, refl, sym, ap}
+use Rattle.std.proofs.Common.{◌∙◌}
 use Rattle.nj_text.specs.declared.spot.Spot.{Spot}
 use Rattle.nj_text.specs.declared.cursor.Cursor.{Cursor}
 use Rattle.nj_text.specs.declared.fault.LexFault.{LexFault}
@@ -13,10 +14,12 @@ use Rattle.nj_text.specs.Units.{OpeningJoin, TextUnit, AtStart, Within, cut}
 use Rattle.nj_text.specs.Lines.{Line, lines_of, before_first_line, with_units, line_spot}
 use Rattle.nj_text.specs.Words.{is_blank, WordModel, word_model, part_model, after_opening}
 use Rattle.nj_text.specs.Inside.Meanings.{opens_line_meaning}
-use Rattle.nj_text.specs.Calls.{State, Between, Inside, Reply, after_blanks, value_at, value_of, sign_of, first_line_spot, ReturnsOrLacksMemory, skip_blanks_of, is_inside}
+use Rattle.nj_text.specs.Calls.{State, Between, Inside, Reply, after_blanks, value_at, value_of, sign_of}
+use Rattle.nj_text.specs.Calls.{first_line_spot, ReturnsOrLacksMemory, skip_blanks_of, is_inside}
 use Rattle.nj_text.specs.Bytes.{drop_while}
 use Rattle.nj_text.specs.Inside.Scans.{units_within}
-use Rattle.nj_text.specs.Inside.States.{reply, first_line, other_lines, inside, lines_from, lines_within, StepsOrLacksMemory, FailsStep, FinishesValue, FinishesAtFault}
+use Rattle.nj_text.specs.Inside.States.{reply, first_line, other_lines, inside, lines_from, lines_within}
+use Rattle.nj_text.specs.Inside.States.{StepsOrLacksMemory, FailsStep, FinishesValue, FinishesAtFault}
 use Rattle.nj_text.proofs.LineStarts.{cut_has_line, IsUnsaid, unit_is_unsaid}
 use Rattle.nj_text.proofs.Bridges.{spot_of_line, of_first, first_of_line, passed_by, blanks_end}
 use Rattle.nj_text.proofs.Steps.{line, others}
@@ -45,23 +48,37 @@ abbrev opened : Spot → List ℕ → Spot → List ℕ → List Line
 opened place joined spot bytes = before_first_line (opening_unit place joined) (lines_within spot bytes)
 
 opened_is : (place : Spot) (joined : List ℕ) (spot : Spot) (bytes : List ℕ)
-    → inside (opened place joined spot bytes) ≡ Inside (with_units (opening_unit place joined ∷ (line spot bytes).units) (line spot bytes)) (others spot bytes)
+    → inside (opened place joined spot bytes)
+    ≡ Inside (with_units (opening_unit place joined ∷ (line spot bytes).units) (line spot bytes))
+    (others spot bytes)
 opened_is place joined spot bytes = by_line (lines_within spot bytes) (cut_has_line Within 0 spot bytes)
   where
-    by_line : (ls : List Line) → HasLine ls → inside (before_first_line (opening_unit place joined) ls) ≡ Inside (with_units (opening_unit place joined ∷ (first_line ls).units) (first_line ls)) (other_lines ls)
+    by_line : (ls : List Line) → HasLine ls
+        → inside (before_first_line (opening_unit place joined) ls)
+        ≡ Inside (with_units (opening_unit place joined ∷ (first_line ls).units) (first_line ls))
+        (other_lines ls)
     by_line ls h = rw h.2 refl
 
-pub spot_opening : (place : Spot) (joined : List ℕ) (spot : Spot) (bytes : List ℕ) → line_spot (first_line (opened place joined spot bytes)) ≡ place
+pub spot_opening : (place : Spot) (joined : List ℕ) (spot : Spot) (bytes : List ℕ)
+    → line_spot (first_line (opened place joined spot bytes)) ≡ place
 spot_opening place joined spot bytes = by_line (lines_within spot bytes) (cut_has_line Within 0 spot bytes)
   where
-    by_line : (ls : List Line) → HasLine ls → line_spot (first_line (before_first_line (opening_unit place joined) ls)) ≡ place
+    by_line : (ls : List Line) → HasLine ls
+        → line_spot (first_line (before_first_line (opening_unit place joined) ls)) ≡ place
     by_line ls h = rw h.2 refl
 
-pub sign_opening : (want : Sign) (place : Spot) (joined : List ℕ) (spot : Spot) (bytes : List ℕ) → sign_of want (inside (opened place joined spot bytes)) ≡ reply false (inside (opened place joined spot bytes))
-sign_opening want place joined spot bytes = ap (sign_of want) (opened_is place joined spot bytes) ∙ by_want want ∙ ap (λ s. reply false s) (sym (opened_is place joined spot bytes))
+pub sign_opening : (want : Sign) (place : Spot) (joined : List ℕ) (spot : Spot) (bytes : List ℕ)
+    → sign_of want (inside (opened place joined spot bytes))
+    ≡ reply false (inside (opened place joined spot bytes))
+sign_opening want place joined spot bytes =
+    ap (sign_of want) (opened_is place joined spot bytes) ∙ by_want want
+    ∙ ap (λ s. reply false s) (sym (opened_is place joined spot bytes))
   where
-    by_want : (w : Sign) → sign_of w (Inside (with_units (opening_unit place joined ∷ (line spot bytes).units) (line spot bytes)) (others spot bytes))
-        ≡ reply false (Inside (with_units (opening_unit place joined ∷ (line spot bytes).units) (line spot bytes)) (others spot bytes))
+    by_want : (w : Sign) → sign_of w (Inside
+        (with_units (opening_unit place joined ∷ (line spot bytes).units) (line spot bytes))
+        (others spot bytes))
+        ≡ reply false (Inside (with_units (opening_unit place joined ∷ (line spot bytes).units)
+        (line spot bytes)) (others spot bytes))
     by_want sign.Colon = refl
     by_want sign.Equals = refl
     by_want sign.Pipe = refl
@@ -69,12 +86,22 @@ sign_opening want place joined spot bytes = ap (sign_of want) (opened_is place j
     by_want sign.PipeAt = refl
     by_want sign.LineEnd = refl
 
-pub value_opening : (place : Spot) (joined : List ℕ) (spot : Spot) (bytes : List ℕ) → value_of (inside (opened place joined spot bytes)) ≡ value_at (after_blanks (line spot bytes)) (others spot bytes)
+pub value_opening : (place : Spot) (joined : List ℕ) (spot : Spot) (bytes : List ℕ)
+    → value_of (inside (opened place joined spot bytes))
+    ≡ value_at (after_blanks (line spot bytes)) (others spot bytes)
 value_opening place joined spot bytes = ap value_of (opened_is place joined spot bytes)
 
 -- within a line no join opens it
 opening_is_unsaid : IsUnsaid opens_line_meaning
-opening_is_unsaid = record { ordinary = λ b. refl; escape = λ b. refl; reference = λ n. refl; join = refl; line_end = refl; bad_byte = refl; bad_escape = refl }
+opening_is_unsaid = record {
+  ordinary = λ b. refl;
+  escape = λ b. refl;
+  reference = λ n. refl;
+  join = refl;
+  line_end = refl;
+  bad_byte = refl;
+  bad_escape = refl;
+}
 
 abbrev first_opens : List TextUnit → Bool
 first_opens [] = false
@@ -90,32 +117,53 @@ within_opens spot [] = refl
 within_opens spot (b ∷ bs) = unit_is_unsaid opens_line_meaning opening_is_unsaid b bs
 
 line_opens : (spot : Spot) (bytes : List ℕ) → after_opening (line spot bytes).units ≡ (line spot bytes).units
-line_opens spot bytes = opens_nothing (line spot bytes).units (same (line spot bytes).units ∙ first_of_line (λ m s. opens_line_meaning m) false (λ s. refl) (λ s. refl) (cut Within 0 spot bytes) (cut_has_line Within 0 spot bytes) ∙ sym (same (cut Within 0 spot bytes)) ∙ within_opens spot bytes)
+line_opens spot bytes = opens_nothing (line spot bytes).units
+    (same (line spot bytes).units ∙ first_of_line (λ m s. opens_line_meaning m) false (λ s. refl) (λ s. refl)
+    (cut Within 0 spot bytes) (cut_has_line Within 0 spot bytes) ∙ sym (same (cut Within 0 spot bytes))
+    ∙ within_opens spot bytes)
   where
-    same : (vs : List TextUnit) → first_opens vs ≡ of_first (λ m s. opens_line_meaning m) false (λ s. refl) (λ s. refl) vs
+    same : (vs : List TextUnit) → first_opens vs
+        ≡ of_first (λ m s. opens_line_meaning m) false (λ s. refl) (λ s. refl) vs
     same [] = refl
     same (v ∷ vs) = refl
 
-pub value_inside : (spot : Spot) (bytes : List ℕ) → value_of (inside (lines_within spot bytes)) ≡ value_at (after_blanks (line spot bytes)) (others spot bytes)
-value_inside spot bytes = ap (λ us. value_at (after_blanks (with_units us (line spot bytes))) (others spot bytes)) (line_opens spot bytes)
+pub value_inside : (spot : Spot) (bytes : List ℕ)
+    → value_of (inside (lines_within spot bytes))
+    ≡ value_at (after_blanks (line spot bytes)) (others spot bytes)
+value_inside spot bytes = ap (λ us. value_at (after_blanks (with_units us (line spot bytes)))
+    (others spot bytes)) (line_opens spot bytes)
 
 -- ---- a value that was read
 
-finished_at_fault : (old new : State) (expected : Reply WordModel) (f : WordFault) (result : Result Word LexFault) → is_inside old ≡ true → FailsStep expected f → FinishesAtFault f old new result → ReturnsOrLacksMemory word_model result old new expected
+finished_at_fault : (old new : State) (expected : Reply WordModel) (f : WordFault)
+    (result : Result Word LexFault) → is_inside old ≡ true → FailsStep expected f
+    → FinishesAtFault f old new result → ReturnsOrLacksMemory word_model result old new expected
 finished_at_fault old new expected (word_fault.Unit f) (Ok w) i e h = absurd h.0
 finished_at_fault old new expected (word_fault.Unit f) (Err g) i e h = rw (h.0, e) (refl, h.1)
 finished_at_fault old new expected word_fault.OutOfMemory (Ok w) i e h = absurd h.0
 finished_at_fault old new expected word_fault.OutOfMemory (Err g) i e h = rw h.0 (i, h.1)
 
-pub finished_value : (old new : State) (expected : Reply WordModel) (step : Result (Word × Cursor) WordFault) (result : Result Word LexFault) → is_inside old ≡ true → value_of old ≡ expected → StepsOrLacksMemory word_model expected step → FinishesValue step old new result
+pub finished_value : (old new : State) (expected : Reply WordModel) (step : Result (Word × Cursor) WordFault)
+    (result : Result Word LexFault) → is_inside old ≡ true → value_of old ≡ expected
+    → StepsOrLacksMemory word_model expected step → FinishesValue step old new result
     → ReturnsOrLacksMemory word_model result old new (value_of old)
-finished_value old new expected (Ok step) result i v e h = rw (h.0, v, e) (ap (λ s. reply (word_model step.0) s) (sym h.1))
-finished_value old new expected (Err f) result i v e h = rw v (finished_at_fault old new expected f result i e h)
+finished_value old new expected (Ok step) result i v e h =
+    rw (h.0, v, e) (ap (λ s. reply (word_model step.0) s) (sym h.1))
+finished_value old new expected (Err f) result i v e h =
+    rw v (finished_at_fault old new expected f result i e h)
 
-pub value_between : (spot : Spot) (bytes : List ℕ) (parts : List Part) → parts ≡ [] → value_of (Between (lines_from spot bytes)) ≡ reply (record { spot = spot; parts = map part_model parts }) (Between (lines_from spot bytes))
-value_between spot bytes parts e = ap (λ p. reply (record { spot = p; parts = [] }) (Between (lines_from spot bytes))) (spot_between spot bytes) ∙ ap (λ ps. reply (record { spot = spot; parts = map part_model ps }) (Between (lines_from spot bytes))) (sym e)
+pub value_between : (spot : Spot) (bytes : List ℕ) (parts : List Part) → parts ≡ []
+    → value_of (Between (lines_from spot bytes))
+    ≡ reply (record { spot = spot; parts = map part_model parts }) (Between (lines_from spot bytes))
+value_between spot bytes parts e = ap (λ p. reply (record { spot = p; parts = [] })
+    (Between (lines_from spot bytes))) (spot_between spot bytes)
+    ∙ ap (λ ps. reply (record { spot = spot; parts = map part_model ps }) (Between (lines_from spot bytes)))
+    (sym e)
 
 -- ---- after blanks
 
-pub blanks_skipped : (spot there : Spot) (bytes rest : List ℕ) → units_within there rest ≡ drop_while is_blank (units_within spot bytes) → inside (lines_within there rest) ≡ skip_blanks_of (inside (lines_within spot bytes))
-blanks_skipped spot there bytes rest e = ap (λ us. inside (lines_of us)) e ∙ passed_by is_blank blanks_end (units_within spot bytes)
+pub blanks_skipped : (spot there : Spot) (bytes rest : List ℕ)
+    → units_within there rest ≡ drop_while is_blank (units_within spot bytes)
+    → inside (lines_within there rest) ≡ skip_blanks_of (inside (lines_within spot bytes))
+blanks_skipped spot there bytes rest e =
+    ap (λ us. inside (lines_of us)) e ∙ passed_by is_blank blanks_end (units_within spot bytes)

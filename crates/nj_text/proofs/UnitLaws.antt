@@ -1,24 +1,31 @@
 -- The laws of the cut.
-use Rattle.std.proofs.Common.{◌≡◌, ℕ, zero, suc, Bool, true, false, Option, Some, None, is_some, List, [], ◌∷◌, ◌++◌, take, drop, map, reverse, ◌+◌, cond, not, refl, sym, ap, subst, ◌∙◌, arith}
+use Rattle.std.proofs.Common.{◌≡◌, ℕ, zero, suc, Bool, true, false, Option, Some, None, is_some, List, []}
+use Rattle.std.proofs.Common.{◌∷◌, ◌++◌, take, drop, map, reverse, ◌+◌, cond, not, refl, sym, ap, subst, ◌∙◌}
+use Rattle.std.proofs.Common.{arith}
 use Rattle.std.specs.List.{flat_map, count_by, suffix_len}
 use Rattle.std.proofs.lemmas.List.{take-append-drop, reverse-append, reverse-reverse}
 use Rattle.std.proofs.lemmas.List.Sums.{sum_by_push}
 use Rattle.nj_text.specs.declared.spot.Spot.{Spot}
 use Rattle.nj_text.specs.Bytes.{is_line_feed}
-use Rattle.nj_text.specs.Units.{TextUnit, Position, AtStart, found_at, position_after, spot_after, first_spot, units, cut}
+use Rattle.nj_text.specs.Units.{TextUnit, Position, AtStart, found_at, position_after, spot_after, first_spot}
+use Rattle.nj_text.specs.Units.{units, cut}
 use Rattle.nj_text.specs.Inside.Scans.{spots_after}
 use Rattle.nj_text.specs.Lines.{Line, spot_of_first, lines_of, lines_before, ending_of}
 use Rattle.nj_text.specs.Calls.{bytes_of}
-use Rattle.nj_text.specs.Laws.{UnitsAreTheText, UnitsComeInPlace, counted_spot, LinesAreTheUnits, Mark, InLine, AtEnd, mark_by, mark_of, marks_of}
+use Rattle.nj_text.specs.Laws.{UnitsAreTheText, UnitsComeInPlace, counted_spot, LinesAreTheUnits, Mark}
+use Rattle.nj_text.specs.Laws.{InLine, AtEnd, mark_by, mark_of, marks_of}
 
 -- the units of the bytes after those that are skipped
-bytes_of-cut : (position : Position) (skip : ℕ) (spot : Spot) (bs : List ℕ) → bytes_of (cut position skip spot bs) ≡ drop skip bs
+bytes_of-cut : (position : Position) (skip : ℕ) (spot : Spot) (bs : List ℕ)
+    → bytes_of (cut position skip spot bs) ≡ drop skip bs
 unfolding cut
 bytes_of-cut position zero spot [] = refl
 bytes_of-cut position (suc skip) spot [] = refl
 bytes_of-cut position zero spot (b ∷ bs) =
     let found = found_at position b bs in
-    ap (λ rest. b ∷ take found.1 bs ++ rest) (bytes_of-cut (position_after position found.0) found.1 (spot_after b spot) bs) ∙ ap (λ rest. b ∷ rest) (take-append-drop found.1 bs)
+    ap (λ rest. b ∷ take found.1 bs ++ rest)
+    (bytes_of-cut (position_after position found.0) found.1 (spot_after b spot) bs)
+    ∙ ap (λ rest. b ∷ rest) (take-append-drop found.1 bs)
 bytes_of-cut position (suc skip) spot (b ∷ bs) = bytes_of-cut position skip (spot_after b spot) bs
 
 pub are_the_text : UnitsAreTheText
@@ -29,7 +36,8 @@ first_bytes [] = []
 first_bytes (u ∷ us) = u.bytes
 
 -- the bytes that are skipped come before the bytes of the units
-place_in_cut : (position : Position) (skip : ℕ) (spot : Spot) (bs : List ℕ) (us vs : List TextUnit) (u : TextUnit) → cut position skip spot bs ≡ us ++ u ∷ vs
+place_in_cut : (position : Position) (skip : ℕ) (spot : Spot) (bs : List ℕ) (us vs : List TextUnit)
+    (u : TextUnit) → cut position skip spot bs ≡ us ++ u ∷ vs
     → u.spot ≡ spots_after (take skip bs ++ bytes_of us) spot
 unfolding cut
 place_in_cut position zero spot [] [] vs u e = cc
@@ -42,29 +50,42 @@ place_in_cut position zero spot (b ∷ bs) [] vs u e = sym (ap (λ ws. spot_of_f
 place_in_cut position zero spot (b ∷ bs) (v ∷ us) vs u e =
     let found = found_at position b bs in
     let bytes : b ∷ take found.1 bs ≡ v.bytes = ap first_bytes e in
-    let rest : cut (position_after position found.0) found.1 (spot_after b spot) bs ≡ us ++ u ∷ vs = ap (drop 1) e in
-    place_in_cut (position_after position found.0) found.1 (spot_after b spot) bs us vs u rest ∙ ap (λ xs. spots_after (xs ++ bytes_of us) spot) bytes
-place_in_cut position (suc skip) spot (b ∷ bs) us vs u e = place_in_cut position skip (spot_after b spot) bs us vs u e
+    let rest : cut (position_after position found.0) found.1 (spot_after b spot) bs ≡ us ++ u ∷ vs =
+    ap (drop 1) e in
+    place_in_cut (position_after position found.0) found.1 (spot_after b spot) bs us vs u rest
+    ∙ ap (λ xs. spots_after (xs ++ bytes_of us) spot) bytes
+place_in_cut position (suc skip) spot (b ∷ bs) us vs u e =
+    place_in_cut position skip (spot_after b spot) bs us vs u e
 
-spots_after-push : (bytes : List ℕ) (b : ℕ) (spot : Spot) → spots_after (bytes ++ b ∷ []) spot ≡ spot_after b (spots_after bytes spot)
+spots_after-push : (bytes : List ℕ) (b : ℕ) (spot : Spot)
+    → spots_after (bytes ++ b ∷ []) spot ≡ spot_after b (spots_after bytes spot)
 spots_after-push [] b spot = refl
 spots_after-push (c ∷ bytes) b spot = spots_after-push bytes b (spot_after c spot)
 
 counted-push : (bytes : List ℕ) (b : ℕ) → counted_spot (bytes ++ b ∷ []) ≡ spot_after b (counted_spot bytes)
-counted-push bytes b = rw (sum_by_push (λ c. cond (is_line_feed c) 1 0) bytes b, reverse-append bytes (b ∷ [])) (by_test (is_line_feed b) (count_by is_line_feed bytes) (suffix_len (λ c. not (is_line_feed c)) bytes))
+counted-push bytes b = rw (
+  sum_by_push (λ c. cond (is_line_feed c) 1 0) bytes b,
+  reverse-append bytes (b ∷ []),
+) (by_test (is_line_feed b) (count_by is_line_feed bytes)
+    (suffix_len (λ c. not (is_line_feed c)) bytes))
   where
-    by_test : (t : Bool) (m n : ℕ) → ◌≡◌ {A = Spot} (record { line = m + cond t 1 0 + 1; column = cond (not t) (1 + n) 0 + 1 }) (cond t (record { line = m + 1 + 1; column = 1 }) (record { line = m + 1; column = n + 1 + 1 }))
+    by_test : (t : Bool) (m n : ℕ) → ◌≡◌ {A = Spot}
+        (record { line = m + cond t 1 0 + 1; column = cond (not t) (1 + n) 0 + 1 })
+        (cond t (record { line = m + 1 + 1; column = 1 }) (record { line = m + 1; column = n + 1 + 1 }))
     by_test true m n = refl
-    by_test false m n = ap (λ k. record { line = k; column = 1 + n + 1 }) (omega arith) ∙ ap (λ k. record { line = m + 1; column = k }) (omega arith)
+    by_test false m n = ap (λ k. record { line = k; column = 1 + n + 1 }) (omega arith)
+        ∙ ap (λ k. record { line = m + 1; column = k }) (omega arith)
 
 -- over the bytes from their end on
 counted-reverse : (bytes : List ℕ) → spots_after (reverse bytes) first_spot ≡ counted_spot (reverse bytes)
 counted-reverse [] = refl
 counted-reverse (b ∷ bytes) =
-    rw (reverse-append (b ∷ []) bytes) (spots_after-push (reverse bytes) b first_spot ∙ ap (spot_after b) (counted-reverse bytes) ∙ sym (counted-push (reverse bytes) b))
+    rw (reverse-append (b ∷ []) bytes) (spots_after-push (reverse bytes) b first_spot
+    ∙ ap (spot_after b) (counted-reverse bytes) ∙ sym (counted-push (reverse bytes) b))
 
 pub spots_count : (bytes : List ℕ) → spots_after bytes first_spot ≡ counted_spot bytes
-spots_count bytes = subst (λ bs. spots_after bs first_spot ≡ counted_spot bs) (reverse-reverse bytes) (counted-reverse (reverse bytes))
+spots_count bytes = subst (λ bs. spots_after bs first_spot ≡ counted_spot bs) (reverse-reverse bytes)
+    (counted-reverse (reverse bytes))
 
 pub come_in_place : UnitsComeInPlace
 come_in_place text us vs u e = place_in_cut AtStart 0 first_spot text us vs u e ∙ spots_count (bytes_of us)
@@ -79,29 +100,35 @@ ends-before : (u : TextUnit) (us : List TextUnit) → EndsWithEnd us → EndsWit
 ends-before u [] h = absurd h
 ends-before u (v ∷ us) h = h
 
-cut-ends : (position : Position) (skip : ℕ) (spot : Spot) (bs : List ℕ) → EndsWithEnd (cut position skip spot bs)
+cut-ends : (position : Position) (skip : ℕ) (spot : Spot) (bs : List ℕ)
+    → EndsWithEnd (cut position skip spot bs)
 unfolding cut
 cut-ends position zero spot [] = refl
 cut-ends position (suc skip) spot [] = refl
 cut-ends position zero spot (b ∷ bs) =
     let found = found_at position b bs in
-    ends-before (record { spot = spot; bytes = b ∷ take found.1 bs; means = found.0 }) (cut (position_after position found.0) found.1 (spot_after b spot) bs) (cut-ends (position_after position found.0) found.1 (spot_after b spot) bs)
+    ends-before (record { spot = spot; bytes = b ∷ take found.1 bs; means = found.0 })
+    (cut (position_after position found.0) found.1 (spot_after b spot) bs)
+    (cut-ends (position_after position found.0) found.1 (spot_after b spot) bs)
 cut-ends position (suc skip) spot (b ∷ bs) = cut-ends position skip (spot_after b spot) bs
 
 -- a unit before lines that represent some marks
-marks-before : (ending : Option Bool) (u : TextUnit) (ls : List Line) (m : Mark) (ms : List Mark) → flat_map marks_of ls ≡ m ∷ ms → flat_map marks_of (lines_before ending u ls) ≡ mark_by ending u ∷ m ∷ ms
+marks-before : (ending : Option Bool) (u : TextUnit) (ls : List Line) (m : Mark) (ms : List Mark)
+    → flat_map marks_of ls ≡ m ∷ ms → flat_map marks_of (lines_before ending u ls) ≡ mark_by ending u ∷ m ∷ ms
 marks-before None u [] m ms e = absurd cc
 marks-before None u (l ∷ ls) m ms e = ap (λ xs. InLine u ∷ xs) e
 marks-before (Some is_last) u ls m ms e = ap (λ xs. AtEnd u.spot is_last ∷ xs) e
 
-marks-last : (ending : Option Bool) (u : TextUnit) → is_some ending ≡ true → flat_map marks_of (lines_before ending u []) ≡ mark_by ending u ∷ []
+marks-last : (ending : Option Bool) (u : TextUnit) → is_some ending ≡ true
+    → flat_map marks_of (lines_before ending u []) ≡ mark_by ending u ∷ []
 marks-last None u h = absurd cc
 marks-last (Some is_last) u h = refl
 
 marks_of-lines : (us : List TextUnit) → EndsWithEnd us → flat_map marks_of (lines_of us) ≡ map mark_of us
 marks_of-lines [] h = absurd h
 marks_of-lines (u ∷ []) h = marks-last (ending_of u.means) u h
-marks_of-lines (u ∷ v ∷ us) h = marks-before (ending_of u.means) u (lines_of (v ∷ us)) (mark_of v) (map mark_of us) (marks_of-lines (v ∷ us) h)
+marks_of-lines (u ∷ v ∷ us) h = marks-before (ending_of u.means) u (lines_of (v ∷ us)) (mark_of v)
+    (map mark_of us) (marks_of-lines (v ∷ us) h)
 
 pub are_the_units : LinesAreTheUnits
 are_the_units text = marks_of-lines (units text) (cut-ends AtStart 0 first_spot text)

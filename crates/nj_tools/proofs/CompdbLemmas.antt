@@ -1,5 +1,9 @@
 -- How the objects of a compilation database are written one after another.
-use Rattle.std.proofs.Common.{◌≡◌, ℕ, zero, suc, ◌+◌, ◌<◌, Bool, true, false, not, ◌&&◌, cond, Option, Some, None, option_map, unwrap_or, List, [], ◌∷◌, ◌++◌, map, length, take, drop, refl, sym, ap, subst, ◌∙◌, append_assoc, append-nil, codes, slice_get, take-append-drop, take_all, flat_map, Result, Ok, Err, is_ok, IfErr, OnOk, arith}
+use Rattle.std.proofs.Common.{◌≡◌, ℕ, zero, suc, ◌+◌, ◌<◌, Bool, true, false, not, ◌&&◌, cond, Option, Some}
+use Rattle.std.proofs.Common.{None, option_map, unwrap_or, List, [], ◌∷◌, ◌++◌, map, length, take, drop, refl}
+use Rattle.std.proofs.Common.{sym, ap, subst, ◌∙◌, append_assoc, append-nil, codes, slice_get}
+use Rattle.std.proofs.Common.{take-append-drop, take_all, flat_map, Result, Ok, Err, is_ok, IfErr, OnOk}
+use Rattle.std.proofs.Common.{arith}
 use Rattle.std.specs.Prelude.{find, take_while}
 use Rattle.std.specs.declared.alloc.AllocError.{AllocError}
 use Rattle.std.proofs.lemmas.List.{map-append, length-map}
@@ -23,16 +27,22 @@ use Rattle.nj_tools.specs.Sinks.{SinkState, Takes, FailsWithin}
 use Rattle.nj_tools.specs.Inside.Blocks.{IsUnderway}
 use Rattle.nj_tools.specs.Texts.{TakesFront, StopsWithin}
 use Rattle.nj_tools.specs.Lines.{line}
-use Rattle.nj_tools.specs.Compdb.{Compilation, is_chosen, has_object, listed_edges, compilation_of, is_text, json_string, object_text, objects_text, held_before, unheld_edge, compdb_text, NamesEdge, WritesCompdb}
-use Rattle.nj_tools.specs.Inside.CompdbHeld.{end_text, first_path, in_json, held_compilation, object_of_strings}
-use Rattle.nj_tools.proofs.BlockLemmas.{TakesFront-whole, StopsWithin-whole, StopsWithin-more, IsUnderway-more, FailsWithin-unjoined, Takes-unjoined, puts-no_memory}
+use Rattle.nj_tools.specs.Compdb.{Compilation, is_chosen, has_object, listed_edges, compilation_of, is_text}
+use Rattle.nj_tools.specs.Compdb.{json_string, object_text, objects_text, held_before, unheld_edge}
+use Rattle.nj_tools.specs.Compdb.{compdb_text, NamesEdge, WritesCompdb}
+use Rattle.nj_tools.specs.Inside.CompdbHeld.{end_text, first_path, in_json, held_compilation}
+use Rattle.nj_tools.specs.Inside.CompdbHeld.{object_of_strings}
+use Rattle.nj_tools.proofs.BlockLemmas.{TakesFront-whole, StopsWithin-whole, StopsWithin-more}
+use Rattle.nj_tools.proofs.BlockLemmas.{IsUnderway-more, FailsWithin-unjoined, Takes-unjoined, puts-no_memory}
 use Rattle.nj_tools.proofs.SinkLemmas.{Takes-nil}
 
 -- ---- a path
 
 -- the first of these files has the first of these paths
-pub first-is : (files : List (List ℕ)) (numbers : List FileNo) (paths : List (List ℕ)) (file : FileNo) (path : List ℕ)
-    → slice_get numbers 0 ≡ Some file → slice_get files file.0 ≡ Some path → AreFiles files numbers paths → path ≡ first_path paths
+pub first-is : (files : List (List ℕ)) (numbers : List FileNo) (paths : List (List ℕ)) (file : FileNo)
+    (path : List ℕ)
+    → slice_get numbers 0 ≡ Some file → slice_get files file.0 ≡ Some path → AreFiles files numbers paths
+    → path ≡ first_path paths
 first-is files [] paths file path first at are = absurd cc
 first-is files (n ∷ numbers) [] file path first at are = absurd cc
 first-is files (n ∷ numbers) (p ∷ paths) file path first at are =
@@ -44,12 +54,14 @@ first-is files (n ∷ numbers) (p ∷ paths) file path first at are =
 -- ---- an object
 
 -- where a part is added at the end
-pub added-then : (result : Result Unit AllocError) (new old part whole : List ℕ) → new ≡ cond (is_ok result) (old ++ part) old → old ++ part ≡ whole → OnOk result (new ≡ whole)
+pub added-then : (result : Result Unit AllocError) (new old part whole : List ℕ)
+    → new ≡ cond (is_ok result) (old ++ part) old → old ++ part ≡ whole → OnOk result (new ≡ whole)
 added-then (Ok done) new old part whole is joined = is ∙ joined
 added-then (Err fault) new old part whole is joined = tt
 
 -- an object, as its parts are appended
-pub object-appended : (text separator directory : List ℕ) (c : Compilation) (command file output : List ℕ) → command ≡ c.command → file ≡ c.file → output ≡ c.output
+pub object-appended : (text separator directory : List ℕ) (c : Compilation) (command file output : List ℕ)
+    → command ≡ c.command → file ≡ c.file → output ≡ c.output
     → (t u v w x y z : List ℕ)
     → t ≡ text ++ separator → u ≡ t ++ line (codes "  {")
     → v ≡ u ++ (codes "    \"directory\": " ++ directory ++ line (codes ","))
@@ -59,18 +71,28 @@ pub object-appended : (text separator directory : List ℕ) (c : Compilation) (c
     → z ≡ y ++ codes "  }"
     → z ≡ text ++ (separator ++ object_of_strings directory c)
 unfolding object_of_strings
-object-appended text separator directory c command file output command_is file_is output_is t u v w x y z t_is u_is v_is w_is x_is y_is z_is =
-    let v_then = after u (line (codes "  {")) v _ u_is (v_is ∙ ap (λ p. u ++ p) (sym (append_assoc (codes "    \"directory\": " ++ directory) (codes ",") (10 ∷ [])))) in
-    let w_then = after v _ w _ v_then (w_is ∙ ap (λ p. v ++ p) (sym (append_assoc (codes "    \"command\": " ++ command) (codes ",") (10 ∷ [])) ∙ ap (λ s. line (codes "    \"command\": " ++ s ++ codes ",")) command_is)) in
-    let x_then = after w _ x _ w_then (x_is ∙ ap (λ p. w ++ p) (sym (append_assoc (codes "    \"file\": " ++ file) (codes ",") (10 ∷ [])) ∙ ap (λ s. line (codes "    \"file\": " ++ s ++ codes ",")) file_is)) in
-    let y_then = after x _ y _ x_then (y_is ∙ ap (λ p. x ++ p) (ap (λ s. line (codes "    \"output\": " ++ s)) output_is)) in
-    after y _ z _ y_then z_is ∙ ap (λ s. s ++ object_of_strings directory c) t_is ∙ append_assoc text separator (object_of_strings directory c)
+object-appended text separator directory c command file output command_is file_is output_is t u v w x y z t_is
+    u_is v_is w_is x_is y_is z_is =
+    let v_then = after u (line (codes "  {")) v _ u_is
+    (v_is ∙ ap (λ p. u ++ p) (sym (append_assoc (codes "    \"directory\": " ++ directory) (codes ",")
+    (10 ∷ [])))) in
+    let w_then = after v _ w _ v_then (w_is
+    ∙ ap (λ p. v ++ p) (sym (append_assoc (codes "    \"command\": " ++ command) (codes ",") (10 ∷ []))
+    ∙ ap (λ s. line (codes "    \"command\": " ++ s ++ codes ",")) command_is)) in
+    let x_then = after w _ x _ w_then (x_is
+    ∙ ap (λ p. w ++ p) (sym (append_assoc (codes "    \"file\": " ++ file) (codes ",") (10 ∷ []))
+    ∙ ap (λ s. line (codes "    \"file\": " ++ s ++ codes ",")) file_is)) in
+    let y_then = after x _ y _ x_then (y_is
+    ∙ ap (λ p. x ++ p) (ap (λ s. line (codes "    \"output\": " ++ s)) output_is)) in
+    after y _ z _ y_then z_is ∙ ap (λ s. s ++ object_of_strings directory c) t_is
+    ∙ append_assoc text separator (object_of_strings directory c)
   where
     after : (q p r a : List ℕ) → q ≡ t ++ p → r ≡ q ++ a → r ≡ t ++ (p ++ a)
     after q p r a h next = next ∙ ap (λ s. s ++ a) h ∙ append_assoc t p a
 
 -- the text of the strings in JSON
-pub object-is : (directory : List ℕ) (c : Compilation) → object_text directory c ≡ object_of_strings directory (in_json c)
+pub object-is : (directory : List ℕ) (c : Compilation)
+    → object_text directory c ≡ object_of_strings directory (in_json c)
 unfolding object_text object_of_strings
 object-is directory c = refl
 
@@ -86,36 +108,45 @@ following directory c = 44 ∷ 10 ∷ object_text directory c
 
 -- an object more
 objects-more : (directory : List ℕ) (cs : List Compilation) (c : Compilation)
-    → objects_text directory (cs ++ c ∷ []) ≡ objects_text directory cs ++ (separator_after cs ++ object_text directory c)
+    → objects_text directory (cs ++ c ∷ [])
+    ≡ objects_text directory cs ++ (separator_after cs ++ object_text directory c)
 unfolding objects_text
 objects-more directory [] c = ap (λ t. 10 ∷ t) (append-nil (object_text directory c))
 objects-more directory (x ∷ xs) c =
     let front = object_text directory x in
-    ap (λ t. 10 ∷ (front ++ t)) (flat_map-append (following directory) xs (c ∷ []) ∙ ap (λ t. flat_map (following directory) xs ++ t) (append-nil (following directory c)))
+    ap (λ t. 10 ∷ (front ++ t)) (flat_map-append (following directory) xs (c ∷ [])
+    ∙ ap (λ t. flat_map (following directory) xs ++ t) (append-nil (following directory c)))
     ∙ ap (λ t. 10 ∷ t) (sym (append_assoc front (flat_map (following directory) xs) (following directory c)))
 
 -- objects begin with the objects of a front
-objects-front : (directory : List ℕ) (cs ds : List Compilation) → IsPrefix (objects_text directory cs) (objects_text directory (cs ++ ds))
+objects-front : (directory : List ℕ) (cs ds : List Compilation)
+    → IsPrefix (objects_text directory cs) (objects_text directory (cs ++ ds))
 unfolding objects_text
 objects-front directory [] ds = (objects_text directory ds, refl)
 objects-front directory (x ∷ xs) ds = (
   flat_map (following directory) ds,
   ap (λ t. 10 ∷ (object_text directory x ++ t)) (flat_map-append (following directory) xs ds)
-      ∙ ap (λ t. 10 ∷ t) (sym (append_assoc (object_text directory x) (flat_map (following directory) xs) (flat_map (following directory) ds))),
+      ∙ ap (λ t. 10 ∷ t) (sym (append_assoc (object_text directory x) (flat_map (following directory) xs)
+      (flat_map (following directory) ds))),
 )
 
 -- ---- edges by a test
 
-from-append : {E : Type 0} (n : ℕ) (test : E → Bool) (xs ys : List E) → (more : List ℕ) × (edges_from n test (xs ++ ys) ≡ edges_from n test xs ++ more)
+from-append : {E : Type 0} (n : ℕ) (test : E → Bool) (xs ys : List E)
+    → (more : List ℕ) × (edges_from n test (xs ++ ys) ≡ edges_from n test xs ++ more)
 from-append n test [] ys = (edges_from n test ys, refl)
 from-append n test (x ∷ xs) ys = by (test x) (from-append (n + 1) test xs ys)
   where
-    by : (b : Bool) → (more : List ℕ) × (edges_from (n + 1) test (xs ++ ys) ≡ edges_from (n + 1) test xs ++ more)
-        → (more : List ℕ) × (cond b (n ∷ edges_from (n + 1) test (xs ++ ys)) (edges_from (n + 1) test (xs ++ ys)) ≡ cond b (n ∷ edges_from (n + 1) test xs) (edges_from (n + 1) test xs) ++ more)
+    by : (b : Bool) → (more : List ℕ) × (edges_from (n + 1) test (xs ++ ys)
+        ≡ edges_from (n + 1) test xs ++ more)
+        → (more : List ℕ) × (cond b (n ∷ edges_from (n + 1) test (xs ++ ys))
+        (edges_from (n + 1) test (xs ++ ys))
+        ≡ cond b (n ∷ edges_from (n + 1) test xs) (edges_from (n + 1) test xs) ++ more)
     by true (more, is) = (more, ap (λ ns. n ∷ ns) is)
     by false (more, is) = (more, is)
 
-from-more : {E : Type 0} (n : ℕ) (test : E → Bool) (xs : List E) (i : ℕ) (b : Bool) → i < length xs → Some b ≡ option_map test (slice_get xs i)
+from-more : {E : Type 0} (n : ℕ) (test : E → Bool) (xs : List E) (i : ℕ) (b : Bool) → i < length xs
+    → Some b ≡ option_map test (slice_get xs i)
     → edges_from n test (take (i + 1) xs) ≡ edges_from n test (take i xs) ++ cond b ((n + i) ∷ []) []
 from-more n test [] i b below is = absurd (omega (arith, below))
 from-more n test (x ∷ xs) zero b below is =
@@ -126,11 +157,14 @@ from-more n test (x ∷ xs) (suc i) b below is =
     let on : suc i + 1 ≡ suc (i + 1) = omega arith in
     let there_is : n + 1 + i ≡ n + suc i = omega arith in
     ap (λ k. edges_from n test (take k (x ∷ xs))) on
-    ∙ by (test x) (from-more (n + 1) test xs i b (omega (arith, below)) is ∙ ap (λ m. edges_from (n + 1) test (take i xs) ++ cond b (m ∷ []) []) there_is)
+    ∙ by (test x) (from-more (n + 1) test xs i b (omega (arith, below)) is
+    ∙ ap (λ m. edges_from (n + 1) test (take i xs) ++ cond b (m ∷ []) []) there_is)
   where
-    by : (c : Bool) → edges_from (n + 1) test (take (i + 1) xs) ≡ edges_from (n + 1) test (take i xs) ++ cond b ((n + suc i) ∷ []) []
+    by : (c : Bool) → edges_from (n + 1) test (take (i + 1) xs)
+        ≡ edges_from (n + 1) test (take i xs) ++ cond b ((n + suc i) ∷ []) []
         → cond c (n ∷ edges_from (n + 1) test (take (i + 1) xs)) (edges_from (n + 1) test (take (i + 1) xs))
-        ≡ cond c (n ∷ edges_from (n + 1) test (take i xs)) (edges_from (n + 1) test (take i xs)) ++ cond b ((n + suc i) ∷ []) []
+        ≡ cond c (n ∷ edges_from (n + 1) test (take i xs)) (edges_from (n + 1) test (take i xs))
+        ++ cond b ((n + suc i) ∷ []) []
     by true rest = ap (λ ns. n ∷ ns) rest
     by false rest = rest
 
@@ -152,7 +186,8 @@ module _ (c : Compilation) where
       by false h = refl
 
 -- there are edges as there are statements of them
-pub count-is : (g : GraphModel) (entries : List ReadStatement) → IsGraphOf g entries → length (edges_of g) ≡ length (edges_read entries)
+pub count-is : (g : GraphModel) (entries : List ReadStatement) → IsGraphOf g entries
+    → length (edges_of g) ≡ length (edges_read entries)
 count-is g entries is = ap length (graph-edges is) ∙ length-map (edges_read entries) (λ e. e.paths)
 
 -- ---- edge by edge
@@ -171,19 +206,30 @@ module _ (entries : List ReadStatement) (rules : List (List ℕ)) (expand : Bool
   listed-front : (i : ℕ) → (more : List ℕ) × (listed_edges entries rules ≡ first_listed i ++ more)
   unfolding listed_edges
   listed-front i =
-      let parts = from-append 0 (has_object entries rules) (take i (edges_read entries)) (drop i (edges_read entries)) in
-      (parts.0, ap (edges_from 0 (has_object entries rules)) (sym (take-append-drop i (edges_read entries))) ∙ parts.1)
+      let parts = from-append 0 (has_object entries rules) (take i (edges_read entries))
+      (drop i (edges_read entries)) in (
+        parts.0,
+        ap (edges_from 0 (has_object entries rules)) (sym (take-append-drop i (edges_read entries)))
+            ∙ parts.1,
+      )
 
   listed-all : (i : ℕ) → i ≡ length (edges_read entries) → listed_edges entries rules ≡ first_listed i
   unfolding listed_edges
-  listed-all i all = ap (edges_from 0 (has_object entries rules)) (sym (take_all i (edges_read entries) (omega (arith, all))))
+  listed-all i all = ap (edges_from 0 (has_object entries rules))
+      (sym (take_all i (edges_read entries) (omega (arith, all))))
 
-  pub held-front : (ns ms : List ℕ) → find unheld ns ≡ None → take_while is_text (map reported (ns ++ ms)) ≡ map reported ns ++ take_while is_text (map reported ms)
+  pub held-front : (ns ms : List ℕ) → find unheld ns ≡ None
+      → take_while is_text (map reported (ns ++ ms)) ≡ map reported ns ++ take_while is_text (map reported ms)
   held-front [] ms none = refl
-  held-front (n ∷ ns) ms none = take_while-cons is_text (reported n) (map reported (ns ++ ms)) ∙ by (is_text (reported n)) (held-front ns ms) none
+  held-front (n ∷ ns) ms none = take_while-cons is_text (reported n) (map reported (ns ++ ms))
+      ∙ by (is_text (reported n)) (held-front ns ms) none
     where
-      by : (b : Bool) → (find unheld ns ≡ None → take_while is_text (map reported (ns ++ ms)) ≡ map reported ns ++ take_while is_text (map reported ms))
-          → cond (not b) (Some n) (find unheld ns) ≡ None → cond b (reported n ∷ take_while is_text (map reported (ns ++ ms))) [] ≡ reported n ∷ (map reported ns ++ take_while is_text (map reported ms))
+      by : (b : Bool) → (find unheld ns ≡ None
+          → take_while is_text (map reported (ns ++ ms))
+          ≡ map reported ns ++ take_while is_text (map reported ms))
+          → cond (not b) (Some n) (find unheld ns) ≡ None
+          → cond b (reported n ∷ take_while is_text (map reported (ns ++ ms))) []
+          ≡ reported n ∷ (map reported ns ++ take_while is_text (map reported ms))
       by true rest h = ap (λ cs. reported n ∷ cs) (rest h)
       by false rest h = absurd cc
 
@@ -192,37 +238,53 @@ module _ (entries : List ReadStatement) (rules : List (List ℕ)) (expand : Bool
   find-front (n ∷ ns) ms none = by (unheld n) (find-front ns ms) none
     where
       by : (b : Bool) → (find unheld ns ≡ None → find unheld (ns ++ ms) ≡ find unheld ms)
-          → cond b (Some n) (find unheld ns) ≡ None → cond b (Some n) (find unheld (ns ++ ms)) ≡ find unheld ms
+          → cond b (Some n) (find unheld ns) ≡ None
+          → cond b (Some n) (find unheld (ns ++ ms)) ≡ find unheld ms
       by true rest h = absurd cc
       by false rest h = rest h
 
   -- the text written for the first edges, and the separator before the next object
-  pub record HasWritten (directory : List ℕ) (old new : SinkState) (before unjoined separator : List ℕ) (i : ℕ) : Type 0 where
+  pub record HasWritten (directory : List ℕ) (old new : SinkState) (before unjoined separator : List ℕ)
+      (i : ℕ) : Type 0 where
     pub held : find unheld (first_listed i) ≡ None
     pub separator_is : separator ≡ separator_after (first_listed i)
-    pub underway : IsUnderway old new (before ++ objects_text directory (map reported (first_listed i))) unjoined
+    pub underway : IsUnderway old new (before ++ objects_text directory (map reported (first_listed i)))
+        unjoined
 
-  pub written-nothing : (directory : List ℕ) (s : SinkState) (unjoined separator : List ℕ) → separator ≡ 10 ∷ [] → IsUnderway s s (unjoined ++ []) unjoined → HasWritten directory s s unjoined unjoined separator 0
+  pub written-nothing : (directory : List ℕ) (s : SinkState) (unjoined separator : List ℕ)
+      → separator ≡ 10 ∷ [] → IsUnderway s s (unjoined ++ []) unjoined
+      → HasWritten directory s s unjoined unjoined separator 0
   unfolding objects_text
-  written-nothing directory s unjoined separator is nothing = record { held = refl; separator_is = is; underway = nothing }
+  written-nothing directory s unjoined separator is nothing =
+      record { held = refl; separator_is = is; underway = nothing }
 
-  module _ (directory : List ℕ) (old new : SinkState) (before unjoined separator : List ℕ) (i : ℕ) (so_far : HasWritten directory old new before unjoined separator i) where
-    held-so_far : (more : List Compilation) × (held_before entries rules expand ≡ map reported (first_listed i) ++ more)
+  module _ (directory : List ℕ) (old new : SinkState) (before unjoined separator : List ℕ) (i : ℕ)
+      (so_far : HasWritten directory old new before unjoined separator i) where
+    held-so_far : (more : List Compilation)
+        × (held_before entries rules expand ≡ map reported (first_listed i) ++ more)
     held-so_far =
-        let parts = listed-front i in
-        (take_while is_text (map reported parts.0), ap (λ ns. take_while is_text (map reported ns)) parts.1 ∙ held-front (first_listed i) parts.0 so_far.held)
+        let parts = listed-front i in (
+          take_while is_text (map reported parts.0),
+          ap (λ ns. take_while is_text (map reported ns)) parts.1
+              ∙ held-front (first_listed i) parts.0 so_far.held,
+        )
 
     -- it is a prefix of all
-    front : IsPrefix (before ++ objects_text directory (map reported (first_listed i))) (before ++ objects_text directory (held_before entries rules expand))
+    front : IsPrefix (before ++ objects_text directory (map reported (first_listed i)))
+        (before ++ objects_text directory (held_before entries rules expand))
     front =
         let held = held-so_far in
-        let objects = objects-front directory (map reported (first_listed i)) held.0 in
-        (objects.0, ap (λ t. before ++ t) (ap (objects_text directory) held.1 ∙ objects.1) ∙ sym (append_assoc before (objects_text directory (map reported (first_listed i))) objects.0))
+        let objects = objects-front directory (map reported (first_listed i)) held.0 in (
+          objects.0,
+          ap (λ t. before ++ t) (ap (objects_text directory) held.1 ∙ objects.1)
+              ∙ sym (append_assoc before (objects_text directory (map reported (first_listed i))) objects.0),
+        )
 
     pub takes-front : TakesFront old new (before ++ objects_text directory (held_before entries rules expand))
     takes-front = TakesFront-whole old new _ unjoined _ front so_far.underway
 
-    pub stops-in : (fault : ToolFault) → StopsWithin old new (before ++ objects_text directory (map reported (first_listed i))) fault
+    pub stops-in : (fault : ToolFault) → StopsWithin old new
+        (before ++ objects_text directory (map reported (first_listed i))) fault
         → StopsWithin old new (before ++ objects_text directory (held_before entries rules expand)) fault
     stops-in fault stops = StopsWithin-whole old new _ _ fault front stops
 
@@ -231,10 +293,14 @@ module _ (entries : List ReadStatement) (rules : List (List ℕ)) (expand : Bool
       pub none-unheld : None ≡ unheld_edge entries rules expand
       none-unheld = sym (ap (find unheld) (listed-all i all) ∙ so_far.held)
 
-      pub all-written : IsUnderway old new (before ++ objects_text directory (held_before entries rules expand)) unjoined
+      pub all-written : IsUnderway old new (before
+          ++ objects_text directory (held_before entries rules expand)) unjoined
       all-written =
-          let held = ap (λ ns. take_while is_text (map reported ns)) (listed-all i all ∙ sym (append-nil (first_listed i))) ∙ held-front (first_listed i) [] so_far.held ∙ append-nil (map reported (first_listed i)) in
-          subst (λ cs. IsUnderway old new (before ++ objects_text directory cs) unjoined) (sym held) so_far.underway
+          let held = ap (λ ns. take_while is_text (map reported ns))
+          (listed-all i all ∙ sym (append-nil (first_listed i)))
+          ∙ held-front (first_listed i) [] so_far.held ∙ append-nil (map reported (first_listed i)) in
+          subst (λ cs. IsUnderway old new (before ++ objects_text directory cs) unjoined) (sym held)
+          so_far.underway
 
     -- the next edge
 
@@ -243,20 +309,23 @@ module _ (entries : List ReadStatement) (rules : List (List ℕ)) (expand : Bool
       test = option_map (has_object entries rules) (slice_get (edges_read entries) i)
 
       skipped : Some false ≡ test → first_listed (i + 1) ≡ first_listed i
-      skipped other = from-more 0 (has_object entries rules) (edges_read entries) i false below other ∙ append-nil (first_listed i)
+      skipped other = from-more 0 (has_object entries rules) (edges_read entries) i false below other
+          ∙ append-nil (first_listed i)
 
       pub passed-edge : Some false ≡ test → HasWritten directory old new before unjoined separator (i + 1)
       passed-edge other = record {
         held = ap (find unheld) (skipped other) ∙ so_far.held;
         separator_is = so_far.separator_is ∙ ap separator_after (sym (skipped other));
-        underway = subst (λ ns. IsUnderway old new (before ++ objects_text directory (map reported ns)) unjoined) (sym (skipped other)) so_far.underway;
+        underway = subst (λ ns. IsUnderway old new (before ++ objects_text directory (map reported ns))
+            unjoined) (sym (skipped other)) so_far.underway;
       }
 
       module _ (passes : Some true ≡ test) where
         listed : first_listed (i + 1) ≡ first_listed i ++ i ∷ []
         listed =
             let here : 0 + i ≡ i = omega arith in
-            from-more 0 (has_object entries rules) (edges_read entries) i true below passes ∙ ap (λ n. first_listed i ++ n ∷ []) here
+            from-more 0 (has_object entries rules) (edges_read entries) i true below passes
+            ∙ ap (λ n. first_listed i ++ n ∷ []) here
 
         -- it is the first that JSON cannot contain
 
@@ -265,84 +334,129 @@ module _ (entries : List ReadStatement) (rules : List (List ℕ)) (expand : Bool
           not_text = held-none (reported i) none
 
           rest : (more : List ℕ) × (listed_edges entries rules ≡ first_listed i ++ (i ∷ more))
-          rest = let parts = listed-front (i + 1) in (parts.0, parts.1 ∙ ap (λ ns. ns ++ parts.0) listed ∙ append_assoc (first_listed i) (i ∷ []) parts.0)
+          rest = let parts = listed-front (i + 1)
+              in (
+                parts.0,
+                parts.1 ∙ ap (λ ns. ns ++ parts.0) listed
+                    ∙ append_assoc (first_listed i) (i ∷ []) parts.0,
+              )
 
           pub is-unheld : Some i ≡ unheld_edge entries rules expand
-          is-unheld = sym (ap (find unheld) rest.1 ∙ find-front (first_listed i) (i ∷ rest.0) so_far.held ∙ ap (λ b. cond (not b) (Some i) (find unheld rest.0)) not_text)
+          is-unheld = sym (ap (find unheld) rest.1 ∙ find-front (first_listed i) (i ∷ rest.0) so_far.held
+              ∙ ap (λ b. cond (not b) (Some i) (find unheld rest.0)) not_text)
 
-          pub before-unheld : IsUnderway old new (before ++ objects_text directory (held_before entries rules expand)) unjoined
+          pub before-unheld : IsUnderway old new
+              (before ++ objects_text directory (held_before entries rules expand)) unjoined
           before-unheld =
-              let held = ap (λ ns. take_while is_text (map reported ns)) rest.1 ∙ held-front (first_listed i) (i ∷ rest.0) so_far.held
-              ∙ ap (λ cs. map reported (first_listed i) ++ cs) (take_while-cons is_text (reported i) (map reported rest.0) ∙ ap (λ b. cond b (reported i ∷ take_while is_text (map reported rest.0)) []) not_text)
+              let held = ap (λ ns. take_while is_text (map reported ns)) rest.1
+              ∙ held-front (first_listed i) (i ∷ rest.0) so_far.held
+              ∙ ap (λ cs. map reported (first_listed i) ++ cs)
+              (take_while-cons is_text (reported i) (map reported rest.0)
+              ∙ ap (λ b. cond b (reported i ∷ take_while is_text (map reported rest.0)) []) not_text)
               ∙ append-nil (map reported (first_listed i)) in
-              subst (λ cs. IsUnderway old new (before ++ objects_text directory cs) unjoined) (sym held) so_far.underway
+              subst (λ cs. IsUnderway old new (before ++ objects_text directory cs) unjoined) (sym held)
+              so_far.underway
 
         -- it has an object
 
         module _ (json : Compilation) (some : Some json ≡ held_compilation (reported i)) where
           still-held : find unheld (first_listed (i + 1)) ≡ None
-          still-held = ap (find unheld) listed ∙ find-front (first_listed i) (i ∷ []) so_far.held ∙ ap (λ b. cond (not b) (Some i) None) (held-some (reported i) json some).0
+          still-held = ap (find unheld) listed ∙ find-front (first_listed i) (i ∷ []) so_far.held
+              ∙ ap (λ b. cond (not b) (Some i) None) (held-some (reported i) json some).0
 
           separator-same : (ns : List ℕ) → separator_after ns ≡ separator_after (map reported ns)
           separator-same [] = refl
           separator-same (n ∷ ns) = refl
 
-          text-is : objects_text directory (map reported (first_listed (i + 1))) ≡ objects_text directory (map reported (first_listed i)) ++ (separator ++ object_of_strings directory json)
+          text-is : objects_text directory (map reported (first_listed (i + 1)))
+              ≡ objects_text directory (map reported (first_listed i))
+              ++ (separator ++ object_of_strings directory json)
           text-is =
-              ap (λ ns. objects_text directory (map reported ns)) listed ∙ ap (objects_text directory) (map-append reported (first_listed i) (i ∷ []))
+              ap (λ ns. objects_text directory (map reported ns)) listed
+              ∙ ap (objects_text directory) (map-append reported (first_listed i) (i ∷ []))
               ∙ objects-more directory (map reported (first_listed i)) (reported i)
-              ∙ ap (λ t. objects_text directory (map reported (first_listed i)) ++ (t ++ object_text directory (reported i))) (sym (so_far.separator_is ∙ separator-same (first_listed i)))
-              ∙ ap (λ t. objects_text directory (map reported (first_listed i)) ++ (separator ++ t)) (object-is directory (reported i) ∙ ap (object_of_strings directory) (sym (held-some (reported i) json some).1))
+              ∙ ap (λ t. objects_text directory (map reported (first_listed i))
+              ++ (t ++ object_text directory (reported i)))
+              (sym (so_far.separator_is ∙ separator-same (first_listed i)))
+              ∙ ap (λ t. objects_text directory (map reported (first_listed i)) ++ (separator ++ t))
+              (object-is directory (reported i) ∙ ap (object_of_strings directory)
+              (sym (held-some (reported i) json some).1))
 
-          whole-is : before ++ objects_text directory (map reported (first_listed i)) ++ (separator ++ object_of_strings directory json) ≡ before ++ objects_text directory (map reported (first_listed (i + 1)))
-          whole-is = append_assoc before (objects_text directory (map reported (first_listed i))) (separator ++ object_of_strings directory json) ∙ ap (λ t. before ++ t) (sym text-is)
+          whole-is : before ++ objects_text directory (map reported (first_listed i))
+              ++ (separator ++ object_of_strings directory json)
+              ≡ before ++ objects_text directory (map reported (first_listed (i + 1)))
+          whole-is = append_assoc before (objects_text directory (map reported (first_listed i)))
+              (separator ++ object_of_strings directory json) ∙ ap (λ t. before ++ t) (sym text-is)
 
           separator-next : (ns : List ℕ) → 44 ∷ 10 ∷ [] ≡ separator_after (ns ++ i ∷ [])
           separator-next [] = refl
           separator-next (n ∷ ns) = refl
 
-          pub object-written : (later : SinkState) (after next : List ℕ) → next ≡ 44 ∷ 10 ∷ [] → IsUnderway new later (unjoined ++ (separator ++ object_of_strings directory json)) after
+          pub object-written : (later : SinkState) (after next : List ℕ) → next ≡ 44 ∷ 10 ∷ []
+              → IsUnderway new later (unjoined ++ (separator ++ object_of_strings directory json)) after
               → HasWritten directory old later before after next (i + 1)
           object-written later after next is written = record {
             held = still-held;
             separator_is = is ∙ separator-next (first_listed i) ∙ ap separator_after (sym listed);
-            underway = subst (λ t. IsUnderway old later t after) whole-is (IsUnderway-more old new later _ unjoined _ after so_far.underway written);
+            underway = subst (λ t. IsUnderway old later t after) whole-is
+                (IsUnderway-more old new later _ unjoined _ after so_far.underway written);
           }
 
-          pub stops-at_object : (later : SinkState) (fault : ToolFault) → StopsWithin new later (unjoined ++ (separator ++ object_of_strings directory json)) fault
-              → StopsWithin old later (before ++ objects_text directory (held_before entries rules expand)) fault
-          stops-at_object later fault stops = StopsWithin-whole old later _ _ fault front_next (subst (λ t. StopsWithin old later t fault) whole-is (StopsWithin-more old new later _ unjoined _ fault so_far.underway stops))
+          pub stops-at_object : (later : SinkState) (fault : ToolFault)
+              → StopsWithin new later (unjoined ++ (separator ++ object_of_strings directory json)) fault
+              → StopsWithin old later (before ++ objects_text directory (held_before entries rules expand))
+              fault
+          stops-at_object later fault stops =
+              StopsWithin-whole old later _ _ fault front_next
+              (subst (λ t. StopsWithin old later t fault) whole-is
+              (StopsWithin-more old new later _ unjoined _ fault so_far.underway stops))
             where
-              front_next : IsPrefix (before ++ objects_text directory (map reported (first_listed (i + 1)))) (before ++ objects_text directory (held_before entries rules expand))
+              front_next : IsPrefix (before ++ objects_text directory (map reported (first_listed (i + 1))))
+                  (before ++ objects_text directory (held_before entries rules expand))
               front_next =
                   let parts = listed-front (i + 1) in
-                  let held = ap (λ ns. take_while is_text (map reported ns)) parts.1 ∙ held-front (first_listed (i + 1)) parts.0 still-held in
-                  let objects = objects-front directory (map reported (first_listed (i + 1))) (take_while is_text (map reported parts.0)) in
-                  (objects.0, ap (λ t. before ++ t) (ap (objects_text directory) held ∙ objects.1) ∙ sym (append_assoc before (objects_text directory (map reported (first_listed (i + 1)))) objects.0))
+                  let held = ap (λ ns. take_while is_text (map reported ns)) parts.1
+                  ∙ held-front (first_listed (i + 1)) parts.0 still-held in
+                  let objects = objects-front directory (map reported (first_listed (i + 1)))
+                  (take_while is_text (map reported parts.0)) in (
+                    objects.0,
+                    ap (λ t. before ++ t) (ap (objects_text directory) held ∙ objects.1)
+                        ∙ sym (append_assoc before (objects_text directory
+                        (map reported (first_listed (i + 1)))) objects.0),
+                  )
 
 -- ---- the whole list
 
 -- a stop within the text
-stops-in_compdb : (old new : SinkState) (text : List ℕ) (unheld : Option ℕ) (fault : ToolFault) → StopsWithin old new text fault → WritesCompdb old new text unheld (Err fault)
+stops-in_compdb : (old new : SinkState) (text : List ℕ) (unheld : Option ℕ) (fault : ToolFault)
+    → StopsWithin old new text fault → WritesCompdb old new text unheld (Err fault)
 stops-in_compdb old new text unheld Write stops = stops
 stops-in_compdb old new text unheld OutOfMemory stops = stops
 stops-in_compdb old new text unheld (TextNotUtf8 edge) stops = absurd stops
 
 -- the fault that is answered
-compdb-with : (old new : SinkState) (text : List ℕ) (unheld : Option ℕ) (fault : ToolFault) (result : Result Unit ToolFault)
-    → IsErrAnd result (λ e. e ≡ fault) → StopsWithin old new text fault → WritesCompdb old new text unheld result
+compdb-with : (old new : SinkState) (text : List ℕ) (unheld : Option ℕ) (fault : ToolFault)
+    (result : Result Unit ToolFault)
+    → IsErrAnd result (λ e. e ≡ fault) → StopsWithin old new text fault
+    → WritesCompdb old new text unheld result
 compdb-with old new text unheld fault result err stops =
-    let (e, is, same) = err_from_is_err_and result err in rw (is, same) (stops-in_compdb old new text unheld fault stops)
+    let (e, is, same) = err_from_is_err_and result err
+    in rw (is, same) (stops-in_compdb old new text unheld fault stops)
 
 -- memory ran out before anything was written
-pub compdb-no_memory : (s : SinkState) (text : List ℕ) (unheld : Option ℕ) (result : Result Unit ToolFault) → IsErrAnd result (λ e. e ≡ OutOfMemory) → WritesCompdb s s text unheld result
-compdb-no_memory s text unheld result err = compdb-with s s text unheld OutOfMemory result err (puts-no_memory s [] text)
+pub compdb-no_memory : (s : SinkState) (text : List ℕ) (unheld : Option ℕ) (result : Result Unit ToolFault)
+    → IsErrAnd result (λ e. e ≡ OutOfMemory) → WritesCompdb s s text unheld result
+compdb-no_memory s text unheld result err =
+    compdb-with s s text unheld OutOfMemory result err (puts-no_memory s [] text)
 
-module _ (entries : List ReadStatement) (directory : List ℕ) (chosen rules : List (List ℕ)) (expand : Bool) (same : (rule : List ℕ) → is_chosen chosen rule ≡ is_chosen rules rule) where
+module _ (entries : List ReadStatement) (directory : List ℕ) (chosen rules : List (List ℕ)) (expand : Bool)
+    (same : (rule : List ℕ) → is_chosen chosen rule ≡ is_chosen rules rule) where
   listed-same : listed_edges entries chosen ≡ listed_edges entries rules
   unfolding listed_edges
   listed-same =
-      ap (λ (f : List ℕ → Bool). edges_from 0 (λ e. not e.paths.is_phony && not (is_empty (inputs_of e.paths)) && f (rule_name_of entries e)) (edges_read entries)) (λ i rule. same rule i)
+      ap (λ (f : List ℕ → Bool). edges_from 0
+      (λ e. not e.paths.is_phony && not (is_empty (inputs_of e.paths)) && f (rule_name_of entries e))
+      (edges_read entries)) (λ i rule. same rule i)
 
   unheld-same : unheld_edge entries chosen expand ≡ unheld_edge entries rules expand
   unheld-same = ap (λ ns. find (λ edge. not (is_text (compilation_of entries expand edge))) ns) listed-same
@@ -351,61 +465,90 @@ module _ (entries : List ReadStatement) (directory : List ℕ) (chosen rules : L
     abbrev objects : List ℕ
     objects = objects_text json (held_before entries chosen expand)
 
-    parts : compdb_text entries directory rules expand ≡ first ++ objects ++ end_text (unheld_edge entries chosen expand)
+    parts : compdb_text entries directory rules expand
+        ≡ first ++ objects ++ end_text (unheld_edge entries chosen expand)
     unfolding compdb_text
     parts =
         sym (ap (λ t. t ++ objects ++ end_text (unheld_edge entries chosen expand)) first_is
-        ∙ ap (λ d. codes "[" ++ objects_text d (held_before entries chosen expand) ++ end_text (unheld_edge entries chosen expand)) json_is
-        ∙ ap (λ ns. codes "[" ++ objects_text (json_string directory) (take_while is_text (map (compilation_of entries expand) ns)) ++ end_text (find (λ edge. not (is_text (compilation_of entries expand edge))) ns)) listed-same)
+        ∙ ap (λ d. codes "[" ++ objects_text d (held_before entries chosen expand)
+        ++ end_text (unheld_edge entries chosen expand)) json_is
+        ∙ ap (λ ns. codes "[" ++ objects_text (json_string directory)
+        (take_while is_text (map (compilation_of entries expand) ns))
+        ++ end_text (find (λ edge. not (is_text (compilation_of entries expand edge))) ns)) listed-same)
 
     -- a fault before the end of the list
-    pub compdb-stops : (old new : SinkState) (fault : ToolFault) (result : Result Unit ToolFault) → IsErrAnd result (λ e. e ≡ fault) → StopsWithin old new (first ++ objects) fault
-        → WritesCompdb old new (compdb_text entries directory rules expand) (unheld_edge entries rules expand) result
+    pub compdb-stops : (old new : SinkState) (fault : ToolFault) (result : Result Unit ToolFault)
+        → IsErrAnd result (λ e. e ≡ fault) → StopsWithin old new (first ++ objects) fault
+        → WritesCompdb old new (compdb_text entries directory rules expand) (unheld_edge entries rules expand)
+        result
     compdb-stops old new fault result err stops =
-        compdb-with old new _ _ fault result err (StopsWithin-whole old new (first ++ objects) _ fault (end_text (unheld_edge entries chosen expand), parts) stops)
+        compdb-with old new _ _ fault result err
+        (StopsWithin-whole old new (first ++ objects) _ fault
+        (end_text (unheld_edge entries chosen expand), parts) stops)
 
     -- memory ran out while text is pending
-    pub compdb-no_capacity : (old new : SinkState) (unjoined : List ℕ) (result : Result Unit ToolFault) → IsErrAnd result (λ e. e ≡ OutOfMemory) → IsUnderway old new (first ++ objects) unjoined
-        → WritesCompdb old new (compdb_text entries directory rules expand) (unheld_edge entries rules expand) result
+    pub compdb-no_capacity : (old new : SinkState) (unjoined : List ℕ) (result : Result Unit ToolFault)
+        → IsErrAnd result (λ e. e ≡ OutOfMemory) → IsUnderway old new (first ++ objects) unjoined
+        → WritesCompdb old new (compdb_text entries directory rules expand) (unheld_edge entries rules expand)
+        result
     compdb-no_capacity old new unjoined result err so_far =
-        compdb-stops old new OutOfMemory result err (TakesFront-whole old new (first ++ objects) unjoined _ ([], sym (append-nil (first ++ objects))) so_far)
+        compdb-stops old new OutOfMemory result err
+        (TakesFront-whole old new (first ++ objects) unjoined _ ([], sym (append-nil (first ++ objects)))
+        so_far)
 
     -- JSON cannot contain an edge
-    pub compdb-unheld : (old between new : SinkState) (unjoined sent : List ℕ) (edge : EdgeNo) → Some edge.0 ≡ unheld_edge entries chosen expand
+    pub compdb-unheld : (old between new : SinkState) (unjoined sent : List ℕ) (edge : EdgeNo)
+        → Some edge.0 ≡ unheld_edge entries chosen expand
         → IsUnderway old between (first ++ objects) unjoined → Takes between new sent → sent ≡ unjoined
-        → (unheld_edge entries rules expand ≡ Some edge.0) × Takes old new (compdb_text entries directory rules expand)
+        → (unheld_edge entries rules expand ≡ Some edge.0)
+        × Takes old new (compdb_text entries directory rules expand)
     compdb-unheld old between new unjoined sent edge is so_far taken all = (
       sym (is ∙ unheld-same),
-      subst (Takes old new) (sym (parts ∙ ap (λ u. first ++ objects ++ end_text u) (sym is) ∙ append-nil (first ++ objects))) (Takes-unjoined old between new _ unjoined sent so_far taken all),
+      subst (Takes old new) (sym (parts ∙ ap (λ u. first ++ objects ++ end_text u) (sym is)
+          ∙ append-nil (first ++ objects))) (Takes-unjoined old between new _ unjoined sent so_far taken all),
     )
 
     -- the end of the list
 
-    module _ (old between : SinkState) (unjoined : List ℕ) (all : None ≡ unheld_edge entries chosen expand) (so_far : IsUnderway old between (first ++ objects) unjoined) where
+    module _ (old between : SinkState) (unjoined : List ℕ) (all : None ≡ unheld_edge entries chosen expand)
+        (so_far : IsUnderway old between (first ++ objects) unjoined) where
       whole : first ++ objects ++ end_text None ≡ compdb_text entries directory rules expand
       whole = ap (λ u. first ++ objects ++ end_text u) all ∙ sym parts
 
       ended : IsUnderway old between (compdb_text entries directory rules expand) (unjoined ++ end_text None)
-      ended = subst (λ t. IsUnderway old between t (unjoined ++ end_text None)) whole (IsUnderway-more old between between _ unjoined (end_text None) _ so_far ([], refl, Takes-nil between))
+      ended = subst (λ t. IsUnderway old between t (unjoined ++ end_text None)) whole
+          (IsUnderway-more old between between _ unjoined (end_text None) _ so_far
+          ([], refl, Takes-nil between))
 
-      pub compdb-fails : (new : SinkState) (sent : List ℕ) (result : Result Unit ToolFault) → IsErrAnd result (λ e. e ≡ Write) → FailsWithin between new sent → sent ≡ unjoined ++ end_text None
-          → WritesCompdb old new (compdb_text entries directory rules expand) (unheld_edge entries rules expand) result
-      compdb-fails new sent result err fails is = compdb-with old new _ _ Write result err (FailsWithin-unjoined old between new _ _ sent ended fails is)
+      pub compdb-fails : (new : SinkState) (sent : List ℕ) (result : Result Unit ToolFault)
+          → IsErrAnd result (λ e. e ≡ Write) → FailsWithin between new sent → sent ≡ unjoined ++ end_text None
+          → WritesCompdb old new (compdb_text entries directory rules expand)
+          (unheld_edge entries rules expand) result
+      compdb-fails new sent result err fails is =
+          compdb-with old new _ _ Write result err
+          (FailsWithin-unjoined old between new _ _ sent ended fails is)
 
-      pub compdb-done : (new : SinkState) (sent : List ℕ) → Takes between new sent → sent ≡ unjoined ++ end_text None
-          → (unheld_edge entries rules expand ≡ None) × Takes old new (compdb_text entries directory rules expand)
-      compdb-done new sent taken is = (sym (all ∙ unheld-same), Takes-unjoined old between new _ _ sent ended taken is)
+      pub compdb-done : (new : SinkState) (sent : List ℕ) → Takes between new sent
+          → sent ≡ unjoined ++ end_text None
+          → (unheld_edge entries rules expand ≡ None)
+          × Takes old new (compdb_text entries directory rules expand)
+      compdb-done new sent taken is = (
+        sym (all ∙ unheld-same),
+        Takes-unjoined old between new _ _ sent ended taken is,
+      )
 
 -- ---- the edge of a fault
 
 -- a stop within a text names no edge
-pub stops-names : (count : ℕ) (old new : SinkState) (text : List ℕ) (fault : ToolFault) → StopsWithin old new text fault → NamesEdge count fault
+pub stops-names : (count : ℕ) (old new : SinkState) (text : List ℕ) (fault : ToolFault)
+    → StopsWithin old new text fault → NamesEdge count fault
 stops-names count old new text (TextNotUtf8 edge) stops = absurd stops
 stops-names count old new text Write stops = tt
 stops-names count old new text OutOfMemory stops = tt
 
 -- the fault that is answered
-pub names-with : {X : Type 0} (count : ℕ) (fault : ToolFault) (result : Result X ToolFault) → IsErrAnd result (λ e. e ≡ fault)
+pub names-with : {X : Type 0} (count : ℕ) (fault : ToolFault) (result : Result X ToolFault)
+    → IsErrAnd result (λ e. e ≡ fault)
     → NamesEdge count fault → IfErr result (NamesEdge count)
 names-with count fault (Ok done) err names = tt
 names-with count fault (Err e) err names = subst (NamesEdge count) (sym err) names

@@ -52,7 +52,8 @@ one_object : objects_text directory (echo ∷ []) ≡ 10 ∷ echo_text
 unfolding objects_text object_text serde_json_on_literals
 one_object = refl
 
-two_objects : objects_text directory (echo ∷ echo ∷ []) ≡ 10 ∷ (echo_text ++ codes "," ++ (10 ∷ []) ++ echo_text)
+two_objects : objects_text directory (echo ∷ echo ∷ [])
+    ≡ 10 ∷ (echo_text ++ codes "," ++ (10 ∷ []) ++ echo_text)
 unfolding objects_text object_text serde_json_on_literals
 two_objects = refl
 

@@ -1,5 +1,7 @@
 -- How the objects of edges are written one after another.
-use Rattle.std.proofs.Common.{◌≡◌, ℕ, ◌+◌, ◌<◌, ◌≤◌, Bool, true, false, not, cond, Option, Some, None, option_map, unwrap_or, List, [], ◌∷◌, ◌++◌, length, take, get_or, refl, sym, ap, subst, ◌∙◌, append_assoc, append-nil, flat_map, Result, Err, codes, arith}
+use Rattle.std.proofs.Common.{◌≡◌, ℕ, ◌+◌, ◌<◌, ◌≤◌, Bool, true, false, not, cond, Option, Some, None}
+use Rattle.std.proofs.Common.{option_map, unwrap_or, List, [], ◌∷◌, ◌++◌, length, take, get_or, refl, sym, ap}
+use Rattle.std.proofs.Common.{subst, ◌∙◌, append_assoc, append-nil, flat_map, Result, Err, codes, arith}
 use Rattle.std.specs.Prelude.{find}
 use Rattle.std.specs.List.{fold}
 use Rattle.std.specs.Result.{IsErrAnd}
@@ -23,15 +25,18 @@ use Rattle.nj_graph.specs.Graph.{detail_stated, rule_name_at}
 use Rattle.nj_tools.specs.declared.tool_fault.ToolFault.{ToolFault}
 use Rattle.nj_tools.specs.declared.tool_fault.ToolFault.TheVariants.{OutOfMemory, TextNotUtf8, Write}
 use Rattle.nj_tools.specs.Compdb.{WritesCompdb}
-use Rattle.nj_tools.specs.EdgeObjects.{edge_lines, edge_numbers, edge_object, file_members, head_members, place_object, unwritable_edge, value_member, value_members}
+use Rattle.nj_tools.specs.EdgeObjects.{edge_lines, edge_numbers, edge_object, file_members, head_members}
+use Rattle.nj_tools.specs.EdgeObjects.{place_object, unwritable_edge, value_member, value_members}
 use Rattle.nj_tools.specs.JsonObjects.{json_line, strings, strings_are_utf8}
 use Rattle.nj_tools.specs.Lines.{line}
 use Rattle.nj_tools.specs.Sinks.{SinkState}
 use Rattle.nj_tools.specs.Texts.{StopsWithin, TakesFront}
 use Rattle.nj_tools.specs.Inside.Blocks.{IsUnderway}
 use Rattle.nj_tools.specs.Inside.ObjectTexts.{and_member, and_token, held_text, no_members_yet}
-use Rattle.nj_tools.proofs.BlockLemmas.{IsUnderway-more, StopsWithin-more, StopsWithin-whole, TakesFront-whole}
-use Rattle.nj_tools.proofs.HeldLemmas.{find-none, find-there, next-passes, while-all, while-begins, while-ends}
+use Rattle.nj_tools.proofs.BlockLemmas.{IsUnderway-more, StopsWithin-more, StopsWithin-whole}
+use Rattle.nj_tools.proofs.BlockLemmas.{TakesFront-whole}
+use Rattle.nj_tools.proofs.HeldLemmas.{find-none, find-there, next-passes, while-all, while-begins}
+use Rattle.nj_tools.proofs.HeldLemmas.{while-ends}
 use Rattle.nj_tools.proofs.ObjectLemmas.{object-is}
 
 -- ---- the members of an object
@@ -51,28 +56,44 @@ pub values-added : (entries : List ReadStatement) (edge : ℕ) (o a b c d e f g 
     → j ≡ fold and_member o (value_members entries edge)
 values-added entries edge o a b c d e f g h i j a_is b_is c_is d_is e_is f_is g_is h_is i_is j_is =
     let add = λ (name : List ℕ) (s : Option (List Token)). and_member s (value_member entries edge name) in
-    j_is ∙ ap (add (codes "restat")) (i_is ∙ ap (add (codes "generator")) (h_is ∙ ap (add (codes "dyndep")) (g_is ∙ ap (add (codes "pool")) (f_is
-    ∙ ap (add (codes "rspfile_content")) (e_is ∙ ap (add (codes "rspfile")) (d_is ∙ ap (add (codes "deps")) (c_is ∙ ap (add (codes "depfile")) (b_is ∙ ap (add (codes "description")) a_is))))))))
+    j_is ∙ ap (add (codes "restat")) (i_is
+    ∙ ap (add (codes "generator")) (h_is ∙ ap (add (codes "dyndep")) (g_is ∙ ap (add (codes "pool")) (f_is
+    ∙ ap (add (codes "rspfile_content")) (e_is
+    ∙ ap (add (codes "rspfile")) (d_is ∙ ap (add (codes "deps"))
+    (c_is ∙ ap (add (codes "depfile")) (b_is ∙ ap (add (codes "description")) a_is))))))))
 
 -- the number, the place and the rule
-pub head-added : (entries : List ReadStatement) (edge : ℕ) (o a b c d : Option (List Token)) (file rule : List ℕ) (spot : Spot) (is_phony : Bool)
-    → file ≡ (detail_stated entries edge).file → spot ≡ (detail_stated entries edge).spot → rule ≡ rule_name_at entries edge
+pub head-added : (entries : List ReadStatement) (edge : ℕ) (o a b c d : Option (List Token))
+    (file rule : List ℕ) (spot : Spot) (is_phony : Bool)
+    → file ≡ (detail_stated entries edge).file → spot ≡ (detail_stated entries edge).spot
+    → rule ≡ rule_name_at entries edge
     → is_phony ≡ (edge_at (paths_of_edges (edges_read entries)) edge).is_phony
     → a ≡ and_member o (codes "edge", number (decimal edge))
     → b ≡ and_member a (codes "place", place_object file spot)
     → c ≡ and_member b (codes "rule", string rule)
     → d ≡ and_member c (codes "phony", boolean is_phony)
     → d ≡ fold and_member o (head_members entries edge)
-head-added entries edge o a b c d file rule spot is_phony file_is spot_is rule_is phony_is a_is b_is c_is d_is =
-    let place = ap (λ f. place_object f spot) file_is ∙ ap (λ p. place_object (detail_stated entries edge).file p) spot_is in
+head-added entries edge o a b c d file rule spot is_phony file_is spot_is rule_is phony_is a_is b_is c_is
+    d_is =
+    let place = ap (λ f. place_object f spot) file_is
+    ∙ ap (λ p. place_object (detail_stated entries edge).file p) spot_is in
     d_is ∙ ap (λ p. and_member c (codes "phony", boolean p)) phony_is
-    ∙ ap (λ s. and_member s (codes "phony", boolean (edge_at (paths_of_edges (edges_read entries)) edge).is_phony)) (c_is ∙ ap (λ r. and_member b (codes "rule", string r)) rule_is
-    ∙ ap (λ s. and_member s (codes "rule", string (rule_name_at entries edge))) (b_is ∙ ap (λ p. and_member a (codes "place", p)) place
-    ∙ ap (λ s. and_member s (codes "place", place_object (detail_stated entries edge).file (detail_stated entries edge).spot)) a_is))
+    ∙ ap (λ s. and_member s (
+      codes "phony",
+      boolean (edge_at (paths_of_edges (edges_read entries)) edge).is_phony,
+    ))
+    (c_is ∙ ap (λ r. and_member b (codes "rule", string r)) rule_is
+    ∙ ap (λ s. and_member s (codes "rule", string (rule_name_at entries edge)))
+    (b_is ∙ ap (λ p. and_member a (codes "place", p)) place
+    ∙ ap (λ s. and_member s (
+      codes "place",
+      place_object (detail_stated entries edge).file (detail_stated entries edge).spot,
+    )) a_is))
 
 -- the files by kind
 pub files-added : (e : EdgePaths) (o a b c d f g : Option (List Token)) (p q r s t u : List (List ℕ))
-    → p ≡ e.explicit_outputs → q ≡ e.implicit_outputs → r ≡ e.explicit_inputs → s ≡ e.implicit_inputs → t ≡ e.order_only_inputs → u ≡ e.validations
+    → p ≡ e.explicit_outputs → q ≡ e.implicit_outputs → r ≡ e.explicit_inputs → s ≡ e.implicit_inputs
+    → t ≡ e.order_only_inputs → u ≡ e.validations
     → a ≡ and_member o (codes "outputs", array (strings p))
     → b ≡ and_member a (codes "implicit_outputs", array (strings q))
     → c ≡ and_member b (codes "inputs", array (strings r))
@@ -81,18 +102,24 @@ pub files-added : (e : EdgePaths) (o a b c d f g : Option (List Token)) (p q r s
     → g ≡ and_member f (codes "validations", array (strings u))
     → g ≡ fold and_member o (file_members e)
 files-added e o a b c d f g p q r s t u p_is q_is r_is s_is t_is u_is a_is b_is c_is d_is f_is g_is =
-    let add = λ (name : List ℕ) (paths : List (List ℕ)) (w : Option (List Token)). and_member w (name, array (strings paths)) in
+    let add = λ (name : List ℕ) (paths : List (List ℕ)) (w : Option (List Token)). and_member w
+    (name, array (strings paths)) in
     g_is ∙ ap (λ ps. add (codes "validations") ps f) u_is ∙ ap (add (codes "validations") e.validations) (f_is
-    ∙ ap (λ ps. add (codes "order_only_inputs") ps d) t_is ∙ ap (add (codes "order_only_inputs") e.order_only_inputs) (d_is
-    ∙ ap (λ ps. add (codes "implicit_inputs") ps c) s_is ∙ ap (add (codes "implicit_inputs") e.implicit_inputs) (c_is
+    ∙ ap (λ ps. add (codes "order_only_inputs") ps d) t_is
+    ∙ ap (add (codes "order_only_inputs") e.order_only_inputs) (d_is
+    ∙ ap (λ ps. add (codes "implicit_inputs") ps c) s_is
+    ∙ ap (add (codes "implicit_inputs") e.implicit_inputs) (c_is
     ∙ ap (λ ps. add (codes "inputs") ps b) r_is ∙ ap (add (codes "inputs") e.explicit_inputs) (b_is
-    ∙ ap (λ ps. add (codes "implicit_outputs") ps a) q_is ∙ ap (add (codes "implicit_outputs") e.implicit_outputs) (a_is
+    ∙ ap (λ ps. add (codes "implicit_outputs") ps a) q_is
+    ∙ ap (add (codes "implicit_outputs") e.implicit_outputs) (a_is
     ∙ ap (λ ps. add (codes "outputs") ps o) p_is)))))
 
 -- all members, and the end of the object
-pub members-added : (entries : List ReadStatement) (edge : ℕ) (opened with_head with_files with_values : Option (List Token)) → opened ≡ no_members_yet
+pub members-added : (entries : List ReadStatement) (edge : ℕ)
+    (opened with_head with_files with_values : Option (List Token)) → opened ≡ no_members_yet
     → with_head ≡ fold and_member opened (head_members entries edge)
-    → with_files ≡ fold and_member with_head (file_members (edge_at (paths_of_edges (edges_read entries)) edge))
+    → with_files ≡ fold and_member with_head
+    (file_members (edge_at (paths_of_edges (edges_read entries)) edge))
     → with_values ≡ fold and_member with_files (value_members entries edge)
     → and_token with_values token.end_object ≡ held_text (edge_object entries edge)
 members-added entries edge opened with_head with_files with_values o h f v =
@@ -100,17 +127,21 @@ members-added entries edge opened with_head with_files with_values o h f v =
     let files = file_members (edge_at (paths_of_edges (edges_read entries)) edge) in
     let values = value_members entries edge in
     ap (λ s. and_token s token.end_object) (
-    v ∙ ap (λ s. fold and_member s values) (f ∙ ap (λ s. fold and_member s files) (h ∙ ap (λ s. fold and_member s head) o) ∙ sym (fold-append and_member no_members_yet head files))
+    v ∙ ap (λ s. fold and_member s values)
+    (f ∙ ap (λ s. fold and_member s files) (h ∙ ap (λ s. fold and_member s head) o)
+    ∙ sym (fold-append and_member no_members_yet head files))
     ∙ sym (fold-append and_member no_members_yet (head ++ files) values)
     )
     ∙ object-is (head ++ files ++ values)
 
 -- ---- the text of an object
 
-text-is : (j : Json) (text : List ℕ) → Some text ≡ option_map print (held_text j) → (strings_are_utf8 j ≡ true) × (text ≡ print (json_tokens j))
+text-is : (j : Json) (text : List ℕ) → Some text ≡ option_map print (held_text j)
+    → (strings_are_utf8 j ≡ true) × (text ≡ print (json_tokens j))
 text-is j text is = by (strings_are_utf8 j) is
   where
-    by : (b : Bool) → Some text ≡ option_map print (cond b (Some (json_tokens j)) None) → (b ≡ true) × (text ≡ print (json_tokens j))
+    by : (b : Bool) → Some text ≡ option_map print (cond b (Some (json_tokens j)) None)
+        → (b ≡ true) × (text ≡ print (json_tokens j))
     by true h = (refl, ap (λ o. unwrap_or o text) h)
     by false h = absurd cc
 
@@ -138,19 +169,27 @@ module _ (entries : List ReadStatement) where
 
   -- the lines of the first edges were written, and JSON can contain them
   pub record HasLines (old new : SinkState) (before unjoined : List ℕ) (i : ℕ) : Type 0 where
-    pub passed : find (λ edge. not (strings_are_utf8 (edge_object entries edge))) (take i (edge_numbers entries)) ≡ None
+    pub passed : find (λ edge. not (strings_are_utf8 (edge_object entries edge)))
+        (take i (edge_numbers entries)) ≡ None
     pub underway : IsUnderway old new (before ++ flat_map line_of (take i (edge_numbers entries))) unjoined
 
-  pub lines-begin : (s : SinkState) (before : List ℕ) → IsUnderway s s (before ++ []) before → HasLines s s before before 0
+  pub lines-begin : (s : SinkState) (before : List ℕ) → IsUnderway s s (before ++ []) before
+      → HasLines s s before before 0
   lines-begin s before nothing = record { passed = refl; underway = nothing }
 
-  module _ (old new : SinkState) (before unjoined : List ℕ) (i : ℕ) (so_far : HasLines old new before unjoined i) where
+  module _ (old new : SinkState) (before unjoined : List ℕ) (i : ℕ)
+      (so_far : HasLines old new before unjoined i) where
     -- the lines of the first edges begin those of all
-    begins : (n : ℕ) → find (λ edge. not (strings_are_utf8 (edge_object entries edge))) (take n (edge_numbers entries)) ≡ None
+    begins : (n : ℕ) → find (λ edge. not (strings_are_utf8 (edge_object entries edge)))
+        (take n (edge_numbers entries)) ≡ None
         → IsPrefix (before ++ flat_map line_of (take n (edge_numbers entries))) (before ++ edge_lines entries)
     begins n passed =
-        let parts = while-begins writable numbers n passed in
-        (flat_map line_of parts.0, ap (λ t. before ++ t) (ap (flat_map line_of) parts.1 ∙ flat_map-append line_of (take n numbers) parts.0) ∙ sym (append_assoc before (flat_map line_of (take n numbers)) (flat_map line_of parts.0)))
+        let parts = while-begins writable numbers n passed in (
+          flat_map line_of parts.0,
+          ap (λ t. before ++ t)
+              (ap (flat_map line_of) parts.1 ∙ flat_map-append line_of (take n numbers) parts.0)
+              ∙ sym (append_assoc before (flat_map line_of (take n numbers)) (flat_map line_of parts.0)),
+        )
 
     pub lines-front : TakesFront old new (before ++ edge_lines entries)
     lines-front = TakesFront-whole old new _ unjoined _ (begins i so_far.passed) so_far.underway
@@ -161,7 +200,8 @@ module _ (entries : List ReadStatement) where
       past = omega (arith, all, count-numbers)
 
       pub lines-all : IsUnderway old new (before ++ edge_lines entries) unjoined
-      lines-all = subst (λ ns. IsUnderway old new (before ++ flat_map line_of ns) unjoined) (sym (while-all writable numbers i so_far.passed past)) so_far.underway
+      lines-all = subst (λ ns. IsUnderway old new (before ++ flat_map line_of ns) unjoined)
+          (sym (while-all writable numbers i so_far.passed past)) so_far.underway
 
       pub none-unwritable : None ≡ unwritable_edge entries
       none-unwritable = sym (find-none writable numbers i so_far.passed past)
@@ -172,15 +212,18 @@ module _ (entries : List ReadStatement) where
       within = omega (arith, below, count-numbers)
 
       here : get_or (edge_numbers entries) i 0 ≡ i
-      here = let zero_first : 0 + i ≡ i = omega arith in get_or-range_with_len 0 (length (edges_read entries)) i 0 below ∙ zero_first
+      here = let zero_first : 0 + i ≡ i = omega arith
+          in get_or-range_with_len 0 (length (edges_read entries)) i 0 below ∙ zero_first
 
       -- it is the first that JSON cannot contain
       module _ (none : None ≡ option_map print (held_text (edge_object entries i))) where
         fails : strings_are_utf8 (edge_object entries (get_or (edge_numbers entries) i 0)) ≡ false
-        fails = ap (λ edge. strings_are_utf8 (edge_object entries edge)) here ∙ no-text (edge_object entries i) none
+        fails = ap (λ edge. strings_are_utf8 (edge_object entries edge)) here
+            ∙ no-text (edge_object entries i) none
 
         pub lines-before : IsUnderway old new (before ++ edge_lines entries) unjoined
-        lines-before = subst (λ ns. IsUnderway old new (before ++ flat_map line_of ns) unjoined) (sym (while-ends writable numbers i so_far.passed 0 within fails)) so_far.underway
+        lines-before = subst (λ ns. IsUnderway old new (before ++ flat_map line_of ns) unjoined)
+            (sym (while-ends writable numbers i so_far.passed 0 within fails)) so_far.underway
 
         pub is-unwritable : Some i ≡ unwritable_edge entries
         is-unwritable = sym (find-there writable numbers i so_far.passed 0 within fails ∙ ap Some here)
@@ -188,42 +231,62 @@ module _ (entries : List ReadStatement) where
       -- it has a line
       module _ (text : List ℕ) (some : Some text ≡ option_map print (held_text (edge_object entries i))) where
         passes : strings_are_utf8 (edge_object entries (get_or (edge_numbers entries) i 0)) ≡ true
-        passes = ap (λ edge. strings_are_utf8 (edge_object entries edge)) here ∙ (text-is (edge_object entries i) text some).0
+        passes = ap (λ edge. strings_are_utf8 (edge_object entries edge)) here
+            ∙ (text-is (edge_object entries i) text some).0
 
-        passed-next : find (λ edge. not (strings_are_utf8 (edge_object entries edge))) (take (i + 1) (edge_numbers entries)) ≡ None
+        passed-next : find (λ edge. not (strings_are_utf8 (edge_object entries edge)))
+            (take (i + 1) (edge_numbers entries)) ≡ None
         passed-next = next-passes writable numbers i so_far.passed 0 within passes
 
-        lines-next : flat_map line_of (take (i + 1) (edge_numbers entries)) ≡ flat_map line_of (take i (edge_numbers entries)) ++ line text
+        lines-next : flat_map line_of (take (i + 1) (edge_numbers entries))
+            ≡ flat_map line_of (take i (edge_numbers entries)) ++ line text
         lines-next =
-            ap (flat_map line_of) (take_more numbers i 0 within) ∙ flat_map-append line_of (take i numbers) (get_or numbers i 0 ∷ [])
-            ∙ ap (λ t. flat_map line_of (take i numbers) ++ t) (append-nil (line_of (get_or numbers i 0)) ∙ ap line_of here ∙ ap line (sym (text-is (edge_object entries i) text some).1))
+            ap (flat_map line_of) (take_more numbers i 0 within)
+            ∙ flat_map-append line_of (take i numbers) (get_or numbers i 0 ∷ [])
+            ∙ ap (λ t. flat_map line_of (take i numbers) ++ t)
+            (append-nil (line_of (get_or numbers i 0)) ∙ ap line_of here
+            ∙ ap line (sym (text-is (edge_object entries i) text some).1))
 
-        whole-next : (before ++ flat_map line_of (take i (edge_numbers entries))) ++ line text ≡ before ++ flat_map line_of (take (i + 1) (edge_numbers entries))
-        whole-next = append_assoc before (flat_map line_of (take i numbers)) (line text) ∙ ap (λ t. before ++ t) (sym lines-next)
+        whole-next : (before ++ flat_map line_of (take i (edge_numbers entries))) ++ line text
+            ≡ before ++ flat_map line_of (take (i + 1) (edge_numbers entries))
+        whole-next = append_assoc before (flat_map line_of (take i numbers)) (line text)
+            ∙ ap (λ t. before ++ t) (sym lines-next)
 
         alone : line ([] ++ text ++ []) ≡ line text
         alone = ap line (append-nil text)
 
-        pub line-written : (later : SinkState) (after : List ℕ) → IsUnderway new later (unjoined ++ line ([] ++ text ++ [])) after → HasLines old later before after (i + 1)
+        pub line-written : (later : SinkState) (after : List ℕ)
+            → IsUnderway new later (unjoined ++ line ([] ++ text ++ [])) after
+            → HasLines old later before after (i + 1)
         line-written later after written = record {
           passed = passed-next;
-          underway = subst (λ t. IsUnderway old later t after) whole-next (IsUnderway-more old new later _ unjoined (line text) after so_far.underway (subst (λ t. IsUnderway new later (unjoined ++ t) after) alone written));
+          underway = subst (λ t. IsUnderway old later t after) whole-next
+              (IsUnderway-more old new later _ unjoined (line text) after so_far.underway
+              (subst (λ t. IsUnderway new later (unjoined ++ t) after) alone written));
         }
 
-        pub stops-at_line : (later : SinkState) (fault : ToolFault) → StopsWithin new later (unjoined ++ line ([] ++ text ++ [])) fault → StopsWithin old later (before ++ edge_lines entries) fault
+        pub stops-at_line : (later : SinkState) (fault : ToolFault)
+            → StopsWithin new later (unjoined ++ line ([] ++ text ++ [])) fault
+            → StopsWithin old later (before ++ edge_lines entries) fault
         stops-at_line later fault stops =
             StopsWithin-whole old later _ _ fault (begins (i + 1) passed-next)
-            (subst (λ t. StopsWithin old later t fault) whole-next (StopsWithin-more old new later _ unjoined (line text) fault so_far.underway (subst (λ t. StopsWithin new later (unjoined ++ t) fault) alone stops)))
+            (subst (λ t. StopsWithin old later t fault) whole-next
+            (StopsWithin-more old new later _ unjoined (line text) fault so_far.underway
+            (subst (λ t. StopsWithin new later (unjoined ++ t) fault) alone stops)))
 
 -- ---- the whole text
 
-stops-in_lines : (old new : SinkState) (text : List ℕ) (unheld : Option ℕ) (fault : ToolFault) → StopsWithin old new text fault → WritesCompdb old new text unheld (Err fault)
+stops-in_lines : (old new : SinkState) (text : List ℕ) (unheld : Option ℕ) (fault : ToolFault)
+    → StopsWithin old new text fault → WritesCompdb old new text unheld (Err fault)
 stops-in_lines old new text unheld Write stops = stops
 stops-in_lines old new text unheld OutOfMemory stops = stops
 stops-in_lines old new text unheld (TextNotUtf8 edge) stops = absurd stops
 
 -- the fault that is answered
-pub lines-stop : (old new : SinkState) (text : List ℕ) (unheld : Option ℕ) (fault : ToolFault) (result : Result Unit ToolFault)
-    → IsErrAnd result (λ e. e ≡ fault) → StopsWithin old new text fault → WritesCompdb old new text unheld result
+pub lines-stop : (old new : SinkState) (text : List ℕ) (unheld : Option ℕ) (fault : ToolFault)
+    (result : Result Unit ToolFault)
+    → IsErrAnd result (λ e. e ≡ fault) → StopsWithin old new text fault
+    → WritesCompdb old new text unheld result
 lines-stop old new text unheld fault result err stops =
-    let (e, is, same) = err_from_is_err_and result err in rw (is, same) (stops-in_lines old new text unheld fault stops)
+    let (e, is, same) = err_from_is_err_and result err
+    in rw (is, same) (stops-in_lines old new text unheld fault stops)

@@ -1,6 +1,8 @@
 -- How inputs are written in the order in which they are needed: the new ones of each edge, and so
 -- all of them once.
-use Rattle.std.proofs.Common.{◌≡◌, ℕ, ◌+◌, ◌<◌, Bool, true, false, if◌then◌else◌, List, [], ◌∷◌, ◌++◌, length, get_or, take, drop, All, bytes_eq, Result, Ok, Err, refl, sym, ap, subst, ◌∙◌, append_assoc, append-nil, take-append-drop}
+use Rattle.std.proofs.Common.{◌≡◌, ℕ, ◌+◌, ◌<◌, Bool, true, false, if◌then◌else◌, List, [], ◌∷◌, ◌++◌, length}
+use Rattle.std.proofs.Common.{get_or, take, drop, All, bytes_eq, Result, Ok, Err, refl, sym, ap, subst, ◌∙◌}
+use Rattle.std.proofs.Common.{append_assoc, append-nil, take-append-drop}
 use Rattle.std.specs.List.{flat_map, IsDistinct}
 use Rattle.std.specs.Result.{IsErrAnd}
 use Rattle.std.proofs.lemmas.List.{take_more}
@@ -35,65 +37,86 @@ with_files-new (file ∷ more) files =
     ∙ ap (λ fs. fs ++ new_files (with_file files file) more) (with_file-new files file)
     ∙ append_assoc files (new_file files file) (new_files (with_file files file) more)
 
-with_files-append : (more others files : List FileNo) → with_files files (more ++ others) ≡ with_files (with_files files more) others
+with_files-append : (more others files : List FileNo)
+    → with_files files (more ++ others) ≡ with_files (with_files files more) others
 with_files-append [] others files = refl
 with_files-append (file ∷ more) others files = with_files-append more others (with_file files file)
 
-new_files-append : (more others files : List FileNo) → new_files files (more ++ others) ≡ new_files files more ++ new_files (with_files files more) others
+new_files-append : (more others files : List FileNo)
+    → new_files files (more ++ others) ≡ new_files files more ++ new_files (with_files files more) others
 new_files-append [] others files = refl
 new_files-append (file ∷ more) others files =
     ap (λ fs. new_file files file ++ fs) (new_files-append more others (with_file files file))
-    ∙ sym (append_assoc (new_file files file) (new_files (with_file files file) more) (new_files (with_files (with_file files file) more) others))
+    ∙ sym (append_assoc (new_file files file) (new_files (with_file files file) more)
+    (new_files (with_files (with_file files file) more) others))
 
 -- ---- the files of an edge, one after another
 
 module _ (files : List FileNo) (i : ℕ) (d : FileNo) (below : i < length files) (earlier : List FileNo) where
   -- one more file
-  pub with-next : with_file (with_files earlier (take i files)) (get_or files i d) ≡ with_files earlier (take (i + 1) files)
+  pub with-next : with_file (with_files earlier (take i files)) (get_or files i d)
+      ≡ with_files earlier (take (i + 1) files)
   with-next =
-      sym (with_files-append (take i files) (get_or files i d ∷ []) earlier) ∙ ap (with_files earlier) (sym (take_more files i d below))
+      sym (with_files-append (take i files) (get_or files i d ∷ []) earlier)
+      ∙ ap (with_files earlier) (sym (take_more files i d below))
 
-  new-next : new_files earlier (take (i + 1) files) ≡ new_files earlier (take i files) ++ new_file (with_files earlier (take i files)) (get_or files i d)
+  new-next : new_files earlier (take (i + 1) files)
+      ≡ new_files earlier (take i files) ++ new_file (with_files earlier (take i files)) (get_or files i d)
   new-next =
       ap (new_files earlier) (take_more files i d below)
       ∙ new_files-append (take i files) (get_or files i d ∷ []) earlier
-      ∙ ap (λ fs. new_files earlier (take i files) ++ fs) (append-nil (new_file (with_files earlier (take i files)) (get_or files i d)))
+      ∙ ap (λ fs. new_files earlier (take i files) ++ fs)
+      (append-nil (new_file (with_files earlier (take i files)) (get_or files i d)))
 
   module _ (text_of : FileNo → List ℕ) where
-    text-next : flat_map text_of (new_files earlier (take i files)) ++ flat_map text_of (new_file (with_files earlier (take i files)) (get_or files i d))
+    text-next : flat_map text_of (new_files earlier (take i files))
+        ++ flat_map text_of (new_file (with_files earlier (take i files)) (get_or files i d))
         ≡ flat_map text_of (new_files earlier (take (i + 1) files))
     text-next =
-        sym (flat_map-append text_of (new_files earlier (take i files)) (new_file (with_files earlier (take i files)) (get_or files i d)))
+        sym (flat_map-append text_of (new_files earlier (take i files))
+        (new_file (with_files earlier (take i files)) (get_or files i d)))
         ∙ ap (flat_map text_of) (sym new-next)
 
-    text-all : flat_map text_of (new_files earlier (take (i + 1) files)) ++ flat_map text_of (new_files (with_files earlier (take (i + 1) files)) (drop (i + 1) files))
+    text-all : flat_map text_of (new_files earlier (take (i + 1) files))
+        ++ flat_map text_of (new_files (with_files earlier (take (i + 1) files)) (drop (i + 1) files))
         ≡ flat_map text_of (new_files earlier files)
     text-all =
-        sym (flat_map-append text_of (new_files earlier (take (i + 1) files)) (new_files (with_files earlier (take (i + 1) files)) (drop (i + 1) files)))
-        ∙ ap (flat_map text_of) (sym (new_files-append (take (i + 1) files) (drop (i + 1) files) earlier) ∙ ap (new_files earlier) (take-append-drop (i + 1) files))
+        sym (flat_map-append text_of (new_files earlier (take (i + 1) files))
+        (new_files (with_files earlier (take (i + 1) files)) (drop (i + 1) files)))
+        ∙ ap (flat_map text_of) (sym (new_files-append (take (i + 1) files) (drop (i + 1) files) earlier)
+        ∙ ap (new_files earlier) (take-append-drop (i + 1) files))
 
     pub file-puts : (old between new : SinkState) (before unjoined after : List ℕ)
         → IsUnderway old between (before ++ flat_map text_of (new_files earlier (take i files))) unjoined
-        → IsUnderway between new (unjoined ++ flat_map text_of (new_file (with_files earlier (take i files)) (get_or files i d))) after
+        → IsUnderway between new (unjoined ++ flat_map text_of
+        (new_file (with_files earlier (take i files)) (get_or files i d))) after
         → IsUnderway old new (before ++ flat_map text_of (new_files earlier (take (i + 1) files))) after
     file-puts old between new before unjoined after first second =
         subst (λ t. IsUnderway old new (before ++ t) after) text-next
-        (puts-then {X = Unit} old between new before unjoined after (flat_map text_of (new_files earlier (take i files)))
-        (flat_map text_of (new_file (with_files earlier (take i files)) (get_or files i d))) (Ok tt) first second)
+        (puts-then {X = Unit} old between new before unjoined after
+        (flat_map text_of (new_files earlier (take i files)))
+        (flat_map text_of (new_file (with_files earlier (take i files)) (get_or files i d))) (Ok tt) first
+        second)
 
     -- a stop within it is one within all of them
-    pub file-stops : {R : Type 0} (old between new : SinkState) (before unjoined after : List ℕ) (fault : ToolFault) (result : Result R ToolFault)
+    pub file-stops : {R : Type 0} (old between new : SinkState) (before unjoined after : List ℕ)
+        (fault : ToolFault) (result : Result R ToolFault)
         → IsErrAnd result (λ e. e ≡ fault)
         → IsUnderway old between (before ++ flat_map text_of (new_files earlier (take i files))) unjoined
-        → StopsWithin between new (unjoined ++ flat_map text_of (new_file (with_files earlier (take i files)) (get_or files i d))) fault
+        → StopsWithin between new (unjoined ++ flat_map text_of
+        (new_file (with_files earlier (take i files)) (get_or files i d))) fault
         → PutsText old new before after (flat_map text_of (new_files earlier files)) result
     file-stops old between new before unjoined after fault result err first stops =
         puts-with old new before after (flat_map text_of (new_files earlier files)) fault result err
         (subst (λ t. StopsWithin old new (before ++ t) fault) text-all
-        (puts-stop old new before (flat_map text_of (new_files earlier (take (i + 1) files))) (flat_map text_of (new_files (with_files earlier (take (i + 1) files)) (drop (i + 1) files))) fault
+        (puts-stop old new before (flat_map text_of (new_files earlier (take (i + 1) files)))
+        (flat_map text_of (new_files (with_files earlier (take (i + 1) files)) (drop (i + 1) files)))
+        fault
         (subst (λ t. StopsWithin old new (before ++ t) fault) text-next
-        (puts-then {X = Unit} old between new before unjoined [] (flat_map text_of (new_files earlier (take i files)))
-        (flat_map text_of (new_file (with_files earlier (take i files)) (get_or files i d))) (Err fault) first stops))))
+        (puts-then {X = Unit} old between new before unjoined []
+        (flat_map text_of (new_files earlier (take i files)))
+        (flat_map text_of (new_file (with_files earlier (take i files)) (get_or files i d))) (Err fault) first
+        stops))))
 
 -- ---- the edges, one after another
 
@@ -102,56 +125,81 @@ module _ (print : List ℕ → List ℕ) (paths : List (List ℕ)) where
   file_text file = print (path_at paths file)
 
   -- the files that were collected have the paths of the list
-  pub strings-are : (files : List FileNo) (listed : List (List ℕ)) → AreOf paths files listed → flat_map file_text files ≡ flat_map print (each_once bytes_eq listed)
-  strings-are files listed are = sym (flat_map-map print (path_at paths) files) ∙ ap (flat_map print) are.paths_are
+  pub strings-are : (files : List FileNo) (listed : List (List ℕ)) → AreOf paths files listed
+      → flat_map file_text files ≡ flat_map print (each_once bytes_eq listed)
+  strings-are files listed are = sym (flat_map-map print (path_at paths) files)
+      ∙ ap (flat_map print) are.paths_are
 
-  row-text : (row files : List FileNo) → flat_map file_text files ++ flat_map file_text (new_files files row) ≡ flat_map file_text (with_files files row)
-  row-text row files = sym (flat_map-append file_text files (new_files files row)) ∙ ap (flat_map file_text) (sym (with_files-new row files))
+  row-text : (row files : List FileNo) → flat_map file_text files ++ flat_map file_text (new_files files row)
+      ≡ flat_map file_text (with_files files row)
+  row-text row files = sym (flat_map-append file_text files (new_files files row))
+      ∙ ap (flat_map file_text) (sym (with_files-new row files))
 
   -- the files of one more edge
   pub row-puts : (row files : List FileNo) (old between new : SinkState) (before unjoined after : List ℕ)
-      → IsUnderway old between (before ++ flat_map file_text files) unjoined → IsUnderway between new (unjoined ++ flat_map file_text (new_files files row)) after
+      → IsUnderway old between (before ++ flat_map file_text files) unjoined
+      → IsUnderway between new (unjoined ++ flat_map file_text (new_files files row)) after
       → IsUnderway old new (before ++ flat_map file_text (with_files files row)) after
   row-puts row files old between new before unjoined after first second =
       subst (λ t. IsUnderway old new (before ++ t) after) (row-text row files)
-      (puts-then {X = Unit} old between new before unjoined after (flat_map file_text files) (flat_map file_text (new_files files row)) (Ok tt) first second)
+      (puts-then {X = Unit} old between new before unjoined after (flat_map file_text files)
+      (flat_map file_text (new_files files row)) (Ok tt) first second)
 
-  module _ (distinct : IsDistinct bytes_eq paths) (inputs : ℕ → List (List ℕ)) (edges : List ℕ) (e : ℕ) (row files : List FileNo)
-      (row_are : AreFiles paths row (inputs e)) (known : All (λ file. file.0 < length paths) row) (are : AreOf paths files (flat_map inputs edges)) where
+  module _ (distinct : IsDistinct bytes_eq paths) (inputs : ℕ → List (List ℕ)) (edges : List ℕ) (e : ℕ)
+      (row files : List FileNo)
+      (row_are : AreFiles paths row (inputs e)) (known : All (λ file. file.0 < length paths) row)
+      (are : AreOf paths files (flat_map inputs edges)) where
     -- they are a front of all
-    row-front : (all left : List ℕ) → all ≡ edges ++ e ∷ left → IsPrefix (flat_map file_text (with_files files row)) (flat_map print (each_once bytes_eq (flat_map inputs all)))
+    row-front : (all left : List ℕ) → all ≡ edges ++ e ∷ left
+        → IsPrefix (flat_map file_text (with_files files row))
+        (flat_map print (each_once bytes_eq (flat_map inputs all)))
     row-front all left is =
         let now = flat_map inputs (edges ++ e ∷ []) in
         let front = once-front now (flat_map inputs left) in
         let so_far : flat_map file_text (with_files files row) ≡ flat_map print (each_once bytes_eq now) =
-        strings-are (with_files files row) now (AreOf-row paths distinct inputs edges e row files (with_files files row) row_are known are refl) in
+        strings-are (with_files files row) now
+        (AreOf-row paths distinct inputs edges e row files (with_files files row) row_are known are refl)
+        in
         let whole : flat_map inputs all ≡ now ++ flat_map inputs left =
-        ap (flat_map inputs) (is ∙ sym (append_assoc edges (e ∷ []) left)) ∙ flat_map-append inputs (edges ++ e ∷ []) left in (
+        ap (flat_map inputs) (is ∙ sym (append_assoc edges (e ∷ []) left))
+        ∙ flat_map-append inputs (edges ++ e ∷ []) left in (
           flat_map print front.0,
-          ap (λ ps. flat_map print (each_once bytes_eq ps)) whole ∙ ap (flat_map print) front.1 ∙ flat_map-append print (each_once bytes_eq now) front.0
+          ap (λ ps. flat_map print (each_once bytes_eq ps)) whole ∙ ap (flat_map print) front.1
+              ∙ flat_map-append print (each_once bytes_eq now) front.0
               ∙ ap (λ t. t ++ flat_map print front.0) (sym so_far),
         )
 
     -- a stop within its files is one within the files of all edges
     pub row-stops : {R : Type 0} (all left : List ℕ) → all ≡ edges ++ e ∷ left
-        → (old between new : SinkState) (before unjoined after : List ℕ) (fault : ToolFault) (result : Result R ToolFault)
-        → IsErrAnd result (λ e. e ≡ fault) → IsUnderway old between (before ++ flat_map file_text files) unjoined
+        → (old between new : SinkState) (before unjoined after : List ℕ) (fault : ToolFault)
+        (result : Result R ToolFault)
+        → IsErrAnd result (λ e. e ≡ fault) → IsUnderway old between (before ++ flat_map file_text files)
+        unjoined
         → StopsWithin between new (unjoined ++ flat_map file_text (new_files files row)) fault
         → PutsText old new before after (flat_map print (each_once bytes_eq (flat_map inputs all))) result
     row-stops all left is old between new before unjoined after fault result err first stops =
         let front = row-front all left is in
-        puts-with old new before after (flat_map print (each_once bytes_eq (flat_map inputs all))) fault result err
-        (StopsWithin-whole old new (before ++ flat_map file_text (with_files files row)) (before ++ flat_map print (each_once bytes_eq (flat_map inputs all))) fault
-        (front.0, ap (λ t. before ++ t) front.1 ∙ sym (append_assoc before (flat_map file_text (with_files files row)) front.0))
+        puts-with old new before after (flat_map print (each_once bytes_eq (flat_map inputs all))) fault
+        result err
+        (StopsWithin-whole old new (before ++ flat_map file_text (with_files files row))
+        (before ++ flat_map print (each_once bytes_eq (flat_map inputs all))) fault (
+          front.0,
+          ap (λ t. before ++ t) front.1
+              ∙ sym (append_assoc before (flat_map file_text (with_files files row)) front.0),
+        )
         (subst (λ t. StopsWithin old new (before ++ t) fault) (row-text row files)
-        (puts-then {X = Unit} old between new before unjoined [] (flat_map file_text files) (flat_map file_text (new_files files row)) (Err fault) first stops)))
+        (puts-then {X = Unit} old between new before unjoined [] (flat_map file_text files)
+        (flat_map file_text (new_files files row)) (Err fault) first stops)))
 
   -- the files of all edges
-  pub rows-put : (inputs : ℕ → List (List ℕ)) (all edges left : List ℕ) (files : List FileNo) → all ≡ edges ++ left → left ≡ [] → AreOf paths files (flat_map inputs edges)
-      → (old new : SinkState) (before after : List ℕ) → IsUnderway old new (before ++ flat_map file_text files) after
+  pub rows-put : (inputs : ℕ → List (List ℕ)) (all edges left : List ℕ) (files : List FileNo)
+      → all ≡ edges ++ left → left ≡ [] → AreOf paths files (flat_map inputs edges)
+      → (old new : SinkState) (before after : List ℕ)
+      → IsUnderway old new (before ++ flat_map file_text files) after
       → IsUnderway old new (before ++ flat_map print (each_once bytes_eq (flat_map inputs all))) after
   rows-put inputs all edges left files is none are old new before after put =
       subst (λ t. IsUnderway old new (before ++ t) after)
       (strings-are files (flat_map inputs edges) are
-      ∙ ap (λ es. flat_map print (each_once bytes_eq (flat_map inputs es))) (sym (is ∙ ap (λ es. edges ++ es) none ∙ append-nil edges)))
+      ∙ ap (λ es. flat_map print (each_once bytes_eq (flat_map inputs es)))
+      (sym (is ∙ ap (λ es. edges ++ es) none ∙ append-nil edges)))
       put

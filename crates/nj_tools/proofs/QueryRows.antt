@@ -30,7 +30,8 @@ object = record {
 abbrev without_inputs : EdgePaths
 without_inputs = record object { explicit_inputs = []; implicit_inputs = []; order_only_inputs = [] }
 
-by_kind : inputs_by_kind object ≡ text (codes "    a.c" ∷ codes "    b.c" ∷ codes "    | cc" ∷ codes "    || dirs" ∷ [])
+by_kind : inputs_by_kind object ≡ text (codes "    a.c" ∷ codes "    b.c" ∷ codes "    | cc" ∷ codes
+    "    || dirs" ∷ [])
 unfolding inputs_by_kind
 by_kind = refl
 
@@ -43,7 +44,8 @@ empty_section : section (codes "  outputs:") [] ≡ text (codes "  outputs:" ∷
 unfolding section
 empty_section = refl
 
-validated : validations_section (codes "lint" ∷ codes "test" ∷ []) ≡ text (codes "  validations:" ∷ codes "    lint" ∷ codes "    test" ∷ [])
+validated : validations_section (codes "lint" ∷ codes "test" ∷ [])
+    ≡ text (codes "  validations:" ∷ codes "    lint" ∷ codes "    test" ∷ [])
 unfolding validations_section section
 validated = refl
 
@@ -52,7 +54,8 @@ unfolding validations_section
 not_validated = refl
 
 -- the outputs of the edges that name the file as a validation
-validates : validated_section (object ∷ []) (0 ∷ []) ≡ text (codes "  validation for:" ∷ codes "    a.o" ∷ codes "    a.d" ∷ [])
+validates : validated_section (object ∷ []) (0 ∷ [])
+    ≡ text (codes "  validation for:" ∷ codes "    a.o" ∷ codes "    a.d" ∷ [])
 unfolding validated_section section
 validates = refl
 
@@ -73,7 +76,12 @@ cc_rule = record {
 
 -- with `description =`
 abbrev quiet_rule : RuleModel
-quiet_rule = record { scope = 0; name = codes "quiet"; lines = record { key = codes "description"; value = [] } ∷ [] }
+quiet_rule = record {
+  scope = 0;
+  name = codes "quiet";
+  lines =
+      record { key = codes "description"; value = [] } ∷ [];
+}
 
 described : rule_line true cc_rule ≡ text (codes "cc: CC ${out}" ∷ [])
 described = refl

@@ -13,11 +13,21 @@ word text = record { spot = record { line = 1; column = 7 }; parts = Text text �
 
 -- a statement on a line of its own
 abbrev on : (line : ℕ) → StatementModel → ReadStatement
-on line item = record { file = codes "build.ninja"; spot = record { line = line; column = 1 }; depth = 0; scope = 0; around = []; item = item; was_joined = false; discovered = None }
+on line item = record {
+  file = codes "build.ninja";
+  spot = record { line = line; column = 1 };
+  depth = 0;
+  scope = 0;
+  around = [];
+  item = item;
+  was_joined = false;
+  discovered = None;
+}
 
 abbrev build : (output : List ℕ) → (inputs : List WordModel) → StatementModel
 build output inputs =
-    BuildModel (record { explicit = word output ∷ []; implicit = [] }) (record { spot = record { line = 1; column = 9 }; name = codes "phony" })
+    BuildModel (record { explicit = word output ∷ []; implicit = [] })
+    (record { spot = record { line = 1; column = 9 }; name = codes "phony" })
     (record { explicit = inputs; implicit = []; order_only = []; validations = [] }) []
 
 -- the last statement first
@@ -41,6 +51,7 @@ pub row-three_levels : levels_of (paths_of_edges (edges_read two)) 3 ≡ 3
 row-three_levels = refl
 
 -- a file with one more level
-pub row-tree : tree_text two 2 0 (codes "b") ≡ codes "b: phony" ++ 10 ∷ codes "  a: phony" ++ 10 ∷ codes "  c" ++ 10 ∷ []
+pub row-tree : tree_text two 2 0 (codes "b")
+    ≡ codes "b: phony" ++ 10 ∷ codes "  a: phony" ++ 10 ∷ codes "  c" ++ 10 ∷ []
 unfolding clean_path_of without_leftmost_pair edges_read bounds file_line tree_text
 row-tree = refl

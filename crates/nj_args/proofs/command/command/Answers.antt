@@ -16,4 +16,5 @@ in_turn = refl
 pub returns : goal.returns
 returns c =
     let given = c.in_ok-with_options.ensures ∙ ap (λ app. fold with_rule app options) c.nothing_yet.ensures in
-    IfOk-weaker c.arg.result _ _ (λ made added. added.shape c.all_words.ensures.local ∙ ap₂ with_rule given c.all_words.ensures.rule ∙ in_turn) c.arg.ensures
+    IfOk-weaker c.arg.result _ _ (λ made added. added.shape c.all_words.ensures.local
+    ∙ ap₂ with_rule given c.all_words.ensures.rule ∙ in_turn) c.arg.ensures

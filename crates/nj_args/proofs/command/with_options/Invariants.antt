@@ -5,4 +5,5 @@ use Rattle.nj_args.specs.Inside.Held.{option_at}
 use Rattle.nj_args.proofs.command.with_options.Given as goal
 
 abbrev pub invariant-options : goal.invariant-options
-invariant-options l = app_of l.made ≡ fold with_rule (app_of l.fn.command) (map option_at (take l.option-index l.options))
+invariant-options l = app_of l.made ≡ fold with_rule (app_of l.fn.command)
+    (map option_at (take l.option-index l.options))

@@ -11,8 +11,10 @@ returns-in-Err-clause-err c = unparsed (map string_bytes c.args.words.now) c.in-
 pub returns-in-Ok : goal.returns-in-Ok
 returns-in-Ok c =
     let words : List (List ℕ) = map string_bytes c.args.words.now in
-    let same : given_request words ≡ request_in (rows_in c.in-Ok.matches) = given words (rows_in c.in-Ok.matches) c.in-Ok.ensures.ok c.in-Ok.ensures.rows in
+    let same : given_request words ≡ request_in (rows_in c.in-Ok.matches) =
+    given words (rows_in c.in-Ok.matches) c.in-Ok.ensures.ok c.in-Ok.ensures.rows in
     record {
       ok = IfOk-weaker c.request_in.result _ _ (λ request meant. same ∙ meant) c.request_in.ensures.ok;
-      err = IfErr-weaker c.request_in.result _ _ (λ fault meant. same_fault _ _ fault same meant) c.request_in.ensures.err;
+      err = IfErr-weaker c.request_in.result _ _ (λ fault meant. same_fault _ _ fault same meant)
+          c.request_in.ensures.err;
     }

@@ -21,15 +21,22 @@ paths-preserved c =
           let is = sym number ∙ ap (option_map (λ f. f.0)) w.in-Some.is in
           record {
             files = ap (λ v. map (λ f. f.0) v.items) w.files-is
-                ∙ files-more files folder (λ v. v.items) paths i item c.paths-test.true c.paths.files.items w.push.new.self.items w.in-Some.file is w.in_ok-push-in-Some.ensures.items c.paths.invariant.files;
-            known = subst (λ fs. All (λ f. f.0 < length files) fs) (sym (ap (λ v. v.items) w.files-is ∙ w.in_ok-push-in-Some.ensures.items))
-                (All-push (λ f. f.0 < length files) c.paths.files.items w.in-Some.file c.paths.invariant.known (subst (λ o. IfSome o (λ f. f.0 < length files)) w.in-Some.is c.in_ok-found.ensures.known));
+                ∙ files-more files folder (λ v. v.items) paths i item c.paths-test.true c.paths.files.items
+                w.push.new.self.items w.in-Some.file is w.in_ok-push-in-Some.ensures.items
+                c.paths.invariant.files;
+            known = subst (λ fs. All (λ f. f.0 < length files) fs)
+                (sym (ap (λ v. v.items) w.files-is ∙ w.in_ok-push-in-Some.ensures.items))
+                (All-push (λ f. f.0 < length files) c.paths.files.items w.in-Some.file c.paths.invariant.known
+                (subst (λ o. IfSome o (λ f. f.0 < length files)) w.in-Some.is
+                c.in_ok-found.ensures.known));
           }
       | in-None w ↦
           let is = sym number ∙ ap (option_map (λ f. f.0)) w.in-None.is in
           record {
             files = ap (λ v. map (λ f. f.0) v.items) w.files-is
-                ∙ files-same files folder (λ v. v.items) paths i item c.paths-test.true c.paths.files.items is c.paths.invariant.files;
-            known = subst (λ v. All (λ f. f.0 < length files) v.items) (sym w.files-is) c.paths.invariant.known;
+                ∙ files-same files folder (λ v. v.items) paths i item c.paths-test.true c.paths.files.items is
+                c.paths.invariant.files;
+            known = subst (λ v. All (λ f. f.0 < length files) v.items) (sym w.files-is)
+                c.paths.invariant.known;
           }
     ]

@@ -11,7 +11,9 @@ returns-in_err-findings-clause-joins g c = λ stated is.
     let before = g.S.FileSource.state c.args.files.now in
     let after = g.S.FileSource.state c.findings_of.new.files in
     let times = g.T.FileTimes.times c.args.times.now in
-    rw fault.1 (subst (λ e. JoinsDiscovered before after times c.args.log.now stated (Err e)) (sym fault.2) out_of_memory)
+    rw fault.1 (subst (λ e. JoinsDiscovered before after times c.args.log.now stated (Err e)) (sym fault.2)
+    out_of_memory)
 
 pub returns-clause-joins : goal.returns-clause-joins
-returns-clause-joins g c = λ stated is. c.with_findings.ensures.joins _ _ _ _ stated is (c.in_ok-findings.ensures.found stated is)
+returns-clause-joins g c = λ stated is. c.with_findings.ensures.joins _ _ _ _ stated is
+    (c.in_ok-findings.ensures.found stated is)

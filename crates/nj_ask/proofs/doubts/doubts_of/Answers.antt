@@ -13,6 +13,9 @@ edges-preserved c =
     let below : n < length (edges_of c.args.graph.now) = omega (arith, test, rw c.deref.ensures at counted) in
     let within : n < length found.edges = omega (arith, below, same) in
     record {
-      listed = doubts-more found n c.edges.edges.items c.push_edge.new.edges.items c.verdict.result.now c.verdict.ensures c.in_ok-push_edge.ensures within c.edges.invariant.listed;
-      known = doubts-below found n c.edges.edges.items c.push_edge.new.edges.items c.verdict.result.now c.verdict.ensures c.in_ok-push_edge.ensures (length (edges_of c.args.graph.now)) below c.edges.invariant.known;
+      listed = doubts-more found n c.edges.edges.items c.push_edge.new.edges.items c.verdict.result.now
+          c.verdict.ensures c.in_ok-push_edge.ensures within c.edges.invariant.listed;
+      known = doubts-below found n c.edges.edges.items c.push_edge.new.edges.items c.verdict.result.now
+          c.verdict.ensures c.in_ok-push_edge.ensures (length (edges_of c.args.graph.now)) below
+          c.edges.invariant.known;
     }

@@ -6,6 +6,7 @@ use Rattle.nj_ask.proofs.doubts.doubts_of.Given as goal
 
 abbrev pub invariant-edges : goal.invariant-edges
 invariant-edges l = record {
-  listed : map (λ edge. edge.0) l.edges.items ≡ edges_from 0 (λ edge. is_doubtful edge.verdict) (take l.number l.found.edges);
+  listed : map (λ edge. edge.0) l.edges.items
+      ≡ edges_from 0 (λ edge. is_doubtful edge.verdict) (take l.number l.found.edges);
   known : All (λ edge. edge.0 < length (edges_of l.graph)) l.edges.items;
 }

@@ -7,5 +7,6 @@ use Rattle.nj_ask.proofs.listing.is_named.Goals as goal
 pub returns : goal.returns
 returns c =
     let name = c.args.name.now in
-    any_from_yields_List (λ word. bytes_eq name word.now) _ _ _ c.any.ensures.ran (YieldsList-from_slice c.args.words.now cc) (λ x b q k. search (rules, tests))
+    any_from_yields_List (λ word. bytes_eq name word.now) _ _ _ c.any.ensures.ran
+    (YieldsList-from_slice c.args.words.now cc) (λ x b q k. search (rules, tests))
     ∙ any-map (bytes_eq name) (λ word. word.now) c.args.words.now

@@ -7,4 +7,6 @@ use Rattle.nj_ask.proofs.listing.push_paths.Given as goal
 
 abbrev pub invariant-paths : goal.invariant-paths
 invariant-paths l =
-    l.lines.items ≡ l.fn.lines.items ++ flat_map (λ file. line_of_output l.prefix (path_at (files_of l.graph) file)) (take l.output-index l.output-items)
+    l.lines.items ≡ l.fn.lines.items ++ flat_map
+    (λ file. line_of_output l.prefix (path_at (files_of l.graph) file))
+    (take l.output-index l.output-items)

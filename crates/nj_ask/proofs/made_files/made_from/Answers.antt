@@ -19,18 +19,23 @@ is_made_from-requires-clause-tells c stated graph =
     let g = c.args.graph.now in let files = c.args.files.now in let i = c.files.file-index in
     let numbers = λ (edges : List EdgeNo). map (λ (e : EdgeNo). e.0) edges in
     let changed = map (λ (f : FileNo). f.0) files in
-    can-tell g stated c.in_ok-manifest.manifest (numbers c.deref-2.result.now) changed (c.in_ok-manifest.ensures.reached stated graph)
+    can-tell g stated c.in_ok-manifest.manifest (numbers c.deref-2.result.now) changed
+    (c.in_ok-manifest.ensures.reached stated graph)
     (λ edge.
-    subst (λ paths. Contains (numbers c.deref-2.result.now) edge ↔ IsAffected (edges_of g) paths edge) (same-paths g files)
-    (subst (λ edges. Contains (numbers edges) edge ↔ IsAffected (edges_of g) (map (path_at (files_of g)) files) edge) (sym c.deref-2.ensures.value)
+    subst (λ paths. Contains (numbers c.deref-2.result.now) edge ↔ IsAffected (edges_of g) paths edge)
+    (same-paths g files)
+    (subst (λ edges. Contains (numbers edges) edge
+    ↔ IsAffected (edges_of g) (map (path_at (files_of g)) files) edge) (sym c.deref-2.ensures.value)
     (rw c.deref.ensures at (c.in_ok-affected.ensures.affected edge))))
     _ (c.requires i first c.files-test.true) (among-numbers files i first c.files-test.true)
 
 pub files-preserved : goal.files-preserved
 files-preserved c =
-    made-more c.args.graph.now c.args.files.now c.files.file-index first c.files.made.items c.push.new.self.items c.is_made_from.result c.files-test.true
+    made-more c.args.graph.now c.args.files.now c.files.file-index first c.files.made.items
+    c.push.new.self.items c.is_made_from.result c.files-test.true
     c.files.invariant c.is_made_from.ensures c.in_ok-push.ensures.items
 
 pub returns : goal.returns
 returns c =
-    subst (λ fs. TellMadeFrom c.args.graph.now (map (λ (f : FileNo). f.0) fs) c.files.made.items) (take_all c.files.file-index c.args.files.now c.files-test.false) c.files.invariant
+    subst (λ fs. TellMadeFrom c.args.graph.now (map (λ (f : FileNo). f.0) fs) c.files.made.items)
+    (take_all c.files.file-index c.args.files.now c.files-test.false) c.files.invariant

@@ -12,9 +12,12 @@ edges-preserved c =
     let i = c.edges.edge-index in
     let none : EdgeNo = record { 0 = 0 } in
     let edge = get_or edges i none in
-    subst (λ numbers. AreFlags c.args.count numbers (set c.edges.flags.items edge.0 true)) (mapped-more (λ e. e.0) edges i none c.edges-test.true)
-    (flags-more c.args.count (map (λ e. e.0) (take i edges)) c.edges.flags.items edge.0 (c.requires i none c.edges-test.true) c.edges.invariant)
+    subst (λ numbers. AreFlags c.args.count numbers (set c.edges.flags.items edge.0 true))
+    (mapped-more (λ e. e.0) edges i none c.edges-test.true)
+    (flags-more c.args.count (map (λ e. e.0) (take i edges)) c.edges.flags.items edge.0
+    (c.requires i none c.edges-test.true) c.edges.invariant)
 
 pub returns : goal.returns
 returns c =
-    subst (λ edges. AreFlags c.args.count (map (λ e. e.0) edges) c.edges.flags.items) (take_all c.edges.edge-index c.args.edges.now c.edges-test.false) c.edges.invariant
+    subst (λ edges. AreFlags c.args.count (map (λ e. e.0) edges) c.edges.flags.items)
+    (take_all c.edges.edge-index c.args.edges.now c.edges-test.false) c.edges.invariant

@@ -18,8 +18,10 @@ edge_flags-requires c =
     let count = rw c.deref-3.ensures at c.edge_count.ensures.count in
     let needed = c.in_ok-edges.edges.items in
     let makers = c.args.makers.now in
-    let below = All-append (λ (e : EdgeNo). e.0 < length (edges_of c.args.graph.now)) needed makers (rw c.deref.ensures at c.in_ok-edges.ensures.known) c.requires in
-    subst (All (λ (e : EdgeNo). e.0 < c.edge_count.result)) (sym (c.deref-4.ensures.value ∙ c.in_ok-extend_from_slice.ensures.items))
+    let below = All-append (λ (e : EdgeNo). e.0 < length (edges_of c.args.graph.now)) needed makers
+    (rw c.deref.ensures at c.in_ok-edges.ensures.known) c.requires in
+    subst (All (λ (e : EdgeNo). e.0 < c.edge_count.result))
+    (sym (c.deref-4.ensures.value ∙ c.in_ok-extend_from_slice.ensures.items))
     (subst (λ n. All (λ (e : EdgeNo). e.0 < n) (needed ++ makers)) (sym count) below)
 
 pub returns : goal.returns
@@ -34,9 +36,12 @@ returns c =
     ap (map (path_at (files_of g))) c.deref-2.ensures.value ∙ c.in_ok-inputs.ensures.paths
     ∙ sym (flat_map-map inputs (λ (e : EdgeNo). e.0) makers)
     in
-    let all = ap numbers (c.deref-4.ensures.value ∙ c.in_ok-extend_from_slice.ensures.items) ∙ map-append (λ (e : EdgeNo). e.0) needed makers in
+    let all = ap numbers (c.deref-4.ensures.value ∙ c.in_ok-extend_from_slice.ensures.items)
+    ∙ map-append (λ (e : EdgeNo). e.0) needed makers in
     IfOk-weaker c.edge_flags.result _ _ (λ flags held.
     feeds-flags (edges_of g) (numbers makers) (numbers needed) flags.items
-    (λ e. subst (λ ps. Contains (numbers needed) e ↔ IsNeeded (edges_of g) ps e) paths (rw c.deref.ensures at (c.in_ok-edges.ensures.needed e)))
-    (subst (λ n. AreFlags n (numbers needed ++ numbers makers) flags.items) count (subst (λ ns. AreFlags c.edge_count.result ns flags.items) all held)))
+    (λ e. subst (λ ps. Contains (numbers needed) e ↔ IsNeeded (edges_of g) ps e) paths
+    (rw c.deref.ensures at (c.in_ok-edges.ensures.needed e)))
+    (subst (λ n. AreFlags n (numbers needed ++ numbers makers) flags.items) count
+    (subst (λ ns. AreFlags c.edge_count.result ns flags.items) all held)))
     c.edge_flags.ensures

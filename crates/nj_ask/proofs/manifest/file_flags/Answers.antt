@@ -12,9 +12,12 @@ files-preserved c =
     let i = c.files.file-index in
     let none : FileNo = record { 0 = 0 } in
     let file = get_or files i none in
-    subst (λ numbers. AreFlags c.args.count numbers (set c.files.flags.items file.0 true)) (mapped-more (λ f. f.0) files i none c.files-test.true)
-    (flags-more c.args.count (map (λ f. f.0) (take i files)) c.files.flags.items file.0 (c.requires i none c.files-test.true) c.files.invariant)
+    subst (λ numbers. AreFlags c.args.count numbers (set c.files.flags.items file.0 true))
+    (mapped-more (λ f. f.0) files i none c.files-test.true)
+    (flags-more c.args.count (map (λ f. f.0) (take i files)) c.files.flags.items file.0
+    (c.requires i none c.files-test.true) c.files.invariant)
 
 pub returns : goal.returns
 returns c =
-    subst (λ files. AreFlags c.args.count (map (λ f. f.0) files) c.files.flags.items) (take_all c.files.file-index c.args.files.now c.files-test.false) c.files.invariant
+    subst (λ files. AreFlags c.args.count (map (λ f. f.0) files) c.files.flags.items)
+    (take_all c.files.file-index c.args.files.now c.files-test.false) c.files.invariant

@@ -19,7 +19,8 @@ edges-preserved c =
     let inputs = λ (edge : EdgeNo). inputs_of (edge_at (edges_of g) edge.0) in
     let old = c.edges.files.items in
     let new = c.inputs.result.now in
-    let paths = files-paths (λ file. slice_get (files_of g) file.0) new (inputs (get_or edges i none)) (rw c.deref.ensures at c.inputs.ensures.files) in
+    let paths = files-paths (λ file. slice_get (files_of g) file.0) new (inputs (get_or edges i none))
+    (rw c.deref.ensures at c.inputs.ensures.files) in
     record {
       paths = ap (map (path_at (files_of g))) c.in_ok-extend_from_slice.ensures.items
           ∙ map-append (path_at (files_of g)) old new
@@ -27,8 +28,10 @@ edges-preserved c =
           ∙ ap (λ ps. flat_map inputs (take i edges) ++ ps) paths
           ∙ flat_map_more inputs [] (take i edges) (get_or edges i none)
           ∙ ap (flat_map inputs) (sym (take_more edges i none c.edges-test.true));
-      known = subst (All (λ (f : FileNo). f.0 < length (files_of g))) (sym c.in_ok-extend_from_slice.ensures.items)
-          (All-append (λ (f : FileNo). f.0 < length (files_of g)) old new c.edges.invariant.known (rw c.deref.ensures at c.inputs.ensures.known));
+      known = subst (All (λ (f : FileNo). f.0 < length (files_of g)))
+          (sym c.in_ok-extend_from_slice.ensures.items)
+          (All-append (λ (f : FileNo). f.0 < length (files_of g)) old new c.edges.invariant.known
+          (rw c.deref.ensures at c.inputs.ensures.known));
     }
 
 pub returns : goal.returns
@@ -36,6 +39,7 @@ returns c =
     let g = c.args.graph.now in
     record {
       paths = c.edges.invariant.paths
-          ∙ ap (flat_map (λ (edge : EdgeNo). inputs_of (edge_at (edges_of g) edge.0))) (take_all c.edges.edge-index c.args.edges.now c.edges-test.false);
+          ∙ ap (flat_map (λ (edge : EdgeNo). inputs_of (edge_at (edges_of g) edge.0)))
+          (take_all c.edges.edge-index c.args.edges.now c.edges-test.false);
       known = c.edges.invariant.known;
     }

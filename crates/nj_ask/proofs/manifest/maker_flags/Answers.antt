@@ -25,18 +25,27 @@ files-preserved c =
     elim c.match-maker.branch [
       | in-Some w ↦
           let is = sym made ∙ ap (option_map (λ e. e.0)) w.in-Some.is in
-          let known : w.in-Some.edge.0 < count = rw c.deref-in-files.ensures at (subst (λ o. IfSome o (λ e. e.0 < length c.deref-in-files.result.now.edges)) w.in-Some.is c.maker.ensures.known) in
+          let known : w.in-Some.edge.0 < count =
+          rw c.deref-in-files.ensures at (subst
+          (λ o. IfSome o (λ e. e.0 < length c.deref-in-files.result.now.edges)) w.in-Some.is
+          c.maker.ensures.known) in
           subst (λ v. AreFlags count (filter_map h (take (i + 1) files)) v.items) (sym w.flags-is)
-          (subst (λ numbers. AreFlags count numbers (set c.files.flags.items w.in-Some.edge.0 true)) (sym (more ∙ ap (λ o. filter_map h (take i files) ++ cons_option o []) is))
-          (flags-more count (filter_map h (take i files)) c.files.flags.items w.in-Some.edge.0 known c.files.invariant))
+          (subst (λ numbers. AreFlags count numbers (set c.files.flags.items w.in-Some.edge.0 true))
+          (sym (more ∙ ap (λ o. filter_map h (take i files) ++ cons_option o []) is))
+          (flags-more count (filter_map h (take i files)) c.files.flags.items w.in-Some.edge.0 known
+          c.files.invariant))
       | in-None w ↦
           let is = sym made ∙ ap (option_map (λ e. e.0)) w.in-None.is in
           subst (λ v. AreFlags count (filter_map h (take (i + 1) files)) v.items) (sym w.flags-is)
-          (subst (λ numbers. AreFlags count numbers c.files.flags.items) (sym (more ∙ ap (λ o. filter_map h (take i files) ++ cons_option o []) is ∙ append-nil (filter_map h (take i files)))) c.files.invariant)
+          (subst (λ numbers. AreFlags count numbers c.files.flags.items)
+          (sym (more ∙ ap (λ o. filter_map h (take i files) ++ cons_option o []) is
+          ∙ append-nil (filter_map h (take i files)))) c.files.invariant)
     ]
 
 pub returns : goal.returns
 returns c =
     let g = c.args.graph.now in
-    subst (λ files. AreFlags (length (edges_of g)) (filter_map (λ (file : FileNo). maker_of (edges_of g) (path_at (files_of g) file)) files) c.files.flags.items)
+    subst (λ files. AreFlags (length (edges_of g))
+    (filter_map (λ (file : FileNo). maker_of (edges_of g) (path_at (files_of g) file)) files)
+    c.files.flags.items)
     (take_all c.files.file-index c.args.files.now c.files-test.false) c.files.invariant

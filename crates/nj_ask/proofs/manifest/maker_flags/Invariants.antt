@@ -8,4 +8,6 @@ use Rattle.nj_ask.proofs.manifest.maker_flags.Given as goal
 
 abbrev pub invariant-files : goal.invariant-files
 invariant-files l =
-    AreFlags (length (edges_of l.graph)) (filter_map (λ file. maker_of (edges_of l.graph) (path_at (files_of l.graph) file)) (take l.file-index l.files)) l.flags.items
+    AreFlags (length (edges_of l.graph)) (filter_map
+    (λ file. maker_of (edges_of l.graph) (path_at (files_of l.graph) file)) (take l.file-index l.files))
+    l.flags.items

@@ -1,4 +1,5 @@
-use Rattle.std.proofs.Common.{◌≡◌, ◌<◌, ◌++◌, true, false, cond, All, [], ◌∷◌, map, length, take, get_or, ap, sym, subst, ◌∙◌, append-nil}
+use Rattle.std.proofs.Common.{◌≡◌, ◌<◌, ◌++◌, true, false, cond, All, [], ◌∷◌, map, length, take, get_or, ap}
+use Rattle.std.proofs.Common.{sym, subst, ◌∙◌, append-nil}
 use Rattle.std.specs.List.{filter}
 use Rattle.std.proofs.lemmas.List.{map_push, take_all}
 use Rattle.std.proofs.lemmas.List.Elements.{All-push, filter-append}
@@ -24,20 +25,26 @@ edges-preserved c =
           record {
             makers = λ entries graph.
                 let p = makes_manifest g entries in
-                let passes : p edge.0 ≡ true = sym (c.in_ok-makes_manifest.ensures entries graph) ∙ w.if-branch.true in
+                let passes : p edge.0 ≡ true = sym (c.in_ok-makes_manifest.ensures entries graph)
+                ∙ w.if-branch.true in
                 ap (map (λ (e : EdgeNo). e.0)) new ∙ map_push (λ (e : EdgeNo). e.0) c.edges.makers.items edge
                 ∙ ap (λ ns. ns ++ edge.0 ∷ []) (c.edges.invariant.makers entries graph)
-                ∙ sym (ap (filter p) (sym all) ∙ filter-append p before (edge.0 ∷ []) ∙ ap (λ b. filter p before ++ cond b (edge.0 ∷ []) []) passes);
+                ∙ sym (ap (filter p) (sym all) ∙ filter-append p before (edge.0 ∷ [])
+                ∙ ap (λ b. filter p before ++ cond b (edge.0 ∷ []) []) passes);
             known = subst (All (λ (e : EdgeNo). e.0 < length (edges_of g))) (sym new)
-                (All-push (λ (e : EdgeNo). e.0 < length (edges_of g)) c.edges.makers.items edge c.edges.invariant.known (c.requires.edges i none c.edges-test.true));
+                (All-push (λ (e : EdgeNo). e.0 < length (edges_of g)) c.edges.makers.items edge
+                c.edges.invariant.known (c.requires.edges i none c.edges-test.true));
           }
       | else-branch w ↦ record {
         makers = λ entries graph.
             let p = makes_manifest g entries in
-            let fails : p edge.0 ≡ false = sym (c.in_ok-makes_manifest.ensures entries graph) ∙ w.if-branch.false in
+            let fails : p edge.0 ≡ false = sym (c.in_ok-makes_manifest.ensures entries graph)
+            ∙ w.if-branch.false in
             ap (λ v. map (λ (e : EdgeNo). e.0) v.items) w.makers-is ∙ c.edges.invariant.makers entries graph
-            ∙ sym (ap (filter p) (sym all) ∙ filter-append p before (edge.0 ∷ []) ∙ ap (λ b. filter p before ++ cond b (edge.0 ∷ []) []) fails ∙ append-nil (filter p before));
-        known = subst (λ v. All (λ (e : EdgeNo). e.0 < length (edges_of g)) v.items) (sym w.makers-is) c.edges.invariant.known;
+            ∙ sym (ap (filter p) (sym all) ∙ filter-append p before (edge.0 ∷ [])
+            ∙ ap (λ b. filter p before ++ cond b (edge.0 ∷ []) []) fails ∙ append-nil (filter p before));
+        known = subst (λ v. All (λ (e : EdgeNo). e.0 < length (edges_of g)) v.items) (sym w.makers-is)
+            c.edges.invariant.known;
       }
     ]
 
@@ -47,6 +54,7 @@ returns c =
     record {
       makers = λ entries graph.
           c.edges.invariant.makers entries graph
-          ∙ ap (λ es. filter (makes_manifest c.args.graph.now entries) (map (λ (e : EdgeNo). e.0) es)) (take_all c.edges.edge-index edges c.edges-test.false);
+          ∙ ap (λ es. filter (makes_manifest c.args.graph.now entries) (map (λ (e : EdgeNo). e.0) es))
+          (take_all c.edges.edge-index edges c.edges-test.false);
       known = c.edges.invariant.known;
     }

@@ -8,6 +8,7 @@ use Rattle.nj_ask.proofs.manifest.makers_among.Given as goal
 abbrev pub invariant-edges : goal.invariant-edges
 invariant-edges l = record {
   makers : (entries : List ReadStatement) → IsGraphOf l.graph entries
-      → map (λ edge. edge.0) l.makers.items ≡ filter (makes_manifest l.graph entries) (map (λ edge. edge.0) (take l.edge-index l.edges));
+      → map (λ edge. edge.0) l.makers.items
+      ≡ filter (makes_manifest l.graph entries) (map (λ edge. edge.0) (take l.edge-index l.edges));
   known : All (λ edge. edge.0 < length (edges_of l.graph)) l.makers.items;
 }

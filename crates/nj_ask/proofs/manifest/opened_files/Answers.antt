@@ -21,22 +21,31 @@ openings-preserved c =
     let i = c.openings.index in
     let counted = c.opening_count-index-end.ensures.held in
     let below : i < length openings = omega (arith, counted) in
-    let number = c.in_ok-found.ensures.file ∙ ap (option_and_then (λ opening. number_at files opening.path)) (slice_get-get_or openings i no-opening below) in
+    let number = c.in_ok-found.ensures.file
+    ∙ ap (option_and_then (λ opening. number_at files opening.path))
+    (slice_get-get_or openings i no-opening below) in
     elim c.match-found.branch [
       | in-Some+in_ok-push-in-Some w ↦
           let is = sym number ∙ ap (option_map (λ f. f.0)) w.in-Some.is in
           record {
             files = ap (λ v. map (λ f. f.0) v.items) w.files-is
-                ∙ files-more files None (λ o. o.path) openings i no-opening below c.openings.files.items w.push.new.self.items w.in-Some.file is w.in_ok-push-in-Some.ensures.items c.openings.invariant.files;
-            known = subst (λ fs. All (λ f. f.0 < length files) fs) (sym (ap (λ v. v.items) w.files-is ∙ w.in_ok-push-in-Some.ensures.items))
-                (All-push (λ f. f.0 < length files) c.openings.files.items w.in-Some.file c.openings.invariant.known (subst (λ o. IfSome o (λ f. f.0 < length files)) w.in-Some.is c.in_ok-found.ensures.known));
+                ∙ files-more files None (λ o. o.path) openings i no-opening below c.openings.files.items
+                w.push.new.self.items w.in-Some.file is w.in_ok-push-in-Some.ensures.items
+                c.openings.invariant.files;
+            known = subst (λ fs. All (λ f. f.0 < length files) fs)
+                (sym (ap (λ v. v.items) w.files-is ∙ w.in_ok-push-in-Some.ensures.items))
+                (All-push (λ f. f.0 < length files) c.openings.files.items w.in-Some.file
+                c.openings.invariant.known (subst (λ o. IfSome o (λ f. f.0 < length files)) w.in-Some.is
+                c.in_ok-found.ensures.known));
           }
       | in-None w ↦
           let is = sym number ∙ ap (option_map (λ f. f.0)) w.in-None.is in
           record {
             files = ap (λ v. map (λ f. f.0) v.items) w.files-is
-                ∙ files-same files None (λ o. o.path) openings i no-opening below c.openings.files.items is c.openings.invariant.files;
-            known = subst (λ v. All (λ f. f.0 < length files) v.items) (sym w.files-is) c.openings.invariant.known;
+                ∙ files-same files None (λ o. o.path) openings i no-opening below c.openings.files.items is
+                c.openings.invariant.files;
+            known = subst (λ v. All (λ f. f.0 < length files) v.items) (sym w.files-is)
+                c.openings.invariant.known;
           }
     ]
 
@@ -45,6 +54,8 @@ returns c =
     let openings = c.args.graph.now.origins.openings in
     let counted = c.opening_count-index-end.ensures.held in
     record {
-      files = c.openings.invariant.files ∙ ap (filter_map (λ opening. number_at (files_of c.args.graph.now) opening.path)) (take_all c.openings.index openings (omega (arith, counted)));
+      files = c.openings.invariant.files ∙ ap
+          (filter_map (λ opening. number_at (files_of c.args.graph.now) opening.path))
+          (take_all c.openings.index openings (omega (arith, counted)));
       known = c.openings.invariant.known;
     }

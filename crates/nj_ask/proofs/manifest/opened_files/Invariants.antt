@@ -6,6 +6,8 @@ use Rattle.nj_ask.proofs.manifest.opened_files.Given as goal
 
 abbrev pub invariant-openings : goal.invariant-openings
 invariant-openings l = record {
-  files : map (λ file. file.0) l.files.items ≡ filter_map (λ opening. number_at (files_of l.graph) opening.path) (take l.index l.graph.origins.openings);
+  files : map (λ file. file.0) l.files.items
+      ≡ filter_map (λ opening. number_at (files_of l.graph) opening.path)
+      (take l.index l.graph.origins.openings);
   known : All (λ file. file.0 < length (files_of l.graph)) l.files.items;
 }

@@ -1,4 +1,5 @@
-use Rattle.std.proofs.Common.{◌<◌, ◌++◌, Some, None, [], length, take, get_or, option_map, sym, ap, ◌∙◌, append-nil, arith}
+use Rattle.std.proofs.Common.{◌<◌, ◌++◌, Some, None, [], length, take, get_or, option_map, sym, ap, ◌∙◌}
+use Rattle.std.proofs.Common.{append-nil, arith}
 use Rattle.std.specs.Prelude.{option_and_then}
 use Rattle.std.specs.List.{cons_option, filter_map}
 use Rattle.std.proofs.lemmas.List.{take_all}
@@ -25,19 +26,22 @@ openings-preserved c path =
     let before = filter_map name (take i openings) in
     let counted = c.opening_count-index-end.ensures.held in
     let below : i < length openings = omega (arith, counted) in
-    let found = c.in_ok-opened.ensures ∙ ap (option_and_then name) (slice_get-get_or openings i no-opening below) in
+    let found = c.in_ok-opened.ensures ∙ ap (option_and_then name)
+    (slice_get-get_or openings i no-opening below) in
     let more = filter-more name openings i no-opening below in
     elim c.match-opened.branch [
       | in-Some+in_ok-add_path-in-Some w ↦
           let is = sym found ∙ ap (option_map (λ v. v.items)) w.in-Some.is in
           ap (λ names. is_among names path) (w.paths-is ∙ w.in_ok-add_path-in-Some.ensures)
           ∙ among-more c.openings.paths before w.deref.result.now path c.openings.invariant
-          ∙ ap (λ name. is_among (before ++ cons_option name []) path) (ap Some w.deref.ensures.value ∙ sym is)
+          ∙ ap (λ name. is_among (before ++ cons_option name []) path)
+          (ap Some w.deref.ensures.value ∙ sym is)
           ∙ ap (λ names. is_among names path) (sym more)
       | in-None w ↦
           let is = sym found ∙ ap (option_map (λ v. v.items)) w.in-None.is in
           ap (λ names. is_among names path) w.paths-is ∙ c.openings.invariant path
-          ∙ ap (λ names. is_among names path) (sym (more ∙ ap (λ name. before ++ cons_option name []) is ∙ append-nil before))
+          ∙ ap (λ names. is_among names path)
+          (sym (more ∙ ap (λ name. before ++ cons_option name []) is ∙ append-nil before))
     ]
 
 pub returns : goal.returns
@@ -45,4 +49,5 @@ returns c path =
     let openings = c.args.graph.now.origins.openings in
     let counted = c.opening_count-index-end.ensures.held in
     c.openings.invariant path
-    ∙ ap (λ os. is_among (filter_map (λ opening. clean_name opening.path) os) path) (take_all c.openings.index openings (omega (arith, counted)))
+    ∙ ap (λ os. is_among (filter_map (λ opening. clean_name opening.path) os) path)
+    (take_all c.openings.index openings (omega (arith, counted)))

@@ -9,4 +9,5 @@ returns-in_err-told g c = ends-refused _ _ _ _ _ c.from_residual.result c.from_r
 pub returns : goal.returns
 returns g c =
     reports-both _ _ _ c.args.page.now.lines.items (mark_line c.args.page.now.mark) c.deref.ensures.value
-    (c.deref-2.ensures.value ∙ c.in_ok-told.ensures ∙ ap mark_line c.as_ref.ensures.value) (refl, refl) _ _ _ _ c.write_both.result c.write_both.ensures
+    (c.deref-2.ensures.value ∙ c.in_ok-told.ensures ∙ ap mark_line c.as_ref.ensures.value) (refl, refl) _ _ _
+    _ c.write_both.result c.write_both.ensures

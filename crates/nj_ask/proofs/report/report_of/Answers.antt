@@ -22,10 +22,13 @@ warnings_of-requires-clause-affected c edge =
     let numbers = λ (edges : List EdgeNo). map (λ (e : EdgeNo). e.0) edges in
     let paths =
     ap (map (path_at (files_of g))) c.deref-2.ensures.value
-    ∙ changed-paths g q.folder (λ path. path.items) c.args.change.paths.now changed c.in_ok-changed.ensures.files
+    ∙ changed-paths g q.folder (λ path. path.items) c.args.change.paths.now changed
+    c.in_ok-changed.ensures.files
     in
     subst (λ paths. Contains (numbers c.deref-3.result.now) edge ↔ IsAffected (edges_of g) paths edge) paths
-    (subst (λ edges. Contains (numbers edges) edge ↔ IsAffected (edges_of g) (map (path_at (files_of g)) c.deref-2.result.now) edge) (sym c.deref-3.ensures.value)
+    (subst (λ edges. Contains (numbers edges) edge
+    ↔ IsAffected (edges_of g) (map (path_at (files_of g)) c.deref-2.result.now) edge)
+    (sym c.deref-3.ensures.value)
     (rw c.deref.ensures at (c.in_ok-affected.ensures.affected edge)))
 
 pub touched_by-requires-clause-affected : goal.touched_by-requires-clause-affected
@@ -35,7 +38,8 @@ touched_by-requires-clause-affected c =
     let same = c.deref-2.ensures.value ∙ sym c.deref-4.ensures.value in
     record {
       touched = λ edge.
-          subst (λ files. Contains (map (λ (e : EdgeNo). e.0) affected) edge ↔ IsAffected (edges_of g) (map (path_at (files_of g)) files) edge) same
+          subst (λ files. Contains (map (λ (e : EdgeNo). e.0) affected) edge
+          ↔ IsAffected (edges_of g) (map (path_at (files_of g)) files) edge) same
           (rw c.deref.ensures at (c.in_ok-affected.ensures.affected edge));
       rises = c.in_ok-affected.ensures.rises;
       below = rw c.deref.ensures at c.in_ok-affected.ensures.known;
@@ -52,23 +56,29 @@ returns c entries graph =
     let numbers = λ (edges : List EdgeNo). map (λ (e : EdgeNo). e.0) edges in
     let paths =
     ap (map (path_at (files_of g))) c.deref-4.ensures.value
-    ∙ changed-paths g q.folder (λ path. path.items) c.args.change.paths.now changed c.in_ok-changed.ensures.files
+    ∙ changed-paths g q.folder (λ path. path.items) c.args.change.paths.now changed
+    c.in_ok-changed.ensures.files
     in
     let files = ap (map (λ (f : FileNo). f.0)) c.deref-6.ensures.value ∙ c.in_ok-changed.ensures.files
-    ∙ sym (filter-map-map (changed_file (files_of g) q.folder) (λ path. path.items) c.args.change.paths.now) in
+    ∙ sym (filter-map-map (changed_file (files_of g) q.folder) (λ path. path.items) c.args.change.paths.now)
+    in
     let edges = ap numbers c.deref-7.ensures.value in
     record {
       lists = record {
         edges = numbers touched;
-        touched = λ edge. subst (λ paths. Contains (numbers touched) edge ↔ IsTouched known paths edge) paths (c.in_ok-touched.ensures.touched edge);
+        touched = λ edge. subst (λ paths. Contains (numbers touched) edge ↔ IsTouched known paths edge) paths
+            (c.in_ok-touched.ensures.touched edge);
         rises = c.in_ok-touched.ensures.rises;
-        lines = c.in_ok-outputs.ensures ∙ ap (λ edges. flat_map lines (numbers edges)) c.deref-5.ensures.value;
+        lines = c.in_ok-outputs.ensures ∙ ap (λ edges. flat_map lines (numbers edges))
+            c.deref-5.ensures.value;
       };
       about = c.in_ok-about.about.items;
       warns = c.in_ok-about.ensures entries graph;
       all = c.in_ok-warnings.ensures
           ∙ ap (λ t. t ++ c.deref-9.result.now ++ c.deref-10.result.now) c.deref-8.ensures.value
           ∙ ap (λ t. known.caveats.items ++ t ++ c.deref-10.result.now) c.deref-9.ensures.value
-          ∙ ap (λ t. known.caveats.items ++ c.in_ok-about.about.items ++ t) (c.deref-10.ensures.value ∙ c.in_ok-shape.ensures entries graph
-          ∙ ap (λ ns. shape_text known entries ns (numbers c.deref-7.result.now)) files ∙ ap (shape_text known entries (changed_numbers g q)) edges);
+          ∙ ap (λ t. known.caveats.items ++ c.in_ok-about.about.items ++ t)
+          (c.deref-10.ensures.value ∙ c.in_ok-shape.ensures entries graph
+          ∙ ap (λ ns. shape_text known entries ns (numbers c.deref-7.result.now)) files
+          ∙ ap (shape_text known entries (changed_numbers g q)) edges);
     }

@@ -10,7 +10,8 @@ use Rattle.nj_ask.proofs.ReportLaws.{found-there}
 use Rattle.nj_ask.proofs.report.warnings_about.Goals as goal
 
 pub paths-init : goal.paths-init
-paths-init c entries graph = subst (HasWarnings c.args.graph.now entries (question_of c.args.change) []) (sym c.new-warnings.ensures.items) none
+paths-init c entries graph = subst (HasWarnings c.args.graph.now entries (question_of c.args.change) [])
+    (sym c.new-warnings.ensures.items) none
 
 pub push_warning-requires-clause-tells : goal.push_warning-requires-clause-tells
 push_warning-requires-clause-tells c entries graph file is =
@@ -18,8 +19,10 @@ push_warning-requires-clause-tells c entries graph file is =
     let q = question_of c.args.change in
     let paths = c.args.change.paths.now in
     let path = c.deref.ensures.value ∙ ap (λ v. v.items) c.path-item.is in
-    c.requires.tells entries graph file (subst (λ ns. Contains ns file) (sym (filter-map-map (changed_file files q.folder) (λ v. v.items) paths))
-    (found-there (λ v. changed_file files q.folder v.items) paths c.paths.path-index c.path-item.result file c.paths-test.true (sym (ap (changed_file files q.folder) path) ∙ is)))
+    c.requires.tells entries graph file (subst (λ ns. Contains ns file)
+    (sym (filter-map-map (changed_file files q.folder) (λ v. v.items) paths))
+    (found-there (λ v. changed_file files q.folder v.items) paths c.paths.path-index c.path-item.result file
+    c.paths-test.true (sym (ap (changed_file files q.folder) path) ∙ is)))
 
 pub paths-preserved : goal.paths-preserved
 paths-preserved c entries graph =
@@ -29,10 +32,12 @@ paths-preserved c entries graph =
     let item = c.path-item.result in
     let before = map (λ v. v.items) (take i paths) in
     let path = c.deref.ensures.value ∙ ap (λ v. v.items) c.path-item.is in
-    subst (λ ps. HasWarnings c.args.graph.now entries q ps c.push_warning.new.warnings.items) (ap (λ p. before ++ p ∷ []) path ∙ mapped-more (λ v. v.items) paths i item c.paths-test.true)
+    subst (λ ps. HasWarnings c.args.graph.now entries q ps c.push_warning.new.warnings.items)
+    (ap (λ p. before ++ p ∷ []) path ∙ mapped-more (λ v. v.items) paths i item c.paths-test.true)
     (c.in_ok-push_warning.ensures entries graph before (c.paths.invariant entries graph))
 
 pub returns : goal.returns
 returns c entries graph =
-    subst (λ paths. HasWarnings c.args.graph.now entries (question_of c.args.change) (map (λ v. v.items) paths) c.paths.warnings.items)
+    subst (λ paths. HasWarnings c.args.graph.now entries (question_of c.args.change)
+    (map (λ v. v.items) paths) c.paths.warnings.items)
     (take_all c.paths.path-index c.args.change.paths.now c.paths-test.false) (c.paths.invariant entries graph)

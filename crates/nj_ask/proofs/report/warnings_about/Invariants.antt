@@ -7,4 +7,5 @@ use Rattle.nj_ask.proofs.report.warnings_about.Given as goal
 abbrev pub invariant-paths : goal.invariant-paths
 invariant-paths l =
     (entries : List ReadStatement) → IsGraphOf l.graph entries
-    → HasWarnings l.graph entries (question_of l.change) (map (λ path. path.items) (take l.path-index l.change.paths.now)) l.warnings.items
+    → HasWarnings l.graph entries (question_of l.change)
+    (map (λ path. path.items) (take l.path-index l.change.paths.now)) l.warnings.items

@@ -11,5 +11,7 @@ warnings_about-requires-clause-tells c entries graph file has =
     let g = c.args.known.now.graph in
     let q = question_of c.args.change in
     let changed = changed_numbers g q in
-    let below = All-contains (λ n. n < length (files_of g)) changed file (changed-below (files_of g) q.folder q.paths) has in
-    can-tell g entries c.in_ok-manifest.manifest (map (λ edge. edge.0) c.args.affected.now) changed (c.in_ok-manifest.ensures.reached entries graph) c.requires.affected file below has
+    let below = All-contains (λ n. n < length (files_of g)) changed file
+    (changed-below (files_of g) q.folder q.paths) has in
+    can-tell g entries c.in_ok-manifest.manifest (map (λ edge. edge.0) c.args.affected.now) changed
+    (c.in_ok-manifest.ensures.reached entries graph) c.requires.affected file below has

@@ -17,15 +17,19 @@ edges-preserved c =
     elim c.match-found.branch [
       | in-Some+in_ok-push-in-Some w ↦ record {
         files = λ entries graph.
-            let is = sym (c.dyndep_file-found.ensures.file entries graph) ∙ ap (option_map (λ f. f.0)) w.in-Some.is in
-            number-found (dyndep_of g entries) n found (c.edges.invariant.files entries graph) c.match-found.files.items w.in-Some.file is
+            let is = sym (c.dyndep_file-found.ensures.file entries graph)
+            ∙ ap (option_map (λ f. f.0)) w.in-Some.is in
+            number-found (dyndep_of g entries) n found (c.edges.invariant.files entries graph)
+            c.match-found.files.items w.in-Some.file is
             (ap (λ v. v.items) w.files-is ∙ w.in_ok-push-in-Some.ensures.items);
         known = subst (All Below) (sym (ap (λ v. v.items) w.files-is ∙ w.in_ok-push-in-Some.ensures.items))
-            (All-push Below found w.in-Some.file c.edges.invariant.known (subst (λ o. IfSome o Below) w.in-Some.is c.dyndep_file-found.ensures.known));
+            (All-push Below found w.in-Some.file c.edges.invariant.known
+            (subst (λ o. IfSome o Below) w.in-Some.is c.dyndep_file-found.ensures.known));
       }
       | in-None w ↦ record {
         files = λ entries graph.
-            let is = sym (c.dyndep_file-found.ensures.file entries graph) ∙ ap (option_map (λ f. f.0)) w.in-None.is in
+            let is = sym (c.dyndep_file-found.ensures.file entries graph)
+            ∙ ap (option_map (λ f. f.0)) w.in-None.is in
             ap (λ v. map (λ (f : FileNo). f.0) v.items) w.files-is
             ∙ number-none (dyndep_of g entries) n found (c.edges.invariant.files entries graph) is;
         known = subst (λ v. All Below v.items) (sym w.files-is) c.edges.invariant.known;

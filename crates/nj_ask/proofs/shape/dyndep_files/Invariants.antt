@@ -8,6 +8,7 @@ use Rattle.nj_ask.proofs.shape.dyndep_files.Given as goal
 abbrev pub invariant-edges : goal.invariant-edges
 invariant-edges l = record {
   files : (entries : List ReadStatement) → IsGraphOf l.graph entries
-      → map (λ file. file.0) l.files.items ≡ filter_map (dyndep_of l.graph entries) (range_with_len 0 l.number);
+      → map (λ file. file.0) l.files.items ≡ filter_map (dyndep_of l.graph entries)
+      (range_with_len 0 l.number);
   known : All (λ file. file.0 < length (files_of l.graph)) l.files.items;
 }

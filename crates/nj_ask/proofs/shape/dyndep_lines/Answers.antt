@@ -10,7 +10,9 @@ returns c entries graph =
     let known = c.args.known.now in
     let changed = map (λ (f : FileNo). f.0) c.args.changed.now in
     let touched = map (λ (e : EdgeNo). e.0) c.args.touched.now in
-    let numbers = ap (map (λ (f : FileNo). f.0)) c.deref.ensures.value ∙ c.in_ok-files.ensures.files entries graph in
+    let numbers = ap (map (λ (f : FileNo). f.0)) c.deref.ensures.value
+    ∙ c.in_ok-files.ensures.files entries graph in
     subst (λ files. IfOk c.marked_lines.result (λ lines. lines.items
-    ≡ lines_of_changing known.graph (codes ": a dyndep file, may change") known.has_dyndeps files changed touched)) numbers
+    ≡ lines_of_changing known.graph (codes ": a dyndep file, may change") known.has_dyndeps files changed
+    touched)) numbers
     (c.marked_lines.ensures _ _ _ c.in_ok-marks.ensures)

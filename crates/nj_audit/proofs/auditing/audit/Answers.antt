@@ -20,13 +20,16 @@ returns c entries graph =
     let kinds = c.args.kinds in
     let serving = c.flags.result.now in
     let undeclared = c.in_ok-undeclared.undeclared in
-    let are = subst (λ b. AreFoundIf b g entries folder logged undeclared) c.contains-is_asked.ensures (c.in_ok-undeclared.ensures entries graph) in
+    let are = subst (λ b. AreFoundIf b g entries folder logged undeclared) c.contains-is_asked.ensures
+    (c.in_ok-undeclared.ensures entries graph) in
     IfOk-weaker c.find_all.result _ _
     (λ found is. record {
       serving = serving;
-      are_serving = flags-are serving c.in_ok-edges.edges.numbers (ServesCommand (edges_of g)) c.flags.ensures.flags c.in_ok-edges.ensures;
+      are_serving = flags-are serving c.in_ok-edges.edges.numbers (ServesCommand (edges_of g))
+          c.flags.ensures.flags c.in_ok-edges.ensures;
       undeclared = undeclared;
       are_undeclared = are;
-      finds = is ∙ asked-law g entries missing serving undeclared (of-undeclared-if (contains kinds UndeclaredInput) g entries folder logged undeclared are) kinds;
+      finds = is ∙ asked-law g entries missing serving undeclared
+          (of-undeclared-if (contains kinds UndeclaredInput) g entries folder logged undeclared are) kinds;
     })
     (c.find_all.ensures entries graph)

@@ -12,7 +12,8 @@ use Rattle.nj_audit.proofs.auditing.find_all.Goals.{then-contains+in_ok-find, el
 
 pub all-preserved : goal.all-preserved
 all-preserved c entries graph =
-    let of = findings_of c.args.graph.now entries c.args.missing.now c.args.serving.now c.args.undeclared.now in
+    let of = findings_of c.args.graph.now entries c.args.missing.now c.args.serving.now c.args.undeclared.now
+    in
     let each = asked_of c.args.kinds of in
     let i = c.all.kind-index in
     let kind = get_or all_kinds i UnusedOutput in
@@ -20,15 +21,22 @@ all-preserved c entries graph =
     elim c.if-contains.branch [
       | then-contains+in_ok-find w ↦
           w.found-is
-          ∙ more-items (flat_map each) (flat_map-append each) [] old w.find.new.found all_kinds i UnusedOutput c.all-test.true (c.all.invariant entries graph)
-          (w.in_ok-find.ensures entries graph ∙ one-asked (contains c.args.kinds kind) old (of kind) (sym c.contains.ensures ∙ w.if-contains.true))
+          ∙ more-items (flat_map each) (flat_map-append each) [] old w.find.new.found all_kinds i UnusedOutput
+          c.all-test.true (c.all.invariant entries graph)
+          (w.in_ok-find.ensures entries graph
+          ∙ one-asked (contains c.args.kinds kind) old (of kind)
+          (sym c.contains.ensures ∙ w.if-contains.true))
       | else-contains w ↦
           w.found-is
-          ∙ more-items (flat_map each) (flat_map-append each) [] old old all_kinds i UnusedOutput c.all-test.true (c.all.invariant entries graph)
-          (none-asked (contains c.args.kinds kind) old (of kind) (sym c.contains.ensures ∙ w.if-contains.false))
+          ∙ more-items (flat_map each) (flat_map-append each) [] old old all_kinds i UnusedOutput
+          c.all-test.true (c.all.invariant entries graph)
+          (none-asked (contains c.args.kinds kind) old (of kind)
+          (sym c.contains.ensures ∙ w.if-contains.false))
     ]
 
 pub returns : goal.returns
 returns c entries graph =
-    let of = findings_of c.args.graph.now entries c.args.missing.now c.args.serving.now c.args.undeclared.now in
-    c.all.invariant entries graph ∙ ap (flat_map (asked_of c.args.kinds of)) (take_all c.all.kind-index all_kinds c.all-test.false)
+    let of = findings_of c.args.graph.now entries c.args.missing.now c.args.serving.now c.args.undeclared.now
+    in
+    c.all.invariant entries graph ∙ ap (flat_map (asked_of c.args.kinds of))
+    (take_all c.all.kind-index all_kinds c.all-test.false)

@@ -9,4 +9,5 @@ use Rattle.nj_audit.proofs.auditing.find_all.Given as goal
 abbrev pub invariant-all : goal.invariant-all
 invariant-all l =
     (entries : List ReadStatement) → IsGraphOf l.graph entries
-    → l.found ≡ flat_map (asked_of l.kinds (findings_of l.graph entries l.missing l.serving l.undeclared)) (take l.kind-index all_kinds)
+    → l.found ≡ flat_map (asked_of l.kinds (findings_of l.graph entries l.missing l.serving l.undeclared))
+    (take l.kind-index all_kinds)

@@ -10,7 +10,9 @@ use Rattle.nj_audit.proofs.commands.find_repeated_commands.Given as goal
 
 abbrev pub invariant-edges : goal.invariant-edges
 invariant-edges l = record {
-  commands : (entries : List ReadStatement) → IsGraphOf l.graph entries → AreNames l.commands (commands_before l.graph entries l.number);
+  commands : (entries : List ReadStatement) → IsGraphOf l.graph entries
+      → AreNames l.commands (commands_before l.graph entries l.number);
   found : (entries : List ReadStatement) → IsGraphOf l.graph entries
-      → l.found ≡ l.fn.found ++ map (λ edge. edge_finding l.graph edge RepeatedCommand (first_output_at l.graph edge)) (filter (repeats_command l.graph entries) (numbers l.number));
+      → l.found ≡ l.fn.found ++ map (λ edge. edge_finding l.graph edge RepeatedCommand
+      (first_output_at l.graph edge)) (filter (repeats_command l.graph entries) (numbers l.number));
 }

@@ -10,4 +10,5 @@ use Rattle.nj_audit.proofs.depfiles.find_depfiles_without_deps.Given as goal
 abbrev pub invariant-edges : goal.invariant-edges
 invariant-edges l =
     (entries : List ReadStatement) → IsGraphOf l.graph entries
-    → l.found ≡ l.fn.found ++ map (λ edge. edge_finding l.graph edge DepfileWithoutDeps (first_output_at l.graph edge)) (filter (has_depfile_without_deps entries) (numbers l.number))
+    → l.found ≡ l.fn.found ++ map (λ edge. edge_finding l.graph edge DepfileWithoutDeps
+    (first_output_at l.graph edge)) (filter (has_depfile_without_deps entries) (numbers l.number))

@@ -13,5 +13,6 @@ invariant-inputs l =
     let paths = inputs_of (edge_at (edges_of l.graph) l.edge.0) in
     record {
       seen : AreNames l.seen (take l.input-index paths);
-      found : l.found ≡ l.fn.found ++ map (edge_finding l.graph l.edge.0 RepeatedInput) (filter_map (repeated_path paths) (numbers l.input-index));
+      found : l.found ≡ l.fn.found ++ map (edge_finding l.graph l.edge.0 RepeatedInput)
+          (filter_map (repeated_path paths) (numbers l.input-index));
     }

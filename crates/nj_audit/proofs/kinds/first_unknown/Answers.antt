@@ -10,5 +10,6 @@ pub returns : goal.returns
 returns c =
     find-in-both (λ word. word.now) is_unknown c.find.result c.args.only.now c.args.except.now
     (find_from_yields_List (λ word. is_unknown word.now) _ _ c.find.result c.find.ensures.ran
-    (YieldsList-from_copied (YieldsList-from_chain (YieldsList-from_slice c.args.only.now cc) (YieldsList-from_slice c.args.except.now cc) (cc) (cc)))
+    (YieldsList-from_copied (YieldsList-from_chain (YieldsList-from_slice c.args.only.now cc)
+    (YieldsList-from_slice c.args.except.now cc) (cc) (cc)))
     (λ x b q k. search (rules, tests)))

@@ -7,5 +7,6 @@ use Rattle.nj_audit.proofs.kinds.is_unknown.Goals as goal
 pub returns : goal.returns
 returns c =
     ap not
-    (any_from_yields_List (λ kind. bytes_eq c.args.word.now (name_of kind)) _ _ _ c.any.ensures.ran (YieldsList-from_slice all_kinds cc)
+    (any_from_yields_List (λ kind. bytes_eq c.args.word.now (name_of kind)) _ _ _ c.any.ensures.ran
+    (YieldsList-from_slice all_kinds cc)
     (λ x b q k. search (rules, tests)))

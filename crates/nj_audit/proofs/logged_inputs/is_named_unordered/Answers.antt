@@ -12,5 +12,6 @@ returns-then-branch-clause-named c entries graph =
 pub returns-clause-named : goal.returns-clause-named
 returns-clause-named c entries graph = (
   λ is. absurd (true≢false (sym is)),
-  λ both. absurd (true≢false (sym (c.in_ok-is_unordered.ensures.unordered.1 both.is_unordered) ∙ c.if-branch.false)),
+  λ both. absurd (true≢false (sym (c.in_ok-is_unordered.ensures.unordered.1 both.is_unordered)
+      ∙ c.if-branch.false)),
 )

@@ -24,9 +24,12 @@ inputs-preserved c =
     record {
       adds = λ entries graph.
           subst (λ is. AddsLogged g entries c.args.folder.now is c.args.found.now c.push_unless.new.found)
-          (mapped-more of logged i (record { edge = record { 0 = 0 }; file = record { 0 = 0 } }) c.inputs-test.true)
-          (logged-step g entries c.args.folder.now (map of (take i logged)) (of input) c.args.found.now c.inputs.found c.push_unless.new.found
-          (c.inputs.invariant.adds entries graph) c.in_ok-is_found.is_found (c.in_ok-is_found.ensures.named entries graph) c.in_ok-push_unless.ensures);
+          (mapped-more of logged i (record { edge = record { 0 = 0 }; file = record { 0 = 0 } })
+          c.inputs-test.true)
+          (logged-step g entries c.args.folder.now (map of (take i logged)) (of input) c.args.found.now
+          c.inputs.found c.push_unless.new.found
+          (c.inputs.invariant.adds entries graph) c.in_ok-is_found.is_found
+          (c.in_ok-is_found.ensures.named entries graph) c.in_ok-push_unless.ensures);
       makers = c.in_ok-is_found.ensures.makers;
       users = c.in_ok-is_found.ensures.users;
     }
@@ -34,5 +37,7 @@ inputs-preserved c =
 pub returns : goal.returns
 returns c entries graph =
     let of = input_of_edge (files_of c.args.graph.now) in
-    subst (λ inputs. AddsLogged c.args.graph.now entries c.args.folder.now (map of inputs) c.args.found.now c.inputs.found)
-    (take_all c.inputs.input-index c.args.logged.now c.inputs-test.false) (c.inputs.invariant.adds entries graph)
+    subst (λ inputs. AddsLogged c.args.graph.now entries c.args.folder.now (map of inputs) c.args.found.now
+    c.inputs.found)
+    (take_all c.inputs.input-index c.args.logged.now c.inputs-test.false)
+    (c.inputs.invariant.adds entries graph)

@@ -8,7 +8,8 @@ use Rattle.nj_audit.proofs.logged_inputs.push_logged.Given as goal
 abbrev pub invariant-inputs : goal.invariant-inputs
 invariant-inputs l = record {
   adds : (entries : List ReadStatement) → IsGraphOf l.graph entries
-      → AddsLogged l.graph entries l.folder (map (input_of_edge (files_of l.graph)) (take l.input-index l.logged)) l.fn.found l.found;
+      → AddsLogged l.graph entries l.folder
+      (map (input_of_edge (files_of l.graph)) (take l.input-index l.logged)) l.fn.found l.found;
   makers : l.makers ≡ edges_of l.graph;
   users : l.users ≡ edges_of l.graph;
 }

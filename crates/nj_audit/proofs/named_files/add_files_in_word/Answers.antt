@@ -14,7 +14,11 @@ returns c =
     let third = c.add_file-2.new.files.items in
     let last = c.add_file-3.new.files.items in
     subst (λ ps. AddsFiles files ps first last) (sym (names-are folder word))
-    (adds-then files (paths_of_name folder (Some word) ++ paths_of_name folder (after_sign word)) (paths_of_name folder (after_letter word)) first third last
-    (adds-then files (paths_of_name folder (Some word)) (paths_of_name folder (after_sign word)) first second third c.in_ok-add_file.ensures
-    (subst (λ o. AddsFiles files (paths_of_name folder o) second third) c.after_sign.ensures c.in_ok-add_file-2.ensures))
-    (subst (λ o. AddsFiles files (paths_of_name folder o) third last) c.after_letter.ensures c.in_ok-add_file-3.ensures))
+    (adds-then files (paths_of_name folder (Some word) ++ paths_of_name folder (after_sign word))
+    (paths_of_name folder (after_letter word)) first third last
+    (adds-then files (paths_of_name folder (Some word)) (paths_of_name folder (after_sign word)) first second
+    third c.in_ok-add_file.ensures
+    (subst (λ o. AddsFiles files (paths_of_name folder o) second third) c.after_sign.ensures
+    c.in_ok-add_file-2.ensures))
+    (subst (λ o. AddsFiles files (paths_of_name folder o) third last) c.after_letter.ensures
+    c.in_ok-add_file-3.ensures))

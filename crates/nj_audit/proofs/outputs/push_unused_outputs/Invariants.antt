@@ -10,4 +10,6 @@ use Rattle.nj_audit.proofs.outputs.push_unused_outputs.Given as goal
 abbrev pub invariant-outputs : goal.invariant-outputs
 invariant-outputs l =
     l.found ≡ l.fn.found
-    ++ map (edge_finding l.graph l.edge.0 UnusedOutput) (filter (is_unused_output l.graph) (map (path_at (files_of l.graph)) (take l.output-index l.output-items)))
+    ++ map (edge_finding l.graph l.edge.0 UnusedOutput)
+    (filter (is_unused_output l.graph) (map (path_at (files_of l.graph))
+    (take l.output-index l.output-items)))

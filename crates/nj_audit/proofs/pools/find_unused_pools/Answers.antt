@@ -8,11 +8,14 @@ use Rattle.nj_audit.proofs.pools.find_unused_pools.Goals as goal
 pub pools-preserved : goal.pools-preserved
 pools-preserved c entries graph =
     let h = unused_pool c.args.graph.now entries in
-    more-numbers (filter_map h) (filter_map-append h) c.args.found.now c.pools.found c.push_if_unused.new.found c.pools.pool (c.pools.invariant entries graph) (c.in_ok-push_if_unused.ensures entries graph)
+    more-numbers (filter_map h) (filter_map-append h) c.args.found.now c.pools.found
+    c.push_if_unused.new.found c.pools.pool (c.pools.invariant entries graph)
+    (c.in_ok-push_if_unused.ensures entries graph)
 
 pub returns : goal.returns
 returns c entries graph =
     let h = unused_pool c.args.graph.now entries in
     let counted = c.pool_count-pool-end.ensures.held in
-    all-numbers (filter_map h) (filter_map-append h) c.args.found.now c.pools.found c.pools.found c.pools.pool (length c.args.graph.now.declarations.pools)
+    all-numbers (filter_map h) (filter_map-append h) c.args.found.now c.pools.found c.pools.found c.pools.pool
+    (length c.args.graph.now.declarations.pools)
     (omega (arith, counted)) (omega (arith, counted)) (c.pools.invariant entries graph)

@@ -25,16 +25,21 @@ edges-preserved c entries graph =
       | in-Some+in_ok-add w ↦
           let is = sym (c.pool.ensures entries graph) ∙ ap option_copied w.in-Some.is in
           subst (λ names. AreNames names (filter_map h (numbers (n + 1)))) (sym w.used-is)
-          (subst (AreNames w.add.new.self) (ap (λ t. before ++ t) (sym (one-found h n w.in-Some.pool.now is)) ∙ grown)
-          (one-more c.edges.used w.add.new.self before w.in-Some.pool.now w.in_ok-add.ensures.names (c.edges.invariant entries graph)))
+          (subst (AreNames w.add.new.self) (ap (λ t. before ++ t) (sym (one-found h n w.in-Some.pool.now is))
+          ∙ grown)
+          (one-more c.edges.used w.add.new.self before w.in-Some.pool.now w.in_ok-add.ensures.names
+          (c.edges.invariant entries graph)))
       | in_default w ↦
-          let is = sym (c.pool.ensures entries graph) ∙ ap option_copied (none-is c.pool.result w.in_default.not-Some) in
+          let is = sym (c.pool.ensures entries graph)
+          ∙ ap option_copied (none-is c.pool.result w.in_default.not-Some) in
           subst (λ names. AreNames names (filter_map h (numbers (n + 1)))) (sym w.used-is)
-          (subst (AreNames c.edges.used) (same (filter_map h) n before (none-found h n is) ∙ grown) (c.edges.invariant entries graph))
+          (subst (AreNames c.edges.used) (same (filter_map h) n before (none-found h n is) ∙ grown)
+          (c.edges.invariant entries graph))
     ]
 
 pub returns : goal.returns
 returns c entries name graph =
     let counted = rw c.deref.ensures at c.edge_count-number-end.ensures.count in
     let all : c.edges.number ≡ length (edges_of c.args.graph.now) = omega (arith, counted) in
-    c.edges.invariant entries graph name ∙ ap (λ n. is_among (filter_map (pool_of entries) (numbers n)) name) all
+    c.edges.invariant entries graph name ∙ ap (λ n. is_among (filter_map (pool_of entries) (numbers n)) name)
+    all

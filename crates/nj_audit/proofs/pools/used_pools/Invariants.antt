@@ -10,4 +10,5 @@ use Rattle.nj_audit.proofs.pools.used_pools.Given as goal
 abbrev pub invariant-edges : goal.invariant-edges
 invariant-edges l =
     (entries : List ReadStatement) → IsGraphOf l.graph entries
-    → AreNames l.used (filter_map (λ edge. (assigned_at (assigned_read entries) edge).pool) (numbers l.number))
+    → AreNames l.used (filter_map (λ edge. (assigned_at (assigned_read entries) edge).pool)
+    (numbers l.number))

@@ -18,7 +18,8 @@ edges-preserved c =
       len = length-set used c.edge_rule.result.0 true ∙ len;
       used = λ rule below.
           ap (λ r. get_or (set used r true) rule false) held
-          ∙ mark-more used (rule_number g) n rule (omega (arith, held, len, there)) (c.edges.invariant.used rule below);
+          ∙ mark-more used (rule_number g) n rule (omega (arith, held, len, there))
+          (c.edges.invariant.used rule below);
     }
 
 pub returns : goal.returns
@@ -28,5 +29,6 @@ returns c =
     let all : c.edges.number ≡ length (edges_of g) = omega (arith, counted) in
     record {
       len = c.edges.invariant.len;
-      used = λ rule below. c.edges.invariant.used rule below ∙ ap (λ n. list_any (λ edge. rule_number g edge == rule) (numbers n)) all;
+      used = λ rule below. c.edges.invariant.used rule below
+          ∙ ap (λ n. list_any (λ edge. rule_number g edge == rule) (numbers n)) all;
     }

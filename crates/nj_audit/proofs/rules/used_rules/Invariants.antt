@@ -8,5 +8,6 @@ abbrev pub invariant-edges : goal.invariant-edges
 invariant-edges l = record {
   len : length l.used.items ≡ length l.graph.declarations.rules;
   used : (rule : ℕ) → rule < length l.graph.declarations.rules
-      → slice_index_or l.used.items rule false ≡ list_any (λ edge. rule_number l.graph edge == rule) (numbers l.number);
+      → slice_index_or l.used.items rule false
+      ≡ list_any (λ edge. rule_number l.graph edge == rule) (numbers l.number);
 }

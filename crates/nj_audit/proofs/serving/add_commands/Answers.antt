@@ -7,7 +7,8 @@ use Rattle.nj_audit.proofs.serving.add_commands.Goals as goal
 use Rattle.nj_audit.proofs.serving.add_commands.Goals.{then-not-is_phony+in_ok-add, else-not-is_phony}
 
 pub edges-init : goal.edges-init
-edges-init c = finds-none (IsCommandBelow (edges_of c.args.graph.now) 0) c.args.found.now (λ e is. absurd (omega (arith, is.0)))
+edges-init c = finds-none (IsCommandBelow (edges_of c.args.graph.now) 0) c.args.found.now
+    (λ e is. absurd (omega (arith, is.0)))
 
 pub edges-preserved : goal.edges-preserved
 edges-preserved c =
@@ -18,7 +19,8 @@ edges-preserved c =
       | then-not-is_phony+in_ok-add w ↦
           let ordinary : c.is_phony.result ≡ false = search rules in
           subst (FindsMore (IsCommandBelow edges (n + 1)) c.args.found.now) (sym w.found-is)
-          (finds-command edges c.args.found.now c.edges.found w.add.new.found n c.edges.invariant (is ∙ ordinary) w.in_ok-add.ensures)
+          (finds-command edges c.args.found.now c.edges.found w.add.new.found n c.edges.invariant
+          (is ∙ ordinary) w.in_ok-add.ensures)
       | else-not-is_phony w ↦
           let phony : c.is_phony.result ≡ true = search rules in
           subst (FindsMore (IsCommandBelow edges (n + 1)) c.args.found.now) (sym w.found-is)

@@ -14,10 +14,12 @@ files-preserved c =
     elim c.match-maker.branch [
       | in-Some+in_ok-add-in-Some w ↦
           subst (FindsMore _ c.args.found.now) (sym w.found-is)
-          (finds-made edges paths c.args.found.now c.files.found w.add.new.found c.args.files.now i (record { 0 = 0 }) c.files-test.true c.files.invariant w.in-Some.edge.0
+          (finds-made edges paths c.args.found.now c.files.found w.add.new.found c.args.files.now i
+          (record { 0 = 0 }) c.files-test.true c.files.invariant w.in-Some.edge.0
           (sym maker ∙ ap (option_map (λ e. e.0)) w.in-Some.is) w.in_ok-add-in-Some.ensures)
       | in-None w ↦
           subst (FindsMore _ c.args.found.now) (sym w.found-is)
-          (finds-unmade edges paths c.args.found.now c.files.found c.files.found c.args.files.now i (record { 0 = 0 }) c.files-test.true c.files.invariant
+          (finds-unmade edges paths c.args.found.now c.files.found c.files.found c.args.files.now i
+          (record { 0 = 0 }) c.files-test.true c.files.invariant
           (sym maker ∙ ap (option_map (λ e. e.0)) w.in-None.is))
     ]

@@ -11,4 +11,5 @@ returns-in-Some-clause-fits c =
     special-within c.args.text.now c.in-Some.index (sym c.special_position.ensures.position ∙ c.in-Some.is)
 
 pub returns-in-None-clause-count : goal.returns-in-None-clause-count
-returns-in-None-clause-count c = all-plain c.args.text.now (sym c.special_position.ensures.position ∙ c.in-None.is)
+returns-in-None-clause-count c = all-plain c.args.text.now
+    (sym c.special_position.ensures.position ∙ c.in-None.is)

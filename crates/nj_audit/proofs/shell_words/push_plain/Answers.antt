@@ -11,5 +11,6 @@ returns c =
     let count = c.plain_count-count.result in
     ap (λ t. words_after c.extend_from_slice.new.self.items (read_text Bare t)) (rest-is count text)
     ∙ ap (λ w. words_after w (read_text Bare (drop count text))) c.in_ok-extend_from_slice.ensures.items
-    ∙ ap (λ n. words_after (word ++ take n text) (read_text Bare (drop n text))) c.plain_count-count.ensures.count
+    ∙ ap (λ n. words_after (word ++ take n text) (read_text Bare (drop n text)))
+    c.plain_count-count.ensures.count
     ∙ plain-bytes word text

@@ -7,7 +7,8 @@ use Rattle.nj_audit.proofs.unordered_files.find_unordered_files.Given as goal
 
 abbrev pub invariant-edges : goal.invariant-edges
 invariant-edges l = record {
-  found : (entries : List ReadStatement) → IsGraphOf l.graph entries → AreNamedUnordered l.graph entries l.folder (numbers l.number) l.found;
+  found : (entries : List ReadStatement) → IsGraphOf l.graph entries
+      → AreNamedUnordered l.graph entries l.folder (numbers l.number) l.found;
   makers : l.makers ≡ edges_of l.graph;
   users : l.users ≡ edges_of l.graph;
 }

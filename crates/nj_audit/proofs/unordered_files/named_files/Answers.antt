@@ -20,11 +20,15 @@ returns-clause-named c entries graph =
     let middle = c.add_named_files.new.files.items in
     let last = c.add_named_files-2.new.files.items in
     let one =
-    subst (λ t. AddsFiles files (paths_named folder t) first middle) (c.deref-2.ensures.value ∙ c.in_ok-command.ensures entries graph)
+    subst (λ t. AddsFiles files (paths_named folder t) first middle)
+    (c.deref-2.ensures.value ∙ c.in_ok-command.ensures entries graph)
     (rw c.edge_graph.ensures at c.in_ok-add_named_files.ensures) in
     let two =
-    subst (λ t. AddsFiles files (paths_named folder t) middle last) (c.deref-3.ensures.value ∙ c.in_ok-response.ensures entries graph)
+    subst (λ t. AddsFiles files (paths_named folder t) middle last)
+    (c.deref-3.ensures.value ∙ c.in_ok-response.ensures entries graph)
     (rw c.edge_graph-2.ensures at c.in_ok-add_named_files-2.ensures) in
     let phony = sym (rw c.deref.ensures at c.is_phony.ensures) ∙ c.if-is_phony.false in
-    named-of files (paths_named folder command) (paths_named folder response) first middle last c.new-files.ensures.items one two
-    ∙ sym (ap (λ b. cond (not b) (filter_map (number_at files) (paths_named folder command ++ paths_named folder response)) []) phony)
+    named-of files (paths_named folder command) (paths_named folder response) first middle last
+    c.new-files.ensures.items one two
+    ∙ sym (ap (λ b. cond (not b) (filter_map (number_at files)
+    (paths_named folder command ++ paths_named folder response)) []) phony)

@@ -20,13 +20,18 @@ parts-preserved c =
           let name = w.in-Name.name.now in
           subst (λ names. AreNames names (old ++ names_in (take (i + 1) value))) (sym w.references-is)
           (subst (AreNames w.add.new.self)
-          (more-at (filter_map name_in) (filter_map-append name_in) old text (text ++ name ∷ []) value i part c.part.ensures refl
-          (ap (λ t. text ++ t) (sym (one-found name_in part name (ap (λ p. name_in (part_model p)) w.in-Name.is)))))
-          (one-more c.parts.references w.add.new.self text name w.in_ok-add-in-Name.ensures.names c.parts.invariant))
+          (more-at (filter_map name_in) (filter_map-append name_in) old text (text ++ name ∷ []) value i part
+          c.part.ensures refl
+          (ap (λ t. text ++ t) (sym (one-found name_in part name
+          (ap (λ p. name_in (part_model p)) w.in-Name.is)))))
+          (one-more c.parts.references w.add.new.self text name w.in_ok-add-in-Name.ensures.names
+          c.parts.invariant))
       | in-Bytes w ↦
           subst (λ names. AreNames names (old ++ names_in (take (i + 1) value))) (sym w.references-is)
           (subst (AreNames c.parts.references)
-          (more-at (filter_map name_in) (filter_map-append name_in) old text text value i part c.part.ensures refl
-          (same (filter_map name_in) part text (none-found name_in part (ap (λ p. name_in (part_model p)) w.in-Bytes.is))))
+          (more-at (filter_map name_in) (filter_map-append name_in) old text text value i part c.part.ensures
+          refl
+          (same (filter_map name_in) part text
+          (none-found name_in part (ap (λ p. name_in (part_model p)) w.in-Bytes.is))))
           c.parts.invariant)
     ]

@@ -13,14 +13,17 @@ use Rattle.nj_audit.proofs.variables.find_unused_variables.Goals as goal
 pub edges-preserved : goal.edges-preserved
 edges-preserved c entries graph =
     let at = unused_variables_at c.args.graph.now entries in
-    more-numbers (flat_map at) (flat_map-append at) c.args.found.now c.edges.found c.push_unused_variables.new.found c.edges.number (c.edges.invariant entries graph)
-    (c.in_ok-push_unused_variables.ensures entries graph ∙ ap (λ t. c.edges.found ++ t) (sym (append-nil (at c.edges.number))))
+    more-numbers (flat_map at) (flat_map-append at) c.args.found.now c.edges.found
+    c.push_unused_variables.new.found c.edges.number (c.edges.invariant entries graph)
+    (c.in_ok-push_unused_variables.ensures entries graph
+    ∙ ap (λ t. c.edges.found ++ t) (sym (append-nil (at c.edges.number))))
 
 pub returns : goal.returns
 returns c entries graph =
     let at = unused_variables_at c.args.graph.now entries in
     let counted = rw c.deref.ensures at c.edge_count-number-end.ensures.count in
-    all-numbers (flat_map at) (flat_map-append at) c.args.found.now c.edges.found c.edges.found c.edges.number (length (edges_of c.args.graph.now))
+    all-numbers (flat_map at) (flat_map-append at) c.args.found.now c.edges.found c.edges.found c.edges.number
+    (length (edges_of c.args.graph.now))
     (omega (arith, counted)) (omega (arith, counted)) (c.edges.invariant entries graph)
 
 pub index-requires : goal.index-requires
@@ -41,6 +44,8 @@ push_unused_variables-requires-clause-references c =
     let rules = ap length c.rules.ensures.held in
     let below : rule < length items = omega (arith, same, rules, c.edge_rule.ensures.there) in
     subst (λ names. HasReferences names (rule_at g n)) (sym c.index.ensures)
-    (subst (λ r. HasReferences (get_or items rule d) (slice_index_or g.declarations.rules r phony_rule)) c.edge_rule.ensures.held
-    (subst (λ rs. HasReferences (get_or items rule d) (slice_index_or rs rule phony_rule)) c.rules.ensures.held
+    (subst (λ r. HasReferences (get_or items rule d) (slice_index_or g.declarations.rules r phony_rule))
+    c.edge_rule.ensures.held
+    (subst (λ rs. HasReferences (get_or items rule d) (slice_index_or rs rule phony_rule))
+    c.rules.ensures.held
     (zip-at HasReferences items c.rules.result.now rule d phony_rule c.in_ok-references.ensures below)))

@@ -11,4 +11,6 @@ use Rattle.nj_audit.proofs.variables.push_unused_variables.Given as goal
 abbrev pub invariant-names : goal.invariant-names
 invariant-names l =
     (entries : List ReadStatement) → IsGraphOf l.graph entries
-    → l.found ≡ l.fn.found ++ map (edge_finding l.graph l.edge.0 UnusedVariable) (filter (is_unused_variable l.graph l.edge.0) (take l.index (block_names_at (edges_read entries) l.edge.0)))
+    → l.found ≡ l.fn.found ++ map (edge_finding l.graph l.edge.0 UnusedVariable)
+    (filter (is_unused_variable l.graph l.edge.0)
+    (take l.index (block_names_at (edges_read entries) l.edge.0)))

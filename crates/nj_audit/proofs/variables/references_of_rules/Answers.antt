@@ -13,7 +13,9 @@ rules-preserved c =
     subst (λ items. AllZip HasReferences items (take (i + 1) rules)) (sym c.in_ok-push.ensures.items)
     (subst (AllZip HasReferences (c.rules.references.items ++ c.in_ok-references_of.field-0 ∷ []))
     (ap (λ r. take i rules ++ r ∷ []) c.rule-item.is ∙ sym (take_more rules i rule c.rules-test.true))
-    (zip-push HasReferences c.rules.references.items (take i rules) c.in_ok-references_of.field-0 rule c.rules.invariant c.in_ok-references_of.ensures))
+    (zip-push HasReferences c.rules.references.items (take i rules) c.in_ok-references_of.field-0 rule
+    c.rules.invariant c.in_ok-references_of.ensures))
 
 pub returns : goal.returns
-returns c = subst (AllZip HasReferences c.rules.references.items) (take_all c.rules.rule-index c.args.rules.now c.rules-test.false) c.rules.invariant
+returns c = subst (AllZip HasReferences c.rules.references.items)
+    (take_all c.rules.rule-index c.args.rules.now c.rules-test.false) c.rules.invariant

@@ -6,10 +6,12 @@ use Rattle.nj_c.proofs.bulk.give_files.Goals as goal
 
 pub items-preserved : goal.items-preserved
 items-preserved c =
-    let list = c.args.list.now in let before = c.args.files.now in let from = c.args.from in let at = c.items.at in
+    let list = c.args.list.now in let before = c.args.files.now in let from = c.args.from in let at =
+    c.items.at in
     let inside : from + at < length list = omega arith in
     let room : at < length before = omega arith in
-    number-more (λ (f : FileNo). f.0) list before c.items.files from at (record { 0 = 0 }) inside room c.items.invariant
+    number-more (λ (f : FileNo). f.0) list before c.items.files from at (record { 0 = 0 }) inside room
+    c.items.invariant
 
 pub returns-clause-gives : goal.returns-clause-gives
 returns-clause-gives c known paths are =
@@ -20,6 +22,7 @@ returns-clause-gives c known paths are =
       (
         refl,
         sym (length-map list (λ (f : FileNo). f.0)),
-        numbers-all (λ (f : FileNo). f.0) list before c.items.files c.args.from c.items.at fits c.items.invariant,
+        numbers-all (λ (f : FileNo). f.0) list before c.items.files c.args.from c.items.at fits
+            c.items.invariant,
       ),
     )

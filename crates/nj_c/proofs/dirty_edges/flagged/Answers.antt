@@ -16,10 +16,12 @@ edges-preserved c =
           let new = ap (λ v. v.items) w.edges-is ∙ w.in_ok-push.ensures.items in
           record {
             edges = set-more flags n old held.edges _ e refl (sym c.is_set.ensures ∙ w.if-is_set.true) new;
-            below = subst (All (λ (x : EdgeNo). x.0 < c.args.count)) (sym new) (All-push (λ (x : EdgeNo). x.0 < c.args.count) old e held.below c.edges-test.true);
+            below = subst (All (λ (x : EdgeNo). x.0 < c.args.count)) (sym new)
+                (All-push (λ (x : EdgeNo). x.0 < c.args.count) old e held.below c.edges-test.true);
           }
       | else-is_set w ↦ record {
-        edges = ap (λ v. numbers_of v.items) w.edges-is ∙ set-same flags n old held.edges (sym c.is_set.ensures ∙ w.if-is_set.false);
+        edges = ap (λ v. numbers_of v.items) w.edges-is
+            ∙ set-same flags n old held.edges (sym c.is_set.ensures ∙ w.if-is_set.false);
         below = subst (λ v. All (λ (x : EdgeNo). x.0 < c.args.count) v.items) (sym w.edges-is) held.below;
       }
     ]

@@ -8,4 +8,5 @@ returns c =
     let before : c.deref_mut.result.now ≡ c.args.seal.kept = search rules in
     let after : c.new.result.kept ≡ c.join_bytes-status.new.kept = search rules in
     subst (λ k. JoinsDiscovered c.args.seal.kept k bytes times status) (sym after)
-    (subst (λ k. JoinsDiscovered k c.join_bytes-status.new.kept bytes times status) before c.join_bytes-status.ensures)
+    (subst (λ k. JoinsDiscovered k c.join_bytes-status.new.kept bytes times status) before
+    c.join_bytes-status.ensures)

@@ -12,4 +12,5 @@ returns-in-Some c g was =
     let is : graph ≡ g = ap (λ o. unwrap_or o graph) (sym c.in-Some.is ∙ c.take.ensures.value ∙ was) in
     subst (λ (x : GraphModel). JoinsFound x before after log read times status) is
     (found-taken graph before after log read times status
-    (subst (λ (o : Option GraphModel). JoinsFound graph (record before { graph = o }) after log read times status) c.take.ensures.after c.join_to.ensures))
+    (subst (λ (o : Option GraphModel). JoinsFound graph (record before { graph = o }) after log read times
+    status) c.take.ensures.after c.join_to.ensures))

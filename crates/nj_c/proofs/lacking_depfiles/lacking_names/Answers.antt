@@ -11,7 +11,9 @@ edges-preserved c stated graph =
     elim c.match-depfile.branch [
       | in-Some+in_ok-name_if_lacking-in-Some w ↦
           named-more h stated n c.edges.lacking c.match-depfile.lacking w.deref-in-Some.result.now
-          (at ∙ ap (option_map (λ p. p.items)) w.in-Some.is ∙ ap Some (sym w.deref-in-Some.ensures.value)) held
+          (at ∙ ap (option_map (λ p. p.items)) w.in-Some.is ∙ ap Some (sym w.deref-in-Some.ensures.value))
+          held
           (w.lacking-is ∙ w.in_ok-name_if_lacking-in-Some.ensures)
-      | in-None w ↦ w.lacking-is ∙ named-same h stated n c.edges.lacking (at ∙ ap (option_map (λ p. p.items)) w.in-None.is) held
+      | in-None w ↦ w.lacking-is ∙ named-same h stated n c.edges.lacking
+          (at ∙ ap (option_map (λ p. p.items)) w.in-None.is) held
     ]

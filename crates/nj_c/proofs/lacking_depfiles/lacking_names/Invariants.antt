@@ -6,4 +6,5 @@ use Rattle.nj_c.proofs.lacking_depfiles.lacking_names.Given as goal
 
 abbrev pub invariant-edges : goal.invariant-edges
 invariant-edges l =
-    (stated : List ReadStatement) → IsGraphOf l.graph stated → l.lacking ≡ lacking_depfiles l.files stated l.number
+    (stated : List ReadStatement) → IsGraphOf l.graph stated
+    → l.lacking ≡ lacking_depfiles l.files stated l.number

@@ -8,5 +8,8 @@ pub returns-in_ok-made_from-in-Some : goal.returns-in_ok-made_from-in-Some
 returns-in_ok-made_from-in-Some c =
     let g = c.args.graph.now in let numbers = c.args.numbers.now in
     let known : AreKnown g numbers = search rules in
-    let are : c.deref-in-Some.result.now ≡ numbered numbers = search rules in
-    (known, subst (λ ns. TellMadeFrom g ns c.in_ok-made_from-in-Some.field-0.items) (ap (map (λ file. file.0)) are ∙ numbers-back numbers) c.in_ok-made_from-in-Some.ensures)
+    let are : c.deref-in-Some.result.now ≡ numbered numbers = search rules in (
+      known,
+      subst (λ ns. TellMadeFrom g ns c.in_ok-made_from-in-Some.field-0.items)
+          (ap (map (λ file. file.0)) are ∙ numbers-back numbers) c.in_ok-made_from-in-Some.ensures,
+    )

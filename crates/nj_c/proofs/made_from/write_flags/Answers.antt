@@ -11,7 +11,8 @@ flags-preserved c =
     let room : at < length before = omega arith in
     let flag = c.flag_of.result in
     let fits : SFits w32 flag = search rules in
-    made-more bool_code list before c.flags.flags at false (to_z w32 (of_z w32 flag)) inside room (to_z-of_z fits ∙ c.flag_of.ensures) c.flags.invariant
+    made-more bool_code list before c.flags.flags at false (to_z w32 (of_z w32 flag)) inside room
+    (to_z-of_z fits ∙ c.flag_of.ensures) c.flags.invariant
 
 pub returns : goal.returns
 returns c =

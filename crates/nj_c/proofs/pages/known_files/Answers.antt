@@ -14,4 +14,5 @@ numbers-preserved c =
 pub returns-clause-below : goal.returns-clause-below
 returns-clause-below c =
     let held = c.numbers.invariant in
-    subst (λ fs. All (λ file. file.0 < c.args.count) fs) (sym held.files) (all-numbered c.args.count _ held.below)
+    subst (λ fs. All (λ file. file.0 < c.args.count) fs) (sym held.files)
+    (all-numbered c.args.count _ held.below)

@@ -8,7 +8,9 @@ steps-preserved c =
     let list = c.args.found.now in let before = c.args.steps.now in let at = c.steps.at in
     let inside : at < length list = omega arith in
     let room : at < length before = omega arith in
-    made-more numbered_step list before c.steps.steps at (record { edge = record { 0 = 0 }; index = 0; file = record { 0 = 0 }; kind = None }) c.numbered_step.result inside room c.numbered_step.ensures c.steps.invariant
+    made-more numbered_step list before c.steps.steps at
+    (record { edge = record { 0 = 0 }; index = 0; file = record { 0 = 0 }; kind = None })
+    c.numbered_step.result inside room c.numbered_step.ensures c.steps.invariant
 
 pub returns : goal.returns
 returns c =

@@ -4,5 +4,6 @@ use Rattle.nj_c.proofs.program_runs.nx_run.Goals as goal
 
 pub returns-in-Some : goal.returns-in-Some
 returns-in-Some c =
-    changes c.args.session.now.kept c.in-Some.seal.kept c.run_in-changed.result.0.kept c.put.new.self.kept _ c.run_in-changed.result.1 _ c.in-Some.ensures.taken c.put.ensures
+    changes c.args.session.now.kept c.in-Some.seal.kept c.run_in-changed.result.0.kept c.put.new.self.kept _
+    c.run_in-changed.result.1 _ c.in-Some.ensures.taken c.put.ensures
     (search rules) c.run_in-changed.ensures

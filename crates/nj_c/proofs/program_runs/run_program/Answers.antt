@@ -8,7 +8,12 @@ pub returns : goal.returns
 returns c =
     let words = map string_bytes c.args.words.now in
     let before = c.args.kept.now in
-    let after : Kept = record before { files = c.run_words.new.source; output = c.run_words.new.out; errors = c.run_words.new.err } in
+    let after : Kept = record before {
+      files = c.run_words.new.source;
+      output = c.run_words.new.out;
+      errors =
+          c.run_words.new.err;
+    } in
     record {
       files = files-stay words _ _ c.run_words.result c.run_words.ensures;
       wanted = refl;

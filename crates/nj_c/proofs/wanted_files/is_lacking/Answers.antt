@@ -7,7 +7,8 @@ use Rattle.nj_c.proofs.wanted_files.is_lacking.Goals as goal
 pub returns-in-Ok : goal.returns-in-Ok
 returns-in-Ok c =
     ap not c.has.ensures
-    ∙ sym (ap (λ b. b && not (is_some (handed_in c.args.files.now c.args.path.now))) (is_utf8-from_IsUtf8 c.args.path.now c.in-Ok.ensures.cases.1))
+    ∙ sym (ap (λ b. b && not (is_some (handed_in c.args.files.now c.args.path.now)))
+    (is_utf8-from_IsUtf8 c.args.path.now c.in-Ok.ensures.cases.1))
 
 pub returns-in-Err : goal.returns-in-Err
 returns-in-Err c =

@@ -9,21 +9,26 @@ use Rattle.nj_c.proofs.wanted_files.lacking_dyndeps.Goals.{in-Some+in_ok-name_if
 pub edges-preserved : goal.edges-preserved
 edges-preserved c entries graph =
     let h = c.args.files.now in let n = c.edges.number in let assigned = c.args.graph.now.built.assigned in
-    let counted = rw c.deref.ensures at c.edge_count-number-end.ensures.count in let one = one-for-each c.args.graph.now entries graph in
+    let counted = rw c.deref.ensures at c.edge_count-number-end.ensures.count in let one =
+    one-for-each c.args.graph.now entries graph in
     let below : n < length assigned = omega (arith, counted, one, c.edges-test.true) in
-    let bound = ap (λ all. (assigned_at all n).dyndep) graph.built.assigned ∙ sym (c.dyndep.ensures entries graph) in
+    let bound = ap (λ all. (assigned_at all n).dyndep) graph.built.assigned
+    ∙ sym (c.dyndep.ensures entries graph) in
     let held = c.edges.invariant entries graph in
     elim c.match-dyndep.branch [
       | in-Some+in_ok-name_if_lacking w ↦
-          named-more h assigned n below c.edges.lacking c.match-dyndep.lacking w.in-Some.path.now (bound ∙ ap option_copied w.in-Some.is) held
+          named-more h assigned n below c.edges.lacking c.match-dyndep.lacking w.in-Some.path.now
+          (bound ∙ ap option_copied w.in-Some.is) held
           (w.lacking-is ∙ w.in_ok-name_if_lacking.ensures)
       | in_default w ↦
-          w.lacking-is ∙ named-same h assigned n below c.edges.lacking (bound ∙ ap option_copied (none-is c.dyndep.result w.in_default.not-Some)) held
+          w.lacking-is ∙ named-same h assigned n below c.edges.lacking
+          (bound ∙ ap option_copied (none-is c.dyndep.result w.in_default.not-Some)) held
     ]
 
 pub returns : goal.returns
 returns c entries graph =
     let assigned = c.args.graph.now.built.assigned in
-    let counted = rw c.deref.ensures at c.edge_count-number-end.ensures.count in let one = one-for-each c.args.graph.now entries graph in
+    let counted = rw c.deref.ensures at c.edge_count-number-end.ensures.count in let one =
+    one-for-each c.args.graph.now entries graph in
     let all : length assigned ≤ c.edges.number = omega (arith, counted, one, c.edges-test.false) in
     c.edges.invariant entries graph ∙ ap (lacking c.args.files.now) (take_all c.edges.number assigned all)

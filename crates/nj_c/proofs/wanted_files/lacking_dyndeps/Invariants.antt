@@ -6,4 +6,5 @@ use Rattle.nj_c.proofs.wanted_files.lacking_dyndeps.Given as goal
 
 abbrev pub invariant-edges : goal.invariant-edges
 invariant-edges l =
-    (entries : List ReadStatement) → IsGraphOf l.graph entries → l.lacking ≡ lacking l.files (take l.number l.graph.built.assigned)
+    (entries : List ReadStatement) → IsGraphOf l.graph entries
+    → l.lacking ≡ lacking l.files (take l.number l.graph.built.assigned)

@@ -8,7 +8,9 @@ use Rattle.nj_cycles.proofs.check.first_on_cycle.Goals as goal
 pub returns-then-not-finished : goal.returns-then-not-finished
 returns-then-not-finished g c =
     let finished = c.in_ok-finished in
-    ranked (g.I.EdgeInputs.makers c.args.inputs.now) (g.I.EdgeInputs.count c.args.inputs.now) finished.finished.order.items finished.ensures.walked (finished.ensures.falling c.if-not-finished.true)
+    ranked (g.I.EdgeInputs.makers c.args.inputs.now) (g.I.EdgeInputs.count c.args.inputs.now)
+    finished.finished.order.items finished.ensures.walked
+    (finished.ensures.falling c.if-not-finished.true)
 
 pub returns : goal.returns
 returns g c =

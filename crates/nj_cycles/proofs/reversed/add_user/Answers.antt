@@ -10,7 +10,9 @@ pub returns-in_ok-push : goal.returns-in_ok-push
 returns-in_ok-push c =
     let old = c.args.users.now.items in
     let e = c.in-Some.edge in
-    let list : c.index_mut.result.now.items ≡ users_of old e = items_at old e c.index_mut.result.now (subst (λ m. IfSome m (λ x. x < length old)) c.in-Some.is c.requires) c.index_mut.ensures.value in
+    let list : c.index_mut.result.now.items ≡ users_of old e =
+    items_at old e c.index_mut.result.now
+    (subst (λ m. IfSome m (λ x. x < length old)) c.in-Some.is c.requires) c.index_mut.ensures.value in
     map-set (λ (v : Vec ℕ). v.items) old e c.push.new.self
     ∙ ap (slice_set (lists_of old) e) (c.in_ok-push.ensures.items ∙ ap (λ us. us ++ c.args.user ∷ []) list)
     ∙ ap (λ m. with_user (lists_of old) m c.args.user) (sym c.in-Some.is)

@@ -7,7 +7,9 @@ use Rattle.nj_cycles.proofs.reversed.no_users.Goals as goal
 
 pub edges-preserved : goal.edges-preserved
 edges-preserved c = none_more c.edges.counter c.edges.users.items c.push.new.self.items c.edges.invariant
-    (ap lists_of c.in_ok-push.ensures.items ∙ map-append (λ (v : Vec ℕ). v.items) c.edges.users.items (c.new.result ∷ []) ∙ ap (λ us. lists_of c.edges.users.items ++ us ∷ []) c.new.ensures.items)
+    (ap lists_of c.in_ok-push.ensures.items
+    ∙ map-append (λ (v : Vec ℕ). v.items) c.edges.users.items (c.new.result ∷ [])
+    ∙ ap (λ us. lists_of c.edges.users.items ++ us ∷ []) c.new.ensures.items)
 
 pub returns : goal.returns
 returns c = subst (λ n. HaveUsers n (λ e m. ⊥) c.edges.users.items) (omega arith) c.edges.invariant

@@ -11,5 +11,11 @@ returns c =
     let after = c.split_at.ensures.back in (
       cut-first text (omega (arith, found.some, found.within)) some
           ∙ ap₂ (λ p t. p ∷ pieces t) (sym found.piece) (sym (after ∙ ap (λ n. drop n text) found.size)),
-      (omega (arith, ap length after, length-drop c.first_piece-size.result.1 text, found.some, found.within)),
+      (omega (
+        arith,
+        ap length after,
+        length-drop c.first_piece-size.result.1 text,
+        found.some,
+        found.within,
+      )),
     )

@@ -6,9 +6,11 @@ numbers-smaller c = shorter-by c.numbers.rest.now c.in-Some.number c.in-Some.oth
 
 pub returns-then-number-count-clause-appended : goal.returns-then-number-count-clause-appended
 returns-then-number-count-clause-appended c =
-    one_past c.args.count c.args.bytes.now c.numbers.rest.now c.args.numbers.now.items c.numbers.numbers.items c.in-Some.number c.in-Some.others.now
+    one_past c.args.count c.args.bytes.now c.numbers.rest.now c.args.numbers.now.items c.numbers.numbers.items
+    c.in-Some.number c.in-Some.others.now
     c.numbers.invariant c.requires.count c.in-Some.ensures.0 c.in-Some.ensures.1 c.if-number-count.true
 
 pub returns-clause-appended : goal.returns-clause-appended
 returns-clause-appended c =
-    all_read c.args.count c.args.bytes.now c.numbers.rest.now c.args.numbers.now.items c.numbers.numbers.items c.numbers.invariant c.requires.words c.in_default.ensures
+    all_read c.args.count c.args.bytes.now c.numbers.rest.now c.args.numbers.now.items c.numbers.numbers.items
+    c.numbers.invariant c.requires.words c.in_default.ensures

@@ -9,7 +9,9 @@ pub index_mut-requires : goal.index_mut-requires
 index_mut-requires c =
     let outputs = c.args.outputs.now.items in
     let place = c.index.result.now in
-    let is : place ≡ place_of outputs c.args.held.output = place-is outputs c.args.places.now.items c.args.held.output place c.requires.number c.requires.places c.index.ensures in
+    let is : place ≡ place_of outputs c.args.held.output =
+    place-is outputs c.args.places.now.items c.args.held.output place c.requires.number c.requires.places
+    c.index.ensures in
     let some = c.if-place-gt0.true in
     let at = set-at outputs c.args.held (place - 1) (sym is ∙ (omega arith)) in
     let within : place - 1 < length outputs = at.within in
@@ -19,7 +21,9 @@ pub returns-then-place-gt0-clause-set : goal.returns-then-place-gt0-clause-set
 returns-then-place-gt0-clause-set c =
     let outputs = c.args.outputs.now.items in
     let place = c.index.result.now in
-    let is : place ≡ place_of outputs c.args.held.output = place-is outputs c.args.places.now.items c.args.held.output place c.requires.number c.requires.places c.index.ensures in
+    let is : place ≡ place_of outputs c.args.held.output =
+    place-is outputs c.args.places.now.items c.args.held.output place c.requires.number c.requires.places
+    c.index.ensures in
     let some = c.if-place-gt0.true in
     sym (set-at outputs c.args.held (place - 1) (sym is ∙ (omega arith))).set
 
@@ -27,9 +31,12 @@ pub returns-then-place-gt0-clause-places : goal.returns-then-place-gt0-clause-pl
 returns-then-place-gt0-clause-places c number below =
     let outputs = c.args.outputs.now.items in
     let place = c.index.result.now in
-    let is : place ≡ place_of outputs c.args.held.output = place-is outputs c.args.places.now.items c.args.held.output place c.requires.number c.requires.places c.index.ensures in
+    let is : place ≡ place_of outputs c.args.held.output =
+    place-is outputs c.args.places.now.items c.args.held.output place c.requires.number c.requires.places
+    c.index.ensures in
     let some = c.if-place-gt0.true in
-    let there : place_of outputs c.args.held.output ≢ 0 = λ none. (let e : place ≡ 0 = is ∙ none in omega arith) in
+    let there : place_of outputs c.args.held.output ≢ 0 =
+    λ none. (let e : place ≡ 0 = is ∙ none in omega arith) in
     let one : place ≡ suc (place - 1) = omega arith in
     let at : IsAt outputs c.args.held (place - 1) = set-at outputs c.args.held (place - 1) (sym is ∙ one) in
     let kept = places-kept outputs c.args.places.now.items c.args.held c.requires.places there number below in
@@ -39,7 +46,9 @@ pub returns-clause-set : goal.returns-clause-set
 returns-clause-set c =
     let outputs = c.args.outputs.now.items in
     let place = c.index.result.now in
-    let is : place ≡ place_of outputs c.args.held.output = place-is outputs c.args.places.now.items c.args.held.output place c.requires.number c.requires.places c.index.ensures in
+    let is : place ≡ place_of outputs c.args.held.output =
+    place-is outputs c.args.places.now.items c.args.held.output place c.requires.number c.requires.places
+    c.index.ensures in
     let none = c.if-place-gt0.false in
     c.in_ok-push.ensures.items ∙ sym (set-new outputs c.args.held (sym is ∙ (omega arith)))
 
@@ -49,9 +58,12 @@ returns-clause-places c number below =
     let places = c.args.places.now.items in
     let held = c.args.held in
     let place = c.index.result.now in
-    let is : place ≡ place_of outputs held.output = place-is outputs places held.output place c.requires.number c.requires.places c.index.ensures in
+    let is : place ≡ place_of outputs held.output =
+    place-is outputs places held.output place c.requires.number c.requires.places c.index.ensures in
     let none = c.if-place-gt0.false in
-    let size : c.in_ok-place.place ≡ length outputs + 1 = c.in_ok-place.ensures.short ∙ ap (λ (xs : List HeldOutput). length xs + 1) c.as_slice.ensures.value in
+    let size : c.in_ok-place.place ≡ length outputs + 1 =
+    c.in_ok-place.ensures.short ∙ ap (λ (xs : List HeldOutput). length xs + 1) c.as_slice.ensures.value in
     ap (λ k. slice_index_or (slice_set places held.output k) number 0) size
-    ∙ places-new outputs places held c.requires.places c.requires.number (sym is ∙ (omega arith)) number (subst (λ k. number < length (slice_set places held.output k)) size below)
+    ∙ places-new outputs places held c.requires.places c.requires.number (sym is ∙ (omega arith)) number
+    (subst (λ k. number < length (slice_set places held.output k)) size below)
     ∙ ap (λ os. place_of os number) (sym c.in_ok-push.ensures.items)

@@ -11,13 +11,15 @@ returns-in-None c head content after small frame =
 pub returns-then-size-gt-LARGEST : goal.returns-then-size-gt-LARGEST
 returns-then-size-gt-LARGEST c head content after small frame =
     let split = c.in-Some.split in
-    let size = frame-size c.args.bytes.now split.1.now head split.0 content after small c.in-Some.ensures.0 c.in-Some.ensures.1 frame in
+    let size = frame-size c.args.bytes.now split.1.now head split.0 content after small c.in-Some.ensures.0
+    c.in-Some.ensures.1 frame in
     let large = c.if-size-gt-LARGEST.true in
     omega arith
 
 pub returns-in-None-split_at_checked : goal.returns-in-None-split_at_checked
 returns-in-None-split_at_checked c head content after small frame =
     let split = c.in-Some.split in
-    let size = frame-size c.args.bytes.now split.1.now head split.0 content after small c.in-Some.ensures.0 c.in-Some.ensures.1 frame in
+    let size = frame-size c.args.bytes.now split.1.now head split.0 content after small c.in-Some.ensures.0
+    c.in-Some.ensures.1 frame in
     let short = c.in-None-split_at_checked.ensures.cases in
     omega arith

@@ -5,4 +5,5 @@ use Rattle.nj_discovered.proofs.by_depfile.add_inputs.Given as goal
 
 abbrev pub invariant-inputs : goal.invariant-inputs
 invariant-inputs l =
-    Appends (map clean_path_of (take l.number l.named.inputs)) l.fn.names l.names l.fn.numbers.items l.numbers.items
+    Appends (map clean_path_of (take l.number l.named.inputs)) l.fn.names l.names l.fn.numbers.items
+    l.numbers.items

@@ -15,7 +15,8 @@ pub returns-in_default-clause-found : goal.returns-in_default-clause-found
 returns-in_default-clause-found g c =
     let edge = edge_at c.args.graph.now.edges c.args.edge.0 in
     let state = g.S.FileSource.state c.args.files.now in
-    finds-none (IsByText state state edge c.args.depfile.now) c.args.names.now c.args.numbers.now.items (Faulty error.Unreadable)
+    finds-none (IsByText state state edge c.args.depfile.now) c.args.names.now c.args.numbers.now.items
+    (Faulty error.Unreadable)
     (Unreadable, inl c.in_default.ensures.cases.0, refl)
 
 pub returns-in-Ok-Some-clause-found : goal.returns-in-Ok-Some-clause-found
@@ -24,10 +25,21 @@ returns-in-Ok-Some-clause-found g c =
     let before = g.S.FileSource.state c.args.files.now in
     let after = g.S.FileSource.state c.read.new.self in
     let text = c.in-Ok-Some.text.items in
-    finds-as c.find_by_text.result (λ one. one ≡ by_text edge (Text (Some text))) (IsByText before after edge c.args.depfile.now) c.args.names.now c.find_by_text.new.names
+    finds-as c.find_by_text.result (λ one. one ≡ by_text edge (Text (Some text)))
+    (IsByText before after edge c.args.depfile.now) c.args.names.now c.find_by_text.new.names
     c.args.numbers.now.items c.find_by_text.new.numbers.items
-    (λ one is. (Text (Some text), (c.in-Ok.ensures.cases.1, text-given before after c.in-Ok.path.now c.args.depfile.now c.in-Ok-Some.field-0 (Some text) (ap outcome_bytes c.in-Ok-Some.field-0-is) c.in-Ok.ensures.cases.0 c.in-Ok-Some.ensures), is))
-    (subst (λ t. IfOk c.find_by_text.result (Finds (λ one. one ≡ by_text edge (Text (Some t))) c.args.names.now c.find_by_text.new.names c.args.numbers.now.items c.find_by_text.new.numbers.items))
+    (λ one is. (
+      Text (Some text),
+      (
+        c.in-Ok.ensures.cases.1,
+        text-given before after c.in-Ok.path.now c.args.depfile.now c.in-Ok-Some.field-0 (Some text)
+            (ap outcome_bytes c.in-Ok-Some.field-0-is) c.in-Ok.ensures.cases.0 c.in-Ok-Some.ensures,
+      ),
+      is,
+    ))
+    (subst (λ t. IfOk c.find_by_text.result
+    (Finds (λ one. one ≡ by_text edge (Text (Some t))) c.args.names.now c.find_by_text.new.names
+    c.args.numbers.now.items c.find_by_text.new.numbers.items))
     c.deref.ensures.value c.find_by_text.ensures)
 
 pub returns-in-Ok-None-clause-found : goal.returns-in-Ok-None-clause-found
@@ -35,13 +47,27 @@ returns-in-Ok-None-clause-found g c =
     let edge = edge_at c.args.graph.now.edges c.args.edge.0 in
     let before = g.S.FileSource.state c.args.files.now in
     let after = g.S.FileSource.state c.read.new.self in
-    finds-none (IsByText before after edge c.args.depfile.now) c.args.names.now c.args.numbers.now.items (Unknown NoDepfile)
-    (Text None, (c.in-Ok.ensures.cases.1, text-given before after c.in-Ok.path.now c.args.depfile.now c.in-Ok-None.field-0 None (ap outcome_bytes c.in-Ok-None.field-0-is) c.in-Ok.ensures.cases.0 c.in-Ok-None.ensures), refl)
+    finds-none (IsByText before after edge c.args.depfile.now) c.args.names.now c.args.numbers.now.items
+    (Unknown NoDepfile) (
+      Text None,
+      (
+        c.in-Ok.ensures.cases.1,
+        text-given before after c.in-Ok.path.now c.args.depfile.now
+            c.in-Ok-None.field-0 None (ap outcome_bytes c.in-Ok-None.field-0-is) c.in-Ok.ensures.cases.0
+            c.in-Ok-None.ensures,
+      ),
+      refl,
+    )
 
 pub returns-in-Err-Io-clause-found : goal.returns-in-Err-Io-clause-found
 returns-in-Err-Io-clause-found g c =
     let edge = edge_at c.args.graph.now.edges c.args.edge.0 in
     let before = g.S.FileSource.state c.args.files.now in
     let after = g.S.FileSource.state c.read.new.self in
-    finds-none (IsByText before after edge c.args.depfile.now) c.args.names.now c.args.numbers.now.items (Faulty error.Unreadable)
-    (Unreadable, inr (reading-failed before after c.in-Ok.path.now c.in-Err-Io.field-0 c.in-Err-Io.field-0-is c.in-Err-Io.ensures), refl)
+    finds-none (IsByText before after edge c.args.depfile.now) c.args.names.now c.args.numbers.now.items
+    (Faulty error.Unreadable) (
+      Unreadable,
+      inr (reading-failed before after c.in-Ok.path.now c.in-Err-Io.field-0 c.in-Err-Io.field-0-is
+          c.in-Err-Io.ensures),
+      refl,
+    )

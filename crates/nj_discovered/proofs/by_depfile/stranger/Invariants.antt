@@ -6,5 +6,7 @@ use Rattle.nj_discovered.proofs.by_depfile.stranger.Given as goal
 
 abbrev pub invariant-targets : goal.invariant-targets
 invariant-targets l =
-    find (λ target. not (is_among (outputs_of (edge_at l.graph.edges l.edge.0)) target)) (drop 1 l.named.targets)
-    ≡ find (λ target. not (is_among (outputs_of (edge_at l.graph.edges l.edge.0)) target)) (drop l.number l.named.targets)
+    find (λ target. not (is_among (outputs_of (edge_at l.graph.edges l.edge.0)) target))
+    (drop 1 l.named.targets)
+    ≡ find (λ target. not (is_among (outputs_of (edge_at l.graph.edges l.edge.0)) target))
+    (drop l.number l.named.targets)

@@ -15,16 +15,21 @@ pub returns-in_default-record_of : goal.returns-in_default-record_of
 returns-in_default-record_of g c = λ names are.
     let log = c.args.log.now in
     let edge = edge_at c.args.graph.now.edges c.args.edge.0 in
-    finds-none (IsByLog (g.T.FileTimes.times c.args.times.now) log edge) names c.args.numbers.now.items (verdict.Unknown why.NoRecord)
-    (no_record (ap (option_and_then (record_of log)) (sym c.in-Some.ensures) ∙ sym c.in_default-record_of.ensures.record) refl)
+    finds-none (IsByLog (g.T.FileTimes.times c.args.times.now) log edge) names c.args.numbers.now.items
+    (verdict.Unknown why.NoRecord)
+    (no_record (ap (option_and_then (record_of log)) (sym c.in-Some.ensures)
+    ∙ sym c.in_default-record_of.ensures.record) refl)
 
 pub returns-in-Some-doubt_of : goal.returns-in-Some-doubt_of
 returns-in-Some-doubt_of g c = λ names are.
     let log = c.args.log.now in
     let edge = edge_at c.args.graph.now.edges c.args.edge.0 in
-    finds-none (IsByLog (g.T.FileTimes.times c.args.times.now) log edge) names c.args.numbers.now.items (verdict.Unknown c.in-Some-doubt_of.why)
-    (recorded c.in-Some.output.now (output_model c.in-Some-record_of.record) c.in_ok-time_of.field-0 (sym c.in-Some.ensures) (sym c.in-Some-record_of.ensures.record) c.in_ok-time_of.ensures
-    (ap (λ doubt. unless_doubted doubt (map (name_at log.paths) (output_model c.in-Some-record_of.record).inputs)) c.in-Some-doubt_of.ensures))
+    finds-none (IsByLog (g.T.FileTimes.times c.args.times.now) log edge) names c.args.numbers.now.items
+    (verdict.Unknown c.in-Some-doubt_of.why)
+    (recorded c.in-Some.output.now (output_model c.in-Some-record_of.record) c.in_ok-time_of.field-0
+    (sym c.in-Some.ensures) (sym c.in-Some-record_of.ensures.record) c.in_ok-time_of.ensures
+    (ap (λ doubt. unless_doubted doubt (map (name_at log.paths)
+    (output_model c.in-Some-record_of.record).inputs)) c.in-Some-doubt_of.ensures))
 
 pub returns : goal.returns
 returns g c = λ names are.
@@ -33,7 +38,11 @@ returns g c = λ names are.
     let o = output_model c.in-Some-record_of.record in
     record {
       inputs = map clean_path_of (map (name_at log.paths) o.inputs);
-      is_found = recorded c.in-Some.output.now o c.in_ok-time_of.field-0 (sym c.in-Some.ensures) (sym c.in-Some-record_of.ensures.record) c.in_ok-time_of.ensures
-          (ap (λ doubt. unless_doubted doubt (map (name_at log.paths) o.inputs)) c.in_default-doubt_of.ensures);
-      appends = appends-logged names log.paths c.args.log_numbers.now o.inputs c.args.numbers.now.items c.push_logged.new.numbers.items are c.in-Some-record_of.ensures.known.inputs c.in_ok-push_logged.ensures;
+      is_found = recorded c.in-Some.output.now o c.in_ok-time_of.field-0 (sym c.in-Some.ensures)
+          (sym c.in-Some-record_of.ensures.record) c.in_ok-time_of.ensures
+          (ap (λ doubt. unless_doubted doubt (map (name_at log.paths) o.inputs))
+          c.in_default-doubt_of.ensures);
+      appends = appends-logged names log.paths c.args.log_numbers.now o.inputs c.args.numbers.now.items
+          c.push_logged.new.numbers.items are c.in-Some-record_of.ensures.known.inputs
+          c.in_ok-push_logged.ensures;
     }

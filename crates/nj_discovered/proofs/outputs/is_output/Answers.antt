@@ -7,4 +7,5 @@ use Rattle.nj_discovered.proofs.outputs.is_output.Goals as goal
 pub outputs-init : goal.outputs-init
 outputs-init c =
     ap (λ ps. is_among ps c.args.path.now)
-    (sym (files-paths c.args.graph.now.files c.outputs-output-items.result.now (outputs_of (edge_at c.args.graph.now.edges c.args.edge.0)) c.outputs-output-items.ensures.files))
+    (sym (files-paths c.args.graph.now.files c.outputs-output-items.result.now
+    (outputs_of (edge_at c.args.graph.now.edges c.args.edge.0)) c.outputs-output-items.ensures.files))

@@ -7,4 +7,5 @@ use Rattle.nj_discovered.proofs.outputs.is_output.Given as goal
 -- the path is not one of those before
 abbrev pub invariant-outputs : goal.invariant-outputs
 invariant-outputs l =
-    is_among (outputs_of (edge_at l.graph.edges l.fn.edge.0)) l.path ≡ is_among (map (path_at l.graph.files) (drop l.output-index l.output-items)) l.path
+    is_among (outputs_of (edge_at l.graph.edges l.fn.edge.0)) l.path
+    ≡ is_among (map (path_at l.graph.files) (drop l.output-index l.output-items)) l.path

@@ -6,4 +6,5 @@ use Rattle.nj_edge_env.proofs.block_values.is_name.Goals as goal
 pub returns : goal.returns
 returns c = λ is.
     first-distinct c.args.name.now c.args.names.now c.args.number c.count.ensures.each_name_once
-    (c.name.ensures ∙ ap Some ((bytes_eq-Decides c.name.result.now c.args.name.now).0 (sym c.eq.ensures ∙ is)))
+    (c.name.ensures ∙ ap Some ((bytes_eq-Decides c.name.result.now c.args.name.now).0
+    (sym c.eq.ensures ∙ is)))

@@ -8,5 +8,7 @@ pub returns : goal.returns
 returns c =
     let lines = c.args.rule.now.lines in
     let names = c.as_slice-names.result.now in
-    are_references lines names (subst (AreSortedKeys lines) (sym c.as_slice-names.ensures.value) c.in_ok-sorted.ensures) (map {B = ReferringKeyModel} key_held c.names.keys.items)
-    (c.names.invariant ∙ ap (map {B = ReferringKeyModel} (λ name. referring_key lines names name.now)) (take_all c.names.name-index names (omega arith)))
+    are_references lines names (subst (AreSortedKeys lines) (sym c.as_slice-names.ensures.value)
+    c.in_ok-sorted.ensures) (map {B = ReferringKeyModel} key_held c.names.keys.items)
+    (c.names.invariant ∙ ap (map {B = ReferringKeyModel} (λ name. referring_key lines names name.now))
+    (take_all c.names.name-index names (omega arith)))

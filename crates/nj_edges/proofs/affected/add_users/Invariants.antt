@@ -4,4 +4,5 @@ use Rattle.nj_edges.specs.Inside.ChangesHeld.{FindsMore, HasInputOf}
 use Rattle.nj_edges.proofs.affected.add_users.Given as goal
 
 abbrev pub invariant-files : goal.invariant-files
-invariant-files l = FindsMore (HasInputOf l.graph.edges (map (path_at l.graph.files) (take l.file-index l.files))) l.fn.found l.found
+invariant-files l = FindsMore (HasInputOf l.graph.edges
+    (map (path_at l.graph.files) (take l.file-index l.files))) l.fn.found l.found

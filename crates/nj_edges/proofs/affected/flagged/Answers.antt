@@ -9,8 +9,10 @@ edges-preserved c =
     elim c.if-flag.branch [
       | then-flag+in_ok-push w ↦
           ap (λ v. numbers_of v.items) w.edges-is ∙ ap numbers_of w.in_ok-push.ensures.items
-          ∙ flag-set c.args.flags.now c.edges.number c.edges.edges.items c.edges-test.true c.edges.invariant w.if-flag.true
+          ∙ flag-set c.args.flags.now c.edges.number c.edges.edges.items c.edges-test.true c.edges.invariant
+          w.if-flag.true
       | else-flag w ↦
           ap (λ v. numbers_of v.items) w.edges-is
-          ∙ flag-unset c.args.flags.now c.edges.number c.edges.edges.items c.edges-test.true c.edges.invariant w.if-flag.false
+          ∙ flag-unset c.args.flags.now c.edges.number c.edges.edges.items c.edges-test.true c.edges.invariant
+          w.if-flag.false
     ]

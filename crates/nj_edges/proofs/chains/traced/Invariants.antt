@@ -6,7 +6,8 @@ use Rattle.nj_edges.proofs.chains.traced.Given as goal
 abbrev pub invariant-arrivals : goal.invariant-arrivals
 invariant-arrivals l = record {
   within : l.place < length l.arrivals;
-  traces : (whole : List Step) → Traces l.arrivals l.place (reverse l.steps.items) whole → Traces l.arrivals l.fn.place (l.fn.last ∷ []) whole;
+  traces : (whole : List Step) → Traces l.arrivals l.place (reverse l.steps.items) whole
+      → Traces l.arrivals l.fn.place (l.fn.last ∷ []) whole;
 }
 
 abbrev pub decreases-arrivals : goal.decreases-arrivals

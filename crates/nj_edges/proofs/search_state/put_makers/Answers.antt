@@ -12,8 +12,10 @@ files-preserved c =
     let i = c.files.file-index in
     elim c.match-maker.branch [
       | in-Some+in_ok-push w ↦
-          subst (AreMakers g (take (i + 1) files)) (sym (ap (λ (v : Vec ℕ). v.items) w.edges-is ∙ w.in_ok-push.ensures.items))
-          (makers-some g c.files.edges.items files i (record { 0 = 0 }) c.files-test.true c.files.invariant w.in-Some.edge.0
+          subst (AreMakers g (take (i + 1) files))
+          (sym (ap (λ (v : Vec ℕ). v.items) w.edges-is ∙ w.in_ok-push.ensures.items))
+          (makers-some g c.files.edges.items files i (record { 0 = 0 }) c.files-test.true c.files.invariant
+          w.in-Some.edge.0
           (sym c.maker.ensures.maker ∙ ap (option_map (λ e. e.0)) w.in-Some.is) w.in-Some.ensures.known)
       | in_default w ↦
           subst (AreMakers g (take (i + 1) files)) (sym (ap (λ (v : Vec ℕ). v.items) w.edges-is))

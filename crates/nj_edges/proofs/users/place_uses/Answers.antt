@@ -11,15 +11,21 @@ place_use-requires-clause-capacity c =
       all,
       plus_uses (take c.files.file-index c.args.files.now) c.args.edge uses,
       c.files.invariant all uses c.requires.capacity.2 c.requires.capacity.3,
-      capacity-next all uses c.args.files.now c.files.file-index (record { 0 = 0 }) c.args.edge c.files-test.true c.requires.capacity.3,
+      capacity-next all uses c.args.files.now c.files.file-index (record { 0 = 0 }) c.args.edge
+          c.files-test.true c.requires.capacity.3,
     )
 
 pub files-preserved : goal.files-preserved
 files-preserved c all uses placed capacity =
-    subst (λ us. ArePlaced all us c.place_use.new.places c.place_use.new.marks c.place_use.new.edges) (plus-next c.args.files.now c.files.file-index (record { 0 = 0 }) c.args.edge uses c.files-test.true)
-    (c.place_use.ensures all (plus_uses (take c.files.file-index c.args.files.now) c.args.edge uses) (c.files.invariant all uses placed capacity)
-    (capacity-next all uses c.args.files.now c.files.file-index (record { 0 = 0 }) c.args.edge c.files-test.true capacity))
+    subst (λ us. ArePlaced all us c.place_use.new.places c.place_use.new.marks c.place_use.new.edges)
+    (plus-next c.args.files.now c.files.file-index (record { 0 = 0 }) c.args.edge uses c.files-test.true)
+    (c.place_use.ensures all (plus_uses (take c.files.file-index c.args.files.now) c.args.edge uses)
+    (c.files.invariant all uses placed capacity)
+    (capacity-next all uses c.args.files.now c.files.file-index (record { 0 = 0 }) c.args.edge
+    c.files-test.true capacity))
 
 pub returns : goal.returns
 returns c all uses placed capacity =
-    subst (λ fs. ArePlaced all (plus_uses fs c.args.edge uses) c.files.places c.files.marks c.files.edges) (take_all c.files.file-index c.args.files.now c.files-test.false) (c.files.invariant all uses placed capacity)
+    subst (λ fs. ArePlaced all (plus_uses fs c.args.edge uses) c.files.places c.files.marks c.files.edges)
+    (take_all c.files.file-index c.args.files.now c.files-test.false)
+    (c.files.invariant all uses placed capacity)

@@ -7,7 +7,8 @@ invariant-rows l = record {
   count : length l.counts.items ≡ l.count;
   marks : length l.marks.items ≡ l.count;
   within : l.edge ≤ length l.rows;
-  counted : AreCounted l.counts.items l.marks.items (using_edges l.files l.row_part l.edge (drop l.edge l.rows));
+  counted : AreCounted l.counts.items l.marks.items
+      (using_edges l.files l.row_part l.edge (drop l.edge l.rows));
 }
 
 abbrev pub decreases-rows : goal.decreases-rows

@@ -7,5 +7,6 @@ use Rattle.nj_graph.proofs.deps_logs.add_inputs.Given as goal
 -- the rest has the same result
 abbrev pub invariant-inputs : goal.invariant-inputs
 invariant-inputs l =
-    fold with_new_input l.joining (map clean_path_of (map (name_at l.log.paths) (drop l.number-index l.numbers)))
+    fold with_new_input l.joining (map clean_path_of
+    (map (name_at l.log.paths) (drop l.number-index l.numbers)))
     ≡ fold with_new_input l.fn.joining (map clean_path_of (map (name_at l.log.paths) l.numbers))

@@ -11,7 +11,15 @@ end_edge-requires c =
     let paths = inputs_logged c.args.log.now (get_or c.args.numbers.now c.numbers.number-index None) in
     let same = after-edge paths c.numbers.joining c.add_logged.new.joining c.in_ok-add_logged.ensures in
     let stated = after-stated paths c.numbers.joining c.add_logged.new.joining c.in_ok-add_logged.ensures in
-    omega (arith, same, stated, c.numbers.invariant.edge, c.numbers.invariant.stated, c.requires.count, c.numbers-test.true)
+    omega (
+      arith,
+      same,
+      stated,
+      c.numbers.invariant.edge,
+      c.numbers.invariant.stated,
+      c.requires.count,
+      c.numbers-test.true,
+    )
 
 pub numbers-preserved : goal.numbers-preserved
 numbers-preserved c =
@@ -20,9 +28,15 @@ numbers-preserved c =
     let i = c.numbers.number-index in
     let number = get_or numbers i None in
     let paths = inputs_logged log number in
-    let here = slice_get-map (inputs_logged log) numbers i ∙ ap (option_map (inputs_logged log)) (slice_get-get_or numbers i None c.numbers-test.true) in
+    let here = slice_get-map (inputs_logged log) numbers i
+    ∙ ap (option_map (inputs_logged log)) (slice_get-get_or numbers i None c.numbers-test.true) in
     record {
-      joins = one-more (inputs_by_numbers log numbers) i paths c.numbers.joining c.end_edge.new.self here (c.end_edge.ensures ∙ ap at_next_edge c.in_ok-add_logged.ensures) ∙ c.numbers.invariant.joins;
-      edge = ap (λ (t : InputTable). t.edge) c.end_edge.ensures ∙ ap (λ n. n + 1) (after-edge paths c.numbers.joining c.add_logged.new.joining c.in_ok-add_logged.ensures ∙ c.numbers.invariant.edge);
-      stated = ap (λ (t : InputTable). length t.table.stated) c.end_edge.ensures ∙ after-stated paths c.numbers.joining c.add_logged.new.joining c.in_ok-add_logged.ensures ∙ c.numbers.invariant.stated;
+      joins = one-more (inputs_by_numbers log numbers) i paths c.numbers.joining c.end_edge.new.self here
+          (c.end_edge.ensures ∙ ap at_next_edge c.in_ok-add_logged.ensures) ∙ c.numbers.invariant.joins;
+      edge = ap (λ (t : InputTable). t.edge) c.end_edge.ensures
+          ∙ ap (λ n. n + 1) (after-edge paths c.numbers.joining c.add_logged.new.joining
+          c.in_ok-add_logged.ensures ∙ c.numbers.invariant.edge);
+      stated = ap (λ (t : InputTable). length t.table.stated) c.end_edge.ensures
+          ∙ after-stated paths c.numbers.joining c.add_logged.new.joining c.in_ok-add_logged.ensures
+          ∙ c.numbers.invariant.stated;
     }

@@ -6,7 +6,8 @@ use Rattle.nj_graph.proofs.deps_logs.join_edges.Given as goal
 -- the rest has the same result
 abbrev pub invariant-numbers : goal.invariant-numbers
 invariant-numbers l = record {
-  joins : joined_edges (drop l.number-index (inputs_by_numbers l.log l.numbers)) l.joining ≡ joined_edges (inputs_by_numbers l.log l.numbers) l.fn.joining;
+  joins : joined_edges (drop l.number-index (inputs_by_numbers l.log l.numbers)) l.joining
+      ≡ joined_edges (inputs_by_numbers l.log l.numbers) l.fn.joining;
   edge : l.joining.edge ≡ l.number-index;
   stated : length l.joining.table.stated ≡ length l.fn.joining.table.stated;
 }

@@ -7,6 +7,7 @@ use Rattle.nj_graph.proofs.discovered_inputs.add_paths.Given as goal
 -- the rest has the same result
 abbrev pub invariant-numbers : goal.invariant-numbers
 invariant-numbers l = record {
-  joins : fold with_new_input l.joining (map (name_at l.found.names) (drop l.number-index l.numbers)) ≡ fold with_new_input l.fn.joining (map (name_at l.found.names) l.numbers);
+  joins : fold with_new_input l.joining (map (name_at l.found.names) (drop l.number-index l.numbers))
+      ≡ fold with_new_input l.fn.joining (map (name_at l.found.names) l.numbers);
   files : AreFilesOf l.found.names l.joining.table.files l.files;
 }

@@ -13,7 +13,16 @@ end_edge-requires c =
     let paths = map (name_at c.args.found.now.names) c.inputs.result.now in
     let same = after-edge paths c.edges.joining c.add_paths.new.joining c.in_ok-add_paths.ensures.added in
     let stated = after-stated paths c.edges.joining c.add_paths.new.joining c.in_ok-add_paths.ensures.added in
-    omega (arith, same, stated, c.edges.invariant.edge, c.edges.invariant.stated, c.requires.count, c.edge_count-edge-end.ensures, c.edges-test.true)
+    omega (
+      arith,
+      same,
+      stated,
+      c.edges.invariant.edge,
+      c.edges.invariant.stated,
+      c.requires.count,
+      c.edge_count-edge-end.ensures,
+      c.edges-test.true,
+    )
 
 pub edges-preserved : goal.edges-preserved
 edges-preserved c =
@@ -21,13 +30,24 @@ edges-preserved c =
     let edge = c.edges.edge in
     let t = c.edges.joining in
     let paths = paths_found d (found_at d edge) in
-    let added = c.in_ok-add_paths.ensures.added ∙ ap (λ numbers. fold with_new_input t (map (name_at d.names) numbers)) c.inputs.ensures.inputs in
-    let below : edge < length (inputs_found d) = let count = length-map d.edges (paths_found d) in omega (arith, count, c.edge_count-edge-end.ensures, c.edges-test.true) in
+    let added = c.in_ok-add_paths.ensures.added
+    ∙ ap (λ numbers. fold with_new_input t (map (name_at d.names) numbers)) c.inputs.ensures.inputs in
+    let below : edge < length (inputs_found d) = let count = length-map d.edges (paths_found d)
+    in omega (arith, count, c.edge_count-edge-end.ensures, c.edges-test.true) in
     record {
-      joins = one-more (inputs_found d) edge paths t c.end_edge.new.self (found-named d edge below) (c.end_edge.ensures ∙ ap at_next_edge added) ∙ c.edges.invariant.joins;
-      edge = ap (λ (u : InputTable). u.edge) c.end_edge.ensures ∙ ap (λ n. n + 1) (after-edge paths t c.add_paths.new.joining added ∙ c.edges.invariant.edge);
-      stated = ap (λ (u : InputTable). length u.table.stated) c.end_edge.ensures ∙ after-stated paths t c.add_paths.new.joining added ∙ c.edges.invariant.stated;
-      files = subst (λ (u : InputTable). AreFilesOf d.names u.table.files (take c.edges.files.len (c.add_paths.new.files ++ drop (length c.add_paths.new.files) c.edges.files.items))) (sym c.end_edge.ensures)
-          (subst (AreFilesOf d.names c.add_paths.new.joining.table.files) (sym (written-back c.edges.files.len c.add_paths.new.files c.edges.files.items (let now = c.in_ok-add_paths.ensures.files.count in omega (arith, now, c.edges.invariant.files.count))
-          (let now = c.in_ok-add_paths.ensures.files.count in omega (arith, now, c.edges.invariant.files.count)))) c.in_ok-add_paths.ensures.files);
+      joins = one-more (inputs_found d) edge paths t c.end_edge.new.self (found-named d edge below)
+          (c.end_edge.ensures ∙ ap at_next_edge added) ∙ c.edges.invariant.joins;
+      edge = ap (λ (u : InputTable). u.edge) c.end_edge.ensures
+          ∙ ap (λ n. n + 1) (after-edge paths t c.add_paths.new.joining added ∙ c.edges.invariant.edge);
+      stated = ap (λ (u : InputTable). length u.table.stated) c.end_edge.ensures
+          ∙ after-stated paths t c.add_paths.new.joining added ∙ c.edges.invariant.stated;
+      files = subst (λ (u : InputTable). AreFilesOf d.names u.table.files
+          (take c.edges.files.len (c.add_paths.new.files
+          ++ drop (length c.add_paths.new.files) c.edges.files.items))) (sym c.end_edge.ensures)
+          (subst (AreFilesOf d.names c.add_paths.new.joining.table.files)
+          (sym (written-back c.edges.files.len c.add_paths.new.files c.edges.files.items
+          (let now = c.in_ok-add_paths.ensures.files.count
+          in omega (arith, now, c.edges.invariant.files.count))
+          (let now = c.in_ok-add_paths.ensures.files.count
+          in omega (arith, now, c.edges.invariant.files.count)))) c.in_ok-add_paths.ensures.files);
     }

@@ -10,5 +10,6 @@ returns-in-Ok c =
 
 pub returns : goal.returns
 returns c =
-    let bad = name-bad c.args.path.now (λ good. true≢false (sym (c.in-Err.ensures.succeeds (subst IsUtf8 (sym c.in_ok-bytes.ensures.items) good)))) in
+    let bad = name-bad c.args.path.now (λ good. true≢false
+    (sym (c.in-Err.ensures.succeeds (subst IsUtf8 (sym c.in_ok-bytes.ensures.items) good)))) in
     by-fault _ _ c.fault.ensures inl (λ is. inr (bad, is))

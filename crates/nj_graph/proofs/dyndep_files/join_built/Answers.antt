@@ -16,12 +16,14 @@ returns-in_err-join_files g c = λ stated is.
     let after = g.S.FileSource.state c.join_files.new.source in
     let fault = c.in_err-join_files.field-0.0 in
     rw (handed fault c.from_residual-in_err-join_files.result c.from_residual-in_err-join_files.ensures)
-    (joins-stop stated before after c.args.files.now fault (c.in_err-join_files.ensures.joins stated (c.in_ok-joining.ensures stated is)))
+    (joins-stop stated before after c.args.files.now fault
+    (c.in_err-join_files.ensures.joins stated (c.in_ok-joining.ensures stated is)))
 
 pub finish-requires : goal.finish-requires
 finish-requires g c =
     let entries = c.requires.built.0 in
-    (c.in_ok-join_files.ensures.joins entries (c.in_ok-joining.ensures entries c.requires.built.1)).has.none_open
+    (c.in_ok-join_files.ensures.joins entries
+    (c.in_ok-joining.ensures entries c.requires.built.1)).has.none_open
 
 pub returns : goal.returns
 returns g c = λ stated is.
@@ -31,4 +33,5 @@ returns g c = λ stated is.
     let table = c.join_files.new.files in
     let held = c.join_files.new.joining in
     let f = c.in_ok-join_files.ensures.joins stated (c.in_ok-joining.ensures stated is) in
-    joins-built stated before after old table held f c.finish.result (c.finish.ensures stated f.now f.has (none-pending-then stated before after old table held f))
+    joins-built stated before after old table held f c.finish.result
+    (c.finish.ensures stated f.now f.has (none-pending-then stated before after old table held f))

@@ -11,4 +11,5 @@ invariant-files g l =
     × (l.joining.dyndep_files ≡ l.initial.joining.dyndep_files)
     × EachPathOnce l.files
     × ((stated : List ReadStatement) → HasJoined l.initial.joining stated stated
-    → FilesUnderway stated (g.S.FileSource.state l.initial.source) (g.S.FileSource.state l.source) l.initial.files l.files l.joining (drop l.index l.initial.joining.dyndep_files))
+    → FilesUnderway stated (g.S.FileSource.state l.initial.source) (g.S.FileSource.state l.source)
+    l.initial.files l.files l.joining (drop l.index l.initial.joining.dyndep_files))

@@ -13,7 +13,8 @@ invariant-entries l =
     × (slice_get l.joining.table.files l.file.0 ≡ Some l.name)
     × IsPrefix l.initial.joining.table.files l.joining.table.files
     × (l.joining.dyndep_files ≡ l.initial.joining.dyndep_files)
-    × ((stated joined : List ReadStatement) → HasJoined l.initial.joining stated joined → TextUnderway l.name stated l.text joined l.joining version_read lines)
+    × ((stated joined : List ReadStatement) → HasJoined l.initial.joining stated joined
+    → TextUnderway l.name stated l.text joined l.joining version_read lines)
 
 abbrev pub decreases-entries : goal.decreases-entries
 decreases-entries l = lines_to_come l.parser

@@ -8,10 +8,12 @@ use Rattle.nj_graph.proofs.edge_inputs.joined_graph.Goals as goal
 pub finish-requires : goal.finish-requires
 finish-requires g c =
     let inputs = g.N.EdgeInputs.inputs c.args.named.now in
-    (joined-graph inputs c.args.graph c.join.new.joining (c.in_ok-join.ensures ∙ ap (joined_edges inputs) c.in_ok-joining.ensures) c.requires).1
+    (joined-graph inputs c.args.graph c.join.new.joining
+    (c.in_ok-join.ensures ∙ ap (joined_edges inputs) c.in_ok-joining.ensures) c.requires).1
 
 pub returns : goal.returns
 returns g c =
     let inputs = g.N.EdgeInputs.inputs c.args.named.now in
     if_ok c.finish.result c.finish.ensures (λ finished done.
-    finishes inputs c.args.graph c.join.new.joining finished (c.in_ok-join.ensures ∙ ap (joined_edges inputs) c.in_ok-joining.ensures) c.requires done)
+    finishes inputs c.args.graph c.join.new.joining finished
+    (c.in_ok-join.ensures ∙ ap (joined_edges inputs) c.in_ok-joining.ensures) c.requires done)

@@ -14,11 +14,15 @@ pub rules-preserved : goal.rules-preserved
 rules-preserved c =
     elim c.if-scope.branch [
       | then-scope+in_ok-push w ↦
-          ap (λ v. map (slice_get c.args.rules.now) v.items) w.numbers-is ∙ ap (map (slice_get c.args.rules.now)) w.in_ok-push.ensures.items
-          ∙ listed-rule c.args.rules.now c.rules.numbers.items c.rules.number c.index-rules-number.result c.rules-test.true c.index-rules-number.is c.rules.invariant (sym c.scope.ensures ∙ w.if-scope.true)
+          ap (λ v. map (slice_get c.args.rules.now) v.items) w.numbers-is
+          ∙ ap (map (slice_get c.args.rules.now)) w.in_ok-push.ensures.items
+          ∙ listed-rule c.args.rules.now c.rules.numbers.items c.rules.number c.index-rules-number.result
+          c.rules-test.true c.index-rules-number.is c.rules.invariant (sym c.scope.ensures ∙ w.if-scope.true)
       | else-scope w ↦
           ap (λ v. map (slice_get c.args.rules.now) v.items) w.numbers-is
-          ∙ passed-rule c.args.rules.now c.rules.numbers.items c.rules.number c.index-rules-number.result c.rules-test.true c.index-rules-number.is c.rules.invariant (λ h. w.if-scope.false (c.scope.ensures ∙ h))
+          ∙ passed-rule c.args.rules.now c.rules.numbers.items c.rules.number c.index-rules-number.result
+          c.rules-test.true c.index-rules-number.is c.rules.invariant
+          (λ h. w.if-scope.false (c.scope.ensures ∙ h))
     ]
 
 pub returns : goal.returns
@@ -26,6 +30,11 @@ returns c =
     let all : c.rules.number ≡ length c.args.rules.now = omega arith in
     let every = ranks_by nat_list_cmp_total (rule_name c.args.rules.now) in
     sorted-held c.args.rules.now c.rules.numbers.items c.sort_by.new.self.items
-    (c.rules.invariant ∙ ap (λ n. map (λ r. Some r) (rules_in (take n c.args.rules.now) 0)) all ∙ ap (λ rs. map (λ r. Some r) (rules_in rs 0)) (take-length c.args.rules.now))
-    (c.in_ok-sort_by.ensures.sorted (comes_before c.args.rules.now) every (answers_by _ _ (λ f. f.0.now ≡ c.args.rules.now) (λ f a r g h same. (search rules, search rules)) _ refl))
-    (c.in_ok-sort_by.ensures.stable (comes_before c.args.rules.now) every (answers_by _ _ (λ f. f.0.now ≡ c.args.rules.now) (λ f a r g h same. (search rules, search rules)) _ refl))
+    (c.rules.invariant ∙ ap (λ n. map (λ r. Some r) (rules_in (take n c.args.rules.now) 0)) all
+    ∙ ap (λ rs. map (λ r. Some r) (rules_in rs 0)) (take-length c.args.rules.now))
+    (c.in_ok-sort_by.ensures.sorted (comes_before c.args.rules.now) every
+    (answers_by _ _ (λ f. f.0.now ≡ c.args.rules.now) (λ f a r g h same. (search rules, search rules)) _
+    refl))
+    (c.in_ok-sort_by.ensures.stable (comes_before c.args.rules.now) every
+    (answers_by _ _ (λ f. f.0.now ≡ c.args.rules.now) (λ f a r g h same. (search rules, search rules)) _
+    refl))

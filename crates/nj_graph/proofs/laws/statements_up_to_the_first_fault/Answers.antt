@@ -1,4 +1,5 @@
-use Rattle.nj_graph.proofs.ReadingLaws.{read_is_faultless, open_files_are_bounded, openings_are_bounded, main_rules_rise}
+use Rattle.nj_graph.proofs.ReadingLaws.{read_is_faultless, open_files_are_bounded, openings_are_bounded}
+use Rattle.nj_graph.proofs.ReadingLaws.{main_rules_rise}
 use Rattle.nj_graph.proofs.OtherFiles.{others_are_not_read}
 use Rattle.nj_graph.proofs.laws.statements_up_to_the_first_fault.Goals as goal
 

@@ -19,16 +19,23 @@ returns-in_err-read_main-clause-loads g c =
     let reported = g.S.FileSource.state c.args.source.now in
     let after = g.S.FileSource.state c.read_main.new.source in
     let fault = c.in_err-read_main.field-0.0 in
-    let s = subst (λ fs. StopsAt c.args.main.now reported after fs (λ all. main_read all c.args.main.now) fault) c.in_ok-reader.ensures.files c.in_err-read_main.ensures.reads in
-    rw (handed fault c.from_residual-in_err-read_main.result c.from_residual-in_err-read_main.ensures) (loads c.args.main.now reported after (Err fault) (s.files, s.reads, inl s.stops))
+    let s = subst (λ fs. StopsAt c.args.main.now reported after fs (λ all. main_read all c.args.main.now)
+    fault) c.in_ok-reader.ensures.files c.in_err-read_main.ensures.reads in
+    rw (handed fault c.from_residual-in_err-read_main.result c.from_residual-in_err-read_main.ensures)
+    (loads c.args.main.now reported after (Err fault) (s.files, s.reads, inl s.stops))
 
 pub finish-requires-clause-outermost : goal.finish-requires-clause-outermost
 finish-requires-clause-outermost g c = c.in_ok-read_main.ensures.outermost
 
 pub finish-requires-clause-read : goal.finish-requires-clause-read
 finish-requires-clause-read g c =
-    let reads = c.in_ok-read_main.ensures.reads in
-    (c.args.main.now, reads.entries, reads.has, was-faultless c.args.main.now (g.S.FileSource.state c.args.source.now) (g.S.FileSource.state c.read_main.new.source) c.in_ok-reader.reader c.read_main.new.self reads)
+    let reads = c.in_ok-read_main.ensures.reads in (
+      c.args.main.now,
+      reads.entries,
+      reads.has,
+      was-faultless c.args.main.now (g.S.FileSource.state c.args.source.now)
+          (g.S.FileSource.state c.read_main.new.source) c.in_ok-reader.reader c.read_main.new.self reads,
+    )
 
 pub returns-clause-loads : goal.returns-clause-loads
 returns-clause-loads g c =
@@ -38,7 +45,8 @@ returns-clause-loads g c =
     let after = g.S.FileSource.state c.read_main.new.source in
     let old = c.in_ok-reader.reader in
     let held = c.read_main.new.self in
-    finished-loads main before after old held reads c.finish.result c.in_ok-reader.ensures.files (c.finish.ensures main reads.entries reads.has (was-faultless main before after old held reads))
+    finished-loads main before after old held reads c.finish.result c.in_ok-reader.ensures.files
+    (c.finish.ensures main reads.entries reads.has (was-faultless main before after old held reads))
 
 pub returns-clause-main : goal.returns-clause-main
 returns-clause-main g c =
@@ -46,4 +54,5 @@ returns-clause-main g c =
     let main = c.args.main.now in
     let held = c.read_main.new.self in
     finished-main main held reads.entries c.finish.result (c.finish.ensures main reads.entries reads.has
-    (was-faultless main (g.S.FileSource.state c.args.source.now) (g.S.FileSource.state c.read_main.new.source) c.in_ok-reader.reader held reads))
+    (was-faultless main (g.S.FileSource.state c.args.source.now) (g.S.FileSource.state c.read_main.new.source)
+    c.in_ok-reader.reader held reads))

@@ -15,9 +15,12 @@ paths-preserved c =
     let next = c.made_file.result in
     let path = ap (λ o. unwrap_or o []) (sym c.path.ensures) in
     record {
-      count = ap length c.in_ok-push.ensures.items ∙ length_push made next ∙ ap (λ n. n + 1) c.paths.invariant.count;
+      count = ap length c.in_ok-push.ensures.items ∙ length_push made next
+          ∙ ap (λ n. n + 1) c.paths.invariant.count;
       made = subst (AreMade g paths) (sym c.in_ok-push.ensures.items)
           (made-push g paths made next c.paths.number c.paths.invariant.made c.paths.invariant.count
-          (subst (λ p. MadeIs g p next) (c.in_ok-path.ensures ∙ ap clean_path_of path) c.made_file.ensures.made));
-      known = subst (All (IsKnownIfAny g)) (sym c.in_ok-push.ensures.items) (All-push (IsKnownIfAny g) made next c.paths.invariant.known c.made_file.ensures.known);
+          (subst (λ p. MadeIs g p next) (c.in_ok-path.ensures ∙ ap clean_path_of path)
+          c.made_file.ensures.made));
+      known = subst (All (IsKnownIfAny g)) (sym c.in_ok-push.ensures.items)
+          (All-push (IsKnownIfAny g) made next c.paths.invariant.known c.made_file.ensures.known);
     }

@@ -17,10 +17,12 @@ returns c =
     let users = rw c.deref.ensures at c.users.ensures.users in
     let made = rw c.deref-2.ensures at c.outputs.ensures.files in
     let user : slice_get (users_of edges (path_at files c.args.file)) 0 ≡ Some edge.0 =
-    ap (λ ns. slice_get ns 0) (sym users) ∙ slice_get-map (λ e. e.0) c.users.result.now 0 ∙ ap (option_map (λ e. e.0)) (sym c.in_ok-edge.ensures.value)
+    ap (λ ns. slice_get ns 0) (sym users) ∙ slice_get-map (λ e. e.0) c.users.result.now 0
+    ∙ ap (option_map (λ e. e.0)) (sym c.in_ok-edge.ensures.value)
     in
     ap (option_map at) (c.copied.ensures ∙ c.first-2.ensures.value)
     ∙ sym (slice_get-map at c.outputs.result.now 0)
     ∙ ap (λ xs. slice_get xs 0) made
     ∙ slice_get-map (λ path. Some path) outputs 0
-    ∙ sym (ap (λ o. option_map (λ path. Some path) (option_and_then (λ number. first_output (edge_at edges number)) o)) user)
+    ∙ sym (ap (λ o. option_map (λ path. Some path)
+    (option_and_then (λ number. first_output (edge_at edges number)) o)) user)

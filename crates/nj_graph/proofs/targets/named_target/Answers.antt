@@ -11,5 +11,6 @@ returns-in-Some c =
     let path = c.args.path.now in
     let named = rw c.deref.ensures at c.in-Some.ensures.named in
     let index = rw c.deref.ensures at c.in-Some.ensures.index in
-    let is : target (edges_of c.args.graph.now) path ≡ Ok path = ap (λ b. if b then Ok path else Err (unplaced (UnknownTarget path))) (sym named) in
+    let is : target (edges_of c.args.graph.now) path ≡ Ok path =
+    ap (λ b. if b then Ok path else Err (unplaced (UnknownTarget path))) (sym named) in
     (path, is, found-at path (files_of c.args.graph.now) c.in-Some.file.0 (sym index))

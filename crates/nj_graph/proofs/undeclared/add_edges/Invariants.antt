@@ -9,6 +9,7 @@ abbrev pub invariant-edges : goal.invariant-edges
 invariant-edges l = record {
   found : IsFound l.graph l.found;
   undeclared : AreThose (IsUndeclared l.graph.edges)
-      (flat_map (λ edge. inputs_of_edge edge (paths_of_output l.log (slice_index_or l.numbers edge None))) (range_with_len 0 l.edge))
+      (flat_map (λ edge. inputs_of_edge edge (paths_of_output l.log (slice_index_or l.numbers edge None)))
+      (range_with_len 0 l.edge))
       (map (input_of_edge l.graph.files) l.found.inputs.items);
 }

@@ -7,7 +7,8 @@ abbrev pub invariant-bytes : goal.invariant-bytes
 invariant-bytes l = record {
   before : List ℕ;
   may_begin : l.may_begin ≡ may_begin before;
-  written : l.out.items ++ mapped_after (paths l.folders) before l.left l.rest ≡ l.fn.out.items ++ mapped (paths l.folders) l.text;
+  written : l.out.items ++ mapped_after (paths l.folders) before l.left l.rest
+      ≡ l.fn.out.items ++ mapped (paths l.folders) l.text;
 }
 
 abbrev pub decreases-bytes : goal.decreases-bytes

@@ -14,11 +14,14 @@ inputs-preserved c =
     let numbers = c.inputs-input-items.result.now in
     let i = c.inputs.index in
     let path = c.path.result.now in
-    input-next c.args.bases.now edges (kept_key c.args.keys.now) (edge_at edges c.args.edge.0) files numbers i (record { 0 = 0 })
-    c.inputs.text.items c.push_field.new.text.items c.push_mapped.new.text.items c.push_field-in-inputs.new.text.items
+    input-next c.args.bases.now edges (kept_key c.args.keys.now) (edge_at edges c.args.edge.0) files numbers i
+    (record { 0 = 0 })
+    c.inputs.text.items c.push_field.new.text.items c.push_mapped.new.text.items
+    c.push_field-in-inputs.new.text.items
     c.bars.result.now path c.maker_key.result.now (omega arith)
     (c.bars.ensures ∙ ap bars (rw c.deref-in-inputs.ensures at c.input_kind.ensures))
-    (path-is files (get_or numbers i (record { 0 = 0 })) path (rw c.deref-in-inputs-2.ensures at c.path.ensures)) c.maker_key.ensures
+    (path-is files (get_or numbers i (record { 0 = 0 })) path
+    (rw c.deref-in-inputs-2.ensures at c.path.ensures)) c.maker_key.ensures
     c.in_ok-push_field.ensures c.in_ok-push_mapped.ensures c.in_ok-push_field-2.ensures
     ∙ c.inputs.invariant
 
@@ -35,4 +38,5 @@ returns c =
     ∙ ap (λ ns. text ++ texts_from c.args.bases.now edges (kept_key c.args.keys.now) e files i ns) (sym none)
     ∙ c.inputs.invariant
     ∙ ap (λ t. c.args.text.now.items ++ t)
-    (texts-all c.args.bases.now edges (kept_key c.args.keys.now) e files numbers (rw c.deref.ensures at c.inputs-input-items.ensures.files))
+    (texts-all c.args.bases.now edges (kept_key c.args.keys.now) e files numbers
+    (rw c.deref.ensures at c.inputs-input-items.ensures.files))

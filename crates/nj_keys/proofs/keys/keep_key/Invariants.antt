@@ -11,7 +11,8 @@ invariant-open l = record {
   frames : AreOpen (edges_of l.graph) l.keys rank 0 (reverse l.open.items);
   began : BeganWith l.keys l.fn.edge.0 (reverse l.open.items);
   keys : (entries : List ReadStatement) → IsGraphOf l.graph entries
-      → KeepsKeys l.bases (edges_of l.graph) entries l.fn.keys → KeepsKeys l.bases (edges_of l.graph) entries l.keys;
+      → KeepsKeys l.bases (edges_of l.graph) entries l.fn.keys
+      → KeepsKeys l.bases (edges_of l.graph) entries l.keys;
 }
 
 abbrev pub decreases-open : goal.decreases-open

@@ -9,4 +9,5 @@ pub returns : goal.returns
 returns c entries graph kept =
     let edges = edges_of c.args.graph.now in
     let is = c.digest.ensures ∙ ap sha256 (c.as_slice.ensures.value ∙ c.in_ok-fields.ensures entries graph) in
-    subst (IsKey c.args.bases.now edges entries c.args.edge.0) (sym is) (kept-digest edges c.args.keys.now c.args.edge.0 c.args.bases.now entries c.requires.makers kept)
+    subst (IsKey c.args.bases.now edges entries c.args.edge.0) (sym is)
+    (kept-digest edges c.args.keys.now c.args.edge.0 c.args.bases.now entries c.requires.makers kept)

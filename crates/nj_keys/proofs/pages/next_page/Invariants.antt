@@ -10,8 +10,10 @@ abbrev pub invariant-commands : goal.invariant-commands
 invariant-commands l = record {
   numbers : List ℕ;
   page : HasSoFar l.fn.needs l.fn.take numbers l.needs l.room;
-  keys : (entries : List ReadStatement) → IsGraphOf l.graph entries → KeepsKeys l.bases (edges_of l.graph) entries l.keys;
-  lines : (entries : List ReadStatement) → IsGraphOf l.graph entries → ListsKeys l.bases (edges_of l.graph) entries numbers l.lines.items;
+  keys : (entries : List ReadStatement) → IsGraphOf l.graph entries
+      → KeepsKeys l.bases (edges_of l.graph) entries l.keys;
+  lines : (entries : List ReadStatement) → IsGraphOf l.graph entries
+      → ListsKeys l.bases (edges_of l.graph) entries numbers l.lines.items;
 }
 
 abbrev pub decreases-commands : goal.decreases-commands

@@ -15,4 +15,6 @@ returns-clause-lines c entries graph =
     ∙ ap (λ files. rest_of c.args.graph.now.built.graph files needs.mark) begins.targets
     ∙ ap (rest_of c.args.graph.now.built.graph c.args.targets.now) begins.mark
     in
-    subst (λ numbers. ListsKeys c.args.bases.now (edges_of c.args.graph.now) entries (written c.args.take numbers) c.in_ok-page.page.lines.items) left (c.in_ok-page.ensures.lines entries graph)
+    subst (λ numbers. ListsKeys c.args.bases.now (edges_of c.args.graph.now) entries
+    (written c.args.take numbers) c.in_ok-page.page.lines.items) left
+    (c.in_ok-page.ensures.lines entries graph)

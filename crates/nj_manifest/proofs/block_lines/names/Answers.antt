@@ -9,6 +9,8 @@ use Rattle.nj_manifest.proofs.block_lines.names.Goals as goal
 
 pub returns : goal.returns
 returns c =
-    let e : c.any.result ≡ list_any (λ (line : Line). bytes_eq line.name.now c.args.key.now) c.args.lines.now =
-    any_from_yields_List (λ (line : Line). bytes_eq line.name.now c.args.key.now) _ _ c.any.result c.any.ensures.ran (YieldsList-from_slice c.args.lines.now cc) (λ x b q k. search (rules, tests)) in
+    let e : c.any.result ≡ list_any (λ (line : Line). bytes_eq line.name.now c.args.key.now)
+    c.args.lines.now =
+    any_from_yields_List (λ (line : Line). bytes_eq line.name.now c.args.key.now) _ _ c.any.result
+    c.any.ensures.ran (YieldsList-from_slice c.args.lines.now cc) (λ x b q k. search (rules, tests)) in
     e ∙ sym (names-lines c.args.key.now c.args.lines.now)

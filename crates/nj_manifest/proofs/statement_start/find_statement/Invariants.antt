@@ -6,7 +6,8 @@ use Rattle.nj_manifest.proofs.Starts.{lines_ahead}
 use Rattle.nj_manifest.proofs.statement_start.find_statement.Given as goal
 
 abbrev pub invariant-lines : goal.invariant-lines
-invariant-lines l = IsBetweenStatements l.lexer × (opening (lines_from l.lexer) ≡ opening (lines_from l.fn.lexer))
+invariant-lines l = IsBetweenStatements l.lexer
+    × (opening (lines_from l.lexer) ≡ opening (lines_from l.fn.lexer))
 
 abbrev pub decreases-lines : goal.decreases-lines
 decreases-lines l = lines_ahead l.lexer

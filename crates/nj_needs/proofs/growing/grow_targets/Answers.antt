@@ -1,9 +1,11 @@
-use Rattle.std.proofs.Common.{◌≡◌, ℕ, Bool, true, false, Some, None, List, [], length, get_or, refl, sym, ap, subst, ◌∙◌, arith}
+use Rattle.std.proofs.Common.{◌≡◌, ℕ, Bool, true, false, Some, None, List, [], length, get_or, refl, sym, ap}
+use Rattle.std.proofs.Common.{subst, ◌∙◌, arith}
 use Rattle.std.specs.Prelude.{slice_get}
 use Rattle.std.proofs.lemmas.List.{append-nil, nil_from_length}
 use Rattle.nj_needs.specs.Inside.Standing.{top_of}
 use Rattle.nj_needs.specs.Inside.Tops.{IsTop}
-use Rattle.nj_needs.proofs.GrowingSteps.{comes, below, top-edge, len-flags, pass, pass-less, opened, open-less, ended, close-below, closed, close-less}
+use Rattle.nj_needs.proofs.GrowingSteps.{comes, below, top-edge, len-flags, pass, pass-less, opened}
+use Rattle.nj_needs.proofs.GrowingSteps.{open-less, ended, close-below, closed, close-less}
 use Rattle.nj_needs.proofs.growing.grow_targets.Goals as goal
 
 pub look_at-found-requires-clause-edge_in : goal.look_at-found-requires-clause-edge_in
@@ -12,7 +14,8 @@ look_at-found-requires-clause-edge_in c =
     let ts = c.args.targets.now in
     let acyclic = c.edge_count.ensures.acyclic in
     let w = c.turns in
-    let top : IsTop w.path.items c.top_edge.result = subst (λ p. IsTop p c.top_edge.result) c.deref-in-turns.ensures.value c.top_edge.ensures in
+    let top : IsTop w.path.items c.top_edge.result =
+    subst (λ p. IsTop p c.top_edge.result) c.deref-in-turns.ensures.value c.top_edge.ensures in
     top-edge g ts acyclic w.files.items w.path.items w.place w.flags.items w.invariant c.top_edge.result top
 
 pub returns-in_default-pop-clause-grown : goal.returns-in_default-pop-clause-grown
@@ -22,10 +25,13 @@ returns-in_default-pop-clause-grown c =
     let acyclic = c.edge_count.ensures.acyclic in
     let w = c.turns in
     let past : slice_get (top_of g w.files.items w.path.items) w.place ≡ None =
-    comes g g c.deref.result.now w.files.items c.deref-in-turns.result.now w.path.items c.top_edge.result (None) w.place refl c.deref.ensures.value
+    comes g g c.deref.result.now w.files.items c.deref-in-turns.result.now w.path.items c.top_edge.result
+    (None) w.place refl c.deref.ensures.value
     c.deref-in-turns.ensures.value c.top_edge.ensures c.in_default.ensures.found in
-    let same : w.path.items ≡ c.pop.new.self.items = c.in_default-pop.ensures.items ∙ append-nil c.pop.new.self.items in
-    let empty : w.path.items ≡ [] = same ∙ nil_from_length c.pop.new.self.items (omega (arith, c.in_default-pop.ensures.cases)) in
+    let same : w.path.items ≡ c.pop.new.self.items =
+    c.in_default-pop.ensures.items ∙ append-nil c.pop.new.self.items in
+    let empty : w.path.items ≡ [] = same ∙ nil_from_length c.pop.new.self.items
+    (omega (arith, c.in_default-pop.ensures.cases)) in
     ended g ts acyclic w.files.items w.path.items w.place w.flags.items w.invariant empty past
 
 pub index_mut-requires : goal.index_mut-requires
@@ -35,9 +41,15 @@ index_mut-requires c =
     let acyclic = c.edge_count.ensures.acyclic in
     let w = c.turns in
     let past : slice_get (top_of g w.files.items w.path.items) w.place ≡ None =
-    comes g g c.deref.result.now w.files.items c.deref-in-turns.result.now w.path.items c.top_edge.result (None) w.place refl c.deref.ensures.value
+    comes g g c.deref.result.now w.files.items c.deref-in-turns.result.now w.path.items c.top_edge.result
+    (None) w.place refl c.deref.ensures.value
     c.deref-in-turns.ensures.value c.top_edge.ensures c.in_default.ensures.found in
-    omega (arith, close-below g ts acyclic w.files.items w.path.items w.place w.flags.items w.invariant c.in-Some-pop.frame c.pop.new.self.items c.in-Some-pop.ensures.items past, len-flags g ts acyclic w.files.items w.path.items w.place w.flags.items w.invariant)
+    omega (
+      arith,
+      close-below g ts acyclic w.files.items w.path.items w.place w.flags.items w.invariant
+          c.in-Some-pop.frame c.pop.new.self.items c.in-Some-pop.ensures.items past,
+      len-flags g ts acyclic w.files.items w.path.items w.place w.flags.items w.invariant,
+    )
 
 pub add_validations-requires : goal.add_validations-requires
 add_validations-requires c =
@@ -46,9 +58,11 @@ add_validations-requires c =
     let acyclic = c.edge_count.ensures.acyclic in
     let w = c.turns in
     let past : slice_get (top_of g w.files.items w.path.items) w.place ≡ None =
-    comes g g c.deref.result.now w.files.items c.deref-in-turns.result.now w.path.items c.top_edge.result (None) w.place refl c.deref.ensures.value
+    comes g g c.deref.result.now w.files.items c.deref-in-turns.result.now w.path.items c.top_edge.result
+    (None) w.place refl c.deref.ensures.value
     c.deref-in-turns.ensures.value c.top_edge.ensures c.in_default.ensures.found in
-    close-below g ts acyclic w.files.items w.path.items w.place w.flags.items w.invariant c.in-Some-pop.frame c.pop.new.self.items c.in-Some-pop.ensures.items past
+    close-below g ts acyclic w.files.items w.path.items w.place w.flags.items w.invariant c.in-Some-pop.frame
+    c.pop.new.self.items c.in-Some-pop.ensures.items past
 
 pub turns-smaller-in_default : goal.turns-smaller-in_default
 turns-smaller-in_default c =
@@ -57,9 +71,11 @@ turns-smaller-in_default c =
     let acyclic = c.edge_count.ensures.acyclic in
     let w = c.turns in
     let past : slice_get (top_of g w.files.items w.path.items) w.place ≡ None =
-    comes g g c.deref.result.now w.files.items c.deref-in-turns.result.now w.path.items c.top_edge.result (None) w.place refl c.deref.ensures.value
+    comes g g c.deref.result.now w.files.items c.deref-in-turns.result.now w.path.items c.top_edge.result
+    (None) w.place refl c.deref.ensures.value
     c.deref-in-turns.ensures.value c.top_edge.ensures c.in_default.ensures.found in
-    close-less g ts acyclic w.files.items w.path.items w.place w.flags.items w.invariant c.in-Some-pop.frame c.pop.new.self.items c.in-Some-pop.ensures.items past
+    close-less g ts acyclic w.files.items w.path.items w.place w.flags.items w.invariant c.in-Some-pop.frame
+    c.pop.new.self.items c.in-Some-pop.ensures.items past
 
 pub turns-preserved-in_default : goal.turns-preserved-in_default
 turns-preserved-in_default c =
@@ -68,9 +84,12 @@ turns-preserved-in_default c =
     let acyclic = c.edge_count.ensures.acyclic in
     let w = c.turns in
     let past : slice_get (top_of g w.files.items w.path.items) w.place ≡ None =
-    comes g g c.deref.result.now w.files.items c.deref-in-turns.result.now w.path.items c.top_edge.result (None) w.place refl c.deref.ensures.value
+    comes g g c.deref.result.now w.files.items c.deref-in-turns.result.now w.path.items c.top_edge.result
+    (None) w.place refl c.deref.ensures.value
     c.deref-in-turns.ensures.value c.top_edge.ensures c.in_default.ensures.found in
-    rw c.in_ok-add_validations.ensures.1 (closed g ts acyclic w.files.items w.path.items w.place w.flags.items w.invariant c.in-Some-pop.frame c.pop.new.self.items c.in-Some-pop.ensures.items past c.in_ok-add_validations.ensures.0 c.in_ok-add_validations.ensures.2)
+    rw c.in_ok-add_validations.ensures.1 (closed g ts acyclic w.files.items w.path.items w.place w.flags.items
+    w.invariant c.in-Some-pop.frame c.pop.new.self.items c.in-Some-pop.ensures.items past
+    c.in_ok-add_validations.ensures.0 c.in_ok-add_validations.ensures.2)
 
 pub undone-requires : goal.undone-requires
 undone-requires c =
@@ -79,11 +98,18 @@ undone-requires c =
     let acyclic = c.edge_count.ensures.acyclic in
     let w = c.turns in
     let at : slice_get (top_of g w.files.items w.path.items) w.place ≡ Some c.in-Some.maker =
-    comes g g c.deref.result.now w.files.items c.deref-in-turns.result.now w.path.items c.top_edge.result (Some c.in-Some.maker) w.place refl c.deref.ensures.value
+    comes g g c.deref.result.now w.files.items c.deref-in-turns.result.now w.path.items c.top_edge.result
+    (Some c.in-Some.maker) w.place refl c.deref.ensures.value
     c.deref-in-turns.ensures.value c.top_edge.ensures c.in-Some.ensures.found in
     λ x is.
-    let low = below g ts acyclic w.files.items w.path.items w.place w.flags.items w.invariant x (at ∙ ap Some is) in
-    omega (arith, low, len-flags g ts acyclic w.files.items w.path.items w.place w.flags.items w.invariant, ap length c.deref-in-turns-2.ensures.value)
+    let low = below g ts acyclic w.files.items w.path.items w.place w.flags.items w.invariant x
+    (at ∙ ap Some is) in
+    omega (
+      arith,
+      low,
+      len-flags g ts acyclic w.files.items w.path.items w.place w.flags.items w.invariant,
+      ap length c.deref-in-turns-2.ensures.value,
+    )
 
 pub turns-smaller-in-Some-undone : goal.turns-smaller-in-Some-undone
 turns-smaller-in-Some-undone c =
@@ -92,12 +118,15 @@ turns-smaller-in-Some-undone c =
     let acyclic = c.edge_count.ensures.acyclic in
     let w = c.turns in
     let at : slice_get (top_of g w.files.items w.path.items) w.place ≡ Some c.in-Some.maker =
-    comes g g c.deref.result.now w.files.items c.deref-in-turns.result.now w.path.items c.top_edge.result (Some c.in-Some.maker) w.place refl c.deref.ensures.value
+    comes g g c.deref.result.now w.files.items c.deref-in-turns.result.now w.path.items c.top_edge.result
+    (Some c.in-Some.maker) w.place refl c.deref.ensures.value
     c.deref-in-turns.ensures.value c.top_edge.ensures c.in-Some.ensures.found in
     let e = c.in-Some-undone.edge in
     let left = c.in-Some-undone.ensures.left in
-    let fresh : get_or w.flags.items e false ≡ false = ap (λ (fs : List Bool). get_or fs e false) (sym c.deref-in-turns-2.ensures.value) ∙ left.1 in
-    open-less g ts acyclic w.files.items w.path.items w.place w.flags.items w.invariant _ c.push.new.self.items c.in_ok-push-in-Some-undone.ensures.items refl (at ∙ ap Some left.0) fresh
+    let fresh : get_or w.flags.items e false ≡ false =
+    ap (λ (fs : List Bool). get_or fs e false) (sym c.deref-in-turns-2.ensures.value) ∙ left.1 in
+    open-less g ts acyclic w.files.items w.path.items w.place w.flags.items w.invariant _
+    c.push.new.self.items c.in_ok-push-in-Some-undone.ensures.items refl (at ∙ ap Some left.0) fresh
 
 pub turns-preserved-in-Some-undone : goal.turns-preserved-in-Some-undone
 turns-preserved-in-Some-undone c =
@@ -106,12 +135,15 @@ turns-preserved-in-Some-undone c =
     let acyclic = c.edge_count.ensures.acyclic in
     let w = c.turns in
     let at : slice_get (top_of g w.files.items w.path.items) w.place ≡ Some c.in-Some.maker =
-    comes g g c.deref.result.now w.files.items c.deref-in-turns.result.now w.path.items c.top_edge.result (Some c.in-Some.maker) w.place refl c.deref.ensures.value
+    comes g g c.deref.result.now w.files.items c.deref-in-turns.result.now w.path.items c.top_edge.result
+    (Some c.in-Some.maker) w.place refl c.deref.ensures.value
     c.deref-in-turns.ensures.value c.top_edge.ensures c.in-Some.ensures.found in
     let e = c.in-Some-undone.edge in
     let left = c.in-Some-undone.ensures.left in
-    let fresh : get_or w.flags.items e false ≡ false = ap (λ (fs : List Bool). get_or fs e false) (sym c.deref-in-turns-2.ensures.value) ∙ left.1 in
-    opened g ts acyclic w.files.items w.path.items w.place w.flags.items w.invariant _ c.push.new.self.items c.in_ok-push-in-Some-undone.ensures.items refl (at ∙ ap Some left.0) fresh
+    let fresh : get_or w.flags.items e false ≡ false =
+    ap (λ (fs : List Bool). get_or fs e false) (sym c.deref-in-turns-2.ensures.value) ∙ left.1 in
+    opened g ts acyclic w.files.items w.path.items w.place w.flags.items w.invariant _ c.push.new.self.items
+    c.in_ok-push-in-Some-undone.ensures.items refl (at ∙ ap Some left.0) fresh
 
 pub turns-smaller : goal.turns-smaller
 turns-smaller c =
@@ -120,11 +152,14 @@ turns-smaller c =
     let acyclic = c.edge_count.ensures.acyclic in
     let w = c.turns in
     let at : slice_get (top_of g w.files.items w.path.items) w.place ≡ Some c.in-Some.maker =
-    comes g g c.deref.result.now w.files.items c.deref-in-turns.result.now w.path.items c.top_edge.result (Some c.in-Some.maker) w.place refl c.deref.ensures.value
+    comes g g c.deref.result.now w.files.items c.deref-in-turns.result.now w.path.items c.top_edge.result
+    (Some c.in-Some.maker) w.place refl c.deref.ensures.value
     c.deref-in-turns.ensures.value c.top_edge.ensures c.in-Some.ensures.found in
     let flagged : (m : ℕ) → c.in-Some.maker ≡ Some m → get_or w.flags.items m false ≡ true =
-    λ m is. ap (λ (fs : List Bool). get_or fs m false) (sym c.deref-in-turns-2.ensures.value) ∙ c.in-None.ensures.done m is in
-    pass-less g ts acyclic w.files.items w.path.items w.place w.flags.items w.invariant c.in-Some.maker at flagged
+    λ m is. ap (λ (fs : List Bool). get_or fs m false) (sym c.deref-in-turns-2.ensures.value)
+    ∙ c.in-None.ensures.done m is in
+    pass-less g ts acyclic w.files.items w.path.items w.place w.flags.items w.invariant c.in-Some.maker at
+    flagged
 
 pub turns-preserved : goal.turns-preserved
 turns-preserved c =
@@ -133,8 +168,10 @@ turns-preserved c =
     let acyclic = c.edge_count.ensures.acyclic in
     let w = c.turns in
     let at : slice_get (top_of g w.files.items w.path.items) w.place ≡ Some c.in-Some.maker =
-    comes g g c.deref.result.now w.files.items c.deref-in-turns.result.now w.path.items c.top_edge.result (Some c.in-Some.maker) w.place refl c.deref.ensures.value
+    comes g g c.deref.result.now w.files.items c.deref-in-turns.result.now w.path.items c.top_edge.result
+    (Some c.in-Some.maker) w.place refl c.deref.ensures.value
     c.deref-in-turns.ensures.value c.top_edge.ensures c.in-Some.ensures.found in
     let flagged : (m : ℕ) → c.in-Some.maker ≡ Some m → get_or w.flags.items m false ≡ true =
-    λ m is. ap (λ (fs : List Bool). get_or fs m false) (sym c.deref-in-turns-2.ensures.value) ∙ c.in-None.ensures.done m is in
+    λ m is. ap (λ (fs : List Bool). get_or fs m false) (sym c.deref-in-turns-2.ensures.value)
+    ∙ c.in-None.ensures.done m is in
     pass g ts acyclic w.files.items w.path.items w.place w.flags.items w.invariant c.in-Some.maker at flagged

@@ -13,4 +13,5 @@ invariant-turns l = IsGrowingOver l.graph l.targets l.files.items l.path.items l
 abbrev pub decreases-turns : goal.decreases-turns
 decreases-turns l =
     turns_left (makers_of_inputs l.graph.edges) (length l.graph.edges)
-    (row_of_paths l.graph.edges (grown_targets l.graph.edges (map (path_at l.graph.files) l.targets))) l.path.items l.place
+    (row_of_paths l.graph.edges (grown_targets l.graph.edges (map (path_at l.graph.files) l.targets)))
+    l.path.items l.place

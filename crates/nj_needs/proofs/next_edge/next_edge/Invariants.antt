@@ -9,10 +9,14 @@ invariant-turns l = record {
   graph : l.walk.turns.graph ≡ l.fn.walk.turns.graph;
   targets : l.walk.turns.targets ≡ l.fn.walk.turns.targets;
   begun : l.walk.begun ≡ l.fn.walk.begun;
-  left : left_of l.walk.turns.graph.now l.walk.turns.targets.now l.walk.path.items l.walk.place ≡ left_of l.fn.walk.turns.graph.now l.fn.walk.turns.targets.now l.fn.walk.path.items l.fn.walk.place;
-  turns : turns_left_of l.walk.turns.graph.now l.walk.turns.targets.now l.walk.path.items l.walk.place ≤ turns_left_of l.fn.walk.turns.graph.now l.fn.walk.turns.targets.now l.fn.walk.path.items l.fn.walk.place;
+  left : left_of l.walk.turns.graph.now l.walk.turns.targets.now l.walk.path.items l.walk.place
+      ≡ left_of l.fn.walk.turns.graph.now l.fn.walk.turns.targets.now l.fn.walk.path.items l.fn.walk.place;
+  turns : turns_left_of l.walk.turns.graph.now l.walk.turns.targets.now l.walk.path.items l.walk.place ≤
+      turns_left_of l.fn.walk.turns.graph.now l.fn.walk.turns.targets.now l.fn.walk.path.items
+      l.fn.walk.place;
   mark : l.saved.numbers ≡ l.fn.saved.numbers;
 }
 
 abbrev pub decreases-turns : goal.decreases-turns
-decreases-turns l = turns_left_of l.walk.turns.graph.now l.walk.turns.targets.now l.walk.path.items l.walk.place
+decreases-turns l = turns_left_of l.walk.turns.graph.now l.walk.turns.targets.now l.walk.path.items
+    l.walk.place

@@ -8,8 +8,10 @@ use Rattle.nj_needs.proofs.resuming.leads.Given as goal
 abbrev pub invariant-steps : goal.invariant-steps
 invariant-steps l = record {
   edge_in : (e : ℕ) → l.edge ≡ Some e → e < count_of l.fn.turns.graph.now;
-  rest : is_valid (makers_of l.fn.turns.graph.now) (row_in l.fn.turns.graph.now l.fn.turns.targets.now l.edge) (drop l.number-index l.numbers)
-      ≡ is_valid (makers_of l.fn.turns.graph.now) (row_of l.fn.turns.graph.now l.fn.turns.targets.now) l.numbers;
+  rest : is_valid (makers_of l.fn.turns.graph.now) (row_in l.fn.turns.graph.now l.fn.turns.targets.now l.edge)
+      (drop l.number-index l.numbers)
+      ≡ is_valid (makers_of l.fn.turns.graph.now) (row_of l.fn.turns.graph.now l.fn.turns.targets.now)
+      l.numbers;
   turns : l.turns.taken ≡ saturated l.number-index;
   graph : l.turns.graph ≡ l.fn.turns.graph;
   targets : l.turns.targets ≡ l.fn.turns.targets;

@@ -13,4 +13,5 @@ invariant-turns l = record {
 }
 
 abbrev pub decreases-turns : goal.decreases-turns
-decreases-turns l = turns_left_of l.walk.turns.graph.now l.walk.turns.targets.now l.walk.path.items l.walk.place
+decreases-turns l = turns_left_of l.walk.turns.graph.now l.walk.turns.targets.now l.walk.path.items
+    l.walk.place

@@ -10,7 +10,9 @@ invariant-steps l = record {
   walk : IsWalk l.walk;
   path : places l.walk.path.items ≡ take l.number-index l.numbers;
   place : l.walk.place ≡ 0;
-  valid : is_valid (makers_of l.walk.turns.graph.now) (top_of l.walk.turns.graph.now l.walk.turns.targets.now l.walk.path.items) (drop l.number-index l.numbers) ≡ true;
+  valid : is_valid (makers_of l.walk.turns.graph.now)
+      (top_of l.walk.turns.graph.now l.walk.turns.targets.now l.walk.path.items)
+      (drop l.number-index l.numbers) ≡ true;
   graph : l.walk.turns.graph ≡ l.fn.walk.turns.graph;
   targets : l.walk.turns.targets ≡ l.fn.walk.turns.targets;
   begun : l.walk.begun ≡ l.fn.walk.begun;

@@ -4,4 +4,5 @@ use Rattle.nj_scope.specs.Inside.KeysHeld.{line_held, AreIndexes}
 use Rattle.nj_scope.proofs.rule.last_of_keys.Given as goal
 
 abbrev pub invariant-lines : goal.invariant-lines
-invariant-lines l = AreIndexes (map line_held l.lines) l.last.items (last_lines (drop l.index (map line_held l.lines)))
+invariant-lines l = AreIndexes (map line_held l.lines) l.last.items
+    (last_lines (drop l.index (map line_held l.lines)))

@@ -12,8 +12,10 @@ abbrev pub invariant-words : goal.invariant-words
 invariant-words l = record {
   kept : IsPrefix l.fn.targets.items l.targets.items;
   added : (values : Values) → SeesNames l.context values
-      → AddsTargets l.edges.files l.fn.targets.items l.targets.items (paths_given values (words_model (take l.word-index l.words)));
+      → AddsTargets l.edges.files l.fn.targets.items l.targets.items
+      (paths_given values (words_model (take l.word-index l.words)));
   fault : (values : Values) → SeesNames l.context values → l.edges.«open» ≡ no_files
-      → first_given (target_fault l.context.place.file.now values l.edges.edges) (words_model (drop l.word-index l.words))
+      → first_given (target_fault l.context.place.file.now values l.edges.edges)
+      (words_model (drop l.word-index l.words))
       ≡ first_given (target_fault l.context.place.file.now values l.edges.edges) (words_model l.words);
 }

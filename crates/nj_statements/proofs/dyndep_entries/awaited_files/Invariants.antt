@@ -8,6 +8,7 @@ abbrev pub invariant-dyndeps : goal.invariant-dyndeps
 invariant-dyndeps l = record {
   firsts : l.dyndep_files.items ≡ first_edges (take l.dyndep-index l.dyndeps);
   count : length l.unjoined.items ≡ l.file_count;
-  unjoined : (file : FileNo) → get_or l.unjoined.items file.0 0 ≡ count_bound file (take l.dyndep-index l.dyndeps);
+  unjoined : (file : FileNo) → get_or l.unjoined.items file.0 0
+      ≡ count_bound file (take l.dyndep-index l.dyndeps);
   known : AllByRecursion (λ d. d.file.0 < l.file_count) (drop l.dyndep-index l.dyndeps);
 }

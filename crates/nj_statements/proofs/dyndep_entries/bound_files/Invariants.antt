@@ -6,6 +6,7 @@ use Rattle.nj_statements.proofs.dyndep_entries.bound_files.Given as goal
 abbrev pub invariant-dyndeps : goal.invariant-dyndeps
 invariant-dyndeps l = record {
   count : length l.bound.items ≡ l.edge_count;
-  binds : bind_all (drop l.dyndep-index l.dyndeps) l.bound.items ≡ bind_all l.dyndeps (replicate l.edge_count None);
+  binds : bind_all (drop l.dyndep-index l.dyndeps) l.bound.items
+      ≡ bind_all l.dyndeps (replicate l.edge_count None);
   known : AllByRecursion (λ d. d.edge < l.edge_count) (drop l.dyndep-index l.dyndeps);
 }

@@ -7,4 +7,6 @@ use Rattle.nj_statements.proofs.scratch.clean_bytes.Goals as goal
 
 pub returns-then-is_clean-clause-meant : goal.returns-then-is_clean-clause-meant
 returns-then-is_clean-clause-meant c = λ values.
-    ap (λ parts. is_empty (expanded values parts)) c.in_ok-bytes.ensures ∙ ap is_empty (append-nil c.in_ok-bytes.bytes.now) ∙ clean-not-empty c.in_ok-bytes.bytes.now (c.if-is_clean.ensures.0 refl)
+    ap (λ parts. is_empty (expanded values parts)) c.in_ok-bytes.ensures
+    ∙ ap is_empty (append-nil c.in_ok-bytes.bytes.now)
+    ∙ clean-not-empty c.in_ok-bytes.bytes.now (c.if-is_clean.ensures.0 refl)

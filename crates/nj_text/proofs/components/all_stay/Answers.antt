@@ -6,4 +6,5 @@ use Rattle.nj_text.proofs.components.all_stay.Goals as goal
 
 pub returns-then-are_names : goal.returns-then-are_names
 returns-then-are_names c =
-    c.if-are_names.true ∙ sym (stay-names c.args.named (slice_split is_slash c.args.text.now) c.if-are_names.ensures)
+    c.if-are_names.true ∙ sym (stay-names c.args.named (slice_split is_slash c.args.text.now)
+    c.if-are_names.ensures)

@@ -9,7 +9,9 @@ pub returns-then-byte-eq47-clause-components : goal.returns-then-byte-eq47-claus
 returns-then-byte-eq47-clause-components c =
     let text = c.args.text.now in
     scan-slash text c.loop-end.end c.loop-end-test.true c.loop-end.invariant c.if-byte-eq47.true
-    ∙ ap (λ rest. take c.loop-end.end text ∷ slice_split is_slash rest) (sym (take_rest text (c.loop-end.end + 1)))
+    ∙ ap (λ rest. take c.loop-end.end text ∷ slice_split is_slash rest)
+    (sym (take_rest text (c.loop-end.end + 1)))
 
 pub returns-clause-components : goal.returns-clause-components
-returns-clause-components c = (scan-all c.args.text.now c.loop-end.end c.loop-end-test.false c.loop-end.invariant).0
+returns-clause-components c = (scan-all c.args.text.now c.loop-end.end c.loop-end-test.false
+    c.loop-end.invariant).0

@@ -11,13 +11,21 @@ pub returns-in-Some-eq10-default-clause-lands : goal.returns-in-Some-eq10-defaul
 returns-in-Some-eq10-default-clause-lands c = λ spot.
     let first = c.in-Some.ensures in
     let second = c.in-Some-eq10-default.ensures in
-    rw (c.run_length-in-Some-eq10-default.ensures.length, first, second, c.in-13.is, c.in-Some-eq10-default.field-0-0-test) (return_lands c.in-Some-eq10-default.spaces.now spot)
+    rw (
+      c.run_length-in-Some-eq10-default.ensures.length,
+      first,
+      second,
+      c.in-13.is,
+      c.in-Some-eq10-default.field-0-0-test,
+    ) (return_lands c.in-Some-eq10-default.spaces.now spot)
 
 pub returns-else-is_empty-clause-found : goal.returns-else-is_empty-clause-found
 returns-else-is_empty-clause-found c =
-    name_found c.in-Some.byte c.in-Some.remainder.now c.args.bytes.now c.split_run.result.0.now c.in-Some.ensures c.split_run.ensures.run (sym c.is_empty.ensures ∙ c.if-is_empty.false)
+    name_found c.in-Some.byte c.in-Some.remainder.now c.args.bytes.now c.split_run.result.0.now
+    c.in-Some.ensures c.split_run.ensures.run (sym c.is_empty.ensures ∙ c.if-is_empty.false)
 
 pub returns-else-is_empty-clause-lands : goal.returns-else-is_empty-clause-lands
 returns-else-is_empty-clause-lands c = λ spot.
     let name = c.split_run.result.0.now in
-    rw c.split_run.ensures.whole (lands name c.split_run.result.1.now (length name) spot (rw c.split_run.ensures.run (names_no_feed c.args.bytes.now)) refl)
+    rw c.split_run.ensures.whole (lands name c.split_run.result.1.now (length name) spot
+    (rw c.split_run.ensures.run (names_no_feed c.args.bytes.now)) refl)

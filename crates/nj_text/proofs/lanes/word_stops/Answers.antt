@@ -10,4 +10,5 @@ pub returns : goal.returns
 returns c =
     let v = c.args.lanes in
     masked _ (λ b. not (in_run run.Word b)) v _ (omega (arith, c.fits-lanes.0)) c.fits-lanes.1
-    (joined bit_or _ _ v (hits WORD_STOPS v _ c.looked_up.ensures) (hits MORE_WORD_STOPS v _ c.looked_up-2.ensures)) refl
+    (joined bit_or _ _ v (hits WORD_STOPS v _ c.looked_up.ensures)
+    (hits MORE_WORD_STOPS v _ c.looked_up-2.ensures)) refl

@@ -11,11 +11,14 @@ returns-in-Ok c =
     let here = c.skip_blanks-cursor.result in
     let after = c.in-Ok.after in
     at_cursor value_at start.spot here.spot start.rest.now here.rest.now c.skip_blanks-cursor.ensures
-    ∙ value_is_here here.spot here.rest.now (map part_model c.in-Ok.parts.items) after.spot after.rest.now c.in-Ok.ensures.2 c.in-Ok.ensures.0 c.in-Ok.ensures.1
+    ∙ value_is_here here.spot here.rest.now (map part_model c.in-Ok.parts.items) after.spot after.rest.now
+    c.in-Ok.ensures.2 c.in-Ok.ensures.0 c.in-Ok.ensures.1
 
 pub returns-in-Err : goal.returns-in-Err
 returns-in-Err c =
     let start = c.args.start in
     let here = c.skip_blanks-cursor.result in
-    subst (λ r. FailsStep r c.in-Err.fault) (sym (at_cursor value_at start.spot here.spot start.rest.now here.rest.now c.skip_blanks-cursor.ensures))
+    subst (λ r. FailsStep r c.in-Err.fault)
+    (sym (at_cursor value_at start.spot here.spot start.rest.now here.rest.now
+    c.skip_blanks-cursor.ensures))
     (value_fails_or_lacks here.spot here.rest.now c.in-Err.fault c.in-Err.ensures)

@@ -7,6 +7,8 @@ use Rattle.nj_text.proofs.numbers.version_of.Goals as goal
 pub returns : goal.returns
 returns c =
     let text = c.args.text.now in
-    let major = c.unwrap_or-major.ensures ∙ ap (λ (n : Option ℕ). unwrap_or n 0) (c.leading_number.ensures ∙ sym (leading_number-before_dot text)) in
-    let minor = c.unwrap_or-minor.ensures ∙ ap (λ (n : Option ℕ). unwrap_or n 0) (c.leading_number-2.ensures ∙ ap leading_number_of c.after_dot.ensures) in
+    let major = c.unwrap_or-major.ensures ∙ ap (λ (n : Option ℕ). unwrap_or n 0)
+    (c.leading_number.ensures ∙ sym (leading_number-before_dot text)) in
+    let minor = c.unwrap_or-minor.ensures ∙ ap (λ (n : Option ℕ). unwrap_or n 0)
+    (c.leading_number-2.ensures ∙ ap leading_number_of c.after_dot.ensures) in
     rw (major, minor) refl

@@ -5,7 +5,8 @@ use Rattle.nj_text.proofs.parts.gather.Given as goal
 
 abbrev pub invariant-text : goal.invariant-text
 invariant-text l =
-    (map part_model l.parts.items ++ gathered l.kind (units_at l.cursor) ≡ gathered l.kind (units_at l.fn.start))
+    (map part_model l.parts.items ++ gathered l.kind (units_at l.cursor)
+    ≡ gathered l.kind (units_at l.fn.start))
     × (after_text l.kind (units_at l.cursor) ≡ after_text l.kind (units_at l.fn.start))
 
 abbrev pub decreases-text : goal.decreases-text

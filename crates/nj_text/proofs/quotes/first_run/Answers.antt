@@ -9,4 +9,5 @@ pub returns-then-byte-eq39-clause-run : goal.returns-then-byte-eq39-clause-run
 returns-then-byte-eq39-clause-run c =
     let text = c.args.text.now in
     run-quote text c.loop-end.end c.loop-end-test.true c.loop-end.invariant c.if-byte-eq39.true
-    ∙ ap (λ rest. take c.loop-end.end text ++ 39 ∷ 92 ∷ 39 ∷ 39 ∷ flat_map within_quotes rest) (sym (take_rest text (c.loop-end.end + 1)))
+    ∙ ap (λ rest. take c.loop-end.end text ++ 39 ∷ 92 ∷ 39 ∷ 39 ∷ flat_map within_quotes rest)
+    (sym (take_rest text (c.loop-end.end + 1)))

@@ -17,7 +17,10 @@ returns-then-end-eq0-clause-unit c =
     let byte = c.in-Some.byte in
     let remainder = c.in-Some.remainder.now in
     let first = c.in-Some.ensures in
-    rw first (bad_byte_unit byte remainder (sym c.is_ordinary_byte.ensures ∙ c.if-is_ordinary_byte.false) (ne_eqb byte 36 c.if-byte-eq36.false) (rw first at (sym c.line_end_length-end.ensures.length ∙ c.if-end-eq0.true)))
+    rw first (bad_byte_unit byte remainder (sym c.is_ordinary_byte.ensures ∙ c.if-is_ordinary_byte.false)
+    (ne_eqb byte 36 c.if-byte-eq36.false)
+    (rw first at (sym c.line_end_length-end.ensures.length ∙ c.if-end-eq0.true)))
 
 pub returns-clause-unit : goal.returns-clause-unit
-returns-clause-unit c = line_end_unit c.args.bytes.now c.line_end_length-end.result c.line_end_length-end.ensures.length (ne_eqb c.line_end_length-end.result 0 c.if-end-eq0.false)
+returns-clause-unit c = line_end_unit c.args.bytes.now c.line_end_length-end.result
+    c.line_end_length-end.ensures.length (ne_eqb c.line_end_length-end.result 0 c.if-end-eq0.false)

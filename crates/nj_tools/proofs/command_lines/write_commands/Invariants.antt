@@ -11,7 +11,8 @@ invariant-commands g l = record {
   edges : List ℕ;
   page : HasSoFar l.fn.needs l.fn.take edges l.needs l.room;
   underway : (entries : List ReadStatement) → IsGraphOf l.graph entries
-      → IsUnderway (g.S.Sink.state l.fn.out) (g.S.Sink.state l.out) (command_lines entries edges) l.text.items;
+      → IsUnderway (g.S.Sink.state l.fn.out) (g.S.Sink.state l.out) (command_lines entries edges)
+      l.text.items;
 }
 
 abbrev pub decreases-commands : goal.decreases-commands

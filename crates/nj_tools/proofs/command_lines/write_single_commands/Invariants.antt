@@ -9,7 +9,8 @@ use Rattle.nj_tools.proofs.command_lines.write_single_commands.Given as goal
 
 abbrev pub invariant-targets : goal.invariant-targets
 invariant-targets g l = record {
-  seen : AreSeen l.graph.built.graph l.seen.items (own_makers l.graph.built.graph (take l.target-index l.targets));
+  seen : AreSeen l.graph.built.graph l.seen.items
+      (own_makers l.graph.built.graph (take l.target-index l.targets));
   underway : (entries : List ReadStatement) → IsGraphOf l.graph entries
       → IsUnderway (g.S.Sink.state l.fn.out) (g.S.Sink.state l.out)
       (command_lines entries (own_commands l.graph.built.graph (take l.target-index l.targets))) l.text.items;

@@ -13,11 +13,13 @@ returns c entries graph =
     let place = c.edge_place.result in
     on_ok_weaker c.add_bool.result
     (λ is.
-    head-added entries edge c.args.object.now c.add_number.new.self c.add_place.new.self c.add_string.new.self c.add_bool.new.self
+    head-added entries edge c.args.object.now c.add_number.new.self c.add_place.new.self c.add_string.new.self
+    c.add_bool.new.self
     place.file.now c.rule_name.result.now place.spot c.is_phony.result
     (c.edge_place.ensures.file ∙ ap (λ ds. (detail_at ds edge).file) (graph-details graph))
     (c.edge_place.ensures.spot ∙ ap (λ ds. (detail_at ds edge).spot) (graph-details graph))
     (c.rule_name.ensures.stated entries graph)
-    (c.is_phony.ensures ∙ ap (λ (v : EdgeGraph). (edge_at v.edges edge).is_phony) c.deref.ensures ∙ ap (λ edges. (edge_at edges edge).is_phony) (graph-edges graph))
+    (c.is_phony.ensures ∙ ap (λ (v : EdgeGraph). (edge_at v.edges edge).is_phony) c.deref.ensures
+    ∙ ap (λ edges. (edge_at edges edge).is_phony) (graph-edges graph))
     c.in_ok-add_number.ensures c.in_ok-add_place.ensures c.in_ok-add_string.ensures is)
     c.add_bool.ensures

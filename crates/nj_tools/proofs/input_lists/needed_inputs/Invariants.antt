@@ -12,7 +12,8 @@ invariant-edges l = record {
   all : commands_of l.graph.built.graph l.targets ≡ edges ++ l.needs.left;
   graph : l.needs.graph ≡ l.graph.built.graph;
   count : l.inputs.count ≡ length (files_of l.graph);
-  are : AreOf (files_of l.graph) l.inputs.files (flat_map (λ e. inputs_of (edge_at (edges_of l.graph) e)) edges);
+  are : AreOf (files_of l.graph) l.inputs.files
+      (flat_map (λ e. inputs_of (edge_at (edges_of l.graph) e)) edges);
 }
 
 abbrev pub decreases-edges : goal.decreases-edges

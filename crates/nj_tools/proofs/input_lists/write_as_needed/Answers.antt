@@ -1,4 +1,5 @@
-use Rattle.std.proofs.Common.{ℕ, List, [], ◌∷◌, ◌++◌, length, drop, sym, ap, ◌∙◌, append_assoc, refl, rules, arith}
+use Rattle.std.proofs.Common.{ℕ, List, [], ◌∷◌, ◌++◌, length, drop, sym, ap, ◌∙◌, append_assoc, refl, rules}
+use Rattle.std.proofs.Common.{arith}
 use Rattle.std.specs.Prelude.{bytes_eq, flat_map, map}
 use Rattle.std.proofs.lemmas.Grind.{common_steps}
 use Rattle.std.proofs.lemmas.List.{take_at}
@@ -22,7 +23,8 @@ print style path = terminated style (printed style path)
 pub edges-init : goal.edges-init
 edges-init g c = record {
   edges = [];
-  all = ap (λ g. commands_of g c.args.targets.now) (sym c.edge_graph.ensures) ∙ sym c.in_ok-needs.ensures.commands;
+  all = ap (λ g. commands_of g c.args.targets.now) (sym c.edge_graph.ensures)
+      ∙ sym c.in_ok-needs.ensures.commands;
   graph = c.in_ok-needs.ensures.begins.graph ∙ c.edge_graph.ensures;
   count = search rules;
   files = [];
@@ -36,18 +38,25 @@ returns-in_err-written g c =
     let sink = g.S.Sink.state c.args.out.now in
     let before = c.args.text.now.items in
     let paths = map (path_at (files_of c.args.graph.now)) c.args.targets.now in
-    let text = flat_map (print c.args.style) (each_once bytes_eq (needed_inputs (edges_of c.args.graph.now) paths)) in
-    puts-with sink sink before before text OutOfMemory c.from_residual-in_err-written.result c.from_residual-in_err-written.ensures.1 (puts-no_memory sink before text)
+    let text = flat_map (print c.args.style)
+    (each_once bytes_eq (needed_inputs (edges_of c.args.graph.now) paths)) in
+    puts-with sink sink before before text OutOfMemory c.from_residual-in_err-written.result
+    c.from_residual-in_err-written.ensures.1 (puts-no_memory sink before text)
 
 pub returns-in_err-write_new_files : goal.returns-in_err-write_new_files
 returns-in_err-write_new_files g c =
     let i = c.edges.invariant in
     let edges = edges_of c.args.graph.now in
     let flagged : IsFlagged c.deref_mut.result.now i.files = rw c.deref_mut.ensures.value i.flags in
-    row-stops (print c.args.style) (files_of c.args.graph.now) (rw c.deref.ensures at c.file_count.ensures.each_path_once) (λ n. inputs_of (edge_at edges n))
-    i.edges c.in-Some.edge.0 c.inputs.result.now i.files (rw c.deref-in-Some.ensures at c.inputs.ensures.files) (rw c.deref-in-Some.ensures at c.inputs.ensures.known) i.are
-    (commands_of c.args.graph.now.built.graph c.args.targets.now) c.next.new.self.left (i.all ∙ ap (λ es. i.edges ++ es) c.in-Some.ensures.next.first)
-    _ _ _ _ c.edges.text.items _ c.in_err-write_new_files.field-0.0 c.from_residual-in_err-write_new_files.result c.from_residual-in_err-write_new_files.ensures.1
+    row-stops (print c.args.style) (files_of c.args.graph.now)
+    (rw c.deref.ensures at c.file_count.ensures.each_path_once) (λ n. inputs_of (edge_at edges n))
+    i.edges c.in-Some.edge.0 c.inputs.result.now i.files
+    (rw c.deref-in-Some.ensures at c.inputs.ensures.files)
+    (rw c.deref-in-Some.ensures at c.inputs.ensures.known) i.are
+    (commands_of c.args.graph.now.built.graph c.args.targets.now) c.next.new.self.left
+    (i.all ∙ ap (λ es. i.edges ++ es) c.in-Some.ensures.next.first)
+    _ _ _ _ c.edges.text.items _ c.in_err-write_new_files.field-0.0
+    c.from_residual-in_err-write_new_files.result c.from_residual-in_err-write_new_files.ensures.1
     i.underway (c.in_err-write_new_files.ensures.puts i.files flagged)
 
 pub edges-preserved : goal.edges-preserved
@@ -64,14 +73,18 @@ edges-preserved g c =
     let kept = take_at new (drop (length new) c.edges.written.items) c.edges.written.len (omega arith) in
     record {
       edges = i.edges ++ e ∷ [];
-      all = i.all ∙ ap (λ es. i.edges ++ es) next.first ∙ sym (append_assoc i.edges (e ∷ []) c.next.new.self.left);
+      all = i.all ∙ ap (λ es. i.edges ++ es) next.first
+          ∙ sym (append_assoc i.edges (e ∷ []) c.next.new.self.left);
       graph = same.graph ∙ i.graph;
       count = ap length kept ∙ omega arith;
       files = with_files i.files row;
       flags = rw kept (c.in_ok-write_new_files.ensures.flags i.files flagged);
-      are = AreOf-row paths (rw c.deref.ensures at c.file_count.ensures.each_path_once) (λ n. inputs_of (edge_at edges n)) i.edges e row i.files (with_files i.files row)
-          (rw c.deref-in-Some.ensures at c.inputs.ensures.files) (rw c.deref-in-Some.ensures at c.inputs.ensures.known) i.are refl;
-      underway = row-puts (print c.args.style) paths row i.files _ _ _ _ c.edges.text.items _ i.underway (c.in_ok-write_new_files.ensures.puts i.files flagged);
+      are = AreOf-row paths (rw c.deref.ensures at c.file_count.ensures.each_path_once)
+          (λ n. inputs_of (edge_at edges n)) i.edges e row i.files (with_files i.files row)
+          (rw c.deref-in-Some.ensures at c.inputs.ensures.files)
+          (rw c.deref-in-Some.ensures at c.inputs.ensures.known) i.are refl;
+      underway = row-puts (print c.args.style) paths row i.files _ _ _ _ c.edges.text.items _ i.underway
+          (c.in_ok-write_new_files.ensures.puts i.files flagged);
     }
 
 pub returns : goal.returns
@@ -79,4 +92,5 @@ returns g c =
     let i = c.edges.invariant in
     let edges = edges_of c.args.graph.now in
     rows-put (print c.args.style) (files_of c.args.graph.now) (λ n. inputs_of (edge_at edges n))
-    (commands_of c.args.graph.now.built.graph c.args.targets.now) i.edges c.edges.needs.left i.files i.all c.in_default.ensures.next.none i.are _ _ _ _ i.underway
+    (commands_of c.args.graph.now.built.graph c.args.targets.now) i.edges c.edges.needs.left i.files i.all
+    c.in_default.ensures.next.none i.are _ _ _ _ i.underway

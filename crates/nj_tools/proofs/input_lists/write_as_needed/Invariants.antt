@@ -20,7 +20,8 @@ invariant-edges g l = record {
   flags : IsFlagged l.written.items files;
   are : AreOf (files_of l.graph) files (flat_map (λ e. inputs_of (edge_at (edges_of l.graph) e)) edges);
   underway : IsUnderway (g.S.Sink.state l.fn.out) (g.S.Sink.state l.out)
-      (l.fn.text.items ++ flat_map (λ file. terminated l.style (printed l.style (path_at (files_of l.graph) file))) files) l.text.items;
+      (l.fn.text.items ++ flat_map (λ file. terminated l.style
+      (printed l.style (path_at (files_of l.graph) file))) files) l.text.items;
 }
 
 abbrev pub decreases-edges : goal.decreases-edges

@@ -18,8 +18,10 @@ pub returns-in_err-write_new_file-clause-puts : goal.returns-in_err-write_new_fi
 returns-in_err-write_new_file-clause-puts g c earlier flagged =
     let so_far = c.files.invariant earlier flagged in
     let i = c.files.file-index in
-    file-stops c.args.files.now i (record { 0 = 0 }) (omega arith) earlier (text_of c.args.style (files_of c.args.graph.now))
-    _ _ _ _ c.files.text.items _ c.in_err-write_new_file.field-0.0 c.from_residual.result c.from_residual.ensures.1
+    file-stops c.args.files.now i (record { 0 = 0 }) (omega arith) earlier
+    (text_of c.args.style (files_of c.args.graph.now))
+    _ _ _ _ c.files.text.items _ c.in_err-write_new_file.field-0.0 c.from_residual.result
+    c.from_residual.ensures.1
     so_far.1 (c.in_err-write_new_file.ensures.puts (with_files earlier (take i c.args.files.now)) so_far.0)
 
 pub files-preserved : goal.files-preserved
@@ -27,15 +29,19 @@ files-preserved g c earlier flagged =
     let so_far = c.files.invariant earlier flagged in
     let i = c.files.file-index in
     let files = c.args.files.now in (
-      subst (IsFlagged c.write_new_file.new.written) (with-next files i (record { 0 = 0 }) (omega arith) earlier)
+      subst (IsFlagged c.write_new_file.new.written)
+          (with-next files i (record { 0 = 0 }) (omega arith) earlier)
           (c.in_ok-write_new_file.ensures.flags (with_files earlier (take i files)) so_far.0),
-      file-puts files i (record { 0 = 0 }) (omega arith) earlier (text_of c.args.style (files_of c.args.graph.now))
-          _ _ _ _ c.files.text.items _ so_far.1 (c.in_ok-write_new_file.ensures.puts (with_files earlier (take i files)) so_far.0),
+      file-puts files i (record { 0 = 0 }) (omega arith) earlier
+          (text_of c.args.style (files_of c.args.graph.now))
+          _ _ _ _ c.files.text.items _ so_far.1
+          (c.in_ok-write_new_file.ensures.puts (with_files earlier (take i files)) so_far.0),
     )
 
 pub returns-clause-puts : goal.returns-clause-puts
 returns-clause-puts g c earlier flagged =
     let all = take_all c.files.file-index c.args.files.now (omega arith) in
     subst (λ fs. IsUnderway (g.S.Sink.state c.args.out.now) (g.S.Sink.state c.files.out)
-    (c.args.text.now.items ++ flat_map (text_of c.args.style (files_of c.args.graph.now)) (new_files earlier fs)) c.files.text.items) all
+    (c.args.text.now.items ++ flat_map (text_of c.args.style (files_of c.args.graph.now))
+    (new_files earlier fs)) c.files.text.items) all
     (c.files.invariant earlier flagged).1

@@ -12,5 +12,6 @@ abbrev pub invariant-files : goal.invariant-files
 invariant-files g l = (earlier : List FileNo) → IsFlagged l.fn.written earlier
     → IsFlagged l.written (with_files earlier (take l.file-index l.files))
     × IsUnderway (g.S.Sink.state l.fn.out) (g.S.Sink.state l.out)
-    (l.fn.text.items ++ flat_map (λ file. terminated l.style (printed l.style (path_at (files_of l.graph) file))) (new_files earlier (take l.file-index l.files)))
+    (l.fn.text.items ++ flat_map (λ file. terminated l.style
+    (printed l.style (path_at (files_of l.graph) file))) (new_files earlier (take l.file-index l.files)))
     l.text.items

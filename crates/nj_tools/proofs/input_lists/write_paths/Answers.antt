@@ -12,15 +12,19 @@ terminated_of style path = terminated style path.now
 
 pub returns-in_err-write_terminated : goal.returns-in_err-write_terminated
 returns-in_err-write_terminated g c =
-    item-stops (terminated_of c.args.style) c.args.paths.now c.paths.path-index _ (omega arith) _ (flat_map-map (terminated c.args.style) text_of c.args.paths.now)
-    _ _ _ _ c.paths.text.items _ _ c.in_err-write_terminated.field-0.0 c.from_residual.result c.from_residual.ensures.1
+    item-stops (terminated_of c.args.style) c.args.paths.now c.paths.path-index _ (omega arith) _
+    (flat_map-map (terminated c.args.style) text_of c.args.paths.now)
+    _ _ _ _ c.paths.text.items _ _ c.in_err-write_terminated.field-0.0 c.from_residual.result
+    c.from_residual.ensures.1
     refl c.paths.invariant c.in_err-write_terminated.ensures
 
 pub paths-preserved : goal.paths-preserved
 paths-preserved g c =
-    item-puts (terminated_of c.args.style) c.args.paths.now c.paths.path-index _ (omega arith) _ _ _ _ c.paths.text.items _ _
+    item-puts (terminated_of c.args.style) c.args.paths.now c.paths.path-index _ (omega arith) _ _ _ _
+    c.paths.text.items _ _
     refl c.paths.invariant c.in_ok-write_terminated.ensures
 
 pub returns : goal.returns
 returns g c =
-    items-put (terminated_of c.args.style) c.args.paths.now c.paths.path-index (omega arith) _ (flat_map-map (terminated c.args.style) text_of c.args.paths.now) _ _ _ _ c.paths.invariant
+    items-put (terminated_of c.args.style) c.args.paths.now c.paths.path-index (omega arith) _
+    (flat_map-map (terminated c.args.style) text_of c.args.paths.now) _ _ _ _ c.paths.invariant

@@ -6,4 +6,6 @@ use Rattle.nj_tools.proofs.input_lists.write_paths.Given as goal
 
 abbrev pub invariant-paths : goal.invariant-paths
 invariant-paths g l =
-    IsUnderway (g.S.Sink.state l.fn.out) (g.S.Sink.state l.out) (l.fn.text.items ++ flat_map (λ path. terminated l.style path.now) (take l.path-index l.paths)) l.text.items
+    IsUnderway (g.S.Sink.state l.fn.out) (g.S.Sink.state l.out)
+    (l.fn.text.items ++ flat_map (λ path. terminated l.style path.now) (take l.path-index l.paths))
+    l.text.items

@@ -21,15 +21,21 @@ now_of path = path.now
 pub returns-in_ok-paths : goal.returns-in_ok-paths
 returns-in_ok-paths g c =
     let paths = map (path_at (files_of c.args.graph.now)) c.args.files.now in
-    let strings = ap (map (λ path. path.now)) c.deref-else-style.ensures.value ∙ c.in_ok-paths.ensures ∙ ap sorted (sym (printed-as_they_are c.args.style c.if-style.false paths)) in
-    subst (λ ts. PutsText (g.S.Sink.state c.args.out.now) (g.S.Sink.state c.write_paths-else-style.new.out) c.args.text.now.items c.write_paths-else-style.new.text.items
-    (flat_map (terminated c.args.style) ts) c.write_paths-else-style.result) strings c.write_paths-else-style.ensures
+    let strings = ap (map (λ path. path.now)) c.deref-else-style.ensures.value ∙ c.in_ok-paths.ensures
+    ∙ ap sorted (sym (printed-as_they_are c.args.style c.if-style.false paths)) in
+    subst (λ ts. PutsText (g.S.Sink.state c.args.out.now) (g.S.Sink.state c.write_paths-else-style.new.out)
+    c.args.text.now.items c.write_paths-else-style.new.text.items
+    (flat_map (terminated c.args.style) ts) c.write_paths-else-style.result) strings
+    c.write_paths-else-style.ensures
 
 -- the quotes and the other paths, one after the other
-in-parts : (style : InputsStyle) → style.shell_escape ≡ true → (paths quotes others : List (List ℕ)) → quotes ++ others ≡ sorted (map quoted paths)
-    → flat_map (terminated style) quotes ++ flat_map (terminated style) others ≡ flat_map (terminated style) (sorted (map (printed style) paths))
+in-parts : (style : InputsStyle) → style.shell_escape ≡ true → (paths quotes others : List (List ℕ))
+    → quotes ++ others ≡ sorted (map quoted paths)
+    → flat_map (terminated style) quotes ++ flat_map (terminated style) others
+    ≡ flat_map (terminated style) (sorted (map (printed style) paths))
 in-parts style escaped paths quotes others are =
-    sym (flat_map-append (terminated style) quotes others) ∙ ap (flat_map (terminated style)) (are ∙ ap sorted (sym (printed-quoted style escaped paths)))
+    sym (flat_map-append (terminated style) quotes others)
+    ∙ ap (flat_map (terminated style)) (are ∙ ap sorted (sym (printed-quoted style escaped paths)))
 
 pub returns-in_err-write_quotes : goal.returns-in_err-write_quotes
 returns-in_err-write_quotes g c =
@@ -38,11 +44,15 @@ returns-in_err-write_quotes g c =
     let result = c.from_residual-in_err-write_quotes.result in
     let quotes = map text_of c.deref.result.now in
     let others = map now_of c.in_ok-quotes.quotes.plain.items in
-    let are = ap (λ (ts : List (Vec ℕ Global)). map text_of ts ++ others) c.deref.ensures.value ∙ c.in_ok-quotes.ensures in
+    let are = ap (λ (ts : List (Vec ℕ Global)). map text_of ts ++ others) c.deref.ensures.value
+    ∙ c.in_ok-quotes.ensures in
     subst (λ t. PutsText old new c.args.text.now.items c.write_quotes.new.text.items t result)
-    (in-parts c.args.style c.if-style.true (map (path_at (files_of c.args.graph.now)) c.args.files.now) quotes others are)
-    (stops-first old new c.args.text.now.items c.write_quotes.new.text.items (flat_map (terminated c.args.style) quotes) (flat_map (terminated c.args.style) others)
-    c.in_err-write_quotes.field-0.0 result c.from_residual-in_err-write_quotes.ensures.1 c.in_err-write_quotes.ensures)
+    (in-parts c.args.style c.if-style.true (map (path_at (files_of c.args.graph.now)) c.args.files.now) quotes
+    others are)
+    (stops-first old new c.args.text.now.items c.write_quotes.new.text.items
+    (flat_map (terminated c.args.style) quotes) (flat_map (terminated c.args.style) others)
+    c.in_err-write_quotes.field-0.0 result c.from_residual-in_err-write_quotes.ensures.1
+    c.in_err-write_quotes.ensures)
 
 pub returns-in_ok-write_quotes : goal.returns-in_ok-write_quotes
 returns-in_ok-write_quotes g c =
@@ -53,8 +63,12 @@ returns-in_ok-write_quotes g c =
     let others = map now_of c.deref-then-style.result.now in
     let are =
     ap (λ (ts : List (Vec ℕ Global)). map text_of ts ++ others) c.deref.ensures.value
-    ∙ ap (λ (ps : List (Bor (List ℕ))). map text_of c.in_ok-quotes.quotes.quoted.items ++ map now_of ps) c.deref-then-style.ensures.value ∙ c.in_ok-quotes.ensures in
+    ∙ ap (λ (ps : List (Bor (List ℕ))). map text_of c.in_ok-quotes.quotes.quoted.items ++ map now_of ps)
+    c.deref-then-style.ensures.value ∙ c.in_ok-quotes.ensures in
     subst (λ t. PutsText old new c.args.text.now.items c.write_paths.new.text.items t c.write_paths.result)
-    (in-parts c.args.style c.if-style.true (map (path_at (files_of c.args.graph.now)) c.args.files.now) quotes others are)
-    (puts-then old between new c.args.text.now.items c.write_quotes.new.text.items c.write_paths.new.text.items
-    (flat_map (terminated c.args.style) quotes) (flat_map (terminated c.args.style) others) c.write_paths.result c.in_ok-write_quotes.ensures c.write_paths.ensures)
+    (in-parts c.args.style c.if-style.true (map (path_at (files_of c.args.graph.now)) c.args.files.now) quotes
+    others are)
+    (puts-then old between new c.args.text.now.items c.write_quotes.new.text.items
+    c.write_paths.new.text.items
+    (flat_map (terminated c.args.style) quotes) (flat_map (terminated c.args.style) others)
+    c.write_paths.result c.in_ok-write_quotes.ensures c.write_paths.ensures)

@@ -10,4 +10,5 @@ use Rattle.nj_tools.proofs.queries.write_query.Given as goal
 abbrev pub invariant-files : goal.invariant-files
 invariant-files g l = (entries : List ReadStatement) → IsGraphOf l.graph entries
     → IsUnderway (g.S.Sink.state l.fn.out) (g.S.Sink.state l.out)
-    (flat_map (λ file. query_in entries (edges_of l.graph) (path_at (files_of l.graph) file)) (take l.file-index l.files)) l.text.items
+    (flat_map (λ file. query_in entries (edges_of l.graph) (path_at (files_of l.graph) file))
+    (take l.file-index l.files)) l.text.items

@@ -13,8 +13,10 @@ pub returns-then-is_empty : goal.returns-then-is_empty
 returns-then-is_empty g c =
     let s = g.S.Sink.state c.args.out.now in
     let path = path_at (files_of c.args.graph.now) in
-    let none = validations-none (map path c.args.files.now) (none-listed path c.args.files.now c.if-is_empty.ensures) in
-    subst (λ t. IsUnderway s s (c.args.text.now.items ++ t) c.args.text.now.items) (sym none) (puts-nothing s c.args.text.now.items)
+    let none = validations-none (map path c.args.files.now)
+    (none-listed path c.args.files.now c.if-is_empty.ensures) in
+    subst (λ t. IsUnderway s s (c.args.text.now.items ++ t) c.args.text.now.items) (sym none)
+    (puts-nothing s c.args.text.now.items)
 
 pub returns-in_err-write_line : goal.returns-in_err-write_line
 returns-in_err-write_line g c =
@@ -23,9 +25,12 @@ returns-in_err-write_line g c =
     let path = path_at (files_of c.args.graph.now) in
     let paths = map path c.args.files.now in
     let some = validations-some paths (some-listed path c.args.files.now c.if-is_empty.ensures) in
-    subst (λ t. PutsText old new c.args.text.now.items c.write_line.new.text.items t c.from_residual.result) (sym some)
-    (stops-first old new c.args.text.now.items c.write_line.new.text.items (line (codes "  validations:")) (lines_after (codes "    ") paths)
-    c.in_err-write_line.field-0.0 c.from_residual.result c.from_residual.ensures.1 c.in_err-write_line.ensures)
+    subst (λ t. PutsText old new c.args.text.now.items c.write_line.new.text.items t c.from_residual.result)
+    (sym some)
+    (stops-first old new c.args.text.now.items c.write_line.new.text.items (line (codes "  validations:"))
+    (lines_after (codes "    ") paths)
+    c.in_err-write_line.field-0.0 c.from_residual.result c.from_residual.ensures.1
+    c.in_err-write_line.ensures)
 
 pub returns : goal.returns
 returns g c =
@@ -34,6 +39,9 @@ returns g c =
     let path = path_at (files_of c.args.graph.now) in
     let paths = map path c.args.files.now in
     let some = validations-some paths (some-listed path c.args.files.now c.if-is_empty.ensures) in
-    subst (λ t. PutsText old new c.args.text.now.items c.write_paths.new.text.items t c.write_paths.result) (sym some)
-    (puts-then old (g.S.Sink.state c.write_line.new.out) new c.args.text.now.items c.write_line.new.text.items c.write_paths.new.text.items
-    (line (codes "  validations:")) (lines_after (codes "    ") paths) c.write_paths.result c.in_ok-write_line.ensures c.write_paths.ensures)
+    subst (λ t. PutsText old new c.args.text.now.items c.write_paths.new.text.items t c.write_paths.result)
+    (sym some)
+    (puts-then old (g.S.Sink.state c.write_line.new.out) new c.args.text.now.items c.write_line.new.text.items
+    c.write_paths.new.text.items
+    (line (codes "  validations:")) (lines_after (codes "    ") paths) c.write_paths.result
+    c.in_ok-write_line.ensures c.write_paths.ensures)

@@ -7,4 +7,6 @@ use Rattle.nj_tools.proofs.sorted_paths.sorted_paths.Goals as goal
 
 pub returns : goal.returns
 returns c =
-    c.in_ok-sort_slices.ensures ∙ ap sorted (c.files.invariant ∙ ap (map (path_at (files_of c.args.graph.now))) (take_all c.files.file-index c.args.files.now (omega arith)))
+    c.in_ok-sort_slices.ensures ∙ ap sorted
+    (c.files.invariant ∙ ap (map (path_at (files_of c.args.graph.now)))
+    (take_all c.files.file-index c.args.files.now (omega arith)))

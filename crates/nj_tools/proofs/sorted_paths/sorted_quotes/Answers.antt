@@ -8,5 +8,6 @@ use Rattle.nj_tools.proofs.sorted_paths.sorted_quotes.Goals as goal
 
 pub returns : goal.returns
 returns c =
-    (λ j. (c.in_ok-sort_strings.ensures ∙ ap sorted c.in_ok-quotes.ensures.quoted) j ++ (c.in_ok-sort_slices.ensures ∙ ap sorted c.in_ok-quotes.ensures.plain) j)
+    (λ j. (c.in_ok-sort_strings.ensures ∙ ap sorted c.in_ok-quotes.ensures.quoted) j
+    ++ (c.in_ok-sort_slices.ensures ∙ ap sorted c.in_ok-quotes.ensures.plain) j)
     ∙ two-parts (map quoted (map (path_at (files_of c.args.graph.now)) c.args.files.now))

@@ -9,5 +9,7 @@ abbrev pub invariant-files : goal.invariant-files
 invariant-files l = record {
   count : l.sources.count ≡ l.fn.sources.count;
   files : l.sources.files
-      ≡ with_files l.fn.sources.files (filter (λ file. is_none (maker_of (edges_of l.graph) (path_at (files_of l.graph) file))) (take l.file-index l.files));
+      ≡ with_files l.fn.sources.files (filter
+      (λ file. is_none (maker_of (edges_of l.graph) (path_at (files_of l.graph) file)))
+      (take l.file-index l.files));
 }

@@ -13,5 +13,6 @@ invariant-edges l = record {
   known : All (λ file. file.0 < length (files_of l.graph)) l.outputs.files;
   are : (entries : List ReadStatement) → IsGraphOf l.graph entries
       → AreOf (files_of l.graph) l.outputs.files
-      (flat_map (λ e. outputs_of e.paths) (filter (λ e. bytes_eq (rule_name_of entries e) l.rule) (take l.number (edges_read entries))));
+      (flat_map (λ e. outputs_of e.paths) (filter (λ e. bytes_eq (rule_name_of entries e) l.rule)
+      (take l.number (edges_read entries))));
 }

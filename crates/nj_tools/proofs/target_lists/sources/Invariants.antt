@@ -9,5 +9,6 @@ abbrev pub invariant-edges : goal.invariant-edges
 invariant-edges l = record {
   count : l.sources.count ≡ length (files_of l.graph);
   are : AreOf (files_of l.graph) l.sources.files
-      (filter (λ path. is_none (maker_of (edges_of l.graph) path)) (flat_map inputs_of (take l.number (edges_of l.graph))));
+      (filter (λ path. is_none (maker_of (edges_of l.graph) path))
+      (flat_map inputs_of (take l.number (edges_of l.graph))));
 }

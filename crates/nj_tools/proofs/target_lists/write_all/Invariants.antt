@@ -12,5 +12,6 @@ abbrev pub invariant-edges : goal.invariant-edges
 invariant-edges g l =
     (entries : List ReadStatement) → IsGraphOf l.graph entries
     → IsUnderway (g.S.Sink.state l.fn.out) (g.S.Sink.state l.out)
-    (l.fn.text.items ++ flat_map (λ e. flat_map (λ path. made_line path (rule_name_of entries e)) (outputs_of e.paths)) (take l.number (edges_read entries)))
+    (l.fn.text.items ++ flat_map (λ e. flat_map (λ path. made_line path (rule_name_of entries e))
+    (outputs_of e.paths)) (take l.number (edges_read entries)))
     l.text.items

@@ -15,14 +15,18 @@ returns-in_err-write_line g c =
     let rule = c.args.rule.now in
     item-stops (line_of paths rule) c.args.files.now c.files.file-index (record { 0 = 0 }) (omega arith)
     _ (flat_map-map (λ path. made_line path rule) (path_at paths) c.args.files.now)
-    _ _ _ _ c.files.text.items _ _ c.in_err-write_line.field-0.0 c.from_residual.result c.from_residual.ensures.1
-    (ap (λ path. made_line path rule) (sym (ap (λ o. unwrap_or o []) (rw c.deref.ensures at c.path.ensures)))) c.files.invariant c.in_err-write_line.ensures
+    _ _ _ _ c.files.text.items _ _ c.in_err-write_line.field-0.0 c.from_residual.result
+    c.from_residual.ensures.1
+    (ap (λ path. made_line path rule) (sym (ap (λ o. unwrap_or o []) (rw c.deref.ensures at c.path.ensures))))
+    c.files.invariant c.in_err-write_line.ensures
 
 pub files-preserved : goal.files-preserved
 files-preserved g c =
     let rule = c.args.rule.now in
-    item-puts (line_of (files_of c.args.graph.now) rule) c.args.files.now c.files.file-index (record { 0 = 0 }) (omega arith) _ _ _ _ c.files.text.items _ _
-    (ap (λ path. made_line path rule) (sym (ap (λ o. unwrap_or o []) (rw c.deref.ensures at c.path.ensures)))) c.files.invariant c.in_ok-write_line.ensures
+    item-puts (line_of (files_of c.args.graph.now) rule) c.args.files.now c.files.file-index
+    (record { 0 = 0 }) (omega arith) _ _ _ _ c.files.text.items _ _
+    (ap (λ path. made_line path rule) (sym (ap (λ o. unwrap_or o []) (rw c.deref.ensures at c.path.ensures))))
+    c.files.invariant c.in_ok-write_line.ensures
 
 pub returns : goal.returns
 returns g c =

@@ -9,4 +9,5 @@ use Rattle.nj_tools.proofs.target_lists.write_made.Given as goal
 abbrev pub invariant-files : goal.invariant-files
 invariant-files g l =
     IsUnderway (g.S.Sink.state l.fn.out) (g.S.Sink.state l.out)
-    (l.fn.text.items ++ flat_map (λ file. made_line (path_at (files_of l.graph) file) l.rule) (take l.file-index l.files)) l.text.items
+    (l.fn.text.items ++ flat_map (λ file. made_line (path_at (files_of l.graph) file) l.rule)
+    (take l.file-index l.files)) l.text.items

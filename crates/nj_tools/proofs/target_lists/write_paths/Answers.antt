@@ -11,8 +11,10 @@ line_of path = line path.now
 
 pub returns-in_err-write_line : goal.returns-in_err-write_line
 returns-in_err-write_line g c =
-    item-stops line_of c.args.paths.now c.paths.path-index _ (omega arith) _ (flat_map-map line text_of c.args.paths.now)
-    _ _ _ _ c.paths.text.items _ _ c.in_err-write_line.field-0.0 c.from_residual.result c.from_residual.ensures.1
+    item-stops line_of c.args.paths.now c.paths.path-index _ (omega arith) _
+    (flat_map-map line text_of c.args.paths.now)
+    _ _ _ _ c.paths.text.items _ _ c.in_err-write_line.field-0.0 c.from_residual.result
+    c.from_residual.ensures.1
     (ap line (append-nil _)) c.paths.invariant c.in_err-write_line.ensures
 
 pub paths-preserved : goal.paths-preserved
@@ -22,4 +24,5 @@ paths-preserved g c =
 
 pub returns : goal.returns
 returns g c =
-    items-put line_of c.args.paths.now c.paths.path-index (omega arith) _ (flat_map-map line text_of c.args.paths.now) _ _ _ _ c.paths.invariant
+    items-put line_of c.args.paths.now c.paths.path-index (omega arith) _
+    (flat_map-map line text_of c.args.paths.now) _ _ _ _ c.paths.invariant

@@ -4,4 +4,5 @@ use Rattle.nj_tools.proofs.trees.append_indent.Goals as goal
 
 pub levels-preserved : goal.levels-preserved
 levels-preserved c =
-    c.in_ok-extend_from_slice.ensures.items ∙ ap (λ t. t ++ codes "  ") c.levels.invariant ∙ indent-next c.args.text.now.items c.levels.counter
+    c.in_ok-extend_from_slice.ensures.items ∙ ap (λ t. t ++ codes "  ") c.levels.invariant
+    ∙ indent-next c.args.text.now.items c.levels.counter

@@ -1,4 +1,5 @@
-use Rattle.std.proofs.Common.{◌≡◌, ◌<◌, ◌+◌, ◌-◌, ◌++◌, [], ◌∷◌, length, map, take, drop, slice_index_or, sym, ap, subst, ◌∙◌, arith, append_assoc, rules}
+use Rattle.std.proofs.Common.{◌≡◌, ◌<◌, ◌+◌, ◌-◌, ◌++◌, [], ◌∷◌, length, map, take, drop, slice_index_or, sym}
+use Rattle.std.proofs.Common.{ap, subst, ◌∙◌, arith, append_assoc, rules}
 use Rattle.std.proofs.lemmas.List.Elements.{All-drop, All-take}
 use Rattle.nj_edges.specs.Edges.{maker_of}
 use Rattle.nj_names.specs.Files.{path_at}
@@ -9,23 +10,28 @@ use Rattle.nj_tools.specs.declared.tool_fault.ToolFault.TheVariants.{OutOfMemory
 use Rattle.nj_tools.specs.Inside.Blocks.{IsUnderway}
 use Rattle.nj_tools.specs.Listings.{file_line, indent, trees_text}
 use Rattle.nj_tools.specs.Inside.Trees.{AreKnown, rows_after, rows_of, rows_text}
-use Rattle.nj_tools.proofs.BlockLemmas.{IsUnderway-more, StopsWithin-more, StopsWithin-whole, TakesFront-whole, puts-nothing, puts-with}
-use Rattle.nj_tools.proofs.TreeLemmas.{empty-is, few-after, first-rows, known-one, known-popped, row-is, smaller-after, smaller-empty, written-all, written-empty, written-turn}
+use Rattle.nj_tools.proofs.BlockLemmas.{IsUnderway-more, StopsWithin-more, StopsWithin-whole}
+use Rattle.nj_tools.proofs.BlockLemmas.{TakesFront-whole, puts-nothing, puts-with}
+use Rattle.nj_tools.proofs.TreeLemmas.{empty-is, few-after, first-rows, known-one, known-popped, row-is}
+use Rattle.nj_tools.proofs.TreeLemmas.{smaller-after, smaller-empty, written-all, written-empty, written-turn}
 use Rattle.nj_tools.proofs.trees.write_trees.Goals as goal
 
 pub files-init : goal.files-init
 files-init g c =
     let files = files_of c.args.graph.now in
-    let is : c.push.new.self.items ≡ c.roots.result ∷ [] = c.in_ok-push.ensures.items ∙ ap (λ rows. rows ++ c.roots.result ∷ []) c.new-rows.ensures.items in
+    let is : c.push.new.self.items ≡ c.roots.result ∷ [] =
+    c.in_ok-push.ensures.items ∙ ap (λ rows. rows ++ c.roots.result ∷ []) c.new-rows.ensures.items in
     let count : length c.push.new.self.items ≡ 1 = ap length is in
     record {
       written = λ entries graph. (
         [],
         puts-nothing _ _,
-        first-rows entries (edges_of c.args.graph.now) files (c.levels_below-below.result + 1) c.args.depth c.push.new.self.items c.roots.result
+        first-rows entries (edges_of c.args.graph.now) files (c.levels_below-below.result + 1) c.args.depth
+            c.push.new.self.items c.roots.result
             (graph-edges graph) c.levels_below-below.ensures is (rw c.deref.ensures at c.roots.ensures.files),
       );
-      known = subst (AreKnown files) (sym is) (known-one files c.roots.result (rw c.deref.ensures at c.roots.ensures.known));
+      known = subst (AreKnown files) (sym is)
+          (known-one files c.roots.result (rw c.deref.ensures at c.roots.ensures.known));
       levels = omega (arith, count);
     }
 
@@ -40,27 +46,44 @@ files-preserved g c =
     let below : length rest < levels = omega (arith, count, c.files.invariant.levels) in
     let file = slice_index_or c.in-Some.row.now 0 (record { 0 = 0 }) in
     let others = take (length c.in-Some.row.now - 1) (drop 1 c.in-Some.row.now) in
-    let (known_rest, known_row) = known-popped files c.files.rows.items rest c.in-Some.row c.in-Some.ensures.items c.files.invariant.known in
+    let (known_rest, known_row) = known-popped files c.files.rows.items rest c.in-Some.row
+    c.in-Some.ensures.items c.files.invariant.known in
     record {
       written = λ entries graph.
-          let text = indent c.len.result ++ file_line entries (maker_of edges (path_at files file)) (path_at files file) in
+          let text = indent c.len.result ++ file_line entries (maker_of edges (path_at files file))
+          (path_at files file) in
           let (done, underway, whole) = c.files.invariant.written entries graph in
-          let turned = written-turn entries edges files levels c.len.result c.files.rows.items rest c.in-Some.row file others (trees_text entries c.args.depth) done
-          (graph-edges graph) depth below c.in-Some.ensures.items (row-is c.in-Some.row.now c.in-len1-up.len_at_least) whole in (
+          let turned = written-turn entries edges files levels c.len.result c.files.rows.items rest
+          c.in-Some.row file others (trees_text entries c.args.depth) done
+          (graph-edges graph) depth below c.in-Some.ensures.items
+          (row-is c.in-Some.row.now c.in-len1-up.len_at_least) whole in (
             done ++ text,
-            subst (λ t. IsUnderway (g.S.Sink.state c.args.out.now) (g.S.Sink.state c.write_at_depth.new.out) t c.write_at_depth.new.text.items) (append_assoc c.args.text.now.items done text)
-                (IsUnderway-more (g.S.Sink.state c.args.out.now) (g.S.Sink.state c.files.out) (g.S.Sink.state c.write_at_depth.new.out) (c.args.text.now.items ++ done) c.files.text.items text c.write_at_depth.new.text.items underway (c.in_ok-write_at_depth.ensures entries graph)),
-            turned ∙ ap (λ rows. (done ++ text) ++ rows_text entries levels 0 rows) (sym c.in_ok-push_rows.ensures.rows),
+            subst (λ t. IsUnderway (g.S.Sink.state c.args.out.now) (g.S.Sink.state c.write_at_depth.new.out) t
+                c.write_at_depth.new.text.items) (append_assoc c.args.text.now.items done text)
+                (IsUnderway-more (g.S.Sink.state c.args.out.now) (g.S.Sink.state c.files.out)
+                (g.S.Sink.state c.write_at_depth.new.out) (c.args.text.now.items ++ done)
+                c.files.text.items text c.write_at_depth.new.text.items underway
+                (c.in_ok-write_at_depth.ensures entries graph)),
+            turned ∙ ap (λ rows. (done ++ text) ++ rows_text entries levels 0 rows)
+                (sym c.in_ok-push_rows.ensures.rows),
           );
-      known = c.in_ok-push_rows.ensures.known known_rest (known-one files _ (All-take (λ (n : FileNo). n.0 < length files) (length c.in-Some.row.now - 1) (drop 1 c.in-Some.row.now) (All-drop (λ (n : FileNo). n.0 < length files) 1 c.in-Some.row.now known_row)));
-      levels = few-after edges files levels rest c.push_rows.new.rows.items (path_at files file) (map (path_at files) others) below c.in_ok-push_rows.ensures.rows;
+      known = c.in_ok-push_rows.ensures.known known_rest
+          (known-one files _ (All-take (λ (n : FileNo). n.0 < length files) (length c.in-Some.row.now - 1)
+          (drop 1 c.in-Some.row.now) (All-drop (λ (n : FileNo). n.0 < length files) 1 c.in-Some.row.now
+          known_row)));
+      levels = few-after edges files levels rest c.push_rows.new.rows.items (path_at files file)
+          (map (path_at files) others) below c.in_ok-push_rows.ensures.rows;
     }
 
 pub files-smaller : goal.files-smaller
 files-smaller g c =
     let count : length c.files.rows.items ≡ length c.pop.new.self.items + 1 = search rules in
-    smaller-after (edges_of c.args.graph.now) (files_of c.args.graph.now) (c.levels_below-below.result + 1) c.files.rows.items c.pop.new.self.items c.push_rows.new.rows.items c.in-Some.row
-    (slice_index_or c.in-Some.row.now 0 (record { 0 = 0 })) (take (length c.in-Some.row.now - 1) (drop 1 c.in-Some.row.now)) (omega (arith, count, c.files.invariant.levels)) c.in-Some.ensures.items (row-is c.in-Some.row.now c.in-len1-up.len_at_least)
+    smaller-after (edges_of c.args.graph.now) (files_of c.args.graph.now) (c.levels_below-below.result + 1)
+    c.files.rows.items c.pop.new.self.items c.push_rows.new.rows.items c.in-Some.row
+    (slice_index_or c.in-Some.row.now 0 (record { 0 = 0 }))
+    (take (length c.in-Some.row.now - 1) (drop 1 c.in-Some.row.now))
+    (omega (arith, count, c.files.invariant.levels)) c.in-Some.ensures.items
+    (row-is c.in-Some.row.now c.in-len1-up.len_at_least)
     c.in_ok-push_rows.ensures.rows
 
 pub files-preserved-in_default-row : goal.files-preserved-in_default-row
@@ -70,15 +93,22 @@ files-preserved-in_default-row g c =
     let count : length c.files.rows.items ≡ length c.pop.new.self.items + 1 = search rules in
     record {
       written = λ entries graph.
-          let (done, underway, whole) = c.files.invariant.written entries graph in
-          (done, underway, written-empty entries files (c.levels_below-below.result + 1) c.files.rows.items c.pop.new.self.items c.in-Some.row (trees_text entries c.args.depth) done c.in-Some.ensures.items none whole);
-      known = (known-popped files c.files.rows.items c.pop.new.self.items c.in-Some.row c.in-Some.ensures.items c.files.invariant.known).0;
+          let (done, underway, whole) = c.files.invariant.written entries graph in (
+            done,
+            underway,
+            written-empty entries files (c.levels_below-below.result + 1) c.files.rows.items
+                c.pop.new.self.items c.in-Some.row (trees_text entries c.args.depth) done
+                c.in-Some.ensures.items none whole,
+          );
+      known = (known-popped files c.files.rows.items c.pop.new.self.items c.in-Some.row
+          c.in-Some.ensures.items c.files.invariant.known).0;
       levels = omega (arith, count, c.files.invariant.levels);
     }
 
 pub files-smaller-in_default-row : goal.files-smaller-in_default-row
 files-smaller-in_default-row g c =
-    smaller-empty (edges_of c.args.graph.now) (files_of c.args.graph.now) (c.levels_below-below.result + 1) c.files.rows.items c.pop.new.self.items c.in-Some.row
+    smaller-empty (edges_of c.args.graph.now) (files_of c.args.graph.now) (c.levels_below-below.result + 1)
+    c.files.rows.items c.pop.new.self.items c.in-Some.row
     c.in-Some.ensures.items (empty-is c.in-Some.row.now c.in_default-row.len_below)
 
 pub returns-in_err-write_at_depth : goal.returns-in_err-write_at_depth
@@ -91,15 +121,29 @@ returns-in_err-write_at_depth g c entries graph =
     let depth : c.len.result ≡ length rest = search rules in
     let file = slice_index_or c.in-Some.row.now 0 (record { 0 = 0 }) in
     let others = take (length c.in-Some.row.now - 1) (drop 1 c.in-Some.row.now) in
-    let text = indent c.len.result ++ file_line entries (maker_of edges (path_at files file)) (path_at files file) in
-    let left = rows_text entries levels 0 (rows_after edges levels (rows_of files rest) (path_at files file) (map (path_at files) others)) in
+    let text = indent c.len.result ++ file_line entries (maker_of edges (path_at files file))
+    (path_at files file) in
+    let left = rows_text entries levels 0 (rows_after edges levels (rows_of files rest) (path_at files file)
+    (map (path_at files) others)) in
     let (done, underway, whole) = c.files.invariant.written entries graph in
-    let turned = written-turn entries edges files levels c.len.result c.files.rows.items rest c.in-Some.row file others (trees_text entries c.args.depth) done
-    (graph-edges graph) depth (omega (arith, count, c.files.invariant.levels)) c.in-Some.ensures.items (row-is c.in-Some.row.now c.in-len1-up.len_at_least) whole in
-    puts-with (g.S.Sink.state c.args.out.now) (g.S.Sink.state c.write_at_depth.new.out) c.args.text.now.items c.write_at_depth.new.text.items (trees_text entries c.args.depth) c.in_err-write_at_depth.field-0.0 c.from_residual-in_err-write_at_depth.result c.from_residual-in_err-write_at_depth.ensures.1
-    (StopsWithin-whole (g.S.Sink.state c.args.out.now) (g.S.Sink.state c.write_at_depth.new.out) ((c.args.text.now.items ++ done) ++ text) (c.args.text.now.items ++ trees_text entries c.args.depth) c.in_err-write_at_depth.field-0.0
-    (left, ap (λ t. c.args.text.now.items ++ t) turned ∙ sym (append_assoc c.args.text.now.items (done ++ text) left) ∙ ap (λ t. t ++ left) (sym (append_assoc c.args.text.now.items done text)))
-    (StopsWithin-more (g.S.Sink.state c.args.out.now) (g.S.Sink.state c.files.out) (g.S.Sink.state c.write_at_depth.new.out) (c.args.text.now.items ++ done) c.files.text.items text c.in_err-write_at_depth.field-0.0 underway (c.in_err-write_at_depth.ensures entries graph)))
+    let turned = written-turn entries edges files levels c.len.result c.files.rows.items rest c.in-Some.row
+    file others (trees_text entries c.args.depth) done
+    (graph-edges graph) depth (omega (arith, count, c.files.invariant.levels)) c.in-Some.ensures.items
+    (row-is c.in-Some.row.now c.in-len1-up.len_at_least) whole in
+    puts-with (g.S.Sink.state c.args.out.now) (g.S.Sink.state c.write_at_depth.new.out) c.args.text.now.items
+    c.write_at_depth.new.text.items (trees_text entries c.args.depth) c.in_err-write_at_depth.field-0.0
+    c.from_residual-in_err-write_at_depth.result c.from_residual-in_err-write_at_depth.ensures.1
+    (StopsWithin-whole (g.S.Sink.state c.args.out.now) (g.S.Sink.state c.write_at_depth.new.out)
+    ((c.args.text.now.items ++ done) ++ text) (c.args.text.now.items ++ trees_text entries c.args.depth)
+    c.in_err-write_at_depth.field-0.0 (
+      left,
+      ap (λ t. c.args.text.now.items ++ t) turned
+          ∙ sym (append_assoc c.args.text.now.items (done ++ text) left)
+          ∙ ap (λ t. t ++ left) (sym (append_assoc c.args.text.now.items done text)),
+    )
+    (StopsWithin-more (g.S.Sink.state c.args.out.now) (g.S.Sink.state c.files.out)
+    (g.S.Sink.state c.write_at_depth.new.out) (c.args.text.now.items ++ done) c.files.text.items text
+    c.in_err-write_at_depth.field-0.0 underway (c.in_err-write_at_depth.ensures entries graph)))
 
 pub returns-in_err-push_rows : goal.returns-in_err-push_rows
 returns-in_err-push_rows g c entries graph =
@@ -111,19 +155,36 @@ returns-in_err-push_rows g c entries graph =
     let depth : c.len.result ≡ length rest = search rules in
     let file = slice_index_or c.in-Some.row.now 0 (record { 0 = 0 }) in
     let others = take (length c.in-Some.row.now - 1) (drop 1 c.in-Some.row.now) in
-    let text = indent c.len.result ++ file_line entries (maker_of edges (path_at files file)) (path_at files file) in
-    let left = rows_text entries levels 0 (rows_after edges levels (rows_of files rest) (path_at files file) (map (path_at files) others)) in
+    let text = indent c.len.result ++ file_line entries (maker_of edges (path_at files file))
+    (path_at files file) in
+    let left = rows_text entries levels 0 (rows_after edges levels (rows_of files rest) (path_at files file)
+    (map (path_at files) others)) in
     let (done, underway, whole) = c.files.invariant.written entries graph in
-    let turned = written-turn entries edges files levels c.len.result c.files.rows.items rest c.in-Some.row file others (trees_text entries c.args.depth) done
-    (graph-edges graph) depth (omega (arith, count, c.files.invariant.levels)) c.in-Some.ensures.items (row-is c.in-Some.row.now c.in-len1-up.len_at_least) whole in
-    puts-with (g.S.Sink.state c.args.out.now) (g.S.Sink.state c.write_at_depth.new.out) c.args.text.now.items c.write_at_depth.new.text.items (trees_text entries c.args.depth) OutOfMemory c.from_residual-in_err-push_rows.result c.from_residual-in_err-push_rows.ensures.1
-    (TakesFront-whole (g.S.Sink.state c.args.out.now) (g.S.Sink.state c.write_at_depth.new.out) ((c.args.text.now.items ++ done) ++ text) c.write_at_depth.new.text.items (c.args.text.now.items ++ trees_text entries c.args.depth)
-    (left, ap (λ t. c.args.text.now.items ++ t) turned ∙ sym (append_assoc c.args.text.now.items (done ++ text) left) ∙ ap (λ t. t ++ left) (sym (append_assoc c.args.text.now.items done text)))
-    (IsUnderway-more (g.S.Sink.state c.args.out.now) (g.S.Sink.state c.files.out) (g.S.Sink.state c.write_at_depth.new.out) (c.args.text.now.items ++ done) c.files.text.items text c.write_at_depth.new.text.items underway (c.in_ok-write_at_depth.ensures entries graph)))
+    let turned = written-turn entries edges files levels c.len.result c.files.rows.items rest c.in-Some.row
+    file others (trees_text entries c.args.depth) done
+    (graph-edges graph) depth (omega (arith, count, c.files.invariant.levels)) c.in-Some.ensures.items
+    (row-is c.in-Some.row.now c.in-len1-up.len_at_least) whole in
+    puts-with (g.S.Sink.state c.args.out.now) (g.S.Sink.state c.write_at_depth.new.out) c.args.text.now.items
+    c.write_at_depth.new.text.items (trees_text entries c.args.depth) OutOfMemory
+    c.from_residual-in_err-push_rows.result c.from_residual-in_err-push_rows.ensures.1
+    (TakesFront-whole (g.S.Sink.state c.args.out.now) (g.S.Sink.state c.write_at_depth.new.out)
+    ((c.args.text.now.items ++ done) ++ text) c.write_at_depth.new.text.items
+    (c.args.text.now.items ++ trees_text entries c.args.depth) (
+      left,
+      ap (λ t. c.args.text.now.items ++ t) turned
+          ∙ sym (append_assoc c.args.text.now.items (done ++ text) left)
+          ∙ ap (λ t. t ++ left) (sym (append_assoc c.args.text.now.items done text)),
+    )
+    (IsUnderway-more (g.S.Sink.state c.args.out.now) (g.S.Sink.state c.files.out)
+    (g.S.Sink.state c.write_at_depth.new.out) (c.args.text.now.items ++ done) c.files.text.items text
+    c.write_at_depth.new.text.items underway (c.in_ok-write_at_depth.ensures entries graph)))
 
 pub returns : goal.returns
 returns g c entries graph =
     let none : length c.files.rows.items ≡ 0 = search rules in
     let (done, underway, whole) = c.files.invariant.written entries graph in
-    subst (λ t. IsUnderway (g.S.Sink.state c.args.out.now) (g.S.Sink.state c.files.out) (c.args.text.now.items ++ t) c.files.text.items)
-    (written-all entries (files_of c.args.graph.now) (c.levels_below-below.result + 1) c.files.rows.items (trees_text entries c.args.depth) done (empty-is c.files.rows.items (omega (arith, none))) whole) underway
+    subst (λ t. IsUnderway (g.S.Sink.state c.args.out.now) (g.S.Sink.state c.files.out)
+    (c.args.text.now.items ++ t) c.files.text.items)
+    (written-all entries (files_of c.args.graph.now) (c.levels_below-below.result + 1) c.files.rows.items
+    (trees_text entries c.args.depth) done (empty-is c.files.rows.items (omega (arith, none))) whole)
+    underway

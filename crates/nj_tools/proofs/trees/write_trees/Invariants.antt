@@ -10,10 +10,12 @@ abbrev pub invariant-files : goal.invariant-files
 invariant-files g l = record {
   written : (entries : List ReadStatement) → IsGraphOf l.graph entries → (done : List ℕ)
       × IsUnderway (g.S.Sink.state l.fn.out) (g.S.Sink.state l.out) (l.fn.text.items ++ done) l.text.items
-      × (trees_text entries l.depth ≡ done ++ rows_text entries (l.below + 1) 0 (rows_of (files_of l.graph) l.rows.items));
+      × (trees_text entries l.depth ≡ done ++ rows_text entries (l.below + 1) 0
+      (rows_of (files_of l.graph) l.rows.items));
   known : AreKnown (files_of l.graph) l.rows.items;
   levels : length l.rows.items ≤ l.below + 1;
 }
 
 abbrev pub decreases-files : goal.decreases-files
-decreases-files g l = 2 * rows_lines (edges_of l.graph) (l.below + 1) 0 (rows_of (files_of l.graph) l.rows.items) + length l.rows.items
+decreases-files g l = 2 * rows_lines (edges_of l.graph) (l.below + 1) 0
+    (rows_of (files_of l.graph) l.rows.items) + length l.rows.items

@@ -17,7 +17,8 @@ makers_among-requires-clause-flags c =
     let maker = λ (n : ℕ). maker_of (edges_of g) (path_of g n) in
     let made =
     ap (filter_map (λ (f : FileNo). maker_of (edges_of g) (path_at (files_of g) f))) c.deref-3.ensures.value
-    ∙ sym (filter-map-map maker (λ (f : FileNo). f.0) files) ∙ ap (filter_map maker) c.in_ok-files.ensures.files
+    ∙ sym (filter-map-map maker (λ (f : FileNo). f.0) files)
+    ∙ ap (filter_map maker) c.in_ok-files.ensures.files
     in
     subst (AreFlags (length (edges_of g)) (makers_of_opened g)) (sym c.deref-4.ensures.value)
     (subst (λ ns. AreFlags (length (edges_of g)) ns c.in_ok-flags.flags.items) made c.in_ok-flags.ensures)
@@ -29,7 +30,9 @@ returns-clause-reached c entries graph =
     let numbers = ap (map (λ (f : FileNo). f.0)) c.deref-2.ensures.value ∙ c.in_ok-files.ensures.files in
     record {
       opened = subst (λ n. AreFlags n (opened_files g) c.in_ok-opened.opened.items) counted
-          (subst (λ ns. AreFlags c.file_count.result ns c.in_ok-opened.opened.items) numbers c.in_ok-opened.ensures);
+          (subst (λ ns. AreFlags c.file_count.result ns c.in_ok-opened.opened.items) numbers
+          c.in_ok-opened.ensures);
       feeds = subst (λ ns. AreFeeds (edges_of g) ns c.in_ok-feeds.feeds.items)
-          (ap (map (λ (e : EdgeNo). e.0)) c.deref-5.ensures.value ∙ c.in_ok-makers.ensures.makers entries graph) c.in_ok-feeds.ensures;
+          (ap (map (λ (e : EdgeNo). e.0)) c.deref-5.ensures.value
+          ∙ c.in_ok-makers.ensures.makers entries graph) c.in_ok-feeds.ensures;
     }

@@ -18,7 +18,10 @@ use Rattle.nj_c.specs.contracts.sealed_box.Seal as C
 use Rattle.nj_c.proofs.sealed_box.Seal.TheLaw.Statement.{statement}
 
 pub shares : statement
-shares = of_Lends C.struct (C.the_codes Heap.the_row.coded) C.the_heap C.the_lent (λ d p. lent_at_shr_laws T L.shr_laws d.at d.kept) (copy_shared RawPtr-field RawPtr-copy, (heap.the_field_shared, tt)) (λ M 𝓤 𝓛 d p.
+shares = of_Lends C.struct (C.the_codes Heap.the_row.coded) C.the_heap C.the_lent
+    (λ d p. lent_at_shr_laws T L.shr_laws d.at d.kept)
+    (copy_shared RawPtr-field RawPtr-copy, (heap.the_field_shared, tt)) (λ M 𝓤 𝓛 d p.
     let l = C.the_row.lives in
-    Lends-first 𝓛 (lies_at T full_share d.at d.kept) (ghosts.dealloc_token d.alloc (bare (lone T.mir)) d.at) (lent_at T d.at d.kept) l
+    Lends-first 𝓛 (lies_at T full_share d.at d.kept) (ghosts.dealloc_token d.alloc (bare (lone T.mir)) d.at)
+    (lent_at T d.at d.kept) l
     (Lends-lies 𝓛 T l d.at d.kept (Shares-less 𝓛 T T.lives l (⊑_static l) (L.shares 𝓛) d.kept)))

@@ -13,5 +13,8 @@ use Rattle.nj_c.specs.contracts.sealed_box.Seal.{the_row, the_type}
 pub send : IsSend the_row
 send =
     let all : AllSend (fields the_type) = (search sendable, (handle.the_field_send, tt)) in
-    owning_send the_type all (λ d. (lies Home.the_row home d.at d.kept, heap.frees.frees d.alloc (raw (lone Home.the_row.mir)) d.at))
+    owning_send the_type all (λ d. (
+      lies Home.the_row home d.at d.kept,
+      heap.frees.frees d.alloc (raw (lone Home.the_row.mir)) d.at,
+    ))
     (λ k. quiet (to the_type) (exits_of k (fields the_type)) ((struct_send (shape the_type) all).leaving k))

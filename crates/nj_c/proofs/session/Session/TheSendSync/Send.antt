@@ -18,7 +18,13 @@ use Rattle.nj_c.specs.contracts.session.Session.{the_row, the_type}
 
 keyless : (a : Global) (p : Ptr) (k : Option Kept.the_row.Denot) → Keyless (keeps a p k)
 keyless a null_ptr k = λ is. tt
-keyless a (block_ptr b o) k = λ x. ((λ is. tt), (lies Kept.the_row kept (block_ptr b o) x, heap.frees.frees a (raw (lone Kept.the_row.mir)) (block_ptr b o)))
+keyless a (block_ptr b o) k = λ x. (
+  (λ is. tt),
+  (
+    lies Kept.the_row kept (block_ptr b o) x,
+    heap.frees.frees a (raw (lone Kept.the_row.mir)) (block_ptr b o),
+  ),
+)
 
 pub send : IsSend the_row
 send =

@@ -5,7 +5,8 @@ use mir.Val.{Val, vnull, has_ty}
 use base.Logic.{SProp, ent, emp, id⊢}
 use base.Fml.{ftrue}
 use prog.Wp.{WpFn}
-use types.Kit.{‵, raw, ◌⊛◌, ◌$◌, ◌∵◌, !, qed, by, move, keep, split, fsplit, fjoin, fpack, suffices, rewrite, use0}
+use types.Kit.{‵, raw, ◌⊛◌, ◌$◌, ◌∵◌, !, qed, by, move, keep, split, fsplit, fjoin, fpack, suffices, rewrite}
+use types.Kit.{use0}
 use types.Run.{lit, no_more, and_then, returns, enter}
 use types.ByLocal.{alloc_all, pass_all, free_all, look_at, get, sets}
 use types.Part.{agg}
@@ -37,14 +38,25 @@ empty_spec 𝓤 𝓛 𝓜 𝓡 wired =
     let H = 𝓛.H in let 𝓣 = tables 𝓤 H 𝓜 𝓡 𝓡.env in let c = clauses 𝓛 𝓜.mem 𝓡.returns in
     let LZ = heap_laws.the_row_laws in let fn = code.function in
     let hs : Stays (ended).signature.params (ended).kept = (stay_dropped (plain (λ _. Z)) yes, tt) in
-    proved_at 𝓛 ended hs c 𝓜 𝓡 (Goes-dropped 𝓛 0 (plain (λ _. Z)) yes (λ κs x f. refl), tt) #self fn (code.unfolded 𝓤 H 𝓜 𝓡 wired) (λ z are.
-    let κs = z.0.0 in let qs = z.0.1 in let Post : Val → SProp 𝓤 = (walk_of 𝓛 ended hs c).post z in let Run : List Val → SProp 𝓤 = λ ws. WpFn 𝓤 H 𝓣.C 𝓣.Λ fn ws Post in let Out : RattleType = type_at (ended).signature.result κs in
+    proved_at 𝓛 ended hs c 𝓜 𝓡 (Goes-dropped 𝓛 0 (plain (λ _. Z)) yes (λ κs x f. refl), tt) #self fn
+    (code.unfolded 𝓤 H 𝓜 𝓡 wired) (λ z are.
+    let κs = z.0.0 in let qs = z.0.1 in let Post : Val → SProp 𝓤 = (walk_of 𝓛 ended hs c).post z
+    in let Run : List Val → SProp 𝓤 = λ ws. WpFn 𝓤 H 𝓣.C 𝓣.Λ fn ws Post in let Out : RattleType =
+    type_at (ended).signature.result κs in
     let a = z.0.3.0 in let k : Option K.Denot = None in
     let h = one (layout Z) z.0.4.0 ((LZ.lawful 𝓛).typed a z.0.4.0 are.0) in let w : Val = both vnull h.0 in
-    let good : Good (layout Out) w = (both_tt true (has_ty (layout Z) h.0) tt h.2.0, (record { fits = lit< tt }, (h.2.1, tt))) in
-    qed 𝓛 ((raw (alive 𝓛 (ended).signature κs qs) ⊛ ‵ (owns (types_at (ended).signature.params κs) z.0.3 z.0.4)) ∷ raw (emp 𝓤) ∷ []) ∵
+    let good : Good (layout Out) w = (
+      both_tt true (has_ty (layout Z) h.0) tt h.2.0,
+      (record { fits = lit< tt }, (h.2.1, tt)),
+    ) in
+    qed 𝓛 ((raw (alive 𝓛 (ended).signature κs qs) ⊛ ‵
+    (owns (types_at (ended).signature.params κs) z.0.3 z.0.4)) ∷ raw (emp 𝓤) ∷ []) ∵
     split ! $ move ! (1 ∷ []) $ fsplit ! $ rewrite ! 0 (λ (us : List Val). ‵ (Z.own_val a us)) h.1 refl $
-    suffices ! (Run (h.0 ∷ [])) (subst (λ (us : List Val). ent 𝓤 (Run (h.0 ∷ [])) (Run us)) (sym (λ i. h.1 i ++ [])) (id⊢ 𝓤 (Run (h.0 ∷ [])))) $
+    suffices ! (Run (h.0 ∷ [])) (subst (λ (us : List Val). ent 𝓤 (Run (h.0 ∷ [])) (Run us))
+    (sym (λ i. h.1 i ++ [])) (id⊢ 𝓤 (Run (h.0 ∷ [])))) $
     enter ! 𝓣.C 𝓣.Λ fn (h.0 ∷ []) Post $ alloc_all ! (λ l. pass_all ! refl (h.2, tt) $
-    sets ! (agg ! (and_then ! (lit ! tt) (and_then ! (get ! refl) (no_more !)))) refl good $ nothing ! $ fpack ! (k ≡ None) (λ _. ftrue) refl $ session_in ! null_ptr h.0 a k $ use0 𝓛 (raw (fact 𝓤 (k ≡ None))) (fact_i 𝓤 (k ≡ None) (emp 𝓤) refl) $ nothing ! $ nothing ! $ fjoin ! $
-    returns ! (look_at ! 0 refl) $ free_all ! refl $ keep ! (4 ∷ 0 ∷ 2 ∷ 1 ∷ []) $ by ! (leaves 𝓛 ended hs c z w (record { at = null_ptr; alloc = a; kept = k }) (tt, tt) (tt, tt))))
+    sets ! (agg ! (and_then ! (lit ! tt) (and_then ! (get ! refl) (no_more !)))) refl good $ nothing ! $ fpack
+    ! (k ≡ None) (λ _. ftrue) refl $ session_in ! null_ptr h.0 a k $ use0 𝓛 (raw (fact 𝓤 (k ≡ None)))
+    (fact_i 𝓤 (k ≡ None) (emp 𝓤) refl) $ nothing ! $ nothing ! $ fjoin ! $
+    returns ! (look_at ! 0 refl) $ free_all ! refl $ keep ! (4 ∷ 0 ∷ 2 ∷ 1 ∷ []) $ by !
+    (leaves 𝓛 ended hs c z w (record { at = null_ptr; alloc = a; kept = k }) (tt, tt) (tt, tt))))

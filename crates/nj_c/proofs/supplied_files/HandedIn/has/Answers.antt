@@ -7,7 +7,9 @@ use Rattle.nj_c.proofs.supplied_files.HandedIn.has.Goals as goal
 
 pub returns : goal.returns
 returns c =
-    let held = c.self.inside in let files = map outcome_bytes held.files.items in let path = c.args.path.now in
+    let held = c.self.inside in let files = map outcome_bytes held.files.items in let path = c.args.path.now
+    in
     let same = length-map held.files.items outcome_bytes ∙ c.self.invariant.0 in
-    c.is_some.ensures ∙ sym (some-map (λ f. f.0) c.number.result) ∙ ap is_some c.number.ensures.index ∙ sym (is-known held.paths files path same)
+    c.is_some.ensures ∙ sym (some-map (λ f. f.0) c.number.result) ∙ ap is_some c.number.ensures.index
+    ∙ sym (is-known held.paths files path same)
     ∙ ap (λ h. is_some (handed_in h path)) c.self.view_is

@@ -13,6 +13,9 @@ returns c =
     let same = length-map held.files.items outcome_bytes ∙ c.self.invariant.0 in
     record {
       paths = subst (λ ws. IfOk c.wanted_in.result (λ paths. map bytes_of paths.items ≡ ws))
-          (ap (flat_map wanted_of) c.deref.ensures.value ∙ wanted-held held.paths files held.read.items same c.self.invariant.1 ∙ ap wanted_paths c.self.view_is) c.wanted_in.ensures;
-      found = subst ReadsAsHanded c.self.view_is (found-held held.paths files held.read.items same c.self.invariant.1);
+          (ap (flat_map wanted_of) c.deref.ensures.value
+          ∙ wanted-held held.paths files held.read.items same c.self.invariant.1
+          ∙ ap wanted_paths c.self.view_is) c.wanted_in.ensures;
+      found = subst ReadsAsHanded c.self.view_is
+          (found-held held.paths files held.read.items same c.self.invariant.1);
     }

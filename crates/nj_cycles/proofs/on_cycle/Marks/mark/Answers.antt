@@ -7,4 +7,5 @@ pub returns-clause-more : goal.returns-clause-more
 returns-clause-more c =
     let old = c.args.self.now in
     let lt : c.args.edge < length old.flags.items = omega (arith, c.requires, old.flags.ok.0) in
-    more_one old _ c.args.edge lt (sym (get_or_read old.flags.items c.args.edge c.index.result.now lt c.index.ensures false) ∙ c.if-index.false) refl c.in_ok-push.ensures.items
+    more_one old _ c.args.edge lt (sym (get_or_read old.flags.items c.args.edge c.index.result.now lt
+    c.index.ensures false) ∙ c.if-index.false) refl c.in_ok-push.ensures.items

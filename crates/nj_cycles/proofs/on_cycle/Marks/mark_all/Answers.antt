@@ -13,12 +13,17 @@ edges-preserved c =
     let x = slice_index edges index in
     let k = c.in_ok-mark.ensures in
     record {
-      more = more_then (Contains edges) (λ e. e ≡ x) c.args.self.now c.edges.self c.mark.new.self (λ e is. subst (Contains edges) (sym is) (contains_at edges index x c.edges-test.true refl)) c.edges.invariant.more k.more;
+      more = more_then (Contains edges) (λ e. e ≡ x) c.args.self.now c.edges.self c.mark.new.self
+          (λ e is. subst (Contains edges) (sym is) (contains_at edges index x c.edges-test.true refl))
+          c.edges.invariant.more k.more;
       marked = λ i below. elim (cases_lt i index) [
         | inl less ↦ k.more.kept (slice_index edges i) (c.edges.invariant.marked i less)
-        | inr le ↦ let last : i ≡ index = omega (arith, below, le) in subst (λ j. IsMarked c.mark.new.self.flags.items (slice_index edges j)) (sym last) k.marked
+        | inr le ↦ let last : i ≡ index = omega (arith, below, le)
+            in subst (λ j. IsMarked c.mark.new.self.flags.items (slice_index edges j)) (sym last) k.marked
       ];
     }
 
 pub returns-clause-marked : goal.returns-clause-marked
-returns-clause-marked c = λ e h. let k = index_of c.args.edges.now e h in subst (IsMarked c.edges.self.flags.items) k.2 (c.edges.invariant.marked k.0 (omega (arith, k.1, c.edges-test.false)))
+returns-clause-marked c = λ e h. let k = index_of c.args.edges.now e h
+    in subst (IsMarked c.edges.self.flags.items) k.2
+    (c.edges.invariant.marked k.0 (omega (arith, k.1, c.edges-test.false)))

@@ -10,8 +10,10 @@ abbrev pub invariant-pending : goal.invariant-pending
 invariant-pending l = record {
   len : vec_len l.self.flags ≡ length l.users;
   inside : (e : ℕ) → Contains l.self.pending.items e → e < length l.users;
-  marking : (makers : ℕ → List (Option ℕ)) (edges : List ℕ) → HaveUsers (length l.users) (Needs makers) l.users
-      → AreMarks makers edges l.fn.self.flags.items → Marking makers (l.edge ∷ edges) l.self.flags.items l.self.pending.items;
+  marking : (makers : ℕ → List (Option ℕ)) (edges : List ℕ)
+      → HaveUsers (length l.users) (Needs makers) l.users
+      → AreMarks makers edges l.fn.self.flags.items
+      → Marking makers (l.edge ∷ edges) l.self.flags.items l.self.pending.items;
 }
 
 abbrev pub decreases-pending : goal.decreases-pending

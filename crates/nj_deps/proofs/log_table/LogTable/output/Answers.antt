@@ -9,4 +9,5 @@ pub returns-clause-known : goal.returns-clause-known
 returns-clause-known c =
     let table = c.self.inside in
     subst (λ (t : TableModel). AllByRecursion (IsOfPaths (length t.paths)) t.outputs) c.self.view_is
-    (paths-more table.outputs.count (length table.paths) table.outputs.outputs c.self.invariant.0 c.output.ensures.known)
+    (paths-more table.outputs.count (length table.paths) table.outputs.outputs c.self.invariant.0
+    c.output.ensures.known)

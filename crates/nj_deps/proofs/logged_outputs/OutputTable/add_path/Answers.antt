@@ -6,5 +6,6 @@ use Rattle.nj_deps.proofs.logged_outputs.OutputTable.add_path.Goals as goal
 pub invariant_of-self-2 : goal.invariant_of-self-2
 invariant_of-self-2 c =
     let held = c.self.inside in
-    subst (λ (places : List ℕ). AreOutputsHeld held.inputs.items held.outputs.items places) (sym c.in_ok-push.ensures.items)
+    subst (λ (places : List ℕ). AreOutputsHeld held.inputs.items held.outputs.items places)
+    (sym c.in_ok-push.ensures.items)
     (path-held held.inputs.items held.outputs.items held.places.items c.self.invariant)

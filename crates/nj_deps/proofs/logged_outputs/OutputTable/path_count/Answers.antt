@@ -5,4 +5,5 @@ use Rattle.nj_deps.specs.Inside.OutputsHeld.{OutputsModel}
 use Rattle.nj_deps.proofs.logged_outputs.OutputTable.path_count.Goals as goal
 
 pub returns-clause-known : goal.returns-clause-known
-returns-clause-known c = subst (λ (t : OutputsModel). AllByRecursion (IsOfPaths t.count) t.outputs) c.self.view_is c.self.invariant.of_paths
+returns-clause-known c = subst (λ (t : OutputsModel). AllByRecursion (IsOfPaths t.count) t.outputs)
+    c.self.view_is c.self.invariant.of_paths

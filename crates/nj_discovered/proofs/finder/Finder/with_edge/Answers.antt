@@ -8,15 +8,21 @@ use Rattle.std.proofs.lemmas.List.{length-map}
 use Rattle.nj_discovered.specs.Discoveries.{AddsEdge, FinderModel, discovery_at}
 use Rattle.nj_discovered.specs.Inside.Finding.{Finds, found_held, found_of}
 use Rattle.nj_discovered.specs.Inside.Numbers.{AreCleanNumbers}
-use Rattle.nj_discovered.proofs.FinderLemmas.{count-with, empty-by_length, finds-moved, finds-none, finds-weaker, found-with, held-with, kept-with}
+use Rattle.nj_discovered.proofs.FinderLemmas.{count-with, empty-by_length, finds-moved, finds-none}
+use Rattle.nj_discovered.proofs.FinderLemmas.{finds-weaker, found-with, held-with, kept-with}
 use Rattle.nj_discovered.proofs.finder.Finder.with_edge.Given as given
 use Rattle.nj_discovered.proofs.finder.Finder.with_edge.Goals as goal
-use Rattle.nj_discovered.proofs.finder.Finder.with_edge.Goals.{then-not-is_empty+in_ok-verdict, else-not-is_empty+then-is_empty, else-not-is_empty+else-is_empty+in_ok-verdict-2}
+use Rattle.nj_discovered.proofs.finder.Finder.with_edge.Goals.{then-not-is_empty+in_ok-verdict}
+use Rattle.nj_discovered.proofs.finder.Finder.with_edge.Goals.{else-not-is_empty+then-is_empty}
+use Rattle.nj_discovered.proofs.finder.Finder.with_edge.Goals.{else-not-is_empty+else-is_empty+in_ok-verdict-2}
 
 found : (g : given.Over) (c : goal.In_ok-push g)
-    → Finds (IsDiscovered (g.S.FileSource.state c.args.files.now) (g.S.FileSource.state c.if-not-is_empty.files) (g.T.FileTimes.times c.args.times.now) c.self.inside.log.now
+    → Finds (IsDiscovered (g.S.FileSource.state c.args.files.now)
+    (g.S.FileSource.state c.if-not-is_empty.files) (g.T.FileTimes.times c.args.times.now)
+    c.self.inside.log.now
     (edge_at c.self.inside.graph.now.edges (length c.as_slice.result.now)) c.args.deps.now c.args.depfile.now)
-    c.self.inside.names c.if-not-is_empty.names c.self.inside.inputs.items c.if-not-is_empty.inputs.items c.if-not-is_empty.verdict
+    c.self.inside.names c.if-not-is_empty.names c.self.inside.inputs.items c.if-not-is_empty.inputs.items
+    c.if-not-is_empty.verdict
 found g c =
     let own = c.self.inside in
     let times = g.T.FileTimes.times c.args.times.now in
@@ -28,21 +34,32 @@ found g c =
     let P = IsDiscovered before (g.S.FileSource.state c.if-not-is_empty.files) times log edge deps depfile in
     elim c.if-not-is_empty.branch [
       | then-not-is_empty+in_ok-verdict w ↦
-          finds-moved P own.names own.names c.if-not-is_empty.names own.inputs.items w.find_by_log.new.numbers.items c.if-not-is_empty.inputs.items w.in_ok-verdict.verdict c.if-not-is_empty.verdict
+          finds-moved P own.names own.names c.if-not-is_empty.names own.inputs.items
+          w.find_by_log.new.numbers.items c.if-not-is_empty.inputs.items w.in_ok-verdict.verdict
+          c.if-not-is_empty.verdict
           (sym w.names-is) (ap (λ v. v.items) (sym w.inputs-is)) (sym w.verdict-is)
-          (finds-weaker (IsByLog times log edge) P own.names own.names own.inputs.items w.find_by_log.new.numbers.items w.in_ok-verdict.verdict
+          (finds-weaker (IsByLog times log edge) P own.names own.names own.inputs.items
+          w.find_by_log.new.numbers.items w.in_ok-verdict.verdict
           (λ f is. from_log (empty-by_length deps _ w.if-not-is_empty.ensures) is)
-          (w.in_ok-verdict.ensures own.names (subst (λ ns. AreCleanNumbers log.paths own.names ns) (sym w.deref.ensures.value) c.self.invariant.numbers)))
+          (w.in_ok-verdict.ensures own.names (subst (λ ns. AreCleanNumbers log.paths own.names ns)
+          (sym w.deref.ensures.value) c.self.invariant.numbers)))
       | else-not-is_empty+then-is_empty w ↦
-          finds-moved P own.names own.names c.if-not-is_empty.names own.inputs.items own.inputs.items c.if-not-is_empty.inputs.items Known c.if-not-is_empty.verdict
+          finds-moved P own.names own.names c.if-not-is_empty.names own.inputs.items own.inputs.items
+          c.if-not-is_empty.inputs.items Known c.if-not-is_empty.verdict
           (sym w.names-is) (ap (λ v. v.items) (sym w.inputs-is)) (sym w.verdict-is)
           (finds-none P own.names own.inputs.items Known
-          (from_neither (empty-by_length deps _ w.if-not-is_empty.ensures) (empty-by_length depfile _ w.if-is_empty.ensures) refl))
+          (from_neither (empty-by_length deps _ w.if-not-is_empty.ensures)
+          (empty-by_length depfile _ w.if-is_empty.ensures) refl))
       | else-not-is_empty+else-is_empty+in_ok-verdict-2 w ↦
-          finds-moved P own.names w.find_by_depfile.new.names c.if-not-is_empty.names own.inputs.items w.find_by_depfile.new.numbers.items c.if-not-is_empty.inputs.items w.in_ok-verdict-2.verdict c.if-not-is_empty.verdict
+          finds-moved P own.names w.find_by_depfile.new.names c.if-not-is_empty.names own.inputs.items
+          w.find_by_depfile.new.numbers.items c.if-not-is_empty.inputs.items w.in_ok-verdict-2.verdict
+          c.if-not-is_empty.verdict
           (sym w.names-is) (ap (λ v. v.items) (sym w.inputs-is)) (sym w.verdict-is)
-          (finds-weaker (IsByText before (g.S.FileSource.state w.find_by_depfile.new.files) edge depfile) P own.names w.find_by_depfile.new.names own.inputs.items w.find_by_depfile.new.numbers.items w.in_ok-verdict-2.verdict
-          (λ f is. from_depfile (empty-by_length deps _ w.if-not-is_empty.ensures) (empty-by_length depfile _ w.if-is_empty.ensures)
+          (finds-weaker (IsByText before (g.S.FileSource.state w.find_by_depfile.new.files) edge depfile) P
+          own.names w.find_by_depfile.new.names own.inputs.items w.find_by_depfile.new.numbers.items
+          w.in_ok-verdict-2.verdict
+          (λ f is. from_depfile (empty-by_length deps _ w.if-not-is_empty.ensures)
+          (empty-by_length depfile _ w.if-is_empty.ensures)
           (subst (λ fs. IsByText before (g.S.FileSource.state fs) edge depfile f) (sym w.files-is) is))
           w.in_ok-verdict-2.ensures.found)
     ]
@@ -50,11 +67,19 @@ found g c =
 pub invariant_of-result : goal.invariant_of-result
 invariant_of-result g c =
     let own = c.self.inside in
-    let P = IsDiscovered (g.S.FileSource.state c.args.files.now) (g.S.FileSource.state c.if-not-is_empty.files) (g.T.FileTimes.times c.args.times.now) own.log.now
+    let P = IsDiscovered (g.S.FileSource.state c.args.files.now)
+    (g.S.FileSource.state c.if-not-is_empty.files) (g.T.FileTimes.times c.args.times.now) own.log.now
     (edge_at own.graph.now.edges (length c.as_slice.result.now)) c.args.deps.now c.args.depfile.now in
-    held-with P own.log.now.paths own.names c.if-not-is_empty.names own.log_numbers.items own.inputs.items c.if-not-is_empty.inputs.items own.edges.items c.push.new.self.items
-    (record { verdict = c.if-not-is_empty.verdict; start = length c.as_slice-start.result.now; end = length c.as_slice-end.result.now })
-    c.self.invariant (found g c) (ap length c.as_slice-start.ensures.value) (ap length c.as_slice-end.ensures.value) c.in_ok-push.ensures.items
+    held-with P own.log.now.paths own.names c.if-not-is_empty.names own.log_numbers.items own.inputs.items
+    c.if-not-is_empty.inputs.items own.edges.items c.push.new.self.items
+    (record {
+      verdict = c.if-not-is_empty.verdict;
+      start = length c.as_slice-start.result.now;
+      end =
+          length c.as_slice-end.result.now;
+    })
+    c.self.invariant (found g c) (ap length c.as_slice-start.ensures.value)
+    (ap length c.as_slice-end.ensures.value) c.in_ok-push.ensures.items
 
 pub returns-clause-added : goal.returns-clause-added
 returns-clause-added g c =
@@ -66,16 +91,31 @@ returns-clause-added g c =
     let edges = own.graph.now.edges in
     let old = found_held own.names own.inputs.items own.edges.items in
     let new = found_held c.if-not-is_empty.names c.if-not-is_empty.inputs.items c.push.new.self.items in
-    let P = IsDiscovered before after times log (edge_at edges (length c.as_slice.result.now)) c.args.deps.now c.args.depfile.now in
-    let edge : FoundEdge = record { verdict = c.if-not-is_empty.verdict; start = length c.as_slice-start.result.now; end = length c.as_slice-end.result.now } in
-    let same : length c.as_slice.result.now ≡ length old.edges = ap length c.as_slice.ensures.value ∙ sym (length-map own.edges.items (found_of own.inputs.items)) in
-    subst (λ (m : FinderModel). AddsEdge before after times m.log (edge_at m.edges (length m.found.edges)) c.args.deps.now c.args.depfile.now m.found new) c.self.view_is
+    let P = IsDiscovered before after times log (edge_at edges (length c.as_slice.result.now)) c.args.deps.now
+    c.args.depfile.now in
+    let edge : FoundEdge = record {
+      verdict = c.if-not-is_empty.verdict;
+      start =
+          length c.as_slice-start.result.now;
+      end = length c.as_slice-end.result.now;
+    } in
+    let same : length c.as_slice.result.now ≡ length old.edges =
+    ap length c.as_slice.ensures.value ∙ sym (length-map own.edges.items (found_of own.inputs.items)) in
+    subst (λ (m : FinderModel). AddsEdge before after times m.log (edge_at m.edges (length m.found.edges))
+    c.args.deps.now c.args.depfile.now m.found new) c.self.view_is
     (record {
-      count = count-with P log.paths own.names c.if-not-is_empty.names own.log_numbers.items own.inputs.items c.if-not-is_empty.inputs.items own.edges.items c.push.new.self.items edge
-          c.self.invariant (found g c) (ap length c.as_slice-start.ensures.value) (ap length c.as_slice-end.ensures.value) c.in_ok-push.ensures.items;
-      kept = kept-with P log.paths own.names c.if-not-is_empty.names own.log_numbers.items own.inputs.items c.if-not-is_empty.inputs.items own.edges.items c.push.new.self.items edge
-          c.self.invariant (found g c) (ap length c.as_slice-start.ensures.value) (ap length c.as_slice-end.ensures.value) c.in_ok-push.ensures.items;
-      added = subst (λ n. IsDiscovered before after times log (edge_at edges n) c.args.deps.now c.args.depfile.now (discovery_at new (length old.edges))) same
-          (found-with P log.paths own.names c.if-not-is_empty.names own.log_numbers.items own.inputs.items c.if-not-is_empty.inputs.items own.edges.items c.push.new.self.items edge
-          c.self.invariant (found g c) (ap length c.as_slice-start.ensures.value) (ap length c.as_slice-end.ensures.value) c.in_ok-push.ensures.items);
+      count = count-with P log.paths own.names c.if-not-is_empty.names own.log_numbers.items own.inputs.items
+          c.if-not-is_empty.inputs.items own.edges.items c.push.new.self.items edge
+          c.self.invariant (found g c) (ap length c.as_slice-start.ensures.value)
+          (ap length c.as_slice-end.ensures.value) c.in_ok-push.ensures.items;
+      kept = kept-with P log.paths own.names c.if-not-is_empty.names own.log_numbers.items own.inputs.items
+          c.if-not-is_empty.inputs.items own.edges.items c.push.new.self.items edge
+          c.self.invariant (found g c) (ap length c.as_slice-start.ensures.value)
+          (ap length c.as_slice-end.ensures.value) c.in_ok-push.ensures.items;
+      added = subst (λ n. IsDiscovered before after times log (edge_at edges n) c.args.deps.now
+          c.args.depfile.now (discovery_at new (length old.edges))) same
+          (found-with P log.paths own.names c.if-not-is_empty.names own.log_numbers.items own.inputs.items
+          c.if-not-is_empty.inputs.items own.edges.items c.push.new.self.items edge
+          c.self.invariant (found g c) (ap length c.as_slice-start.ensures.value)
+          (ap length c.as_slice-end.ensures.value) c.in_ok-push.ensures.items);
     })

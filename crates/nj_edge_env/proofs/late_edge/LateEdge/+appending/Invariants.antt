@@ -12,4 +12,5 @@ abbrev pub decreases-append_below : goal.decreases-append_below
 decreases-append_below l = 3 * l.depth
 
 abbrev pub invariant-append_parts-parts : goal.invariant-append_parts-parts
-invariant-append_parts-parts l = AppendsParts l.quoting l.self l.depth (take l.index l.value) l.fn.out.items l.known l.out.items l.height
+invariant-append_parts-parts l = AppendsParts l.quoting l.self l.depth (take l.index l.value) l.fn.out.items
+    l.known l.out.items l.height

@@ -7,7 +7,8 @@ use Rattle.nj_edges.proofs.chains.Search.add_makers.Given as goal
 
 abbrev pub invariant-inputs : goal.invariant-inputs
 invariant-inputs l =
-    AddsMakers l.graph l.with_validations (MakesInputBefore l.graph l.with_validations l.index (slice_index l.fn.self.found.numbers l.fn.place)) l.fn.place
+    AddsMakers l.graph l.with_validations (MakesInputBefore l.graph l.with_validations l.index
+    (slice_index l.fn.self.found.numbers l.fn.place)) l.fn.place
     l.fn.self.found l.self.found l.fn.self.arrivals.items l.self.arrivals.items
 
 abbrev pub decreases-inputs : goal.decreases-inputs

@@ -9,7 +9,9 @@ pub returns-clause-files : goal.returns-clause-files
 returns-clause-files c =
     let graph : JoinTable → EdgeGraph = λ t. record { files = t.files; edges = t.stated } in
     rw (c.first.ensures, c.part-inputs.ensures, c.deref.ensures.value)
-    (counted-inputs-at _ _ _ _ _ _ c.self.invariant.lists_are.stated_are (graph c.args.self.now) (ap graph c.self.view_is) c.args.edge.0 c.row_at-row.result c.row_at-row.ensures)
+    (counted-inputs-at _ _ _ _ _ _ c.self.invariant.lists_are.stated_are (graph c.args.self.now)
+    (ap graph c.self.view_is) c.args.edge.0 c.row_at-row.result c.row_at-row.ensures)
 
 pub returns-clause-known : goal.returns-clause-known
-returns-clause-known c = files-numbers c.args.self.now.files c.first.result.now (counted_inputs_of (edge_at c.args.self.now.stated c.args.edge.0)) (returns-clause-files c)
+returns-clause-known c = files-numbers c.args.self.now.files c.first.result.now
+    (counted_inputs_of (edge_at c.args.self.now.stated c.args.edge.0)) (returns-clause-files c)

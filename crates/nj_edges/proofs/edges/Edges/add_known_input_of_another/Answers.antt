@@ -8,7 +8,8 @@ is_made_by-requires c = known-within _ _ _ _ _ _ _ c.self.invariant c.args.file 
 pub returns-then-is_made_by-clause-added : goal.returns-then-is_made_by-clause-added
 returns-then-is_made_by-clause-added c = λ path here.
     let is = rw c.count-edge.ensures.count at c.is_made_by.ensures in
-    known-own-table _ _ _ _ _ _ _ c.self.invariant c.args.file _ c.self.view_is path here (sym is ∙ c.if-is_made_by.true)
+    known-own-table _ _ _ _ _ _ _ c.self.invariant c.args.file _ c.self.view_is path here
+    (sym is ∙ c.if-is_made_by.true)
 
 pub invariant_of-self-2 : goal.invariant_of-self-2
 invariant_of-self-2 c =
@@ -19,4 +20,5 @@ pub returns-clause-added : goal.returns-clause-added
 returns-clause-added c = λ path here.
     let is = rw c.count-edge.ensures.count at c.is_made_by.ensures in
     rw c.in_ok-push.ensures.items
-    (known-other-table _ _ _ _ _ _ _ c.self.invariant c.args.file _ c.self.view_is path here (sym is ∙ c.if-is_made_by.false))
+    (known-other-table _ _ _ _ _ _ _ c.self.invariant c.args.file _ c.self.view_is path here
+    (sym is ∙ c.if-is_made_by.false))

@@ -14,8 +14,13 @@ invariant_of-result c =
     record {
       edges_are = held;
       named = c.self.invariant.named;
-      acyclic = acyclic-held c.self.inside.files c.self.inside.outputs.items c.self.inside.inputs.items c.self.inside.validations.items c.self.inside.rows c.self.inside.starts c.args.self c.self.view_is none;
-      roots_are = roots-held _ _ _ _ _ _ held c.in_ok-lists.lists.roots.items _ _ c.deref.ensures.value c.deref-2.ensures.value lists.roots;
-      users_are = held-users _ _ _ _ Inputs _ _ c.self.inside.rows c.count.ensures.count c.deref-2.ensures.value lists.users;
-      validation_users_are = held-if-any _ _ _ Validations _ _ c.self.inside.rows c.count.ensures.count c.deref-3.ensures.value lists.validation_users;
+      acyclic = acyclic-held c.self.inside.files c.self.inside.outputs.items c.self.inside.inputs.items
+          c.self.inside.validations.items c.self.inside.rows c.self.inside.starts c.args.self c.self.view_is
+          none;
+      roots_are = roots-held _ _ _ _ _ _ held c.in_ok-lists.lists.roots.items _ _ c.deref.ensures.value
+          c.deref-2.ensures.value lists.roots;
+      users_are = held-users _ _ _ _ Inputs _ _ c.self.inside.rows c.count.ensures.count
+          c.deref-2.ensures.value lists.users;
+      validation_users_are = held-if-any _ _ _ Validations _ _ c.self.inside.rows c.count.ensures.count
+          c.deref-3.ensures.value lists.validation_users;
     }

@@ -7,5 +7,7 @@ use Rattle.nj_edges.proofs.edges.Edges.open_output_files.Goals as goal
 pub returns : goal.returns
 returns c =
     rw (c.after.ensures, c.deref.ensures.value)
-    (subst (λ (t : EdgeTable). AreFiles t.files (drop c.self.inside.starts.outputs c.self.inside.outputs.items) t.«open».outputs) c.self.view_is
-    (open-files c.self.inside.files c.self.inside.outputs.items c.self.inside.starts.outputs c.self.invariant.edges_are.outputs_are))
+    (subst (λ (t : EdgeTable). AreFiles t.files
+    (drop c.self.inside.starts.outputs c.self.inside.outputs.items) t.«open».outputs) c.self.view_is
+    (open-files c.self.inside.files c.self.inside.outputs.items c.self.inside.starts.outputs
+    c.self.invariant.edges_are.outputs_are))

@@ -19,8 +19,11 @@ returns-clause-affected c =
     let flags = c.flags.result.now in
     IfOk-weaker c.flagged.result
     (λ (found : Vec EdgeNo). numbers_of found.items ≡ edges_from 0 (λ flag. flag) flags)
-    (λ (found : Vec EdgeNo). (edge : ℕ) → Contains (numbers_of found.items) edge ↔ IsAffected edges paths edge)
-    (λ found listed. found-are flags found.items listed (IsAffected edges paths) (flags-are flags c.in_ok-found.found.numbers (IsAffected edges paths) c.flags.ensures.flags c.in_ok-found.ensures.found))
+    (λ (found : Vec EdgeNo). (edge : ℕ) → Contains (numbers_of found.items) edge
+    ↔ IsAffected edges paths edge)
+    (λ found listed. found-are flags found.items listed (IsAffected edges paths)
+    (flags-are flags c.in_ok-found.found.numbers (IsAffected edges paths) c.flags.ensures.flags
+    c.in_ok-found.ensures.found))
     c.flagged.ensures
 
 pub returns-clause-rises : goal.returns-clause-rises
@@ -38,5 +41,6 @@ returns-clause-known c =
     IfOk-weaker c.flagged.result
     (λ (found : Vec EdgeNo). numbers_of found.items ≡ edges_from 0 (λ flag. flag) flags)
     (λ (found : Vec EdgeNo). All (λ edge. edge.0 < length c.args.self.now.edges) found.items)
-    (λ found listed. found-below flags found.items listed (length c.args.self.now.edges) (c.flags.ensures.count ∙ c.in_ok-found.ensures.limit))
+    (λ found listed. found-below flags found.items listed (length c.args.self.now.edges)
+    (c.flags.ensures.count ∙ c.in_ok-found.ensures.limit))
     c.flagged.ensures

@@ -4,7 +4,8 @@ use Rattle.nj_edges.specs.Inside.ChainsHeld.{SearchesChain}
 use Rattle.nj_edges.proofs.graph.EdgeGraph.chain_from.Given as goal
 
 abbrev pub invariant-edges : goal.invariant-edges
-invariant-edges l = SearchesChain l.self l.with_validations l.fn.first.0 (path_at l.self.files l.to) l.search.found l.search.arrivals.items l.place
+invariant-edges l = SearchesChain l.self l.with_validations l.fn.first.0 (path_at l.self.files l.to)
+    l.search.found l.search.arrivals.items l.place
 
 abbrev pub decreases-edges : goal.decreases-edges
 decreases-edges l = length l.self.edges - l.place

@@ -5,7 +5,8 @@ use Rattle.nj_edges.specs.Inside.UsersHeld.{numbers_of}
 use Rattle.nj_edges.proofs.graph.EdgeGraph.dirty_edges.Given as goal
 
 abbrev pub invariant-edges : goal.invariant-edges
-invariant-edges l = FindsDirty l.self.edges (map (path_at l.self.files) l.files) (numbers_of l.edges) l.found l.place
+invariant-edges l = FindsDirty l.self.edges (map (path_at l.self.files) l.files) (numbers_of l.edges) l.found
+    l.place
 
 abbrev pub decreases-edges : goal.decreases-edges
 decreases-edges l = length l.self.edges - l.place

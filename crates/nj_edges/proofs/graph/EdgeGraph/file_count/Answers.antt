@@ -2,4 +2,5 @@ use Rattle.nj_edges.proofs.NamedLemmas.{graph-files}
 use Rattle.nj_edges.proofs.graph.EdgeGraph.file_count.Goals as goal
 
 pub returns-clause-named : goal.returns-clause-named
-returns-clause-named c = graph-files _ _ _ _ _ _ c.self.invariant.edges_are c.self.invariant.named c.args.self.now c.self.view_is
+returns-clause-named c = graph-files _ _ _ _ _ _ c.self.invariant.edges_are c.self.invariant.named
+    c.args.self.now c.self.view_is

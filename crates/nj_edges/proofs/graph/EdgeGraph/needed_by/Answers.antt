@@ -15,8 +15,10 @@ returns-clause-needed c =
     let paths = map (path_at c.args.self.now.files) c.args.files.now in
     IfOk-weaker c.numbered.result
     (λ (found : Vec EdgeNo). numbers_of found.items ≡ c.numbers.result.now)
-    (λ (found : Vec EdgeNo). (edge : ℕ) → Contains (numbers_of found.items) edge ↔ IsNeeded c.args.self.now.edges paths edge)
-    (λ found are. subst (λ ns. (edge : ℕ) → Contains ns edge ↔ IsNeeded c.args.self.now.edges paths edge) (sym (are ∙ c.numbers.ensures.numbers)) c.in_ok-found.ensures.needed)
+    (λ (found : Vec EdgeNo). (edge : ℕ) → Contains (numbers_of found.items) edge
+    ↔ IsNeeded c.args.self.now.edges paths edge)
+    (λ found are. subst (λ ns. (edge : ℕ) → Contains ns edge ↔ IsNeeded c.args.self.now.edges paths edge)
+    (sym (are ∙ c.numbers.ensures.numbers)) c.in_ok-found.ensures.needed)
     c.numbered.ensures
 
 pub returns-clause-known : goal.returns-clause-known
@@ -24,5 +26,7 @@ returns-clause-known c =
     IfOk-weaker c.numbered.result
     (λ (found : Vec EdgeNo). numbers_of found.items ≡ c.numbers.result.now)
     (λ (found : Vec EdgeNo). All (λ edge. edge.0 < length c.args.self.now.edges) found.items)
-    (λ found are. numbered-below found.items c.in_ok-found.found.numbers c.in_ok-found.found.limit (length c.args.self.now.edges) (are ∙ c.numbers.ensures.numbers) c.numbers.ensures.below c.in_ok-found.ensures.limit)
+    (λ found are. numbered-below found.items c.in_ok-found.found.numbers c.in_ok-found.found.limit
+    (length c.args.self.now.edges) (are ∙ c.numbers.ensures.numbers) c.numbers.ensures.below
+    c.in_ok-found.ensures.limit)
     c.numbered.ensures

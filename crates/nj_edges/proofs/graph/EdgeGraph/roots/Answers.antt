@@ -10,6 +10,9 @@ use Rattle.nj_edges.proofs.graph.EdgeGraph.roots.Goals as goal
 pub returns-clause-known : goal.returns-clause-known
 returns-clause-known c =
     let held = c.self.inside in
-    let roots = roots_of (edges_of held.files held.outputs.items held.inputs.items held.validations.items held.rows) in
-    subst (λ (g : EdgeGraph). All (λ (file : FileNo). file.0 < length g.files) c.as_slice.result.now) c.self.view_is
-    (subst (All (λ (file : FileNo). file.0 < length held.files)) (sym c.as_slice.ensures.value) (files-known held.files held.roots.items roots c.self.invariant.roots_are))
+    let roots = roots_of (edges_of held.files held.outputs.items held.inputs.items held.validations.items
+    held.rows) in
+    subst (λ (g : EdgeGraph). All (λ (file : FileNo). file.0 < length g.files) c.as_slice.result.now)
+    c.self.view_is
+    (subst (All (λ (file : FileNo). file.0 < length held.files)) (sym c.as_slice.ensures.value)
+    (files-known held.files held.roots.items roots c.self.invariant.roots_are))

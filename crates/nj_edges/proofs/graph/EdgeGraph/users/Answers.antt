@@ -7,17 +7,26 @@ use Rattle.nj_edges.proofs.GraphUsers.{parts-lent, starts-below, users-known, us
 use Rattle.nj_edges.proofs.graph.EdgeGraph.users.Goals as goal
 
 pub users_at-requires-clause-held : goal.users_at-requires-clause-held
-users_at-requires-clause-held c = (using_edges c.self.inside.inputs.items Inputs 0 c.self.inside.rows, (parts-lent _ _ c.deref.result.now _ c.deref-2.result.now _ c.deref.ensures.value c.deref-2.ensures.value c.self.invariant.users_are))
+users_at-requires-clause-held c = (
+  using_edges c.self.inside.inputs.items Inputs 0 c.self.inside.rows,
+  (parts-lent _ _ c.deref.result.now _ c.deref-2.result.now _ c.deref.ensures.value c.deref-2.ensures.value
+      c.self.invariant.users_are),
+)
 
 pub users_at-requires-clause-file : goal.users_at-requires-clause-file
 users_at-requires-clause-file c =
     subst (λ (ss : List ℕ). c.args.file.0 + 1 < length ss) (sym c.deref.ensures.value)
-    (starts-below _ _ _ _ _ _ _ c.self.invariant.edges_are c.args.self.now c.self.view_is c.args.file c.requires _ _ _ c.self.invariant.users_are)
+    (starts-below _ _ _ _ _ _ _ c.self.invariant.edges_are c.args.self.now c.self.view_is c.args.file
+    c.requires _ _ _ c.self.invariant.users_are)
 
 pub returns-clause-users : goal.returns-clause-users
 returns-clause-users c =
-    c.users_at.ensures (using_edges c.self.inside.inputs.items Inputs 0 c.self.inside.rows) (parts-lent _ _ c.deref.result.now _ c.deref-2.result.now _ c.deref.ensures.value c.deref-2.ensures.value c.self.invariant.users_are)
-    ∙ users-paths _ _ _ _ _ _ _ c.self.invariant.edges_are c.args.self.now c.self.view_is c.args.file c.requires
+    c.users_at.ensures (using_edges c.self.inside.inputs.items Inputs 0 c.self.inside.rows)
+    (parts-lent _ _ c.deref.result.now _ c.deref-2.result.now _ c.deref.ensures.value
+    c.deref-2.ensures.value c.self.invariant.users_are)
+    ∙ users-paths _ _ _ _ _ _ _ c.self.invariant.edges_are c.args.self.now c.self.view_is c.args.file
+    c.requires
 
 pub returns-clause-known : goal.returns-clause-known
-returns-clause-known c = users-known (λ e. is_among (inputs_of e) (path_at c.args.self.now.files c.args.file)) c.args.self.now.edges c.users_at.result.now (returns-clause-users c)
+returns-clause-known c = users-known (λ e. is_among (inputs_of e) (path_at c.args.self.now.files c.args.file))
+    c.args.self.now.edges c.users_at.result.now (returns-clause-users c)

@@ -8,7 +8,9 @@ use Rattle.nj_edges.proofs.more_inputs.JoiningInputs.add_known_input.Goals as go
 pub invariant_of-self-2 : goal.invariant_of-self-2
 invariant_of-self-2 c =
     let table : InputTable = record { table = c.self.inside.edges; edge = c.self.inside.edge } in
-    let below : c.args.file.0 < length c.self.inside.edges.files = subst (λ (t : InputTable). c.args.file.0 < length t.table.files) (sym c.self.view_is) c.requires in
+    let below : c.args.file.0 < length c.self.inside.edges.files =
+    subst (λ (t : InputTable). c.args.file.0 < length t.table.files) (sym c.self.view_is) c.requires in
     let path = path_at c.self.inside.edges.files c.args.file in
     let here = get-path c.self.inside.edges.files c.args.file below in
-    marks-known table c.self.inside.marks.items c.self.invariant path c.args.file below here c.add_known_input.new.self (c.in_ok-add_known_input.ensures.added path here)
+    marks-known table c.self.inside.marks.items c.self.invariant path c.args.file below here
+    c.add_known_input.new.self (c.in_ok-add_known_input.ensures.added path here)

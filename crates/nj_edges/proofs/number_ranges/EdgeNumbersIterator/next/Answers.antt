@@ -7,6 +7,9 @@ returns-clause-steps c =
     let old = c.self.inside.left in
     let new = c.next.new.self in
     elim c.match-next.branch [
-      | in-Some w ↦ rw (w.result-is, ← c.self.view_is) (first-taken old.start old.end new.start new.end c.next.result w.in-Some.number c.next.ensures.steps w.in-Some.is)
-      | in-None w ↦ rw (w.result-is, ← c.self.view_is) (none-left old.start old.end new.start new.end c.next.result c.next.ensures.steps w.in-None.is)
+      | in-Some w ↦ rw (w.result-is, ← c.self.view_is)
+          (first-taken old.start old.end new.start new.end c.next.result w.in-Some.number c.next.ensures.steps
+          w.in-Some.is)
+      | in-None w ↦ rw (w.result-is, ← c.self.view_is)
+          (none-left old.start old.end new.start new.end c.next.result c.next.ensures.steps w.in-None.is)
     ]

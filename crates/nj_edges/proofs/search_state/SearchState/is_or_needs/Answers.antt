@@ -12,5 +12,6 @@ returns-clause-tells c =
     IfOk-weaker c.finds.result
     (λ (answer : Bool). Finds edges c.args.other.0 c.start_at.new.self c.finds.new.self answer)
     (λ (answer : Bool). Tells answer (IsOrNeeds edges c.args.edge.0 c.args.other.0))
-    (λ answer found. tells-needed edges c.start_at.new.self.starts.items c.args.edge.0 c.args.other.0 (λ is. apart (ap (λ n. record { 0 = n }) is)) c.in_ok-start_at.ensures.starts_are answer found.tells)
+    (λ answer found. tells-needed edges c.start_at.new.self.starts.items c.args.edge.0 c.args.other.0
+    (λ is. apart (ap (λ n. record { 0 = n }) is)) c.in_ok-start_at.ensures.starts_are answer found.tells)
     c.finds.ensures

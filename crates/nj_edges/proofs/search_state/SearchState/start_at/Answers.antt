@@ -17,7 +17,9 @@ returns c =
     let g = c.args.graph.now in
     let s = c.start_with_next.new.self in
     let starts = c.in_ok-start_with_next.ensures g.edges c.requires.search.searched in
-    let inputs = files-paths g.files c.inputs.result.now (inputs_of (edge_at g.edges c.args.edge.0)) c.inputs.ensures.files in
+    let inputs = files-paths g.files c.inputs.result.now (inputs_of (edge_at g.edges c.args.edge.0))
+    c.inputs.ensures.files in
     started g.edges _ c.args.edge refl
-    (starts-are g c.args.edge.0 c.inputs.result.now c.put_makers.new.edges.items s.starts.items inputs c.in_ok-put_makers.ensures starts.starts_are)
+    (starts-are g c.args.edge.0 c.inputs.result.now c.put_makers.new.edges.items s.starts.items inputs
+    c.in_ok-put_makers.ensures starts.starts_are)
     (subst (λ ss. IsSearched g.edges ss s.found s.place) (sym starts.starts_are) starts.searched)

@@ -9,7 +9,9 @@ use Rattle.nj_edges.proofs.search_state.SearchState.start_with_next.Goals as goa
 pub returns : goal.returns
 returns c = λ edges held. record {
   starts_are = ap (λ v. v.items) c.swap.ensures.y_after;
-  searched = subst (λ (v : Vec ℕ). IsSearched edges v.items c.add_all.new.found 0) c.swap.ensures.y_after (searched-starts edges c.swap.new.y.items c.clear.new.self c.add_all.new.found
+  searched = subst (λ (v : Vec ℕ). IsSearched edges v.items c.add_all.new.found 0) c.swap.ensures.y_after
+      (searched-starts edges c.swap.new.y.items c.clear.new.self c.add_all.new.found
       (c.clear.ensures ∙ ap (λ n. record { limit = n; numbers = [] }) held.limit)
-      (subst (λ (ss : List ℕ). FindsMore (Contains ss) c.clear.new.self c.add_all.new.found) c.deref-3.ensures.value c.in_ok-add_all.ensures));
+      (subst (λ (ss : List ℕ). FindsMore (Contains ss) c.clear.new.self c.add_all.new.found)
+      c.deref-3.ensures.value c.in_ok-add_all.ensures));
 }

@@ -15,7 +15,8 @@ numbers-init c = record {
     search = c.requires.found.search;
     known = c.requires.found.known;
   };
-  added = λ paths before made those. finds-none c.args.graph.now c.args.edge.0 before _ (ap (λ (s : NumberSetModel). s.numbers) c.clear.ensures) those;
+  added = λ paths before made those. finds-none c.args.graph.now c.args.edge.0 before _
+      (ap (λ (s : NumberSetModel). s.numbers) c.clear.ensures) those;
 }
 
 pub numbers-preserved : goal.numbers-preserved
@@ -30,12 +31,17 @@ numbers-preserved c =
       found = c.in_ok-add_input.ensures.found;
       added = λ paths before are those.
           let so_far = map clean_path_of (map (name_at paths) (take i numbers)) in
-          subst (λ ps. FindsAt g c.args.edge.0 before ps c.add_input.new.self) (sym (cleans-more paths numbers i c.numbers-test.true))
-          (c.in_ok-add_input.ensures.added before so_far (clean_path_of (name_at paths n)) (are n below) (c.numbers.invariant.added paths before are those));
+          subst (λ ps. FindsAt g c.args.edge.0 before ps c.add_input.new.self)
+          (sym (cleans-more paths numbers i c.numbers-test.true))
+          (c.in_ok-add_input.ensures.added before so_far (clean_path_of (name_at paths n)) (are n below)
+          (c.numbers.invariant.added paths before are those));
     }
 
 pub returns-clause-added : goal.returns-clause-added
 returns-clause-added c = λ paths before are those.
     let g = c.args.graph.now in
-    subst (λ ps. AreThose (IsUndeclared g.edges) (before ++ inputs_of_edge c.args.edge.0 (each_once bytes_eq ps)) (map (input_of_edge g.files) c.numbers.self.inputs.items))
-    (cleans-all paths c.args.numbers.now c.numbers.number-index c.numbers-test.false) (c.numbers.invariant.added paths before are those).those
+    subst (λ ps. AreThose (IsUndeclared g.edges)
+    (before ++ inputs_of_edge c.args.edge.0 (each_once bytes_eq ps))
+    (map (input_of_edge g.files) c.numbers.self.inputs.items))
+    (cleans-all paths c.args.numbers.now c.numbers.number-index c.numbers-test.false)
+    (c.numbers.invariant.added paths before are those).those

@@ -9,6 +9,8 @@ abbrev pub invariant-numbers : goal.invariant-numbers
 invariant-numbers l = record {
   found : IsFound l.graph l.self;
   added : (paths : List (List ℕ)) (before : List InputOfEdge) → AreMade l.graph paths l.made
-      → AreThose (IsUndeclared l.graph.edges) before (map (input_of_edge l.graph.files) l.fn.self.inputs.items)
-      → FindsAt l.graph l.edge.0 before (map clean_path_of (map (name_at paths) (take l.number-index l.numbers))) l.self;
+      → AreThose (IsUndeclared l.graph.edges) before
+      (map (input_of_edge l.graph.files) l.fn.self.inputs.items)
+      → FindsAt l.graph l.edge.0 before (map clean_path_of
+      (map (name_at paths) (take l.number-index l.numbers))) l.self;
 }

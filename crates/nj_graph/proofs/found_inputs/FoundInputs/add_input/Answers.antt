@@ -10,4 +10,6 @@ returns-in-Some-clause-added c = λ before paths path made finds.
 pub returns-in-None-clause-added : goal.returns-in-None-clause-added
 returns-in-None-clause-added c = λ before paths path made finds.
     let g = c.args.graph.now in
-    finds-declared g c.args.edge.0 before paths path c.args.self.now finds (not-made g.edges (record { edge = c.args.edge.0; path = path }) (subst (MadeIs g path) c.in-None.is made))
+    finds-declared g c.args.edge.0 before paths path c.args.self.now finds
+    (not-made g.edges (record { edge = c.args.edge.0; path = path })
+    (subst (MadeIs g path) c.in-None.is made))

@@ -29,11 +29,17 @@ edges-preserved g c =
       log = c.in_ok-finder-2.ensures.log ∙ c.edges.invariant.log;
       count = adds.count ∙ ap (λ n. n + 1) c.edges.invariant.count;
       found = λ entries is.
-          first-more start before after times log entries edge deps depfile old new c.edges.invariant.later c.with_edge.ensures.later (c.edges.invariant.found entries is) c.edges.invariant.count
-          (c.deref.ensures.value ∙ c.in_ok-append_variable.ensures.appended entries is ∙ ap (λ text. text ++ late_text_of entries edge (codes "deps")) c.clear.ensures.items)
-          (c.deref-in-edges.ensures.value ∙ c.in_ok-append_variable-2.ensures.appended entries is ∙ ap (λ text. text ++ late_text_of entries edge (codes "depfile")) c.clear-in-edges.ensures.items)
-          (subst (λ edges. AddsEdge before after times log (edge_at edges (length old.edges)) deps depfile old new) (c.edges.invariant.edges ∙ is.built.paths)
-          (subst (λ l. AddsEdge before after times l (edge_at c.edges.finder.edges (length old.edges)) deps depfile old new) c.edges.invariant.log adds));
+          first-more start before after times log entries edge deps depfile old new c.edges.invariant.later
+          c.with_edge.ensures.later (c.edges.invariant.found entries is) c.edges.invariant.count
+          (c.deref.ensures.value ∙ c.in_ok-append_variable.ensures.appended entries is
+          ∙ ap (λ text. text ++ late_text_of entries edge (codes "deps")) c.clear.ensures.items)
+          (c.deref-in-edges.ensures.value ∙ c.in_ok-append_variable-2.ensures.appended entries is
+          ∙ ap (λ text. text ++ late_text_of entries edge (codes "depfile"))
+          c.clear-in-edges.ensures.items)
+          (subst (λ edges. AddsEdge before after times log (edge_at edges (length old.edges)) deps depfile old
+          new) (c.edges.invariant.edges ∙ is.built.paths)
+          (subst (λ l. AddsEdge before after times l (edge_at c.edges.finder.edges (length old.edges)) deps
+          depfile old new) c.edges.invariant.log adds));
     }
 
 pub returns-clause-count : goal.returns-clause-count
@@ -52,7 +58,13 @@ returns-clause-discovered g c = λ entries is.
     let ends : c.edges.edge ≡ length c.args.self.now.built.graph.edges =
     let graph = ap (λ (v : EdgeGraph). length v.edges) c.edge_graph-graph.ensures in
     omega (arith, graph, c.edge_count-edge-end.ensures.count) in
-    let all : c.edges.edge ≡ length (edges_read entries) = ends ∙ ap length is.built.paths ∙ length-map (edges_read entries) (λ e. e.paths) in
+    let all : c.edges.edge ≡ length (edges_read entries) =
+    ends ∙ ap length is.built.paths ∙ length-map (edges_read entries) (λ e. e.paths) in
     let found = subst (λ n. AreFirstDiscovered start after times log entries n c.finish.result) all
-    (subst (AreFirstDiscovered start after times log entries c.edges.edge) (sym c.finish.ensures) (c.edges.invariant.found entries is)) in
-    record { count = ap (λ (d : DiscoveriesModel). length d.edges) c.finish.ensures ∙ c.edges.invariant.count ∙ all; each = found }
+    (subst (AreFirstDiscovered start after times log entries c.edges.edge) (sym c.finish.ensures)
+    (c.edges.invariant.found entries is)) in
+    record {
+      count = ap (λ (d : DiscoveriesModel). length d.edges) c.finish.ensures ∙ c.edges.invariant.count
+          ∙ all;
+      each = found;
+    }

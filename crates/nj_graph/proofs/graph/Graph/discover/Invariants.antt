@@ -12,5 +12,6 @@ invariant-edges g l = record {
   log : l.finder.log ≡ l.log;
   count : length l.finder.found.edges ≡ l.edge;
   found : (entries : List ReadStatement) → IsGraphOf l.self entries
-      → AreFirstDiscovered (g.S.FileSource.state l.fn.files) (g.S.FileSource.state l.files) (g.T.FileTimes.times l.times) l.log entries l.edge l.finder.found;
+      → AreFirstDiscovered (g.S.FileSource.state l.fn.files) (g.S.FileSource.state l.files)
+      (g.T.FileTimes.times l.times) l.log entries l.edge l.finder.found;
 }

@@ -8,11 +8,15 @@ use Rattle.nj_graph.proofs.graph.Graph.edge_scope.Goals as goal
 pub returns-clause-there : goal.returns-clause-there
 returns-clause-there c =
     let g = c.self.inside in
-    let below : c.args.edge.0 < length g.built.details = subst (λ n. c.args.edge.0 < n) (sym c.self.invariant.count) (subst (λ x. c.args.edge.0 < length (edges_of x)) (sym c.self.view_is) c.requires) in
-    let known = known-at (IsKnown g.declared.declarations) g.built.details c.args.edge.0 _ below c.self.invariant.known in
+    let below : c.args.edge.0 < length g.built.details =
+    subst (λ n. c.args.edge.0 < n) (sym c.self.invariant.count)
+    (subst (λ x. c.args.edge.0 < length (edges_of x)) (sym c.self.view_is) c.requires) in
+    let known = known-at (IsKnown g.declared.declarations) g.built.details c.args.edge.0 _ below
+    c.self.invariant.known in
     subst (λ (x : GraphModel). c.scope.result.0 < length x.declarations.scopes) c.self.view_is
     (subst (λ n. n < length g.declared.declarations.scopes) (sym c.scope.ensures) known.0)
 
 pub returns-clause-stated : goal.returns-clause-stated
 returns-clause-stated c = λ entries is.
-    c.scope.ensures ∙ ap (λ (x : GraphModel). (detail_at x.built.details c.args.edge.0).scope) c.self.view_is ∙ ap (λ ds. (detail_at ds c.args.edge.0).scope) is.built.details
+    c.scope.ensures ∙ ap (λ (x : GraphModel). (detail_at x.built.details c.args.edge.0).scope) c.self.view_is
+    ∙ ap (λ ds. (detail_at ds c.args.edge.0).scope) is.built.details

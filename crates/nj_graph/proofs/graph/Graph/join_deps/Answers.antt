@@ -9,16 +9,32 @@ use Rattle.nj_graph.proofs.graph.Graph.join_deps.Goals as goal
 pub returns-clause-joins : goal.returns-clause-joins
 returns-clause-joins c = λ stated is.
     let log = c.args.log.now in
-    let graph : GraphModel = record { declarations = c.self.inside.declared.declarations; built = c.self.inside.built; origins = c.self.inside.declared.origins } in
+    let graph : GraphModel = record {
+      declarations = c.self.inside.declared.declarations;
+      built =
+          c.self.inside.built;
+      origins = c.self.inside.declared.origins;
+    } in
     let of : IsGraphOf graph stated = subst (λ g. IsGraphOf g stated) (sym c.self.view_is) is in
-    let numbers = subst (AreNumbersLogged log stated) (sym c.deref.ensures.value) (c.in_ok-numbers.ensures.numbers stated is) in
-    named-graph (logged log stated) graph stated of c.in_ok-built.built (c.in_ok-built.ensures.comes (logged log stated) stated of.built (log-named log stated c.deref.result.now numbers))
+    let numbers = subst (AreNumbersLogged log stated) (sym c.deref.ensures.value)
+    (c.in_ok-numbers.ensures.numbers stated is) in
+    named-graph (logged log stated) graph stated of c.in_ok-built.built
+    (c.in_ok-built.ensures.comes (logged log stated) stated of.built
+    (log-named log stated c.deref.result.now numbers))
 
 pub returns-in_err-built-clause-joins : goal.returns-in_err-built-clause-joins
 returns-in_err-built-clause-joins c = λ stated is.
     let log = c.args.log.now in
-    let graph : GraphModel = record { declarations = c.self.inside.declared.declarations; built = c.self.inside.built; origins = c.self.inside.declared.origins } in
+    let graph : GraphModel = record {
+      declarations = c.self.inside.declared.declarations;
+      built =
+          c.self.inside.built;
+      origins = c.self.inside.declared.origins;
+    } in
     let of : IsGraphOf graph stated = subst (λ g. IsGraphOf g stated) (sym c.self.view_is) is in
-    let numbers = subst (AreNumbersLogged log stated) (sym c.deref.ensures.value) (c.in_ok-numbers.ensures.numbers stated is) in
-    rw (handed c.in_err-built.field-0.0 c.from_residual-in_err-built.result c.from_residual-in_err-built.ensures)
-    (c.in_err-built.ensures.comes (logged log stated) stated of.built (log-named log stated c.deref.result.now numbers))
+    let numbers = subst (AreNumbersLogged log stated) (sym c.deref.ensures.value)
+    (c.in_ok-numbers.ensures.numbers stated is) in
+    rw (handed c.in_err-built.field-0.0 c.from_residual-in_err-built.result
+    c.from_residual-in_err-built.ensures)
+    (c.in_err-built.ensures.comes (logged log stated) stated of.built
+    (log-named log stated c.deref.result.now numbers))

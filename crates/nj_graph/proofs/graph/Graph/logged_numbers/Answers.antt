@@ -8,8 +8,11 @@ edges-preserved c =
     let numbers = c.edges.numbers.items in
     let number = c.in_ok-number.number in
     record {
-      count = ap length c.in_ok-push.ensures.items ∙ length-append numbers (number ∷ []) ∙ ap (λ n. n + 1) c.edges.invariant.count;
+      count = ap length c.in_ok-push.ensures.items ∙ length-append numbers (number ∷ [])
+          ∙ ap (λ n. n + 1) c.edges.invariant.count;
       numbers = λ entries is.
           subst (AreNumbersLogged c.args.log.now entries) (sym c.in_ok-push.ensures.items)
-          (numbers-push c.args.log.now entries numbers number c.edges.edge (c.edges.invariant.numbers entries is) c.edges.invariant.count (c.in_ok-number.ensures entries is));
+          (numbers-push c.args.log.now entries numbers number c.edges.edge
+          (c.edges.invariant.numbers entries is) c.edges.invariant.count
+          (c.in_ok-number.ensures entries is));
     }

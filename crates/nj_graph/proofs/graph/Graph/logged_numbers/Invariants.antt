@@ -7,5 +7,6 @@ use Rattle.nj_graph.proofs.graph.Graph.logged_numbers.Given as goal
 abbrev pub invariant-edges : goal.invariant-edges
 invariant-edges l = record {
   count : length l.numbers.items ≡ l.edge;
-  numbers : (entries : List ReadStatement) → IsGraphOf l.self entries → AreNumbersLogged l.log entries l.numbers.items;
+  numbers : (entries : List ReadStatement) → IsGraphOf l.self entries
+      → AreNumbersLogged l.log entries l.numbers.items;
 }

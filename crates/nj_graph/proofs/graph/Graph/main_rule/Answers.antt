@@ -9,5 +9,7 @@ returns c =
     let numbers = c.self.inside.declared.main_rules.items in
     let within = subst (λ g. c.args.index < length (main_rules g)) (sym c.self.view_is) c.requires in
     rw (← c.self.view_is)
-    (c.rule_name.ensures ∙ ap (λ rs. rule_name rs c.index.result.now) c.rules.ensures ∙ ap (rule_name rules) c.index.ensures
-    ∙ ap name_of (held-at rules numbers (main_rules_of rules) c.self.invariant.listed c.args.index c.index.result.now within))
+    (c.rule_name.ensures ∙ ap (λ rs. rule_name rs c.index.result.now) c.rules.ensures
+    ∙ ap (rule_name rules) c.index.ensures
+    ∙ ap name_of (held-at rules numbers (main_rules_of rules) c.self.invariant.listed c.args.index
+    c.index.result.now within))

@@ -6,5 +6,7 @@ use Rattle.nj_graph.proofs.graph.Graph.opening_count.Goals as goal
 
 pub returns-clause-stated : goal.returns-clause-stated
 returns-clause-stated c entries is =
-    let inside : c.self.inside.declared.origins ≡ c.args.self.now.origins = ap (λ (x : GraphModel). x.origins) c.self.view_is in
-    c.opening_count.ensures ∙ ap (λ (o : OriginsModel). length o.openings) (inside ∙ is.origins) ∙ openings-count (main_of c.args.self.now.origins) entries
+    let inside : c.self.inside.declared.origins ≡ c.args.self.now.origins =
+    ap (λ (x : GraphModel). x.origins) c.self.view_is in
+    c.opening_count.ensures ∙ ap (λ (o : OriginsModel). length o.openings) (inside ∙ is.origins)
+    ∙ openings-count (main_of c.args.self.now.origins) entries

@@ -6,4 +6,6 @@ use Rattle.nj_graph.proofs.graph.Graph.pick_named.Given as goal
 
 abbrev pub invariant-words : goal.invariant-words
 invariant-words g l =
-    (paths : List (List ℕ)) × (targets_named (edges_of l.self) (map g.W.AsSlice.items (take l.word-index l.words)) ≡ Ok paths) × AreFiles (files_of l.self) l.files.items paths
+    (paths : List (List ℕ)) × (targets_named (edges_of l.self)
+    (map g.W.AsSlice.items (take l.word-index l.words)) ≡ Ok paths)
+    × AreFiles (files_of l.self) l.files.items paths

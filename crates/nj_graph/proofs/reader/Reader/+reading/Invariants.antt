@@ -16,7 +16,8 @@ abbrev pub invariant-read_text-statements : goal.invariant-read_text-statements
 invariant-read_text-statements g l =
     Grows l.initial.self.declarations.scopes l.self.declarations.scopes
     × (lines : List Line) × (l.parser ≡ Lines lines)
-    × ((main : List ℕ) (entries : List ReadStatement) (around : List ℕ) (depth : ℕ) → Has main l.initial.self entries → IsOpenIn l.initial.self l.file around
+    × ((main : List ℕ) (entries : List ReadStatement) (around : List ℕ) (depth : ℕ)
+    → Has main l.initial.self entries → IsOpenIn l.initial.self l.file around
     → Underway main (g.S.FileSource.state l.initial.source) (g.S.FileSource.state l.source)
     l.initial.self l.self l.file.left (site_of l.file around depth) l.text entries lines)
 

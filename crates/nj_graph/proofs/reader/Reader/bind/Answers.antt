@@ -21,17 +21,29 @@ pub returns-clause-declares : goal.returns-clause-declares
 returns-clause-declares c = λ main entries around depth has inside.
     let word = word_model c.args.value.now in
     let name = c.args.name.now in
-    let e : ReadStatement = entry_at (site_of c.args.file around depth) (record { spot = c.args.spot; item = BindingModel name word }) in
-    let held : Reader = record { declarations = c.bind.new.self; building = c.args.self.now.building; files = c.args.self.now.files; origins = c.args.self.now.origins } in
-    let takes = c.in_ok-bind.ensures.bound around inside.within entries c.args.file.name.now c.args.spot depth has.declares in
+    let e : ReadStatement = entry_at (site_of c.args.file around depth)
+    (record { spot = c.args.spot; item = BindingModel name word }) in
+    let held : Reader = record {
+      declarations = c.bind.new.self;
+      building = c.args.self.now.building;
+      files =
+          c.args.self.now.files;
+      origins = c.args.self.now.origins;
+    } in
+    let takes = c.in_ok-bind.ensures.bound around inside.within entries c.args.file.name.now c.args.spot depth
+    has.declares in
     let grows = same-grows c.args.self.now.declarations held.declarations c.in_ok-bind.ensures.scopes in
-    let there = open-grown c.args.self.now.declarations.scopes held.declarations.scopes c.args.file.scope.0 around grows inside in (
+    let there = open-grown c.args.self.now.declarations.scopes held.declarations.scopes c.args.file.scope.0
+    around grows inside in (
       elim c.if-eq.branch [
         | then-eq+else-is_newer w ↦
-            version-accepted _ _ _ (sym (w.is_newer.ensures ∙ ap is_newer (w.value-version.ensures (e ∷ entries) around takes there.within ∙ last_counts [] entries e name word refl tt)) ∙ w.if-is_newer.false)
+            version-accepted _ _ _ (sym (w.is_newer.ensures
+            ∙ ap is_newer (w.value-version.ensures (e ∷ entries) around takes there.within
+            ∙ last_counts [] entries e name word refl tt)) ∙ w.if-is_newer.false)
         | else-eq w ↦ name-is-other _ _ _ (ap (bytes_eq name) (sym c.as_slice.ensures) ∙ sym w.if-eq.ensures)
       ],
-      has-next main c.args.self.now held entries e has takes refl refl refl (kept-other c.args.self.now.building e entries refl has.edges) grows inside,
+      has-next main c.args.self.now held entries e has takes refl refl refl
+          (kept-other c.args.self.now.building e entries refl has.edges) grows inside,
     )
 
 pub returns-then-is_newer-clause-declares : goal.returns-then-is_newer-clause-declares
@@ -39,12 +51,18 @@ returns-then-is_newer-clause-declares c = λ main entries around depth has insid
     let word = word_model c.args.value.now in
     let name = c.args.name.now in
     let file = c.args.file.name.now in
-    let e : ReadStatement = entry_at (site_of c.args.file around depth) (record { spot = c.args.spot; item = BindingModel name word }) in
+    let e : ReadStatement = entry_at (site_of c.args.file around depth)
+    (record { spot = c.args.spot; item = BindingModel name word }) in
     let takes = c.in_ok-bind.ensures.bound around inside.within entries file c.args.spot depth has.declares in
-    let there = open-grown c.args.self.now.declarations.scopes c.bind.new.self.scopes c.args.file.scope.0 around (same-grows c.args.self.now.declarations c.bind.new.self c.in_ok-bind.ensures.scopes) inside in
-    let version = c.value-version.ensures (e ∷ entries) around takes there.within ∙ last_counts [] entries e name word refl tt in
+    let there = open-grown c.args.self.now.declarations.scopes c.bind.new.self.scopes c.args.file.scope.0
+    around (same-grows c.args.self.now.declarations c.bind.new.self c.in_ok-bind.ensures.scopes) inside in
+    let version = c.value-version.ensures (e ∷ entries) around takes there.within
+    ∙ last_counts [] entries e name word refl tt in
     let own =
-    ap (λ text. then_some (bytes_eq name (codes "ninja_required_version") && is_newer text) (fault_at file c.args.spot (VersionTooNew text))) (sym version)
-    ∙ version-refused _ _ (fault_at file c.args.spot (VersionTooNew c.value-version.result.now)) (ap (bytes_eq name) (sym c.as_slice.ensures) ∙ sym c.if-eq.ensures) (sym c.is_newer.ensures ∙ c.if-is_newer.true)
+    ap (λ text. then_some (bytes_eq name (codes "ninja_required_version") && is_newer text)
+    (fault_at file c.args.spot (VersionTooNew text))) (sym version)
+    ∙ version-refused _ _ (fault_at file c.args.spot (VersionTooNew c.value-version.result.now))
+    (ap (bytes_eq name) (sym c.as_slice.ensures) ∙ sym c.if-eq.ensures)
+    (sym c.is_newer.ensures ∙ c.if-is_newer.true)
     ∙ ap (λ text. Some (fault_at file c.args.spot (VersionTooNew text))) (sym c.in_ok-new.ensures) in
     subst (λ expected. IsFault expected c.fault.result) (sym own) c.fault.ensures

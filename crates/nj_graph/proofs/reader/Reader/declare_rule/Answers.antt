@@ -18,14 +18,28 @@ returns-then-branch-clause-declares c = λ main entries around depth has inside.
     let site = site_of c.args.file around depth in
     let start = c.args.spot in
     let name : NameModel = record { spot = c.args.rule.now.name_spot; name = c.args.rule.now.name.now } in
-    let at : List Line → ReadStatement = λ lines. entry_at site (record { spot = start; item = RuleModel name (lines_model lines) }) in
+    let at : List Line → ReadStatement = λ lines. entry_at site
+    (record { spot = start; item = RuleModel name (lines_model lines) }) in
     let e = at c.args.rule.now.lines.items in
     let old : OriginsModel = c.args.self.now.origins in
-    let declared = subst (λ lines. DeclaredBy c.declare_rule.new.self (at lines ∷ entries)) c.deref.ensures.value (c.in_ok-declare_rule.ensures.declared around c.args.rule.now.name_spot c.if-branch.true entries site.file start depth has.declares) in
-    let origins = c.in_ok-add_rule.ensures ∙ ap (λ (place : Place). record old { rules = old.rules ++ Some place ∷ [] }) (placed-text c.place.result site.file start c.place.ensures.file c.place.ensures.spot) in (
-      rule-new main c.args.self.now entries site.file site.scope name has (sym c.if-branch.true ∙ c.in_ok-declare_rule.ensures.is_new),
-      has-next main c.args.self.now (record { declarations = c.declare_rule.new.self; building = c.args.self.now.building; files = c.args.self.now.files; origins = c.add_rule.new.self }) entries
+    let declared = subst (λ lines. DeclaredBy c.declare_rule.new.self (at lines ∷ entries))
+    c.deref.ensures.value (c.in_ok-declare_rule.ensures.declared around c.args.rule.now.name_spot
+    c.if-branch.true entries site.file start depth has.declares) in
+    let origins = c.in_ok-add_rule.ensures
+    ∙ ap (λ (place : Place). record old { rules = old.rules ++ Some place ∷ [] })
+    (placed-text c.place.result site.file start c.place.ensures.file c.place.ensures.spot) in (
+      rule-new main c.args.self.now entries site.file site.scope name has
+          (sym c.if-branch.true ∙ c.in_ok-declare_rule.ensures.is_new),
+      has-next main c.args.self.now (record {
+        declarations = c.declare_rule.new.self;
+        building = c.args.self.now.building;
+        files =
+            c.args.self.now.files;
+        origins = c.add_rule.new.self;
+      }) entries
           e has
           declared origins refl refl
-          (kept-other c.args.self.now.building e entries refl has.edges) (same-grows c.args.self.now.declarations c.declare_rule.new.self c.in_ok-declare_rule.ensures.scopes) inside,
+          (kept-other c.args.self.now.building e entries refl has.edges)
+          (same-grows c.args.self.now.declarations c.declare_rule.new.self
+          c.in_ok-declare_rule.ensures.scopes) inside,
     )

@@ -12,7 +12,9 @@ lines-preserved c = λ entries around by inside.
     let line = c.line-item.result in
     let text = c.in_ok-text.ensures entries around by inside.within in (
       (c.lines.invariant entries around by inside).0
-          ∙ depths-next c.args.file.name.now scope entries lines i line c.lines-test.true c.line-item.is (sym (c.is_depth.ensures ∙ ap is_depth (c.deref.ensures.value ∙ text)) ∙ c.if-not-is_depth.false),
-      c.unwrap_or-depth.ensures ∙ ap (λ o. unwrap_or o 0) (c.leading_number.ensures ∙ ap leading_number_of (c.deref-in-lines.ensures.value ∙ text))
+          ∙ depths-next c.args.file.name.now scope entries lines i line c.lines-test.true c.line-item.is
+          (sym (c.is_depth.ensures ∙ ap is_depth (c.deref.ensures.value ∙ text)) ∙ c.if-not-is_depth.false),
+      c.unwrap_or-depth.ensures ∙ ap (λ o. unwrap_or o 0)
+          (c.leading_number.ensures ∙ ap leading_number_of (c.deref-in-lines.ensures.value ∙ text))
           ∙ sym (depth-next scope entries lines i line c.lines-test.true c.line-item.is),
     )

@@ -25,14 +25,28 @@ pub returns-then-opening_count-ge-MOST_OPENED-clause-opens :
 returns-then-opening_count-ge-MOST_OPENED-clause-opens g c main entries has =
     by-fault _ _ c.fault-then-opening_count-ge-MOST_OPENED.ensures
     (λ none. stops-lacking main _ _ _ _ _ entries has.paths_are _ has.once refl _ none)
-    (λ is. stops-full main _ _ _ _ _ entries has.paths_are _ _ (one_less c.args.file.left c.if-file-eq0.false) (subst (λ n. most_opened ≤ n) (c.opening_count.ensures ∙ ap (λ o. length o.openings) has.origins ∙ openings-count main entries) c.if-opening_count-ge-MOST_OPENED.true) has.once refl _ is)
+    (λ is. stops-full main _ _ _ _ _ entries has.paths_are _ _ (one_less c.args.file.left c.if-file-eq0.false)
+    (subst (λ n. most_opened ≤ n) (c.opening_count.ensures ∙ ap (λ o. length o.openings) has.origins
+    ∙ openings-count main entries) c.if-opening_count-ge-MOST_OPENED.true) has.once refl _ is)
 
 pub returns-clause-opens : goal.returns-clause-opens
 returns-clause-opens g c main entries has =
     let before = g.S.FileSource.state c.args.source.now in
     let after = g.S.FileSource.state c.text_at.new.source in
-    let held : Reader = record { declarations = c.args.self.now.declarations; building = c.args.self.now.building; files = c.text_at.new.files; origins = c.args.self.now.origins } in
+    let held : Reader = record {
+      declarations = c.args.self.now.declarations;
+      building =
+          c.args.self.now.building;
+      files = c.text_at.new.files;
+      origins = c.args.self.now.origins;
+    } in
     let place = place_in c.args.file c.args.spot in
-    let capacity = subst (λ n. n < most_opened) (c.opening_count.ensures ∙ ap (λ o. length o.openings) has.origins ∙ openings-count main entries) c.if-opening_count-ge-MOST_OPENED.false in
-    opens-answered main before after c.args.self.now held c.args.file.left (c.args.file.left - 1) place c.args.path.now entries has.paths_are (one_less c.args.file.left c.if-file-eq0.false) capacity has.once c.text_at.result
-    (subst (λ p. ReturnsText before after c.args.self.now.files c.text_at.new.files p c.args.path.now c.text_at.result) (placed-text c.place.result c.args.file.name.now c.args.spot c.place.ensures.file c.place.ensures.spot) c.text_at.ensures)
+    let capacity = subst (λ n. n < most_opened)
+    (c.opening_count.ensures ∙ ap (λ o. length o.openings) has.origins ∙ openings-count main entries)
+    c.if-opening_count-ge-MOST_OPENED.false in
+    opens-answered main before after c.args.self.now held c.args.file.left (c.args.file.left - 1) place
+    c.args.path.now entries has.paths_are (one_less c.args.file.left c.if-file-eq0.false) capacity
+    has.once c.text_at.result
+    (subst (λ p. ReturnsText before after c.args.self.now.files c.text_at.new.files p c.args.path.now
+    c.text_at.result) (placed-text c.place.result c.args.file.name.now c.args.spot c.place.ensures.file
+    c.place.ensures.spot) c.text_at.ensures)

@@ -18,8 +18,11 @@ returns-in_err-text-clause-reads g c =
     let front : Spot = record { line = 1; column = 1 } in
     rw (handed c.in_err-text.field-0.0 c.from_residual.result c.from_residual.ensures)
     (main-fault c.args.main.now before after c.in_err-text.field-0.0 c.args.self.now.files c.requires.files
-    (unfound before after c.args.self.now.files c.text_at.new.files c.args.main.now (subst EachPathOnce (sym c.requires.files) tt) (main_place c.args.main.now) c.in_err-text.field-0.0
-    (outcomes-named before after c.args.self.now.files c.text_at.new.files c.as_bytes.result.now c.args.main.now front front c.args.main.now c.in_err-text.field-0.0 c.as_bytes.ensures.value refl c.in_err-text.ensures)))
+    (unfound before after c.args.self.now.files c.text_at.new.files c.args.main.now
+    (subst EachPathOnce (sym c.requires.files) tt) (main_place c.args.main.now) c.in_err-text.field-0.0
+    (outcomes-named before after c.args.self.now.files c.text_at.new.files c.as_bytes.result.now
+    c.args.main.now front front c.args.main.now c.in_err-text.field-0.0 c.as_bytes.ensures.value refl
+    c.in_err-text.ensures)))
 
 pub returns-clause-reads : goal.returns-clause-reads
 returns-clause-reads g c =
@@ -27,10 +30,22 @@ returns-clause-reads g c =
     let before = g.S.FileSource.state c.args.source.now in
     let mid = g.S.FileSource.state c.text_at.new.source in
     let after = g.S.FileSource.state c.read_text.new.source in
-    let opened : Reader = record { declarations = c.args.self.now.declarations; building = c.args.self.now.building; files = c.text_at.new.files; origins = c.args.self.now.origins } in
-    let found = found-text before mid c.args.self.now.files c.text_at.new.files main (subst EachPathOnce (sym c.requires.files) tt) (main_place main) c.in_ok-text.text c.in_ok-text.ensures in
+    let opened : Reader = record {
+      declarations = c.args.self.now.declarations;
+      building =
+          c.args.self.now.building;
+      files = c.text_at.new.files;
+      origins = c.args.self.now.origins;
+    } in
+    let found = found-text before mid c.args.self.now.files c.text_at.new.files main
+    (subst EachPathOnce (sym c.requires.files) tt) (main_place main) c.in_ok-text.text
+    c.in_ok-text.ensures in
     let text = rc_slice_items c.in_ok-text.text in
-    let has = main-has main before mid after c.args.self.now opened c.read_text.new.self text c.requires found refl refl refl in
+    let has = main-has main before mid after c.args.self.now opened c.read_text.new.self text c.requires found
+    refl refl refl in
     let nested = c.read_text.ensures.reads main [] [] 0 has (main-placed main c.args.self.now c.requires) in
-    main-reads main before mid after c.args.self.now opened c.read_text.new.self text c.requires found c.read_text.result
-    (subst (λ t. ReadsOrStops main mid after opened c.read_text.new.self (λ all. text_read (opened_in all most_within) (main_site main) t []) c.read_text.result) c.as_slice.ensures.value nested)
+    main-reads main before mid after c.args.self.now opened c.read_text.new.self text c.requires found
+    c.read_text.result
+    (subst (λ t. ReadsOrStops main mid after opened c.read_text.new.self
+    (λ all. text_read (opened_in all most_within) (main_site main) t []) c.read_text.result)
+    c.as_slice.ensures.value nested)

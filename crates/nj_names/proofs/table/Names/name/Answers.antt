@@ -5,4 +5,5 @@ use Rattle.nj_names.proofs.table.Names.name.Goals as goal
 pub name_at-requires-clause-number : goal.name_at-requires-clause-number
 name_at-requires-clause-number c =
     rw c.as_slice-2.ensures.value
-    (subst (λ n. c.args.number < n) (ap length (sym c.self.view_is) ∙ length-names c.self.inside.text.items 0 c.self.inside.ends.items) c.requires)
+    (subst (λ n. c.args.number < n) (ap length (sym c.self.view_is)
+    ∙ length-names c.self.inside.text.items 0 c.self.inside.ends.items) c.requires)

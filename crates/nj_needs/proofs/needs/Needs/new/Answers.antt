@@ -7,7 +7,9 @@ use Rattle.nj_needs.proofs.Striking.{without-none}
 use Rattle.nj_needs.proofs.needs.Needs.new.Goals as goal
 
 -- all commands are left at the start
-left_start : (w : Walk) → w.path.items ≡ [] → w.place ≡ 0 → left_of w.turns.graph.now w.turns.targets.now w.path.items w.place ≡ commands_of w.turns.graph.now w.turns.targets.now
+left_start : (w : Walk) → w.path.items ≡ [] → w.place ≡ 0
+    → left_of w.turns.graph.now w.turns.targets.now w.path.items w.place
+    ≡ commands_of w.turns.graph.now w.turns.targets.now
 left_start w path place = rw (path, place) (without-none (commands_of w.turns.graph.now w.turns.targets.now))
 
 pub returns-clause-commands : goal.returns-clause-commands

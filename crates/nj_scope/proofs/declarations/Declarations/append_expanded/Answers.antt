@@ -7,5 +7,14 @@ use Rattle.nj_scope.proofs.declarations.Declarations.append_expanded.Goals as go
 
 pub returns : goal.returns
 returns c = λ entries around by scope.
-    at_ok c.append_expanded.result (c.append_expanded.ensures (c.args.scope.0 ∷ around) (subst (λ held. IsScope (parent_at held.scopes) c.args.scope.0 (c.args.scope.0 ∷ around)) (sym c.self.view_is) scope)) (λ is.
-    is ∙ ap (λ meant. c.args.text.now.items ++ meant) (value-listed (record { scopes = c.self.inside.scopes; rules = c.self.inside.rules.items; pools = c.self.inside.pools }) entries (subst (λ held. DeclaredBy held entries) (sym c.self.view_is) by) (c.args.scope.0 ∷ around) (word_model c.args.word.now).parts))
+    at_ok c.append_expanded.result (c.append_expanded.ensures (c.args.scope.0 ∷ around)
+    (subst (λ held. IsScope (parent_at held.scopes) c.args.scope.0 (c.args.scope.0 ∷ around))
+    (sym c.self.view_is) scope)) (λ is.
+    is ∙ ap (λ meant. c.args.text.now.items ++ meant)
+    (value-listed (record {
+      scopes = c.self.inside.scopes;
+      rules = c.self.inside.rules.items;
+      pools =
+          c.self.inside.pools;
+    }) entries (subst (λ held. DeclaredBy held entries) (sym c.self.view_is) by)
+    (c.args.scope.0 ∷ around) (word_model c.args.word.now).parts))

@@ -13,5 +13,13 @@ returns-clause-within c = λ entries around by scope.
     subst (λ held. IfSome c.rule.result (λ r. r.0 < length held.rules)) c.self.view_is
     (if_some-of_map (λ r. r.0) (λ n. n < length c.self.inside.rules.items) c.rule.result
     (subst (λ (o : Option ℕ). IfSome o (λ n. n < length c.self.inside.rules.items))
-    (sym (c.rule.ensures (c.args.scope.0 ∷ around) (subst (λ held. IsScope (parent_at held.scopes) c.args.scope.0 (c.args.scope.0 ∷ around)) (sym c.self.view_is) scope)))
-    (nearest-within (record { scopes = c.self.inside.scopes; rules = c.self.inside.rules.items; pools = c.self.inside.pools }) entries (subst (λ held. DeclaredBy held entries) (sym c.self.view_is) by) (c.args.scope.0 ∷ around) c.args.name.now)))
+    (sym (c.rule.ensures (c.args.scope.0 ∷ around)
+    (subst (λ held. IsScope (parent_at held.scopes) c.args.scope.0 (c.args.scope.0 ∷ around))
+    (sym c.self.view_is) scope)))
+    (nearest-within (record {
+      scopes = c.self.inside.scopes;
+      rules = c.self.inside.rules.items;
+      pools =
+          c.self.inside.pools;
+    }) entries (subst (λ held. DeclaredBy held entries) (sym c.self.view_is) by)
+    (c.args.scope.0 ∷ around) c.args.name.now)))

@@ -7,10 +7,25 @@ use Rattle.nj_scope.proofs.declarations.Declarations.value_if_bound.Goals as goa
 
 pub returns : goal.returns
 returns c = λ entries around by scope.
-    c.value_if_bound.ensures (c.args.scope.0 ∷ around) (subst (λ held. IsScope (parent_at held.scopes) c.args.scope.0 (c.args.scope.0 ∷ around)) (sym c.self.view_is) scope)
-    ∙ name-seen (record { scopes = c.self.inside.scopes; rules = c.self.inside.rules.items; pools = c.self.inside.pools }) entries (subst (λ held. DeclaredBy held entries) (sym c.self.view_is) by) (c.args.scope.0 ∷ around) c.args.name.now
+    c.value_if_bound.ensures (c.args.scope.0 ∷ around)
+    (subst (λ held. IsScope (parent_at held.scopes) c.args.scope.0 (c.args.scope.0 ∷ around))
+    (sym c.self.view_is) scope)
+    ∙ name-seen (record {
+      scopes = c.self.inside.scopes;
+      rules = c.self.inside.rules.items;
+      pools =
+          c.self.inside.pools;
+    }) entries (subst (λ held. DeclaredBy held entries) (sym c.self.view_is) by)
+    (c.args.scope.0 ∷ around) c.args.name.now
 
 pub returns-then-is_pool_or_dyndep : goal.returns-then-is_pool_or_dyndep
 returns-then-is_pool_or_dyndep c = λ entries around by scope.
-    none-bound c.self.inside.scopes (c.args.scope.0 ∷ around) c.args.name.now (c.self.invariant c.if-not-self.true) (sym c.is_pool_or_dyndep.ensures ∙ c.if-is_pool_or_dyndep.true)
-    ∙ name-seen (record { scopes = c.self.inside.scopes; rules = c.self.inside.rules.items; pools = c.self.inside.pools }) entries (subst (λ held. DeclaredBy held entries) (sym c.self.view_is) by) (c.args.scope.0 ∷ around) c.args.name.now
+    none-bound c.self.inside.scopes (c.args.scope.0 ∷ around) c.args.name.now
+    (c.self.invariant c.if-not-self.true) (sym c.is_pool_or_dyndep.ensures ∙ c.if-is_pool_or_dyndep.true)
+    ∙ name-seen (record {
+      scopes = c.self.inside.scopes;
+      rules = c.self.inside.rules.items;
+      pools =
+          c.self.inside.pools;
+    }) entries (subst (λ held. DeclaredBy held entries) (sym c.self.view_is) by)
+    (c.args.scope.0 ∷ around) c.args.name.now

@@ -20,6 +20,8 @@ returns-in_err-push-clause-refused c =
 -- src/late.rt:93:5
 pub returns-clause-pushed : goal.returns-clause-pushed
 returns-clause-pushed c =
-    parts-counted c.self.inside.text.items c.extend_from_slice.new.self.items c.args.bytes.now c.args.is_name c.self.inside.parts.items c.push.new.self.items c.len-start.result c.len-end.result
-    c.self.invariant c.in_ok-extend_from_slice.ensures.items (grind (arith, common_steps)) (grind (arith, common_steps)) c.in_ok-push.ensures.items
+    parts-counted c.self.inside.text.items c.extend_from_slice.new.self.items c.args.bytes.now c.args.is_name
+    c.self.inside.parts.items c.push.new.self.items c.len-start.result c.len-end.result
+    c.self.invariant c.in_ok-extend_from_slice.ensures.items (grind (arith, common_steps))
+    (grind (arith, common_steps)) c.in_ok-push.ensures.items
     ∙ ap (λ ps. ps ++ text_or_name c.args.is_name c.args.bytes.now ∷ []) c.self.view_is

@@ -7,4 +7,5 @@ pub returns-else-eq : goal.returns-else-eq
 returns-else-eq c =
     c.contains.ensures ∙ sym (among-text c.self.inside.names.keys c.args.name.now)
     ∙ ap (λ ks. list_any (bytes_eq c.args.name.now) ks) c.self.view_is
-    ∙ ap (λ b. b || list_any (bytes_eq c.args.name.now) c.args.self.now) (c.if-eq.ensures ∙ ap (bytes_eq c.args.name.now) c.as_slice.ensures)
+    ∙ ap (λ b. b || list_any (bytes_eq c.args.name.now) c.args.self.now)
+    (c.if-eq.ensures ∙ ap (bytes_eq c.args.name.now) c.as_slice.ensures)

@@ -4,7 +4,8 @@ use Rattle.nj_scope.proofs.ScopeWalk.{StillLooks, scopes_left}
 use Rattle.nj_scope.proofs.scopes.Scopes.rule.Given as goal
 
 abbrev pub invariant-scopes : goal.invariant-scopes
-invariant-scopes l = StillLooks (λ s. rule_at l.self s l.name) l.self l.fn.scope.0 (option_map (λ s. s.0) l.next)
+invariant-scopes l = StillLooks (λ s. rule_at l.self s l.name) l.self l.fn.scope.0
+    (option_map (λ s. s.0) l.next)
 
 abbrev pub decreases-scopes : goal.decreases-scopes
 decreases-scopes l = scopes_left (option_map (λ s. s.0) l.next)

@@ -7,4 +7,5 @@ use Rattle.nj_scope.proofs.table.FileTable.has.Goals as goal
 pub returns-clause-read : goal.returns-clause-read
 returns-clause-read c =
     c.contains_key.ensures ∙ sym (is_read-kept c.as_bytes.result.now c.self.inside.files.entries)
-    ∙ ap (is_read (map kept_reading c.self.inside.files.entries)) c.as_bytes.ensures.value ∙ ap (λ table. is_read table c.args.path.now) c.self.view_is
+    ∙ ap (is_read (map kept_reading c.self.inside.files.entries)) c.as_bytes.ensures.value
+    ∙ ap (λ table. is_read table c.args.path.now) c.self.view_is

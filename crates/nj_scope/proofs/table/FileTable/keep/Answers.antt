@@ -6,7 +6,8 @@ invariant_of-self-2 c = EachPathOnce-kept c.insert.new.self.entries c.in_ok-inse
 
 pub returns-clause-kept : goal.returns-clause-kept
 returns-clause-kept c =
-    rw (c.in_ok-insert.ensures.entries, ← c.self.view_is) (kept-insert_entry c.self.inside.files c.args.path c.args.bytes (rw (c.self.view_is) c.requires))
+    rw (c.in_ok-insert.ensures.entries, ← c.self.view_is)
+    (kept-insert_entry c.self.inside.files c.args.path c.args.bytes (rw (c.self.view_is) c.requires))
 
 pub returns-clause-each_path_once : goal.returns-clause-each_path_once
 returns-clause-each_path_once c = EachPathOnce-kept c.insert.new.self.entries c.in_ok-insert.ensures.unique

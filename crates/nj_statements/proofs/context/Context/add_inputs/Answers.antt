@@ -26,10 +26,13 @@ words-preserved c =
       grows = grows-input c.args.edges.now t new one.0 loses c.words.invariant.grows one.2;
       keeps = keeps_input c.args.edges.now t new one.0 loses c.words.invariant.keeps one.1 one.2;
       added = λ values sees.
-          ap (λ u. with_inputs loses u (paths_given values (words_model (drop (i + 1) words)))) (c.in_ok-add_input.ensures.added values sees)
-          ∙ sym (at-next (λ (ws : List Word). with_inputs loses t (paths_given values (words_model ws))) words i word c.words-test.true c.word-item.is)
+          ap (λ u. with_inputs loses u (paths_given values (words_model (drop (i + 1) words))))
+          (c.in_ok-add_input.ensures.added values sees)
+          ∙ sym (at-next (λ (ws : List Word). with_inputs loses t (paths_given values (words_model ws))) words
+          i word c.words-test.true c.word-item.is)
           ∙ c.words.invariant.added values sees;
       fault = λ values sees.
-          no-fault-turn (empty_path c.args.self.place.file.now values) words i word c.words-test.true c.word-item.is (c.in_ok-add_input.ensures.fault values sees)
+          no-fault-turn (empty_path c.args.self.place.file.now values) words i word c.words-test.true
+          c.word-item.is (c.in_ok-add_input.ensures.fault values sees)
           ∙ c.words.invariant.fault values sees;
     }

@@ -11,7 +11,8 @@ invariant-words l = record {
   grows : Grows 0 l.fn.edges l.edges;
   keeps : KeepsClean l.fn.edges l.edges;
   added : (values : Values) → SeesNames l.self values
-      → with_validations l.edges (paths_given values (words_model (drop l.word-index l.words))) ≡ with_validations l.fn.edges (paths_given values (words_model l.words));
+      → with_validations l.edges (paths_given values (words_model (drop l.word-index l.words)))
+      ≡ with_validations l.fn.edges (paths_given values (words_model l.words));
   fault : (values : Values) → SeesNames l.self values
       → first_given (empty_path l.self.place.file.now values) (words_model (drop l.word-index l.words))
       ≡ first_given (empty_path l.self.place.file.now values) (words_model l.words);

@@ -10,7 +10,8 @@ use Rattle.nj_statements.proofs.context.Context.check_dyndep.Goals as goal
 
 pub returns-in-Err-EmptyPath-clause-fault : goal.returns-in-Err-EmptyPath-clause-fault
 returns-in-Err-EmptyPath-clause-fault c = λ entries n sees.
-    dyndep-empty c.args.self.place.file.now c.args.self.place.spot c.args.edges.now.«open».inputs c.give.new.text.items (asked_text n (codes "dyndep")) (c.in_ok-give.ensures entries n sees)
+    dyndep-empty c.args.self.place.file.now c.args.self.place.spot c.args.edges.now.«open».inputs
+    c.give.new.text.items (asked_text n (codes "dyndep")) (c.in_ok-give.ensures entries n sees)
     (c.clean_path.ensures.empty (c.in-Err-EmptyPath.is ∙ ap Err c.in-Err-EmptyPath.field-0-is))
 
 pub returns-in-Err-EmptyPath-clause-file : goal.returns-in-Err-EmptyPath-clause-file
@@ -23,12 +24,15 @@ returns-in-Some-clause-fault c = λ entries n sees.
     let file = c.args.self.place.file.now in
     let spot = c.args.self.place.spot in
     let gives = c.in_ok-give.ensures entries n sees in
-    dyndep-input file spot c.args.edges.now.«open».inputs c.give.new.text.items (asked_text n (codes "dyndep")) gives (sym (c.in-Some.ensures.input ∙ ap (is_among c.args.edges.now.«open».inputs) c.in-Ok.ensures.path))
+    dyndep-input file spot c.args.edges.now.«open».inputs c.give.new.text.items
+    (asked_text n (codes "dyndep")) gives
+    (sym (c.in-Some.ensures.input ∙ ap (is_among c.args.edges.now.«open».inputs) c.in-Ok.ensures.path))
 
 pub returns-in-Some-clause-file : goal.returns-in-Some-clause-file
 returns-in-Some-clause-file c = λ entries n sees.
     ap Some (c.in-Some.ensures.file ∙ ap Some c.in-Ok.ensures.path)
-    ∙ ap (λ b. option_map Some (if b then None else Some (clean_path_of c.give.new.text.items))) (sym c.in-Ok.ensures.meant)
+    ∙ ap (λ b. option_map Some (if b then None else Some (clean_path_of c.give.new.text.items)))
+    (sym c.in-Ok.ensures.meant)
     ∙ ap (λ text. option_map Some (file_given text)) (c.in_ok-give.ensures entries n sees)
 
 pub returns-clause-fault : goal.returns-clause-fault
@@ -36,5 +40,8 @@ returns-clause-fault c = λ entries n sees.
     let file = c.args.self.place.file.now in
     let spot = c.args.self.place.spot in
     let gives = c.in_ok-give.ensures entries n sees in
-    dyndep-other file spot c.args.edges.now.«open».inputs c.give.new.text.items (asked_text n (codes "dyndep")) gives c.fault.result c.in-Ok.ensures.meant (sym (c.in_default.ensures.input ∙ ap (is_among c.args.edges.now.«open».inputs) c.in-Ok.ensures.path))
-    (subst (λ (path : List ℕ). IsFault (Some (fault_at file spot (DyndepNotInput path))) c.fault.result) (c.in_ok-new.ensures ∙ c.in-Ok.ensures.path) c.fault.ensures)
+    dyndep-other file spot c.args.edges.now.«open».inputs c.give.new.text.items
+    (asked_text n (codes "dyndep")) gives c.fault.result c.in-Ok.ensures.meant
+    (sym (c.in_default.ensures.input ∙ ap (is_among c.args.edges.now.«open».inputs) c.in-Ok.ensures.path))
+    (subst (λ (path : List ℕ). IsFault (Some (fault_at file spot (DyndepNotInput path))) c.fault.result)
+    (c.in_ok-new.ensures ∙ c.in-Ok.ensures.path) c.fault.ensures)

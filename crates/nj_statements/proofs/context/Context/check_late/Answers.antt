@@ -28,8 +28,10 @@ returns-in_err-pool-clause-fault c = λ entries n sees tells.
     let cycle = variable_cycle_fault file spot n in
     let pool = unknown_pool file spot (pools entries) (asked_text n (codes "pool")) in
     let dyndep = dyndep_not_input file spot c.args.edges.now.«open».inputs (asked_text n (codes "dyndep")) in
-    err-checks c.from_residual-in_err-pool.result f (option_or cycle (option_or pool dyndep)) c.from_residual-in_err-pool.ensures.1
-    (fault-second cycle (option_or pool dyndep) f (c.in_ok-check_cycle.ensures entries n sees tells) (fault-first pool dyndep f (c.in_err-pool.ensures.fault entries n sees)))
+    err-checks c.from_residual-in_err-pool.result f (option_or cycle (option_or pool dyndep))
+    c.from_residual-in_err-pool.ensures.1
+    (fault-second cycle (option_or pool dyndep) f (c.in_ok-check_cycle.ensures entries n sees tells)
+    (fault-first pool dyndep f (c.in_err-pool.ensures.fault entries n sees)))
 
 pub returns-in_err-file-clause-fault : goal.returns-in_err-file-clause-fault
 returns-in_err-file-clause-fault c = λ entries n sees tells.
@@ -39,8 +41,11 @@ returns-in_err-file-clause-fault c = λ entries n sees tells.
     let cycle = variable_cycle_fault file spot n in
     let pool = unknown_pool file spot (pools entries) (asked_text n (codes "pool")) in
     let dyndep = dyndep_not_input file spot c.args.edges.now.«open».inputs (asked_text n (codes "dyndep")) in
-    err-checks c.from_residual-in_err-file.result f (option_or cycle (option_or pool dyndep)) c.from_residual-in_err-file.ensures.1
-    (fault-second cycle (option_or pool dyndep) f (c.in_ok-check_cycle.ensures entries n sees tells) (fault-second pool dyndep f (c.in_ok-pool.ensures.fault entries n sees) (c.in_err-file.ensures.fault entries n sees)))
+    err-checks c.from_residual-in_err-file.result f (option_or cycle (option_or pool dyndep))
+    c.from_residual-in_err-file.ensures.1
+    (fault-second cycle (option_or pool dyndep) f (c.in_ok-check_cycle.ensures entries n sees tells)
+    (fault-second pool dyndep f (c.in_ok-pool.ensures.fault entries n sees)
+    (c.in_err-file.ensures.fault entries n sees)))
 
 pub returns-clause-fault : goal.returns-clause-fault
 returns-clause-fault c = λ entries n sees tells.
@@ -49,12 +54,17 @@ returns-clause-fault c = λ entries n sees tells.
     let cycle = variable_cycle_fault file spot n in
     let pool = unknown_pool file spot (pools entries) (asked_text n (codes "pool")) in
     let dyndep = dyndep_not_input file spot c.args.edges.now.«open».inputs (asked_text n (codes "dyndep")) in
-    both-none cycle (option_or pool dyndep) (c.in_ok-check_cycle.ensures entries n sees tells) (both-none pool dyndep (c.in_ok-pool.ensures.fault entries n sees) (c.in_ok-file.ensures.fault entries n sees))
+    both-none cycle (option_or pool dyndep) (c.in_ok-check_cycle.ensures entries n sees tells)
+    (both-none pool dyndep (c.in_ok-pool.ensures.fault entries n sees)
+    (c.in_ok-file.ensures.fault entries n sees))
 
 pub returns-clause-assigned : goal.returns-clause-assigned
 returns-clause-assigned c = λ entries n sees. record {
-  pool = numbered-longer c.check_pool.new.strings c.path_number.new.strings c.in_ok-pool.pool _ c.in_ok-dyndep.ensures.grows (c.in_ok-pool.ensures.number entries n sees);
+  pool = numbered-longer c.check_pool.new.strings c.path_number.new.strings c.in_ok-pool.pool _
+      c.in_ok-dyndep.ensures.grows (c.in_ok-pool.ensures.number entries n sees);
   dyndep =
-      c.in_ok-dyndep.ensures.number ∙ ap (λ files. Some (option_map (path_at files) c.in_ok-file.file)) c.files.ensures.files
-      ∙ ap Some (path-meant c.args.edges.now.files c.in_ok-file.file (file_given (asked_text n (codes "dyndep"))) (c.in_ok-file.ensures.file entries n sees));
+      c.in_ok-dyndep.ensures.number ∙ ap (λ files. Some (option_map (path_at files) c.in_ok-file.file))
+      c.files.ensures.files
+      ∙ ap Some (path-meant c.args.edges.now.files c.in_ok-file.file
+      (file_given (asked_text n (codes "dyndep"))) (c.in_ok-file.ensures.file entries n sees));
 }

@@ -8,4 +8,5 @@ use Rattle.nj_statements.proofs.context.Context.expand.Given as goal
 abbrev pub invariant-parts : goal.invariant-parts
 invariant-parts l =
     (values : Values) → SeesNames l.self values
-    → l.text.items ++ expanded values (map part_model (drop l.part-index l.part-items)) ≡ expanded values (map part_model l.part-items)
+    → l.text.items ++ expanded values (map part_model (drop l.part-index l.part-items))
+    ≡ expanded values (map part_model l.part-items)

@@ -12,7 +12,10 @@ words-preserved c =
     let path = c.in_ok-path.path.now in
     let new = c.add_input.new.self in
     record {
-      added = inputs-turn c.words.edges new path words i word c.words-test.true c.word-item.is c.in_ok-path.ensures.path c.in_ok-add_input.ensures.added ∙ c.words.invariant.added;
-      fault = no-fault-turn (empty_path c.args.self.name.now no_values) words i word c.words-test.true c.word-item.is c.in_ok-path.ensures.fault ∙ c.words.invariant.fault;
-      keeps = keeps-trans c.args.edges.now c.words.edges new c.words.invariant.keeps (keeps-input c.words.edges new path c.in_ok-add_input.ensures.added);
+      added = inputs-turn c.words.edges new path words i word c.words-test.true c.word-item.is
+          c.in_ok-path.ensures.path c.in_ok-add_input.ensures.added ∙ c.words.invariant.added;
+      fault = no-fault-turn (empty_path c.args.self.name.now no_values) words i word c.words-test.true
+          c.word-item.is c.in_ok-path.ensures.fault ∙ c.words.invariant.fault;
+      keeps = keeps-trans c.args.edges.now c.words.edges new c.words.invariant.keeps
+          (keeps-input c.words.edges new path c.in_ok-add_input.ensures.added);
     }

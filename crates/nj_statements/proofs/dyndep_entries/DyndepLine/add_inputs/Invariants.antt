@@ -10,7 +10,9 @@ use Rattle.nj_statements.proofs.dyndep_entries.DyndepLine.add_inputs.Given as go
 
 abbrev pub invariant-words : goal.invariant-words
 invariant-words l = record {
-  added : with_added_inputs l.edges (paths_given no_values (words_model (drop l.word-index l.words))) ≡ with_added_inputs l.fn.edges (paths_given no_values (words_model l.words));
-  fault : first_given (empty_path l.self.name.now no_values) (words_model (drop l.word-index l.words)) ≡ first_given (empty_path l.self.name.now no_values) (words_model l.words);
+  added : with_added_inputs l.edges (paths_given no_values (words_model (drop l.word-index l.words)))
+      ≡ with_added_inputs l.fn.edges (paths_given no_values (words_model l.words));
+  fault : first_given (empty_path l.self.name.now no_values) (words_model (drop l.word-index l.words))
+      ≡ first_given (empty_path l.self.name.now no_values) (words_model l.words);
   keeps : KeepsEdges l.fn.edges l.edges;
 }

@@ -14,10 +14,18 @@ words-preserved c =
     let word = c.word-item.result in
     let path = c.in_ok-path.path.now in
     let new = c.add_output.new.self in
-    let fresh : is_made_so_far c.words.edges path ≡ false = is-false (is_made_so_far c.words.edges path) (sym c.if-not-branch.false ∙ c.in_ok-add_output.ensures.is_new) in
-    let adds : new ≡ with_added_output c.words.edges path = c.in_ok-add_output.ensures.added ∙ ap (λ b. if b then with_added_output c.words.edges path else c.words.edges) c.if-not-branch.false in
+    let fresh : is_made_so_far c.words.edges path ≡ false =
+    is-false (is_made_so_far c.words.edges path)
+    (sym c.if-not-branch.false ∙ c.in_ok-add_output.ensures.is_new) in
+    let adds : new ≡ with_added_output c.words.edges path =
+    c.in_ok-add_output.ensures.added ∙ ap
+    (λ b. if b then with_added_output c.words.edges path else c.words.edges) c.if-not-branch.false in
     record {
-      added = outputs-turn c.words.edges new path words i word c.words-test.true c.word-item.is c.in_ok-path.ensures.path adds ∙ c.words.invariant.added;
-      fault = new-output-turn c.args.self.name.now c.words.edges new path words i word c.words-test.true c.word-item.is c.in_ok-path.ensures.path c.in_ok-path.ensures.fault fresh adds ∙ c.words.invariant.fault;
-      keeps = keeps-trans c.args.edges.now c.words.edges new c.words.invariant.keeps (keeps-output c.words.edges new path adds);
+      added = outputs-turn c.words.edges new path words i word c.words-test.true c.word-item.is
+          c.in_ok-path.ensures.path adds ∙ c.words.invariant.added;
+      fault = new-output-turn c.args.self.name.now c.words.edges new path words i word c.words-test.true
+          c.word-item.is c.in_ok-path.ensures.path c.in_ok-path.ensures.fault fresh adds
+          ∙ c.words.invariant.fault;
+      keeps = keeps-trans c.args.edges.now c.words.edges new c.words.invariant.keeps
+          (keeps-output c.words.edges new path adds);
     }

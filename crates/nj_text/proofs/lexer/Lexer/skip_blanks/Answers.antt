@@ -9,4 +9,6 @@ returns-in-Inside c =
     let cursor = c.self.inside.cursor in
     let here = c.skip_blanks-self-inside.result in
     let state = sym c.self.view_is ∙ ap (λ st. state_at st cursor.spot cursor.rest.now) c.in-Inside.is in
-    ap (λ st. state_at st here.spot here.rest.now) c.in-Inside.is ∙ blanks_skipped cursor.spot here.spot cursor.rest.now here.rest.now c.skip_blanks-self-inside.ensures ∙ ap skip_blanks_of (sym state)
+    ap (λ st. state_at st here.spot here.rest.now) c.in-Inside.is
+    ∙ blanks_skipped cursor.spot here.spot cursor.rest.now here.rest.now c.skip_blanks-self-inside.ensures
+    ∙ ap skip_blanks_of (sym state)

@@ -14,7 +14,8 @@ pub returns-in-OpeningJoin : goal.returns-in-OpeningJoin
 returns-in-OpeningJoin c =
     let cursor = c.self.inside.cursor in
     let state = sym c.self.view_is ∙ ap (λ st. state_at st cursor.spot cursor.rest.now) c.in-OpeningJoin.is in
-    sym (ap spot_of state ∙ spot_opening c.in-OpeningJoin.spot c.in-OpeningJoin.field-1.now cursor.spot cursor.rest.now)
+    sym (ap spot_of state ∙ spot_opening c.in-OpeningJoin.spot c.in-OpeningJoin.field-1.now cursor.spot
+    cursor.rest.now)
 
 pub returns-in-Inside : goal.returns-in-Inside
 returns-in-Inside c =

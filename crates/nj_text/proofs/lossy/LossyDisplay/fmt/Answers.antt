@@ -20,5 +20,7 @@ loop-chunk-preserved g c =
 pub returns-clause-writes : goal.returns-clause-writes
 returns-clause-writes g c = λ plain _.
     let so_far = c.loop-chunk.invariant plain in
-    let all = sym (append-nil so_far.0) ∙ (rw (utf8_lossy_empty (utf8_chunks_rest c.loop-chunk.chunk-iterator) c.in-None.ensures.steps.0) at so_far.2) in
+    let all = sym (append-nil so_far.0) ∙ (rw
+    (utf8_lossy_empty (utf8_chunks_rest c.loop-chunk.chunk-iterator) c.in-None.ensures.steps.0) at
+    so_far.2) in
     has_written_of_eq _ _ _ _ _ all so_far.1

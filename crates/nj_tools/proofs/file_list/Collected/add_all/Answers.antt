@@ -13,5 +13,6 @@ files-preserved c =
     record {
       count = c.in_ok-add.ensures.count ∙ c.files.invariant.count;
       files = c.in_ok-add.ensures.files ∙ ap (λ fs. with_file fs file) c.files.invariant.files
-          ∙ sym (ap (with_files c.args.self.now.files) (take_more files i (record { 0 = 0 }) (omega arith)) ∙ with_files-push (take i files) c.args.self.now.files file);
+          ∙ sym (ap (with_files c.args.self.now.files) (take_more files i (record { 0 = 0 }) (omega arith))
+          ∙ with_files-push (take i files) c.args.self.now.files file);
     }

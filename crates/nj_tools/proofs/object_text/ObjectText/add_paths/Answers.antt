@@ -21,7 +21,8 @@ files-preserved c =
     ∙ ap (λ t. and_string c.files.self t) (sym path)
     ∙ ap (λ s. and_string s (path_at all item)) c.files.invariant
     ∙ sym (
-    ap (fold and_string begun) (ap (map (path_at all)) (take_more files i (record { 0 = 0 }) c.files-test.true) ∙ map_push (path_at all) (take i files) item)
+    ap (fold and_string begun) (ap (map (path_at all))
+    (take_more files i (record { 0 = 0 }) c.files-test.true) ∙ map_push (path_at all) (take i files) item)
     ∙ fold_push and_string begun (map (path_at all) (take i files)) (path_at all item)
     )
 
@@ -30,6 +31,8 @@ returns c =
     let all = files_of c.args.graph.now in
     let files = c.args.files.now in
     let begun = c.begin_array.new.self in
-    let filled = c.files.invariant ∙ ap (λ fs. fold and_string begun (map (path_at all) fs)) (take_all c.files.file-index files c.files-test.false) in
+    let filled = c.files.invariant ∙ ap (λ fs. fold and_string begun (map (path_at all) fs))
+    (take_all c.files.file-index files c.files-test.false) in
     on_ok_weaker c.end_array.result
-    (λ is. strings-made c.args.self.now begun c.files.self c.end_array.new.self c.args.name.now (map (path_at all) files) c.in_ok-begin_array.ensures filled is) c.end_array.ensures
+    (λ is. strings-made c.args.self.now begun c.files.self c.end_array.new.self c.args.name.now
+    (map (path_at all) files) c.in_ok-begin_array.ensures filled is) c.end_array.ensures

@@ -10,8 +10,10 @@ pub returns-in-Ok : goal.returns-in-Ok
 returns-in-Ok c =
     let text = c.args.text.now in
     on_ok_weaker c.string.result (λ is.
-    string-more c.self.inside.is_utf8 c.self.inside.writer.tokens c.string.new.self.tokens c.in-Ok.text.now text (is_utf8-from_IsUtf8 text c.in-Ok.ensures.cases.1) c.in-Ok.ensures.cases.0 is
+    string-more c.self.inside.is_utf8 c.self.inside.writer.tokens c.string.new.self.tokens c.in-Ok.text.now
+    text (is_utf8-from_IsUtf8 text c.in-Ok.ensures.cases.1) c.in-Ok.ensures.cases.0 is
     ∙ ap (λ o. and_string o text) c.self.view_is) c.string.ensures.ok
 
 pub returns-in-Err : goal.returns-in-Err
-returns-in-Err c = string-unheld c.args.self.now c.args.text.now (false_from_ne_true _ (λ e. c.in-Err.ensures.cases.0 (IsUtf8-from_is_utf8 _ e)))
+returns-in-Err c = string-unheld c.args.self.now c.args.text.now
+    (false_from_ne_true _ (λ e. c.in-Err.ensures.cases.0 (IsUtf8-from_is_utf8 _ e)))
