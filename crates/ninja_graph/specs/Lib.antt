@@ -2,3 +2,5 @@
 pub mod LogPaths
 -- how the code does that
 pub mod Inside
+-- what the contracts cite
+pub mod Cited

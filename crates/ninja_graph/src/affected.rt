@@ -1,6 +1,6 @@
 //! The subcommand `affected`: the outputs that a change of files affects.
 
-ghost use Rattle.nj_ask.specs.Joined.{HasEdges};
+ghost use Rattle.ninja_graph.specs.Cited.{HasEdges};
 
 use crate::failure::Failure;
 use crate::words::{flag, option, repeated};

@@ -1,6 +1,6 @@
 //! The subcommand `audit`: findings about the manifest.
 
-ghost use Rattle.ninja_graph.specs.Inside.Logged.{HasInputs};
+ghost use Rattle.ninja_graph.specs.Cited.{HasInputs};
 
 use crate::caveats::with_caveats;
 use crate::failure::Failure;

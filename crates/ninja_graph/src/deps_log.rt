@@ -1,9 +1,7 @@
 //! The deps log that the options request.
 
 ghost use Rattle.std.specs.Prelude.{◌≡◌, ◌∷◌, List, [], codes, option_copied, IfOk};
-ghost use Rattle.nj_graph.specs.Graph.{IsGraphOf};
-ghost use Rattle.nj_graph.specs.ReadingList.{ReadStatement, value_if_bound};
-ghost use Rattle.ninja_graph.specs.LogPaths.{cut_line, log_path};
+ghost use Rattle.ninja_graph.specs.Cited.{IsGraphOf, ReadStatement, value_if_bound, cut_line, log_path};
 
 use crate::failure::{Failure, LogFault};
 use clap::ArgMatches;

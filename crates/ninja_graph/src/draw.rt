@@ -2,8 +2,7 @@
 //! affects.
 
 ghost use Rattle.std.specs.Prelude.{◌<◌, All, length};
-ghost use Rattle.nj_graph.specs.Graph.{files_of};
-ghost use Rattle.nj_ask.specs.Joined.{HasEdges};
+ghost use Rattle.ninja_graph.specs.Cited.{files_of, HasEdges};
 
 use crate::failure::Failure;
 use crate::words::{count, flag};

@@ -1,7 +1,7 @@
 //! The subcommand `json`: the edges as objects of JSON.
 
 ghost use Rattle.std.specs.Prelude.{◌<◌, length};
-ghost use Rattle.nj_graph.specs.Graph.{edges_of};
+ghost use Rattle.ninja_graph.specs.Cited.{edges_of};
 
 use crate::failure::Failure;
 use clap::Command;

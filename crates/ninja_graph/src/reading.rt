@@ -1,11 +1,7 @@
 //! The graph that the options of a subcommand name.
 
 ghost use Rattle.std.specs.Prelude.{◌≡◌, List, IfOk, map, true};
-ghost use Rattle.nj_graph.specs.Graph.{files_of, IsGraphOf};
-ghost use Rattle.nj_graph.specs.ReadingList.{ReadStatement};
-ghost use Rattle.nj_graph.specs.Undeclared.{AreUndeclared, input_of_edge};
-ghost use Rattle.nj_ask.specs.Joined.{Follows, HasEdges};
-ghost use Rattle.ninja_graph.specs.Inside.Logged.{AreInputsOf, HasInputs};
+ghost use Rattle.ninja_graph.specs.Cited.{files_of, IsGraphOf, ReadStatement, AreUndeclared, input_of_edge, Follows, HasEdges, AreInputsOf, HasInputs};
 
 use crate::deps_log::{ReadLog, joins_discovered, read_log};
 use crate::failure::Failure;

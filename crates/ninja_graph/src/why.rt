@@ -1,7 +1,7 @@
 //! The subcommand `why`: the chain by which a file needs another.
 
 ghost use Rattle.std.specs.Prelude.{◌<◌, IfOk, length};
-ghost use Rattle.nj_graph.specs.Graph.{files_of};
+ghost use Rattle.ninja_graph.specs.Cited.{files_of};
 
 use crate::failure::Failure;
 use crate::words::flag;

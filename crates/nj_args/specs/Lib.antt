@@ -9,3 +9,5 @@ pub mod RunMarks
 pub mod Tools
 -- how the code does that
 pub mod Inside
+-- what the contracts cite
+pub mod Cited

@@ -1,9 +1,7 @@
 //! The command line as `clap` knows it.
 
 ghost use Rattle.std.specs.Prelude.{◌≡◌, false, IfOk, Some, codes, fold, map};
-ghost use Rattle.clap.specs.Words.{app_of, rule_of, with_rule};
-ghost use Rattle.nj_args.specs.CommandLine.{command, nothing_yet, flag};
-ghost use Rattle.nj_args.specs.Inside.Held.{option_at, option_in, with_letter, with_name, all_words};
+ghost use Rattle.nj_args.specs.Cited.{app_of, rule_of, with_rule, command, nothing_yet, flag, option_at, option_in, with_letter, with_name, all_words};
 
 use clap::{Arg, ArgAction, Command};
 use std::alloc::{AllocError, Global};

@@ -1,12 +1,7 @@
 //! The values of a command line's arguments, as `clap` reads them.
 
 ghost use Rattle.std.specs.Prelude.{◌≡◌, ◌⊎◌, IfOk, IfErr, OnOk, true, false, map, string_bytes};
-ghost use Rattle.std.specs.Option.{option_copied};
-ghost use Rattle.clap.specs.Words.{first_of, matches_of};
-ghost use Rattle.nj_args.specs.CommandLine.{command};
-ghost use Rattle.nj_args.specs.Fields.{is_on, words_in};
-ghost use Rattle.nj_args.specs.Inside.Held.{rows_in, word_strings, is_refused, refusal};
-ghost use Rattle.nj_args.specs.declared.usage_fault.UsageFault.TheVariants.{Unparsed, OutOfMemory};
+ghost use Rattle.nj_args.specs.Cited.{option_copied, first_of, matches_of, command, is_on, words_in, rows_in, word_strings, is_refused, refusal, Unparsed, OutOfMemory};
 
 use crate::command::command;
 use crate::usage_fault::UsageFault;

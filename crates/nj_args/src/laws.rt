@@ -1,7 +1,6 @@
 //! Laws of how a command line is read.
 
-ghost use Rattle.nj_args.specs.FirstFaults.{FirstFaultIsReported, FaultlessWordsAreRequests};
-ghost use Rattle.nj_args.specs.RunMarks.{RunMarksAreApart};
+ghost use Rattle.nj_args.specs.Cited.{FirstFaultIsReported, FaultlessWordsAreRequests, RunMarksAreApart};
 
 /// The marks of runs that follow validations differ from all others: no text is a mark of runs
 /// of both kinds.

@@ -1,8 +1,7 @@
 //! The numbers of a command line.
 
 ghost use Rattle.std.specs.Prelude.{◌≡◌};
-ghost use Rattle.nj_args.specs.Numbers.{given_number, given_depth};
-ghost use Rattle.nj_args.specs.Inside.Held.{begins_with_plus};
+ghost use Rattle.nj_args.specs.Cited.{given_number, given_depth, begins_with_plus};
 
 const GREATEST_DEPTH: u64 = 2_147_483_647;
 

@@ -1,34 +1,7 @@
 //! The request of a command line's arguments.
 
 ghost use Rattle.std.specs.Prelude.{◌≡◌, ◌⊎◌, None, Ok, Err, [], ◌∷◌, IfOk, IfErr, IfSome, IfNone, map, string_bytes};
-ghost use Rattle.nj_needs.specs.MarkTexts.{given_mark};
-ghost use Rattle.std.specs.Option.{option_copied};
-ghost use Rattle.nj_args.specs.Requests.{
-  request_of,
-  request_in,
-  action_of,
-  asked_of,
-  commands_of,
-  take_of,
-  start_of,
-  style_of,
-  view_of,
-};
-ghost use Rattle.nj_args.specs.Inside.Held.{
-  rows_in,
-  word_strings,
-  depth_of,
-  inputs_of,
-  targets_of,
-  query_of,
-  rules_of,
-  compdb_of,
-  given_request,
-  wordless,
-};
-ghost use Rattle.nj_args.specs.RunMarks.{given_run_mark};
-ghost use Rattle.nj_requests.specs.Actions.{action_model, request_model};
-ghost use Rattle.nj_args.specs.declared.usage_fault.UsageFault.TheVariants.{OutOfMemory};
+ghost use Rattle.nj_args.specs.Cited.{given_mark, option_copied, request_of, request_in, action_of, asked_of, commands_of, take_of, start_of, style_of, view_of, rows_in, word_strings, depth_of, inputs_of, targets_of, query_of, rules_of, compdb_of, given_request, wordless, given_run_mark, action_model, request_model, OutOfMemory};
 
 use crate::fields::{is_on, parse, text_of, words_in};
 use crate::option_numbers::{depth_in, number_in};

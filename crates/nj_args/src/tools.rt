@@ -1,8 +1,7 @@
 //! The tools, and which options go with which.
 
 ghost use Rattle.std.specs.Prelude.{◌≡◌, find};
-ghost use Rattle.nj_args.specs.Inside.Held.{goes_with, first_foreign, rows_in};
-ghost use Rattle.nj_args.specs.Tools.{tool_named, is_given, is_foreign};
+ghost use Rattle.nj_args.specs.Cited.{goes_with, first_foreign, rows_in, tool_named, is_given, is_foreign};
 
 use crate::fields::{is_on, text_of};
 use crate::usage_fault::ToolOption;

@@ -1,8 +1,7 @@
 //! Why arguments are not a valid request.
 
 ghost use Rattle.std.specs.Prelude.{◌≡◌, Some, IfOk};
-ghost use Rattle.nj_args.specs.FaultLines.{fault_text, option_text};
-ghost use Rattle.nj_args.specs.declared.usage_fault.UsageFault.TheVariants.{OutOfMemory};
+ghost use Rattle.nj_args.specs.Cited.{fault_text, option_text, OutOfMemory};
 
 use nj_text::OUT_OF_MEMORY_TEXT;
 use std::alloc::{AllocError, AllocFailed, Global};

@@ -1,7 +1,7 @@
 //! The line that reports why arguments are not a valid request.
 
 ghost use Rattle.std.specs.Prelude.{◌≡◌, IfOk};
-ghost use Rattle.nj_args.specs.FaultLines.{fault_line};
+ghost use Rattle.nj_args.specs.Cited.{fault_line};
 
 use crate::usage_fault::UsageFault;
 use std::alloc::{AllocError, Global};

@@ -11,3 +11,5 @@ pub mod Shape
 pub mod Statuses
 -- how the code does that
 pub mod Inside
+-- what the contracts cite
+pub mod Cited

@@ -1,9 +1,7 @@
 //! The lines of chains of inputs.
 
 ghost use Rattle.std.specs.Prelude.{◌≡◌, ◌++◌, ◌<◌, All, IfOk, OnOk, length};
-ghost use Rattle.nj_graph.specs.Chains.{PathIs};
-ghost use Rattle.nj_graph.specs.Graph.{edges_of, files_of};
-ghost use Rattle.nj_ask.specs.Chains.{chain_line, chain_lines, kind_end, kind_word, place_text, WritesChain};
+ghost use Rattle.nj_ask.specs.Cited.{PathIs, edges_of, files_of, chain_line, chain_lines, kind_end, kind_word, place_text, WritesChain};
 
 use crate::status::Status;
 use nj_graph::{FileNo, Graph, Kind, PlaceRef, Step};

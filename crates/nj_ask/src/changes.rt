@@ -1,9 +1,7 @@
 //! The files at changed paths.
 
 ghost use Rattle.std.specs.Prelude.{◌≡◌, ◌<◌, All, IfOk, IfSome, length, map, option_copied, option_map};
-ghost use Rattle.std.specs.List.{filter_map};
-ghost use Rattle.nj_graph.specs.Graph.{files_of};
-ghost use Rattle.nj_ask.specs.Affected.{changed_file, clean_name, path_in};
+ghost use Rattle.nj_ask.specs.Cited.{filter_map, files_of, changed_file, clean_name, path_in};
 
 use nj_graph::{FileNo, Graph, TextFault, clean_path};
 use std::alloc::{AllocError, Global};

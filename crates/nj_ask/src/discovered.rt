@@ -1,15 +1,7 @@
 //! A graph with the inputs that builds discovered.
 
 ghost use Rattle.std.specs.Prelude.{List, IfOk};
-ghost use Rattle.nj_deps.specs.Logs.{LogModel};
-ghost use Rattle.nj_discovered.specs.Times.{DeclaredTimes};
-ghost use Rattle.nj_graph.specs.Discovering.{AreDiscovered};
-ghost use Rattle.nj_graph.specs.Graph.{IsGraphOf};
-ghost use Rattle.nj_graph.specs.ReadingList.{ReadStatement};
-ghost use Rattle.nj_scope.specs.Sources.{SourceState};
-ghost use Rattle.nj_ask.specs.DiscoveredGraphs.{JoinsDiscovered};
-ghost use Rattle.nj_ask.specs.Joined.{Follows, HasDoubtfulEdges};
-ghost use Rattle.nj_ask.specs.Inside.Findings.{AreFindingsOf};
+ghost use Rattle.nj_ask.specs.Cited.{LogModel, DeclaredTimes, AreDiscovered, IsGraphOf, ReadStatement, SourceState, JoinsDiscovered, Follows, HasDoubtfulEdges, AreFindingsOf};
 
 use crate::doubts::{Doubts, doubts_of};
 use nj_deps::DepsLog;

@@ -1,9 +1,7 @@
 //! What is not known of the inputs that builds discovered.
 
 ghost use Rattle.std.specs.Prelude.{◌≡◌, ◌++◌, ◌<◌, All, IfOk, OnOk, length, map};
-ghost use Rattle.nj_graph.specs.Graph.{edges_of};
-ghost use Rattle.nj_ask.specs.DiscoveredGraphs.{doubtful_edges};
-ghost use Rattle.nj_ask.specs.Inside.Findings.{if_doubtful};
+ghost use Rattle.nj_ask.specs.Cited.{edges_of, doubtful_edges, if_doubtful};
 
 use crate::listing::push_line;
 use nj_graph::{DepfileError, Discoveries, EdgeNo, Graph, Unknown, Verdict};

@@ -1,9 +1,7 @@
 //! Drawings in the language of Graphviz.
 
 ghost use Rattle.std.specs.Prelude.{◌≡◌, ◌++◌, ◌<◌, All, OnOk, length};
-ghost use Rattle.nj_graph.specs.Graph.{edges_of, files_of};
-ghost use Rattle.nj_ask.specs.Joined.{HasEdges};
-ghost use Rattle.nj_ask.specs.Inside.Quotes.{escaped, escapes, quoted};
+ghost use Rattle.nj_ask.specs.Cited.{edges_of, files_of, HasEdges, escaped, escapes, quoted};
 
 use crate::discovered::DiscoveredGraph;
 use crate::manifest::is_set;

@@ -1,10 +1,7 @@
 //! The requested outputs of edges.
 
 ghost use Rattle.std.specs.Prelude.{◌≡◌, ◌++◌, ◌<◌, All, IfOk, OnOk, length, map, option_map};
-ghost use Rattle.std.specs.List.{flat_map};
-ghost use Rattle.nj_graph.specs.Edges.{edge_at, is_among, outputs_of};
-ghost use Rattle.nj_graph.specs.Graph.{edges_of};
-ghost use Rattle.nj_ask.specs.Affected.{asked_of, is_asked_for, is_of_rules, line, line_of_output, lines_of_outputs, rule_names, texts, unknown_rule};
+ghost use Rattle.nj_ask.specs.Cited.{flat_map, edge_at, is_among, outputs_of, edges_of, asked_of, is_asked_for, is_of_rules, line, line_of_output, lines_of_outputs, rule_names, texts, unknown_rule};
 
 use nj_graph::{EdgeNo, Graph};
 use std::alloc::{AllocError, Global};

@@ -1,8 +1,7 @@
 //! From which of some files the manifest is made.
 
 ghost use Rattle.std.specs.Prelude.{◌<◌, length, map, All, IfOk};
-ghost use Rattle.nj_graph.specs.Graph.{files_of};
-ghost use Rattle.nj_ask.specs.MadeFrom.{TellMadeFrom};
+ghost use Rattle.nj_ask.specs.Cited.{files_of, TellMadeFrom};
 
 use crate::manifest::Manifest;
 use nj_graph::{FileNo, Graph, HashKeys};

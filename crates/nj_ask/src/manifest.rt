@@ -1,14 +1,7 @@
 //! From which changed files the manifest itself is made.
 
 ghost use Rattle.std.specs.Prelude.{◌≡◌, ◌↔◌, ◌<◌, List, All, IfOk, IfSome, false, length, map, true, option_copied, option_map, option_and_then, slice_get, slice_index_or};
-ghost use Rattle.std.specs.List.{filter, filter_map, flat_map, list_any};
-ghost use Rattle.nj_graph.specs.ReadingList.{ReadStatement};
-ghost use Rattle.nj_graph.specs.Edges.{edge_at, inputs_of, maker_of};
-ghost use Rattle.nj_graph.specs.Files.{path_at};
-ghost use Rattle.nj_graph.specs.Graph.{edges_of, files_of, IsGraphOf};
-ghost use Rattle.nj_ask.specs.Affected.{clean_name, number_at, path_in};
-ghost use Rattle.nj_ask.specs.Manifest.{has_generator, is_named_in, makers_of_opened, makes_manifest, opened_files, IsMadeFrom};
-ghost use Rattle.nj_ask.specs.Inside.Flags.{AreFeeds, AreFlags};
+ghost use Rattle.nj_ask.specs.Cited.{filter, filter_map, flat_map, list_any, ReadStatement, edge_at, inputs_of, maker_of, path_at, edges_of, files_of, IsGraphOf, clean_name, number_at, path_in, has_generator, is_named_in, makers_of_opened, makes_manifest, opened_files, IsMadeFrom, AreFeeds, AreFlags};
 
 use crate::changes::{clean_in, find_file};
 use crate::opened::opened_paths;

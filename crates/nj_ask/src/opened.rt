@@ -1,9 +1,7 @@
 //! The paths of the files that were opened.
 
 ghost use Rattle.std.specs.Prelude.{◌≡◌, IfOk, OnOk, option_and_then, option_map, slice_get};
-ghost use Rattle.nj_names.specs.NameTables.{with_name};
-ghost use Rattle.nj_ask.specs.Affected.{clean_name};
-ghost use Rattle.nj_ask.specs.Inside.Reached.{AreOpened};
+ghost use Rattle.nj_ask.specs.Cited.{with_name, clean_name, AreOpened};
 
 use crate::changes::clean_in;
 use nj_graph::{Graph, HashKeys};

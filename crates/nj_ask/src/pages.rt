@@ -1,8 +1,7 @@
 //! Pages of keys.
 
 ghost use Rattle.std.specs.Prelude.{◌≡◌, IfOk, option_copied};
-ghost use Rattle.nj_ask.specs.Pages.{mark_line};
-ghost use Rattle.nj_ask.specs.Reports.{Reports};
+ghost use Rattle.nj_ask.specs.Cited.{mark_line, Reports};
 
 use crate::status::Status;
 use crate::writing::write_both;

@@ -1,15 +1,7 @@
 //! A report about a change of files.
 
 ghost use Rattle.std.specs.Prelude.{◌≡◌, ◌≢◌, ◌⊎◌, ◌<◌, ◌++◌, List, [], All, IfOk, OnOk, false, length, map, true};
-ghost use Rattle.nj_graph.specs.ReadingList.{ReadStatement};
-ghost use Rattle.nj_graph.specs.Changes.{IsAffected};
-ghost use Rattle.nj_graph.specs.Files.{path_at};
-ghost use Rattle.nj_graph.specs.Graph.{edges_of, files_of, IsGraphOf};
-ghost use Rattle.nj_ask.specs.Affected.{asked_of};
-ghost use Rattle.nj_ask.specs.DiscoveredGraphs.{IsTouched};
-ghost use Rattle.nj_ask.specs.Reports.{made_from_line, no_path_line, question_of, DoneMissesNothing, HasWarnings, IsReport, Reports, WarningsAreUnique};
-ghost use Rattle.nj_ask.specs.Joined.{HasEdges};
-ghost use Rattle.nj_ask.specs.Inside.Reached.{AddsWarning, AreAffected, AreOpened, AreTouched, CanTellAll, CanTellAt, unnamed_warning};
+ghost use Rattle.nj_ask.specs.Cited.{ReadStatement, IsAffected, path_at, edges_of, files_of, IsGraphOf, asked_of, IsTouched, made_from_line, no_path_line, question_of, DoneMissesNothing, HasWarnings, IsReport, Reports, WarningsAreUnique, HasEdges, AddsWarning, AreAffected, AreOpened, AreTouched, CanTellAll, CanTellAt, unnamed_warning};
 
 use crate::changes::{find_file, known_files};
 use crate::discovered::DiscoveredGraph;

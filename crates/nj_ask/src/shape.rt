@@ -1,12 +1,7 @@
 //! The files that shape the graph, where they may change.
 
 ghost use Rattle.std.specs.Prelude.{◌≡◌, ◌++◌, ◌<◌, ℕ, List, All, IfOk, IfSome, OnOk, length, map, option_map};
-ghost use Rattle.std.specs.List.{flat_map, range_with_len};
-ghost use Rattle.nj_graph.specs.Graph.{edges_of, files_of, IsGraphOf};
-ghost use Rattle.nj_graph.specs.ReadingList.{ReadStatement};
-ghost use Rattle.nj_ask.specs.Affected.{line};
-ghost use Rattle.nj_ask.specs.Shape.{dyndep_files, dyndep_of, dyndep_text, line_if_changes, lines_of_changing, may_change, remade_text, shape_text};
-ghost use Rattle.nj_ask.specs.Inside.Flags.{is_made_flag, AreMarks};
+ghost use Rattle.nj_ask.specs.Cited.{flat_map, range_with_len, edges_of, files_of, IsGraphOf, ReadStatement, line, dyndep_files, dyndep_of, dyndep_text, line_if_changes, lines_of_changing, may_change, remade_text, shape_text, is_made_flag, AreMarks};
 
 use crate::discovered::DiscoveredGraph;
 use crate::listing::push_line;

@@ -1,7 +1,7 @@
 //! How a run ends.
 
 ghost use Rattle.std.specs.Prelude.{◌≡◌};
-ghost use Rattle.nj_ask.specs.Statuses.{exit_code};
+ghost use Rattle.nj_ask.specs.Cited.{exit_code};
 
 /// How a run ends.
 #[derive(Clone, Copy)]

@@ -1,7 +1,7 @@
 //! The texts for standard output and for standard error.
 
 ghost use Rattle.std.specs.Prelude.{◌≡◌};
-ghost use Rattle.nj_ask.specs.Reports.{Reports};
+ghost use Rattle.nj_ask.specs.Cited.{Reports};
 
 use crate::status::Status;
 use nj_tools::{Error, Sink, write_whole};

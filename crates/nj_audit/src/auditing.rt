@@ -1,14 +1,7 @@
 //! The findings of the requested kinds.
 
 ghost use Rattle.std.specs.Prelude.{◌≡◌, ◌<◌, ◌++◌, List, IfOk, OnOk, length, map, All};
-ghost use Rattle.std.specs.List.{flat_map};
-ghost use Rattle.nj_scope.specs.ReadingList.{ReadStatement};
-ghost use Rattle.nj_graph.specs.Graph.{IsGraphOf, edges_of, files_of};
-ghost use Rattle.nj_graph.specs.Undeclared.{input_of_edge};
-ghost use Rattle.nj_audit.specs.Audits.{IsAudit};
-ghost use Rattle.nj_audit.specs.Inside.ByKind.{asked_of, findings_of};
-ghost use Rattle.nj_audit.specs.Kinds.{all_kinds};
-ghost use Rattle.nj_audit.specs.LoggedInputs.{AreFoundIf};
+ghost use Rattle.nj_audit.specs.Cited.{flat_map, ReadStatement, IsGraphOf, edges_of, files_of, input_of_edge, IsAudit, asked_of, findings_of, all_kinds, AreFoundIf};
 
 use crate::commands::find_repeated_commands;
 use crate::depfiles::find_depfiles_without_deps;

@@ -1,11 +1,7 @@
 //! Edges with the command of an earlier edge.
 
 ghost use Rattle.std.specs.Prelude.{◌≡◌, ◌&&◌, ◌++◌, ◌<◌, ℕ, List, IfOk, OnOk, length};
-ghost use Rattle.nj_scope.specs.ReadingList.{ReadStatement};
-ghost use Rattle.nj_graph.specs.Edges.{is_among};
-ghost use Rattle.nj_graph.specs.Graph.{IsGraphOf, edges_of};
-ghost use Rattle.nj_audit.specs.Audit.{command_of, commands_at, has_command};
-ghost use Rattle.nj_audit.specs.Audit.{repeated_commands};
+ghost use Rattle.nj_audit.specs.Cited.{ReadStatement, is_among, IsGraphOf, edges_of, command_of, commands_at, has_command, repeated_commands};
 
 use crate::findings::Findings;
 use crate::kinds::Kind;

@@ -1,9 +1,7 @@
 //! Edges with a depfile that stays on the disk.
 
 ghost use Rattle.std.specs.Prelude.{◌≡◌, ◌++◌, ◌<◌, List, IfOk, OnOk, length};
-ghost use Rattle.nj_scope.specs.ReadingList.{ReadStatement};
-ghost use Rattle.nj_graph.specs.Graph.{IsGraphOf, edges_of};
-ghost use Rattle.nj_audit.specs.Audit.{has_depfile_without_deps, depfiles_without_deps};
+ghost use Rattle.nj_audit.specs.Cited.{ReadStatement, IsGraphOf, edges_of, has_depfile_without_deps, depfiles_without_deps};
 
 use crate::findings::Findings;
 use crate::kinds::Kind;

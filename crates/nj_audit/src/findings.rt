@@ -1,9 +1,7 @@
 //! Findings and their places.
 
 ghost use Rattle.std.specs.Prelude.{◌≡◌, [], ◌∷◌, ◌++◌, ◌<◌, OnOk, length, map};
-ghost use Rattle.nj_graph.specs.Graph.{edges_of};
-ghost use Rattle.nj_graph.specs.Origins.{place_text};
-ghost use Rattle.nj_audit.specs.Findings.{edge_finding, finding_model};
+ghost use Rattle.nj_audit.specs.Cited.{edges_of, place_text, edge_finding, finding_model};
 
 use crate::kinds::Kind;
 use nj_graph::{EdgeNo, Graph, PlaceRef};

@@ -1,8 +1,7 @@
 //! Inputs that an edge has more than once.
 
 ghost use Rattle.std.specs.Prelude.{◌≡◌, ◌++◌, ◌<◌, OnOk, length};
-ghost use Rattle.nj_graph.specs.Graph.{edges_of};
-ghost use Rattle.nj_audit.specs.Audit.{repeated_inputs, repeated_inputs_at};
+ghost use Rattle.nj_audit.specs.Cited.{edges_of, repeated_inputs, repeated_inputs_at};
 
 use crate::findings::Findings;
 use crate::kinds::Kind;

@@ -1,9 +1,7 @@
 //! The kinds of findings, and which of them are requested.
 
 ghost use Rattle.std.specs.Prelude.{◌≡◌, None, Some, IfErr, IfOk, OnOk, option_map};
-ghost use Rattle.nj_graph.specs.Edges.{is_among};
-ghost use Rattle.nj_audit.specs.Kinds.{AskFor, contains, first_unknown, is_asked_for};
-ghost use Rattle.nj_audit.specs.Kinds.{is_on_by_default, is_taken, is_unknown, name_of, texts};
+ghost use Rattle.nj_audit.specs.Cited.{is_among, AskFor, contains, first_unknown, is_asked_for, is_on_by_default, is_taken, is_unknown, name_of, texts};
 
 /// A kind of finding.
 #[derive(Clone, Copy)]

@@ -1,6 +1,6 @@
 //! The meaning of a command's words.
 
-ghost use Rattle.nj_audit.specs.Laws.{QuotedPathsAreWords};
+ghost use Rattle.nj_audit.specs.Cited.{QuotedPathsAreWords};
 
 /// Paths that are quoted as in `$in`, with blanks between them, are cut back into these paths.
 pub fn words_law()

@@ -1,15 +1,7 @@
 //! Inputs that a deps log names, beside those that commands name.
 
 ghost use Rattle.std.specs.Prelude.{◌≡◌, ◌↔◌, ◌<◌, ◌++◌, ◌∷◌, [], if◌then◌else◌, List, IfOk, IsTrue, OnOk, length, map, All, Contains};
-ghost use Rattle.nj_scope.specs.ReadingList.{ReadStatement};
-ghost use Rattle.nj_graph.specs.Files.{path_at};
-ghost use Rattle.nj_graph.specs.Graph.{IsGraphOf, edges_of, files_of};
-ghost use Rattle.nj_graph.specs.Undeclared.{input_of_edge};
-ghost use Rattle.nj_audit.specs.Audit.{path_of};
-ghost use Rattle.nj_audit.specs.UnorderedFiles.{files_named};
-ghost use Rattle.nj_audit.specs.LoggedInputs.{AreUndeclaredFindings, IsNamedUnordered, finding_of_input};
-ghost use Rattle.nj_audit.specs.Inside.FilesNamed.{AreKnown};
-ghost use Rattle.nj_audit.specs.Inside.LoggedFound.{AddsLogged};
+ghost use Rattle.nj_audit.specs.Cited.{ReadStatement, path_at, IsGraphOf, edges_of, files_of, input_of_edge, path_of, files_named, AreUndeclaredFindings, IsNamedUnordered, finding_of_input, AreKnown, AddsLogged};
 
 use crate::findings::Findings;
 use crate::kinds::Kind;

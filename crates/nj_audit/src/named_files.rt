@@ -1,8 +1,7 @@
 //! The files that commands may name.
 
 ghost use Rattle.std.specs.Prelude.{OnOk, option_copied};
-ghost use Rattle.nj_audit.specs.NamedPaths.{paths_in, paths_named};
-ghost use Rattle.nj_audit.specs.Inside.FilesNamed.{AddsFiles, paths_of_name};
+ghost use Rattle.nj_audit.specs.Cited.{paths_in, paths_named, AddsFiles, paths_of_name};
 
 use crate::named_paths::{after_letter, after_sign, path_named};
 use crate::shell_words::take_word;

@@ -1,7 +1,7 @@
 //! The paths that a word may name.
 
 ghost use Rattle.std.specs.Prelude.{◌≡◌, ℕ, ◌==◌, ◌<◌, length, position, IfOk, IfSome, option_copied};
-ghost use Rattle.nj_audit.specs.NamedPaths.{after_letter, after_sign, after_slash, path_named, without_folder};
+ghost use Rattle.nj_audit.specs.Cited.{after_letter, after_sign, after_slash, path_named, without_folder};
 
 use nj_text::{TextFault, clean_into, is_clean};
 use std::alloc::AllocError;

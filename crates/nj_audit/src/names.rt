@@ -1,7 +1,7 @@
 //! Sets of names.
 
 ghost use Rattle.std.specs.Prelude.{◌≡◌, ◌||◌, ℕ, List, [], false, not, bytes_eq, IfOk, OnOk};
-ghost use Rattle.nj_graph.specs.Edges.{is_among};
+ghost use Rattle.nj_audit.specs.Cited.{is_among};
 
 use std::alloc::{AllocError, Global};
 use std::collections::BTreeSet;

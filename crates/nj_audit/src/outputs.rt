@@ -1,11 +1,7 @@
 //! Outputs that nothing uses.
 
 ghost use Rattle.std.specs.Prelude.{◌≡◌, ◌++◌, ◌<◌, ℕ, List, IfOk, OnOk, length};
-ghost use Rattle.nj_graph.specs.Edges.{is_among};
-ghost use Rattle.nj_graph.specs.Files.{path_at};
-ghost use Rattle.nj_graph.specs.Graph.{edges_of, files_of};
-ghost use Rattle.nj_audit.specs.Audit.{defaults_of, first_output_at, is_unused_output};
-ghost use Rattle.nj_audit.specs.Audit.{unused_outputs, unused_outputs_at};
+ghost use Rattle.nj_audit.specs.Cited.{is_among, path_at, edges_of, files_of, defaults_of, first_output_at, is_unused_output, unused_outputs, unused_outputs_at};
 
 use crate::findings::Findings;
 use crate::kinds::Kind;

@@ -1,11 +1,7 @@
 //! Pools that no edge uses.
 
 ghost use Rattle.std.specs.Prelude.{◌≡◌, ◌++◌, ℕ, List, [], IfOk, OnOk};
-ghost use Rattle.std.specs.List.{cons_option};
-ghost use Rattle.nj_scope.specs.ReadingList.{ReadStatement};
-ghost use Rattle.nj_graph.specs.Edges.{is_among};
-ghost use Rattle.nj_graph.specs.Graph.{IsGraphOf};
-ghost use Rattle.nj_audit.specs.Audit.{pools_of_edges, unused_pool, unused_pools};
+ghost use Rattle.nj_audit.specs.Cited.{cons_option, ReadStatement, is_among, IsGraphOf, pools_of_edges, unused_pool, unused_pools};
 
 use crate::findings::Findings;
 use crate::kinds::Kind;

@@ -1,9 +1,7 @@
 //! Rules that no edge uses.
 
-ghost use Rattle.std.specs.Prelude.{◌≡◌, ◌++◌, ◌<◌, ℕ, [], IfOk, OnOk, false, length};
-ghost use Rattle.std.specs.Prelude.{slice_index_or};
-ghost use Rattle.std.specs.List.{cons_option};
-ghost use Rattle.nj_audit.specs.Audit.{is_used_rule, unused_rule, unused_rules};
+ghost use Rattle.std.specs.Prelude.{◌≡◌, ◌++◌, ◌<◌, ℕ, [], IfOk, OnOk, false, length, slice_index_or};
+ghost use Rattle.nj_audit.specs.Cited.{cons_option, is_used_rule, unused_rule, unused_rules};
 
 use crate::findings::Findings;
 use crate::kinds::Kind;

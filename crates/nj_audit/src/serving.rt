@@ -1,12 +1,7 @@
 //! Which edges commands depend on.
 
-ghost use Rattle.std.specs.Prelude.{◌≡◌, ◌↔◌, ◌<◌, ℕ, All, Contains, IfOk, OnOk, length, map};
-ghost use Rattle.std.specs.Prelude.{slice_index};
-ghost use Rattle.nj_edges.specs.Inside.ChangesHeld.{FindsMore};
-ghost use Rattle.nj_graph.specs.Files.{path_at};
-ghost use Rattle.nj_graph.specs.Graph.{edges_of, files_of};
-ghost use Rattle.nj_audit.specs.Inside.Served.{HasCommand, MakesOneOf};
-ghost use Rattle.nj_audit.specs.Serving.{ServesCommand};
+ghost use Rattle.std.specs.Prelude.{◌≡◌, ◌↔◌, ◌<◌, ℕ, All, Contains, IfOk, OnOk, length, map, slice_index};
+ghost use Rattle.nj_audit.specs.Cited.{FindsMore, path_at, edges_of, files_of, HasCommand, MakesOneOf, ServesCommand};
 
 use nj_graph::{EdgeNo, FileNo, Graph};
 use nj_names::NumberSet;

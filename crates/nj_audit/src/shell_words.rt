@@ -1,10 +1,7 @@
 //! The words of a command, as `sh` cuts them.
 
 ghost use Rattle.std.specs.Prelude.{◌≡◌, ◌≤◌, ◌∷◌, ◌++◌, [], IfOk, MatchOption, OnOk, length, position};
-ghost use Rattle.std.specs.List.{position_or_len};
-ghost use Rattle.nj_audit.specs.ShellWords.{ends_at, is_cut, is_dropped, keeps_backslash, kept, next_quoting, read_text, words_after, words_of};
-ghost use Rattle.nj_audit.specs.Inside.PlainBytes.{is_special};
-ghost use Rattle.nj_audit.specs.declared.shell_words.Quoting.TheVariants.{Bare};
+ghost use Rattle.nj_audit.specs.Cited.{position_or_len, ends_at, is_cut, is_dropped, keeps_backslash, kept, next_quoting, read_text, words_after, words_of, is_special, Bare};
 
 use std::alloc::AllocError;
 

@@ -1,9 +1,7 @@
 //! Sources that are missing on the disk.
 
-ghost use Rattle.std.specs.Prelude.{◌≡◌, ◌++◌, ◌<◌, IfSome, OnOk, length};
-ghost use Rattle.std.specs.Prelude.{find, map, option_map, Contains};
-ghost use Rattle.nj_graph.specs.Graph.{edges_of, files_of};
-ghost use Rattle.nj_audit.specs.Audit.{is_set, missing_sources, user_of_missing};
+ghost use Rattle.std.specs.Prelude.{◌≡◌, ◌++◌, ◌<◌, IfSome, OnOk, length, find, map, option_map, Contains};
+ghost use Rattle.nj_audit.specs.Cited.{edges_of, files_of, is_set, missing_sources, user_of_missing};
 
 use crate::findings::Findings;
 use crate::kinds::Kind;

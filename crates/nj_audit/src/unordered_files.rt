@@ -1,14 +1,7 @@
 //! Files that the commands of edges name, and that other edges make, unordered with them.
 
 ghost use Rattle.std.specs.Prelude.{◌≡◌, ◌↔◌, ◌<◌, ℕ, List, Some, IfOk, IfSome, IsTrue, OnOk, length, map, option_map};
-ghost use Rattle.nj_scope.specs.ReadingList.{ReadStatement};
-ghost use Rattle.nj_graph.specs.Edges.{maker_of};
-ghost use Rattle.nj_graph.specs.Files.{path_at};
-ghost use Rattle.nj_graph.specs.Graph.{IsGraphOf, edges_of, files_of};
-ghost use Rattle.nj_audit.specs.Audit.{edge_numbers};
-ghost use Rattle.nj_audit.specs.UnorderedFiles.{AreNamedUnordered, IsOther, IsTwin, IsUnordered, files_named, response_of};
-ghost use Rattle.nj_audit.specs.Inside.FilesNamed.{AreKnown};
-ghost use Rattle.nj_audit.specs.Inside.UnorderedFound.{AddsUnordered, AddsOnce};
+ghost use Rattle.nj_audit.specs.Cited.{ReadStatement, maker_of, path_at, IsGraphOf, edges_of, files_of, edge_numbers, AreNamedUnordered, IsOther, IsTwin, IsUnordered, files_named, response_of, AreKnown, AddsUnordered, AddsOnce};
 
 use crate::findings::Findings;
 use crate::kinds::Kind;

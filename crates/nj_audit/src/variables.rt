@@ -1,14 +1,7 @@
 //! Variables of edges to which no line of their rules refers.
 
 ghost use Rattle.std.specs.Prelude.{◌≡◌, ◌++◌, ◌<◌, ℕ, List, [], ◌∷◌, IfOk, OnOk, length};
-ghost use Rattle.std.specs.List.{AllZip};
-ghost use Rattle.nj_scope.specs.ReadingList.{ReadStatement};
-ghost use Rattle.nj_graph.specs.Edges.{is_among};
-ghost use Rattle.nj_graph.specs.Graph.{IsGraphOf, edges_of};
-ghost use Rattle.nj_audit.specs.Audit.{is_known, names_in, rule_at};
-ghost use Rattle.nj_audit.specs.Audit.{unused_names, unused_variables};
-ghost use Rattle.nj_audit.specs.Audit.{unused_variables_at};
-ghost use Rattle.nj_audit.specs.Inside.References.{HasReferences};
+ghost use Rattle.nj_audit.specs.Cited.{AllZip, ReadStatement, is_among, IsGraphOf, edges_of, is_known, names_in, rule_at, unused_names, unused_variables, unused_variables_at, HasReferences};
 
 use crate::findings::Findings;
 use crate::kinds::Kind;

@@ -16,3 +16,5 @@ pub mod Paths
 pub mod UndeclaredInputs
 -- how a session keeps its contents
 pub mod Inside
+-- what the contracts cite
+pub mod Cited

@@ -1,8 +1,7 @@
 //! Texts, copied into the caller's buffers.
 
 ghost use Rattle.std.specs.Prelude.{◌≡◌};
-ghost use Rattle.nj_c.specs.Asking.{GivesText, KeptUnlessDone};
-ghost use Rattle.nj_c.specs.Statuses.{code_of};
+ghost use Rattle.nj_c.specs.Cited.{GivesText, KeptUnlessDone, code_of};
 
 use crate::status::Status;
 

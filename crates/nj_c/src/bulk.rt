@@ -1,13 +1,7 @@
 //! Lists that are returned many items at a time.
 
 ghost use Rattle.std.specs.Prelude.{◌≡◌, ◌≢◌, ◌<◌, ◌-◌, ℕ, List, length, map, min, drop};
-ghost use Rattle.nj_edges.specs.Edges.{edge_at, inputs_of, outputs_of, users_of};
-ghost use Rattle.nj_names.specs.Files.{path_at, AreFiles};
-ghost use Rattle.nj_graph.specs.Graph.{edges_of, files_of};
-ghost use Rattle.nj_c.specs.declared.status.Status.TheVariants.{Done};
-ghost use Rattle.nj_c.specs.Asking.{KeptUnlessDone, OfEdge, OfFile};
-ghost use Rattle.nj_c.specs.Buffers.{filled, kinds_of, GivesFiles, GivesNumbers};
-ghost use Rattle.nj_c.specs.Statuses.{code_of};
+ghost use Rattle.nj_c.specs.Cited.{edge_at, inputs_of, outputs_of, users_of, path_at, AreFiles, edges_of, files_of, Done, KeptUnlessDone, OfEdge, OfFile, filled, kinds_of, GivesFiles, GivesNumbers, code_of};
 
 use crate::asking::{ask_edge, ask_file};
 use crate::items::kind_number;

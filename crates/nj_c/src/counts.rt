@@ -1,10 +1,7 @@
 //! How many edges, files and rules there are.
 
 ghost use Rattle.std.specs.Prelude.{◌≡◌, length};
-ghost use Rattle.nj_graph.specs.Graph.{edges_of, files_of, main_rules};
-ghost use Rattle.nj_c.specs.declared.status.Status.TheVariants.{Done};
-ghost use Rattle.nj_c.specs.Asking.{OfGraph};
-ghost use Rattle.nj_c.specs.Statuses.{code_of};
+ghost use Rattle.nj_c.specs.Cited.{edges_of, files_of, main_rules, Done, OfGraph, code_of};
 
 use crate::asking::ask_graph;
 use crate::session::Session;

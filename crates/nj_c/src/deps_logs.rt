@@ -1,11 +1,7 @@
 //! Deps logs.
 
 ghost use Rattle.std.specs.Prelude.{◌≡◌, ◌≢◌, None};
-ghost use Rattle.nj_c.specs.Asking.{bool_code, GivesItem, IfLoaded, IfOpen};
-ghost use Rattle.nj_c.specs.JoinedLogs.{read_of, JoinsDeps};
-ghost use Rattle.nj_c.specs.Loading.{Changes};
-ghost use Rattle.nj_c.specs.Statuses.{code_of};
-ghost use Rattle.nj_c.specs.Inside.LogsJoined.{JoinsKnown, KeepsJoined};
+ghost use Rattle.nj_c.specs.Cited.{bool_code, GivesItem, IfLoaded, IfOpen, read_of, JoinsDeps, Changes, code_of, JoinsKnown, KeepsJoined};
 
 use crate::asking::{ask, change};
 use crate::loads::keep_fault;

@@ -1,11 +1,7 @@
 //! The edges that are to be built again where files changed.
 
 ghost use Rattle.std.specs.Prelude.{◌≡◌, ◌<◌, length, map, slice_index_or, false, All, IfOk, MatchOption};
-ghost use Rattle.nj_graph.specs.Graph.{edges_of};
-ghost use Rattle.nj_c.specs.DirtyEdges.{flagged, AreDirty, ListsDirty};
-ghost use Rattle.nj_c.specs.Loading.{Changes};
-ghost use Rattle.nj_c.specs.Pages.{AreKnown};
-ghost use Rattle.nj_c.specs.Inside.PagesHeld.{numbers_of};
+ghost use Rattle.nj_c.specs.Cited.{edges_of, flagged, AreDirty, ListsDirty, Changes, AreKnown, numbers_of};
 
 use crate::asking::change;
 use crate::pages::{keep_edges, known_files};

@@ -1,16 +1,7 @@
 //! Inputs that builds discovered.
 
 ghost use Rattle.std.specs.Prelude.{◌≡◌, ◌≢◌, ◌<◌, List, length, map, slice_get, IfOk, IfErr, Some, None};
-ghost use Rattle.nj_deps.specs.Logs.{IsLogOf, IsLogFault};
-ghost use Rattle.nj_scope.specs.ReadingList.{ReadStatement};
-ghost use Rattle.nj_graph.specs.Discovering.{AreDiscovered};
-ghost use Rattle.nj_graph.specs.Graph.{edges_of, GraphModel, IsGraphOf};
-ghost use Rattle.nj_c.specs.Asking.{bool_code, GivesItem, IfLoaded, IfNumber, IfOpen};
-ghost use Rattle.nj_c.specs.DiscoveredInputs.{given_read, lacking_depfiles, log_bytes, times_of, unknown_of, ForgetsGraph, JoinsDiscovered, JoinsFound};
-ghost use Rattle.nj_c.specs.HandedIn.{handed_state, SameFiles};
-ghost use Rattle.nj_c.specs.Loading.{Changes};
-ghost use Rattle.nj_c.specs.Statuses.{code_of};
-ghost use Rattle.nj_c.specs.Inside.DiscoveredHeld.{FindsOr, JoinsTo, KeepsFound};
+ghost use Rattle.nj_c.specs.Cited.{IsLogOf, IsLogFault, ReadStatement, AreDiscovered, edges_of, GraphModel, IsGraphOf, bool_code, GivesItem, IfLoaded, IfNumber, IfOpen, given_read, lacking_depfiles, log_bytes, times_of, unknown_of, ForgetsGraph, JoinsDiscovered, JoinsFound, handed_state, SameFiles, Changes, code_of, FindsOr, JoinsTo, KeepsFound};
 
 use crate::asking::{ask, change};
 use crate::deps_logs::log_read;

@@ -1,8 +1,7 @@
 //! The times of outputs, as C gives them for edges.
 
 ghost use Rattle.std.specs.Prelude.{◌≡◌, slice_get};
-ghost use Rattle.nj_c.specs.DiscoveredInputs.{maker_at, time_found};
-ghost use Rattle.nj_c.specs.Inside.DiscoveredHeld.{IsAnswer};
+ghost use Rattle.nj_c.specs.Cited.{maker_at, time_found, IsAnswer};
 
 use nj_graph::{FileTimes, Graph, SourceFault};
 

@@ -1,13 +1,7 @@
 //! The files and rules that build statements name.
 
 ghost use Rattle.std.specs.Prelude.{◌≡◌, List, length, slice_get};
-ghost use Rattle.nj_edges.specs.Edges.{edge_at, inputs_of, kind_at, outputs_of};
-ghost use Rattle.nj_scope.specs.ReadingList.{ReadStatement};
-ghost use Rattle.nj_statements.specs.Built.{detail_at};
-ghost use Rattle.nj_graph.specs.Graph.{edges_of, files_of, rule_name_at, IsGraphOf};
-ghost use Rattle.nj_c.specs.declared.status.Status.TheVariants.{Done};
-ghost use Rattle.nj_c.specs.Asking.{GivesFile, GivesText, KeptUnlessDone, OfEdge, bool_code, kind_code};
-ghost use Rattle.nj_c.specs.Statuses.{code_of};
+ghost use Rattle.nj_c.specs.Cited.{edge_at, inputs_of, kind_at, outputs_of, ReadStatement, detail_at, edges_of, files_of, rule_name_at, IsGraphOf, Done, GivesFile, GivesText, KeptUnlessDone, OfEdge, bool_code, kind_code, code_of};
 
 use crate::asking::ask_edge;
 use crate::buffers::copy_text;

@@ -1,7 +1,7 @@
 //! The numbers of faults.
 
 ghost use Rattle.std.specs.Prelude.{◌≡◌};
-ghost use Rattle.nj_c.specs.FaultKinds.{kind_of, kind_of_syntax};
+ghost use Rattle.nj_c.specs.Cited.{kind_of, kind_of_syntax};
 
 use nj_graph::{Cause, Name, SyntaxCause};
 

@@ -1,11 +1,7 @@
 //! The last fault of a session.
 
 ghost use Rattle.std.specs.Prelude.{◌≡◌, option_and_then, option_copied};
-ghost use Rattle.nj_faults.specs.FaultLines.{bare_line};
-ghost use Rattle.nj_c.specs.declared.status.Status.TheVariants.{Done, Nothing};
-ghost use Rattle.nj_c.specs.Asking.{GivesText, GivesTextOrNot, KeptUnlessDone, OfFault, OfPlace};
-ghost use Rattle.nj_c.specs.FaultKinds.{kind_of};
-ghost use Rattle.nj_c.specs.Statuses.{code_of};
+ghost use Rattle.nj_c.specs.Cited.{bare_line, Done, Nothing, GivesText, GivesTextOrNot, KeptUnlessDone, OfFault, OfPlace, kind_of, code_of};
 
 use crate::asking::ask;
 use crate::buffers::copy_text;

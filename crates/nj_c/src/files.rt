@@ -1,10 +1,7 @@
 //! Paths, and the edges that make or use files.
 
 ghost use Rattle.std.specs.Prelude.{◌≡◌, ℕ, List, Some, position, slice_get, bytes_eq};
-ghost use Rattle.nj_edges.specs.Edges.{maker_of, users_of, validation_users_of};
-ghost use Rattle.nj_names.specs.Files.{path_at};
-ghost use Rattle.nj_graph.specs.Graph.{edges_of, files_of};
-ghost use Rattle.nj_c.specs.Asking.{GivesItem, GivesText, KeptUnlessDone, OfFile, OfGraph};
+ghost use Rattle.nj_c.specs.Cited.{maker_of, users_of, validation_users_of, path_at, edges_of, files_of, GivesItem, GivesText, KeptUnlessDone, OfFile, OfGraph};
 
 use crate::asking::{ask_file, ask_graph};
 use crate::buffers::copy_text;

@@ -1,9 +1,7 @@
 //! Items of lists, by their index.
 
 ghost use Rattle.std.specs.Prelude.{◌≡◌, List, ℕ, slice_get, map};
-ghost use Rattle.nj_names.specs.Files.{AreFiles};
-ghost use Rattle.nj_c.specs.Asking.{GivesFile, GivesItem, kind_code, step_kind_code};
-ghost use Rattle.nj_c.specs.Statuses.{code_of};
+ghost use Rattle.nj_c.specs.Cited.{AreFiles, GivesFile, GivesItem, kind_code, step_kind_code, code_of};
 
 use crate::status::Status;
 use nj_graph::{EdgeNo, FileNo, Kind};

@@ -1,9 +1,7 @@
 //! The depfiles that were not supplied.
 
 ghost use Rattle.std.specs.Prelude.{◌≡◌, ◌<◌, List, length, map, option_map, IfOk};
-ghost use Rattle.nj_scope.specs.ReadingList.{ReadStatement};
-ghost use Rattle.nj_graph.specs.Graph.{edges_of, IsGraphOf};
-ghost use Rattle.nj_c.specs.DiscoveredInputs.{depfile_at, lacking_depfiles};
+ghost use Rattle.nj_c.specs.Cited.{ReadStatement, edges_of, IsGraphOf, depfile_at, lacking_depfiles};
 
 use crate::supplied_files::HandedIn;
 use crate::wanted_files::{copied_paths, name_if_lacking};

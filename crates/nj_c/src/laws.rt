@@ -1,6 +1,6 @@
 //! Laws of runs.
 
-ghost use Rattle.nj_c.specs.Runs.{AllWordsCanBeGiven, OutputsNeverFail};
+ghost use Rattle.nj_c.specs.Cited.{AllWordsCanBeGiven, OutputsNeverFail};
 
 /// Each list of words without zero bytes can be given, as a text with a zero byte after each word.
 pub fn all_words_can_be_given()

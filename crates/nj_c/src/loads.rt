@@ -1,11 +1,7 @@
 //! Loads.
 
 ghost use Rattle.std.specs.Prelude.{◌≡◌, ◌≢◌, false, map, not, nat_eq, Err};
-ghost use Rattle.nj_faults.specs.Faults.{no_memory};
-ghost use Rattle.nj_c.specs.Asking.{GivesTextAt, IfOpen, KeptUnlessDone};
-ghost use Rattle.nj_c.specs.HandedIn.{handed_state};
-ghost use Rattle.nj_c.specs.Loading.{graph_loaded, unread, Changes, GivesGraph, KeepsNothing, LeavesNothing, LoadsKept, SameRun};
-ghost use Rattle.nj_c.specs.Inside.Results.{FinishesLoad, KeepsFault, KeepsLoad, KeepsResult};
+ghost use Rattle.nj_c.specs.Cited.{no_memory, GivesTextAt, IfOpen, KeptUnlessDone, handed_state, graph_loaded, unread, Changes, GivesGraph, KeepsNothing, LeavesNothing, LoadsKept, SameRun, FinishesLoad, KeepsFault, KeepsLoad, KeepsResult};
 
 use crate::asking::{ask, change};
 use crate::buffers::copy_text;

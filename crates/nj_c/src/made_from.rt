@@ -1,12 +1,7 @@
 //! From which files the manifest is made.
 
 ghost use Rattle.std.specs.Prelude.{◌≡◌, map, IfOk, MatchOption};
-ghost use Rattle.nj_c.specs.Asking.{bool_code, OfGraph};
-ghost use Rattle.nj_c.specs.Buffers.{filled};
-ghost use Rattle.nj_ask.specs.MadeFrom.{TellMadeFrom};
-ghost use Rattle.nj_c.specs.MadeFrom.{FlagsKeptUnlessDone, GivesMadeFrom};
-ghost use Rattle.nj_c.specs.Pages.{AreKnown};
-ghost use Rattle.nj_c.specs.Statuses.{code_of};
+ghost use Rattle.nj_c.specs.Cited.{bool_code, OfGraph, filled, TellMadeFrom, FlagsKeptUnlessDone, GivesMadeFrom, AreKnown, code_of};
 
 use crate::asking::ask;
 use crate::pages::known_files;

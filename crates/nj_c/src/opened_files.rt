@@ -1,8 +1,7 @@
 //! The files that were opened.
 
 ghost use Rattle.std.specs.Prelude.{◌≡◌, map};
-ghost use Rattle.nj_c.specs.Asking.{GivesTextAt, KeptUnlessDone, OfGraph};
-ghost use Rattle.nj_c.specs.Statuses.{code_of};
+ghost use Rattle.nj_c.specs.Cited.{GivesTextAt, KeptUnlessDone, OfGraph, code_of};
 
 use crate::asking::ask_graph;
 use crate::buffers::copy_text;

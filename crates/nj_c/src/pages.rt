@@ -2,12 +2,7 @@
 //! that targets need.
 
 ghost use Rattle.std.specs.Prelude.{◌≡◌, ◌<◌, Some, map, length, slice_get, All, IfErr, IfOk, IfSome, MatchOption};
-ghost use Rattle.nj_graph.specs.Graph.{edges_of, files_of};
-ghost use Rattle.nj_c.specs.Asking.{GivesItem, GivesMark, IfOpen, KeptUnlessDone};
-ghost use Rattle.nj_c.specs.Loading.{Changes};
-ghost use Rattle.nj_c.specs.Pages.{end_text, mark_of, numbered, paths_of_files, AreBelow, AreKnown, IsNeededList, IsPageOf, IsReached, ListsNeeded, ListsPage, ListsReached};
-ghost use Rattle.nj_c.specs.Statuses.{code_of};
-ghost use Rattle.nj_c.specs.Inside.PagesHeld.{mark_status, numbers_of, MarkRefused, PageAfter, PageAt, PageFrom, PageOf};
+ghost use Rattle.nj_c.specs.Cited.{edges_of, files_of, GivesItem, GivesMark, IfOpen, KeptUnlessDone, Changes, end_text, mark_of, numbered, paths_of_files, AreBelow, AreKnown, IsNeededList, IsPageOf, IsReached, ListsNeeded, ListsPage, ListsReached, code_of, mark_status, numbers_of, MarkRefused, PageAfter, PageAt, PageFrom, PageOf};
 
 use crate::asking::{ask, change};
 use crate::buffers::copy_text;

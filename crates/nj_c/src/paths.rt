@@ -1,11 +1,7 @@
 //! Chains of inputs by which files need others.
 
 ghost use Rattle.std.specs.Prelude.{◌≡◌, ◌<◌, length, map, min, nat_eq, not};
-ghost use Rattle.nj_graph.specs.Graph.{files_of};
-ghost use Rattle.nj_c.specs.Asking.{IfNumber, OfGraph};
-ghost use Rattle.nj_c.specs.Buffers.{filled};
-ghost use Rattle.nj_c.specs.Paths.{numbered_step, GivesPath, StepsKeptUnlessDone};
-ghost use Rattle.nj_c.specs.Statuses.{code_of};
+ghost use Rattle.nj_c.specs.Cited.{files_of, IfNumber, OfGraph, filled, numbered_step, GivesPath, StepsKeptUnlessDone, code_of};
 
 use crate::asking::ask_graph;
 use crate::items::step_kind_number;

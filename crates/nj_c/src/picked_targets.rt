@@ -1,9 +1,7 @@
 //! Targets, as words of a command line name them.
 
 ghost use Rattle.std.specs.Prelude.{◌≡◌};
-ghost use Rattle.nj_c.specs.Loading.{Changes};
-ghost use Rattle.nj_c.specs.Targets.{PicksFile};
-ghost use Rattle.nj_c.specs.Inside.Results.{KeepsFault};
+ghost use Rattle.nj_c.specs.Cited.{Changes, PicksFile, KeepsFault};
 
 use crate::asking::change;
 use crate::sealed_box::Seal;

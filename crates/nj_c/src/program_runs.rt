@@ -1,11 +1,7 @@
 //! Runs of the program, over the supplied files.
 
 ghost use Rattle.std.specs.Prelude.{◌≡◌, ◌≢◌, false, [], map, string_bytes};
-ghost use Rattle.nj_c.specs.Asking.{GivesText, IfOpen, KeptUnlessDone};
-ghost use Rattle.nj_c.specs.HandedIn.{wanted_paths, SameFiles};
-ghost use Rattle.nj_c.specs.Loading.{unread, Changes};
-ghost use Rattle.nj_c.specs.Runs.{LeavesRun, RunsKept, SameLoad};
-ghost use Rattle.nj_c.specs.Inside.RunsHeld.{empty_memory, FinishesRun, KeepsRun, NoFailures, NoRun, Ran};
+ghost use Rattle.nj_c.specs.Cited.{GivesText, IfOpen, KeptUnlessDone, wanted_paths, SameFiles, unread, Changes, LeavesRun, RunsKept, SameLoad, empty_memory, FinishesRun, KeepsRun, NoFailures, NoRun, Ran};
 
 use crate::asking::{ask, change};
 use crate::buffers::copy_text;

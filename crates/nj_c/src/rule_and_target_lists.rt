@@ -1,11 +1,7 @@
 //! The defaults, the roots, and the names of rules.
 
 ghost use Rattle.std.specs.Prelude.{◌≡◌, map, slice_get};
-ghost use Rattle.nj_edges.specs.Edges.{roots_of};
-ghost use Rattle.nj_statements.specs.Built.{defaults_in_force};
-ghost use Rattle.nj_graph.specs.Graph.{edges_of, files_of, main_rules};
-ghost use Rattle.nj_c.specs.Asking.{GivesFile, GivesTextAt, KeptUnlessDone, OfGraph};
-ghost use Rattle.nj_c.specs.Statuses.{code_of};
+ghost use Rattle.nj_c.specs.Cited.{roots_of, defaults_in_force, edges_of, files_of, main_rules, GivesFile, GivesTextAt, KeptUnlessDone, OfGraph, code_of};
 
 use crate::asking::ask_graph;
 use crate::buffers::copy_text;

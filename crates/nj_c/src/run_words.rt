@@ -1,8 +1,7 @@
 //! The words of a run, in one text.
 
 ghost use Rattle.std.specs.Prelude.{◌≡◌, ◌≢◌, ◌∷◌, ◌<◌, [], IfErr, IfOk, length, map, string_bytes};
-ghost use Rattle.nj_c.specs.Runs.{given_words};
-ghost use Rattle.nj_c.specs.Inside.RunsHeld.{WordsRefused};
+ghost use Rattle.nj_c.specs.Cited.{given_words, WordsRefused};
 
 use crate::status::Status;
 use std::alloc::{AllocError, Global};

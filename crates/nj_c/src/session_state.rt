@@ -1,6 +1,6 @@
 //! The contents of a session.
 
-ghost use Rattle.nj_c.specs.Loading.{IsEmpty};
+ghost use Rattle.nj_c.specs.Cited.{IsEmpty};
 
 use crate::supplied_files::HandedIn;
 use nj_graph::{EdgeNo, Graph, GraphFault};

@@ -1,10 +1,7 @@
 //! Sessions, and the supplied files.
 
 ghost use Rattle.std.specs.Prelude.{◌≡◌, None, Some, IfOk};
-ghost use Rattle.nj_scope.specs.Sources.{outcome_bytes};
-ghost use Rattle.nj_c.specs.declared.status.Status.TheVariants.{Done};
-ghost use Rattle.nj_c.specs.Loading.{Changes, IsEmpty, Opens, TakesFile, TakesPath};
-ghost use Rattle.nj_c.specs.Statuses.{code_of};
+ghost use Rattle.nj_c.specs.Cited.{outcome_bytes, Done, Changes, IsEmpty, Opens, TakesFile, TakesPath, code_of};
 
 use crate::asking::change;
 use crate::sealed_box::Seal;

@@ -1,7 +1,7 @@
 //! The statuses that calls return.
 
 ghost use Rattle.std.specs.Prelude.{◌≡◌};
-ghost use Rattle.nj_c.specs.Statuses.{code_of};
+ghost use Rattle.nj_c.specs.Cited.{code_of};
 
 /// The result of a call. Its number never changes.
 #[derive(Clone, Copy, Debug, PartialEq, Eq)]

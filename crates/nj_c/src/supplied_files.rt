@@ -1,10 +1,7 @@
 //! The files that C supplies.
 
 ghost use Rattle.std.specs.Prelude.{◌≡◌, ◌<◌, ◌++◌, [], ◌∷◌, false, is_some, length, map, set, position, bytes_eq, IfOk, IfSome, OnOk, OnErr};
-ghost use Rattle.std.specs.List.{flat_map, list_any};
-ghost use Rattle.nj_scope.specs.Sources.{outcome_bytes};
-ghost use Rattle.nj_c.specs.HandedIn.{handed_in, wanted_paths, ReadsAsHanded, SetsFile};
-ghost use Rattle.nj_c.specs.Inside.HandedHeld.{read_bytes, wanted_of};
+ghost use Rattle.nj_c.specs.Cited.{flat_map, list_any, outcome_bytes, handed_in, wanted_paths, ReadsAsHanded, SetsFile, read_bytes, wanted_of};
 
 use nj_edges::{FileNo, Files};
 use nj_scope::{FileSource, HashKeys, SourceFault};

@@ -1,11 +1,7 @@
 //! Inputs that deps logs name for edges, and that these do not declare.
 
 ghost use Rattle.std.specs.Prelude.{◌≡◌, ◌⊎◌, map};
-ghost use Rattle.nj_c.specs.Asking.{OfGraph};
-ghost use Rattle.nj_c.specs.declared.status.Status.TheVariants.{OutOfMemory};
-ghost use Rattle.nj_c.specs.Statuses.{code_of};
-ghost use Rattle.nj_c.specs.Buffers.{filled};
-ghost use Rattle.nj_c.specs.UndeclaredInputs.{numbered_input, GivesInputs, GivesUndeclared, InputsKeptUnlessDone};
+ghost use Rattle.nj_c.specs.Cited.{OfGraph, OutOfMemory, code_of, filled, numbered_input, GivesInputs, GivesUndeclared, InputsKeptUnlessDone};
 
 use crate::asking::ask;
 use crate::session::Session;

@@ -1,10 +1,7 @@
 //! The values of variables for edges.
 
 ghost use Rattle.std.specs.Prelude.{◌≡◌, ◌<◌, length, codes};
-ghost use Rattle.nj_graph.specs.Graph.{edges_of};
-ghost use Rattle.nj_c.specs.declared.status.Status.TheVariants.{OutOfMemory};
-ghost use Rattle.nj_c.specs.Asking.{GivesValue, KeptUnlessDone, OfEdge};
-ghost use Rattle.nj_c.specs.Statuses.{code_of};
+ghost use Rattle.nj_c.specs.Cited.{edges_of, OutOfMemory, GivesValue, KeptUnlessDone, OfEdge, code_of};
 
 use crate::asking::ask_edge;
 use crate::buffers::copy_text;

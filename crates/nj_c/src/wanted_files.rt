@@ -1,14 +1,7 @@
 //! The files that a load wants.
 
 ghost use Rattle.std.specs.Prelude.{◌≡◌, List, map, bytes_eq, if◌then◌else◌, IfOk, OnOk};
-ghost use Rattle.std.specs.List.{filter};
-ghost use Rattle.nj_names.specs.NameTables.{with_name};
-ghost use Rattle.nj_edges.specs.Repeats.{each_once};
-ghost use Rattle.nj_scope.specs.ReadingList.{ReadStatement};
-ghost use Rattle.nj_graph.specs.Graph.{IsGraphOf};
-ghost use Rattle.nj_c.specs.HandedIn.{wanted_paths, ReadsAsHanded};
-ghost use Rattle.nj_c.specs.Loading.{dyndeps_of, is_lacking, lacking_dyndeps, paths_or, paths_to_load};
-ghost use Rattle.nj_c.specs.Inside.Results.{AreStatements};
+ghost use Rattle.nj_c.specs.Cited.{filter, with_name, each_once, ReadStatement, IsGraphOf, wanted_paths, ReadsAsHanded, dyndeps_of, is_lacking, lacking_dyndeps, paths_or, paths_to_load, AreStatements};
 
 use crate::supplied_files::HandedIn;
 use nj_edges::{FileNo, Files};

@@ -1,6 +1,6 @@
 //! The law of a run of `commands`.
 
-ghost use Rattle.nj_cli.specs.Headline.{WritesTheNeeded, PageStringsJoin, StoppedRunsContinue, OneEnding};
+ghost use Rattle.nj_cli.specs.Cited.{WritesTheNeeded, PageStringsJoin, StoppedRunsContinue, OneEnding};
 
 /// A run of `commands` from the start that ends has written the commands of exactly the edges that
 /// are not phony and that the targets need through any chain of inputs, without duplicates, each

@@ -1,13 +1,8 @@
 //! Performs a run's action on the graph of its files.
 
 ghost use Rattle.std.specs.Prelude.{◌≡◌, ℕ, ◌<◌, List, length, map, slice_get, string_bytes, IfOk};
-ghost use Rattle.nj_scope.specs.ReadingList.{ReadStatement};
-ghost use Rattle.nj_statements.specs.EdgeList.{edges_read};
-ghost use Rattle.nj_graph.specs.Graph.{edges_of, IsGraphOf};
-ghost use Rattle.nj_requests.specs.Actions.{action_model, commands, single_commands};
+ghost use Rattle.nj_cli.specs.Cited.{ReadStatement, edges_read, edges_of, IsGraphOf, action_model, commands, single_commands, text_fault, follows_validations, ReturnsFor};
 ghost use Rattle.nj_requests.specs.Actions as ask;
-ghost use Rattle.nj_cli.specs.Answers.{text_fault};
-ghost use Rattle.nj_cli.specs.Inside.RunSteps.{follows_validations, ReturnsFor};
 
 use crate::run_fault::RunFault;
 use crate::run_targets::targets_of;

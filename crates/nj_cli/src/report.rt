@@ -1,13 +1,8 @@
 //! The lines that a run reports on standard error.
 
 ghost use Rattle.std.specs.Prelude.{◌≡◌, ◌++◌, ◌∷◌, [], codes, IfOk};
-ghost use Rattle.nj_faults.specs.FaultLines.{fault_line};
+ghost use Rattle.nj_cli.specs.Cited.{fault_line, Unparsed, line, Reported, mark_line, Concludes, ReportsLine, ReportsMark, ReportsMisuse, out_of_memory};
 ghost use Rattle.nj_args.specs.FaultLines as usage;
-ghost use Rattle.nj_args.specs.declared.usage_fault.UsageFault.TheVariants.{Unparsed};
-ghost use Rattle.nj_tools.specs.Lines.{line};
-ghost use Rattle.nj_cli.specs.Reported.{Reported};
-ghost use Rattle.nj_cli.specs.Inside.RunSteps.{mark_line, Concludes, ReportsLine, ReportsMark, ReportsMisuse};
-ghost use Rattle.nj_cli.specs.Runs.{out_of_memory};
 
 use crate::run_fault::RunFault;
 use crate::status::Status;

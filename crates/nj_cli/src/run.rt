@@ -1,9 +1,7 @@
 //! A run of the program.
 
 ghost use Rattle.std.specs.Prelude.{◌≡◌, map, string_bytes};
-ghost use Rattle.nj_requests.specs.Actions.{request_model};
-ghost use Rattle.nj_cli.specs.Inside.RunSteps.{ReadsGraph};
-ghost use Rattle.nj_cli.specs.Runs.{RunsAs, RunsWords, RunsAsAndKeeps, RunsAndKeeps, around};
+ghost use Rattle.nj_cli.specs.Cited.{request_model, ReadsGraph, RunsAs, RunsWords, RunsAsAndKeeps, RunsAndKeeps, around};
 
 use crate::perform::{follows_validations, perform};
 use crate::report::{conclude, report_fault, report_misuse};

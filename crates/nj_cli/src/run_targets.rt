@@ -1,10 +1,7 @@
 //! The targets of a run.
 
 ghost use Rattle.std.specs.Prelude.{◌<◌, List, All, IfOk, length, map, string_bytes};
-ghost use Rattle.nj_scope.specs.ReadingList.{ReadStatement};
-ghost use Rattle.nj_graph.specs.Graph.{files_of, IsGraphOf};
-ghost use Rattle.nj_graph.specs.Targets.{PicksTargets};
-ghost use Rattle.nj_cli.specs.Targets.{targets_of};
+ghost use Rattle.nj_cli.specs.Cited.{ReadStatement, files_of, IsGraphOf, PicksTargets, targets_of};
 
 use nj_graph::{FileNo, Graph, GraphFault};
 use nj_needs::grow_targets;

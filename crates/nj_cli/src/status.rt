@@ -1,7 +1,7 @@
 //! How a run ends.
 
 ghost use Rattle.std.specs.Prelude.{◌≡◌};
-ghost use Rattle.nj_cli.specs.Status.{exit_code};
+ghost use Rattle.nj_cli.specs.Cited.{exit_code};
 
 /// How a run ends.
 #[derive(Clone, Copy, Debug, PartialEq, Eq)]

@@ -2,3 +2,5 @@
 pub mod Cycles
 -- how the code does that
 pub mod Inside
+-- what the contracts cite
+pub mod Cited

@@ -1,6 +1,6 @@
 //! The cycle check.
 ghost use Rattle.std.specs.Prelude.{IfOk};
-ghost use Rattle.nj_cycles.specs.Cycles.{IsFirstOnCycle, FallingRanksLeaveNoCycle};
+ghost use Rattle.nj_cycles.specs.Cited.{IsFirstOnCycle, FallingRanksLeaveNoCycle};
 
 use crate::finishing_order::finish_all;
 use crate::maker_lists::EdgeInputs;

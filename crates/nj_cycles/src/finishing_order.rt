@@ -1,7 +1,6 @@
 //! The depth-first walk over the edges, in the order of their numbers.
 ghost use Rattle.std.specs.Prelude.{◌≡◌, ℕ, ◌<◌, false, [], ◌∷◌, ◌++◌, vec_len, length, slice_set, IfOk, OnOk, IfSome};
-ghost use Rattle.nj_cycles.specs.Cycles.{AreEdges};
-ghost use Rattle.nj_cycles.specs.Inside.Walks.{stage_of, stage_of_maker, IsSeen, IsSoundAt, WalkIsSound, EndsAt, TakesTurn, IsFalling, Walked};
+ghost use Rattle.nj_cycles.specs.Cited.{AreEdges, stage_of, stage_of_maker, IsSeen, IsSoundAt, WalkIsSound, EndsAt, TakesTurn, IsFalling, Walked};
 
 use crate::maker_lists::EdgeInputs;
 use std::alloc::{AllocError, Global};

@@ -1,10 +1,6 @@
 //! The edges that lie on a cycle, from the order in which the walk finished the edges.
 ghost use Rattle.std.specs.Prelude.{◌≡◌, ℕ, ◌<◌, Bool, true, false, List, Option, [], ◌∷◌, min, length, vec_len, All, Contains, MatchOption, IfOk, OnOk};
-ghost use Rattle.std.specs.Global.{Vec};
-ghost use Rattle.nj_cycles.specs.Cycles.{Needs};
-ghost use Rattle.nj_cycles.specs.Inside.Walks.{Walked};
-ghost use Rattle.nj_cycles.specs.Inside.Users.{HaveUsers, users_of};
-ghost use Rattle.nj_cycles.specs.Inside.Marks.{IsMarked, AreMarks, MarksMore, IsLeastOf};
+ghost use Rattle.nj_cycles.specs.Cited.{Vec, Needs, Walked, HaveUsers, users_of, IsMarked, AreMarks, MarksMore, IsLeastOf};
 
 use crate::maker_lists::EdgeInputs;
 use crate::reversed::users_of;

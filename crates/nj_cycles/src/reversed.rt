@@ -1,7 +1,6 @@
 //! The users of edges: which edges need an edge directly.
 ghost use Rattle.std.specs.Prelude.{◌≡◌, ◌+◌, ◌<◌, length, IfOk, IfSome, OnOk};
-ghost use Rattle.nj_cycles.specs.Cycles.{AreEdges, Needs};
-ghost use Rattle.nj_cycles.specs.Inside.Users.{HaveUsers, NeedsSoFar, lists_of, users_of, with_user};
+ghost use Rattle.nj_cycles.specs.Cited.{AreEdges, Needs, HaveUsers, NeedsSoFar, lists_of, users_of, with_user};
 
 use crate::maker_lists::EdgeInputs;
 use std::alloc::{AllocError, Global};

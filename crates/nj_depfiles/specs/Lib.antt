@@ -4,3 +4,5 @@ pub mod Depfiles
 pub mod Faults
 -- how the code does that
 pub mod Inside
+-- what the contracts cite
+pub mod Cited

@@ -1,8 +1,7 @@
 //! What a depfile names.
 
 ghost use Rattle.std.specs.Prelude.{◌≡◌, ◌<◌, ◌⊎◌, Ok, Err, Some, length, slice_get, IfOk, IfErr};
-ghost use Rattle.nj_depfiles.specs.Depfiles.{depfile_of};
-ghost use Rattle.nj_depfiles.specs.declared.depfile_fault.DepfileFault.TheVariants.{OutOfMemory};
+ghost use Rattle.nj_depfiles.specs.Cited.{depfile_of, OutOfMemory};
 
 use crate::depfile_fault::DepfileFault;
 use crate::pieces::next_piece;

@@ -1,8 +1,7 @@
 //! Why a depfile is not read.
 
 ghost use Rattle.std.specs.Prelude.{◌≡◌, Some};
-ghost use Rattle.nj_depfiles.specs.declared.depfile_fault.DepfileFault.TheVariants.{OutOfMemory};
-ghost use Rattle.nj_depfiles.specs.Faults.{fault_text};
+ghost use Rattle.nj_depfiles.specs.Cited.{OutOfMemory, fault_text};
 
 use std::alloc::{AllocError, AllocFailed};
 use std::error::Error;

@@ -1,8 +1,7 @@
 //! The pieces of a depfile.
 
 ghost use Rattle.std.specs.Prelude.{◌≡◌, ◌<◌, ◌≤◌, ◌+◌, ◌∷◌, [], true, length, MatchOption};
-ghost use Rattle.nj_depfiles.specs.Pieces.{after_backslashes, backslashes, byte_at, ends_targets, first_piece, is_dollar, line_end_at, literals, pieces, plain_piece, sign_piece, stands_for_itself};
-ghost use Rattle.nj_depfiles.specs.Inside.PiecesCut.{IsCutAs, piece_of};
+ghost use Rattle.nj_depfiles.specs.Cited.{after_backslashes, backslashes, byte_at, ends_targets, first_piece, is_dollar, line_end_at, literals, pieces, plain_piece, sign_piece, stands_for_itself, IsCutAs, piece_of};
 
 /// What a piece means.
 #[derive(Clone, Copy)]

@@ -1,9 +1,7 @@
 //! The reading of a depfile, piece by piece.
 
 ghost use Rattle.std.specs.Prelude.{◌≡◌, Ok};
-ghost use Rattle.nj_depfiles.specs.Depfiles.{ends_in_colon, name_in};
-ghost use Rattle.nj_depfiles.specs.Inside.PiecesCut.{piece_of};
-ghost use Rattle.nj_depfiles.specs.Inside.Readings.{Answers, GoesOn, at_start, before_word, piece_read, told, then_read, with_name_read, word_ended};
+ghost use Rattle.nj_depfiles.specs.Cited.{ends_in_colon, name_in, piece_of, Answers, GoesOn, at_start, before_word, piece_read, told, then_read, with_name_read, word_ended};
 
 use crate::depfile::Depfile;
 use crate::depfile_fault::DepfileFault;

@@ -1,6 +1,6 @@
 //! Laws of deps logs.
 
-ghost use Rattle.nj_deps.specs.Laws.{BytesSayOneThing, EachOutputOnce, GoodLogsAreRead, LastRecordCounts};
+ghost use Rattle.nj_deps.specs.Cited.{BytesSayOneThing, EachOutputOnce, GoodLogsAreRead, LastRecordCounts};
 
 /// Bytes say one thing: they are cut into records that count and a rest in one way.
 pub fn bytes_say_one_thing()

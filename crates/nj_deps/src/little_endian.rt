@@ -1,8 +1,7 @@
 //! Numbers of 32 bits in bytes, the lowest byte first.
 
 ghost use Rattle.std.specs.Prelude.{◌≡◌, ◌<◌, ◌≤◌, ◌%◌, ◌^◌, ◌++◌, length, MatchOption, IfOk};
-ghost use Rattle.nj_deps.specs.LogRecords.{word};
-ghost use Rattle.nj_deps.specs.Inside.RecordsRead.{AppendsNumbers, BeginsWith};
+ghost use Rattle.nj_deps.specs.Cited.{word, AppendsNumbers, BeginsWith};
 
 use std::alloc::AllocError;
 

@@ -1,8 +1,7 @@
 //! The deps log.
 
 ghost use Rattle.std.specs.Prelude.{◌≡◌, ◌<◌, ◌++◌, Some, length, position, slice_get, bytes_eq, option_map, IfSome, IfOk, IfErr};
-ghost use Rattle.std.specs.List.{IsDistinct};
-ghost use Rattle.nj_deps.specs.Logs.{IsLogOf, IsLogFault, opening, output_of, output_model, IsOfPaths};
+ghost use Rattle.nj_deps.specs.Cited.{IsDistinct, IsLogOf, IsLogFault, opening, output_of, output_model, IsOfPaths};
 
 use crate::log_fault::DepsLogFault;
 use crate::log_table::LogTable;

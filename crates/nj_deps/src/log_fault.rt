@@ -1,8 +1,7 @@
 //! Why a deps log is not read.
 
 ghost use Rattle.std.specs.Prelude.{◌≡◌, Some};
-ghost use Rattle.nj_deps.specs.declared.log_fault.DepsLogFault.TheVariants.{OutOfMemory};
-ghost use Rattle.nj_deps.specs.Faults.{fault_text};
+ghost use Rattle.nj_deps.specs.Cited.{OutOfMemory, fault_text};
 
 use std::alloc::{AllocError, AllocFailed};
 use std::error::Error;

@@ -1,10 +1,7 @@
 //! The table that the records of a deps log fill.
 
 ghost use Rattle.std.specs.Prelude.{◌≡◌, ◌≢◌, ◌<◌, ◌≤◌, ◌+◌, ◌^◌, [], Some, None, true, false, length, slice_get, IfOk, MatchOption};
-ghost use Rattle.std.specs.List.{AllByRecursion, list_any};
-ghost use Rattle.nj_deps.specs.LogRecords.{MayBeNamed, is_never_named};
-ghost use Rattle.nj_deps.specs.Logs.{IsOfPaths, output_of, output_model};
-ghost use Rattle.nj_deps.specs.Inside.RecordsRead.{Adds, AddsAs, AddsPath, TakesRecord, TakesNone, IsTimed};
+ghost use Rattle.nj_deps.specs.Cited.{AllByRecursion, list_any, MayBeNamed, is_never_named, IsOfPaths, output_of, output_model, Adds, AddsAs, AddsPath, TakesRecord, TakesNone, IsTimed};
 
 use crate::little_endian::{split_last_number, split_number};
 use crate::logged_outputs::{LoggedOutput, OutputTable};

@@ -1,9 +1,7 @@
 //! Outputs and their dependencies.
 
 ghost use Rattle.std.specs.Prelude.{◌≡◌, ◌<◌, ◌≤◌, ◌+◌, ◌%◌, ◌^◌, [], Some, None, length, slice_get, OnOk, OnErr, IfOk, MatchOption};
-ghost use Rattle.std.specs.List.{AllByRecursion};
-ghost use Rattle.nj_deps.specs.Logs.{output_of, output_model, IsOfPaths};
-ghost use Rattle.nj_deps.specs.Inside.OutputsHeld.{Keeps, ArePlaces, with_held};
+ghost use Rattle.nj_deps.specs.Cited.{AllByRecursion, output_of, output_model, IsOfPaths, Keeps, ArePlaces, with_held};
 
 use crate::little_endian::push_numbers;
 use nj_names::short_number;

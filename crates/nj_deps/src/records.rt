@@ -1,9 +1,7 @@
 //! Records of a deps log, as bytes.
 
 ghost use Rattle.std.specs.Prelude.{◌≡◌, ◌≢◌, ◌<◌, ◌^◌, ◌++◌, ℕ, List, MatchOption};
-ghost use Rattle.nj_deps.specs.LogRecords.{path_in, without_zero};
-ghost use Rattle.nj_deps.specs.Logs.{opening};
-ghost use Rattle.nj_deps.specs.Inside.RecordsRead.{IsFramed, IsUnframed};
+ghost use Rattle.nj_deps.specs.Cited.{path_in, without_zero, opening, IsFramed, IsUnframed};
 
 use crate::little_endian::split_number;
 

@@ -5,3 +5,5 @@ pub mod Faults
 pub mod Times
 -- how the code does that
 pub mod Inside
+-- what the contracts cite
+pub mod Cited

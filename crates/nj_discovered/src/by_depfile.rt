@@ -1,15 +1,8 @@
 //! What a depfile says about an edge.
 
 ghost use Rattle.std.specs.Prelude.{◌≡◌, ◌<◌, Some, length, map, find, drop, not, option_copied, IfOk, OnOk};
-ghost use Rattle.nj_text.specs.Paths.{clean_path_of};
-ghost use Rattle.nj_names.specs.NameTables.{is_among};
-ghost use Rattle.nj_edges.specs.Edges.{edge_at, outputs_of};
-ghost use Rattle.nj_discovered.specs.Discovered.{by_targets, by_text, IsByText, IsLater};
-ghost use Rattle.nj_discovered.specs.Discovered.TextFound.{Text};
+ghost use Rattle.nj_discovered.specs.Cited.{clean_path_of, is_among, edge_at, outputs_of, by_targets, by_text, IsByText, IsLater, Text, Faulty, Finds, Appends};
 ghost use Rattle.nj_discovered.specs.declared.verdict.DepfileError.TheVariants as error;
-ghost use Rattle.nj_discovered.specs.declared.verdict.Verdict.TheVariants.{Faulty};
-ghost use Rattle.nj_discovered.specs.Inside.Finding.{Finds};
-ghost use Rattle.nj_discovered.specs.Inside.Numbers.{Appends};
 
 use crate::names::{add_clean, clean};
 use crate::outputs::{is_first_output, is_output};

@@ -1,11 +1,7 @@
 //! What a deps log says about an edge.
 
 ghost use Rattle.std.specs.Prelude.{◌≡◌, ℕ, List, ◌<◌, ◌++◌, [], length, map, option_map, slice_index, IfOk, IfSome, OnOk};
-ghost use Rattle.nj_deps.specs.Logs.{IsOfPaths, output_model};
-ghost use Rattle.nj_edges.specs.Edges.{edge_at};
-ghost use Rattle.nj_discovered.specs.Discovered.{doubt_of, is_newer, record_of, IsByLog};
-ghost use Rattle.nj_discovered.specs.Inside.Finding.{Finds};
-ghost use Rattle.nj_discovered.specs.Inside.Numbers.{AreBelow, AreCleanNumbers};
+ghost use Rattle.nj_discovered.specs.Cited.{IsOfPaths, output_model, edge_at, doubt_of, is_newer, record_of, IsByLog, Finds, AreBelow, AreCleanNumbers};
 
 use crate::names::add_clean;
 use crate::outputs::first_output;

@@ -1,8 +1,7 @@
 //! What was discovered for the edges of a graph.
 
 ghost use Rattle.std.specs.Prelude.{◌≡◌, ◌<◌, [], length, slice_get, Some, All};
-ghost use Rattle.nj_discovered.specs.Discoveries.{found_at};
-ghost use Rattle.std.specs.List.{AllByRecursion};
+ghost use Rattle.nj_discovered.specs.Cited.{found_at, AllByRecursion};
 
 use crate::verdict::Verdict;
 use nj_names::{HashKeys, Names};

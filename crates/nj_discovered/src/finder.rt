@@ -1,9 +1,7 @@
 //! The search for what edges discover.
 
 ghost use Rattle.std.specs.Prelude.{◌≡◌, ◌<◌, [], length, IfOk};
-ghost use Rattle.nj_edges.specs.Edges.{edge_at};
-ghost use Rattle.nj_discovered.specs.Discovered.{IsLater};
-ghost use Rattle.nj_discovered.specs.Discoveries.{AddsEdge};
+ghost use Rattle.nj_discovered.specs.Cited.{edge_at, IsLater, AddsEdge};
 
 use crate::by_depfile::find_by_depfile;
 use crate::by_log::{find_by_log, numbers_of_paths};

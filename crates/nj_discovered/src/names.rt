@@ -1,8 +1,7 @@
 //! Discovered paths as numbers of clean names.
 
 ghost use Rattle.std.specs.Prelude.{◌≡◌, ◌<◌, ◌∷◌, [], length, IfOk, OnOk};
-ghost use Rattle.nj_text.specs.Paths.{clean_path_of};
-ghost use Rattle.nj_discovered.specs.Inside.Numbers.{Appends};
+ghost use Rattle.nj_discovered.specs.Cited.{clean_path_of, Appends};
 
 use nj_names::{Names, short_number};
 use nj_text::{TextFault, clean_into, is_clean};

@@ -1,9 +1,7 @@
 //! The outputs of an edge, by their paths.
 
 ghost use Rattle.std.specs.Prelude.{◌≡◌, ◌<◌, length, option_copied};
-ghost use Rattle.nj_names.specs.NameTables.{is_among};
-ghost use Rattle.nj_edges.specs.Edges.{edge_at, first_output, outputs_of};
-ghost use Rattle.nj_discovered.specs.Discovered.{is_first_output};
+ghost use Rattle.nj_discovered.specs.Cited.{is_among, edge_at, first_output, outputs_of, is_first_output};
 
 use nj_edges::{EdgeGraph, EdgeNo};
 

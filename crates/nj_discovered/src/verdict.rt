@@ -1,8 +1,7 @@
 //! Whether the inputs that builds discovered for an edge are known.
 
 ghost use Rattle.std.specs.Prelude.{◌≡◌, ◌++◌, OnOk};
-ghost use Rattle.nj_depfiles.specs.Faults.{fault_text};
-ghost use Rattle.nj_discovered.specs.Faults.{error_text, stranger_text};
+ghost use Rattle.nj_discovered.specs.Cited.{fault_text, error_text, stranger_text};
 
 use nj_depfiles::DepfileFault;
 use nj_faults::Name;

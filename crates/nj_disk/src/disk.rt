@@ -1,7 +1,7 @@
 //! The files of the working directory.
 
 ghost use Rattle.std.specs.Prelude.{◌≡◌, ◌+◌, ◌<◌, ◌≤◌, ◌↔◌, [], Some, None, Ok, Err, option_copied, vec_len, vec_capacity, length, take, drop, IfOk, OnOk, IsTrue};
-ghost use Rattle.std.specs.Io.KnownBytes.{Consumes, IsAtEnd};
+ghost use Rattle.nj_disk.specs.Cited.{Consumes, IsAtEnd};
 
 use nj_scope::{FileSource, HashKeys, SourceFault};
 use std::alloc::{AllocError, Global};

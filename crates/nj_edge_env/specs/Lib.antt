@@ -7,3 +7,5 @@ pub mod VariableCycles
 pub mod ReferencesHeld
 -- how the code does that
 pub mod Inside
+-- what the contracts cite
+pub mod Cited

@@ -1,8 +1,7 @@
 //! The values that the blocks of edges bind.
 
 ghost use Rattle.std.specs.Prelude.{◌≡◌, ℕ, ◌≤◌, ◌==◌, ◌&&◌, not, if◌then◌else◌, true, List, [], ◌∷◌, ◌++◌, Some, None, length, slice_get, is_some, option_copied, bytes_eq, IfOk, OnOk, OnErr};
-ghost use Rattle.nj_edge_env.specs.Blocks.{bound_in, names_in};
-ghost use Rattle.nj_edge_env.specs.Inside.BlocksHeld.{blocks_of, bounds_of, BlocksAreHeld, IsFirstAt, IsNumberOf, is_pool_or_dyndep};
+ghost use Rattle.nj_edge_env.specs.Cited.{bound_in, names_in, blocks_of, bounds_of, BlocksAreHeld, IsFirstAt, IsNumberOf, is_pool_or_dyndep};
 
 use crate::binding_order::NameOrder;
 use crate::name_values::{Bound, bind_value, bound_of, value_at};

@@ -1,10 +1,7 @@
 //! The paths of an edge, as byte strings.
 
 ghost use Rattle.std.specs.Prelude.{◌≡◌, ◌<◌, ◌++◌, Some, map, length, slice_get, All, OnOk, OnErr, if◌then◌else◌};
-ghost use Rattle.nj_scope.specs.Readings.{IsPrefix};
-ghost use Rattle.nj_text.specs.Quotes.{quoted};
-ghost use Rattle.nj_names.specs.Files.{path_at};
-ghost use Rattle.nj_edge_env.specs.LateStrings.{paths_text};
+ghost use Rattle.nj_edge_env.specs.Cited.{IsPrefix, quoted, path_at, paths_text};
 
 use nj_names::{FileNo, Files};
 use nj_text::quote_into;

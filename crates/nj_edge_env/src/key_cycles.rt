@@ -1,12 +1,7 @@
 //! Cycles of a rule's variables.
 
 ghost use Rattle.std.specs.Prelude.{◌≡◌, ◌<◌, List, false, length, IfOk, IfSome, option_copied};
-ghost use Rattle.nj_cycles.specs.Cycles.{IsFirstOnCycle};
-ghost use Rattle.nj_scope.specs.Rules.{RuleLineModel};
-ghost use Rattle.nj_edge_env.specs.Blocks.{bound_in};
-ghost use Rattle.nj_edge_env.specs.VariableCycles.{variable_cycle_of};
-ghost use Rattle.nj_edge_env.specs.ReferencesHeld.{AreReferences, NeverCycles, TellsCycles};
-ghost use Rattle.nj_edge_env.specs.Inside.CyclesHeld.{makers_counted};
+ghost use Rattle.nj_edge_env.specs.Cited.{IsFirstOnCycle, RuleLineModel, bound_in, variable_cycle_of, AreReferences, NeverCycles, TellsCycles, makers_counted};
 
 use crate::block_values::Blocks;
 use crate::key_references::{KeyReferences, is_marked};

@@ -1,7 +1,7 @@
 //! Strings of a rule's keys that were appended already.
 
 ghost use Rattle.std.specs.Prelude.{◌≡◌, ◌<◌, IfSome};
-ghost use Rattle.nj_edge_env.specs.Inside.StringsHeld.{text_known, taller, with_text};
+ghost use Rattle.nj_edge_env.specs.Cited.{text_known, taller, with_text};
 
 /// Of how many keys of a rule texts are kept: of all that Ninja knows. If a rule had more, the
 /// others would be expanded at each reference.

@@ -1,10 +1,7 @@
 //! Which keys of a rule refer to which.
 
 ghost use Rattle.std.specs.Prelude.{◌≡◌, ◌<◌, false, length, IfOk, option_copied, slice_index_or};
-ghost use Rattle.nj_text.specs.Words.{part_model};
-ghost use Rattle.nj_edge_env.specs.LateStrings.{rule_value, refers, refers_in};
-ghost use Rattle.nj_edge_env.specs.ReferencesHeld.{AreReferences, TellsCycles, name_at, row_at, refers_unbound, unbound};
-ghost use Rattle.nj_edge_env.specs.Inside.CyclesHeld.{AreSortedKeys, key_held, referring_key};
+ghost use Rattle.nj_edge_env.specs.Cited.{part_model, rule_value, refers, refers_in, AreReferences, TellsCycles, name_at, row_at, refers_unbound, unbound, AreSortedKeys, key_held, referring_key};
 
 use crate::path_names::{is_of_command, names_paths};
 use nj_scope::{LateValue, Rule};

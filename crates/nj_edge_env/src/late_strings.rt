@@ -1,14 +1,7 @@
 //! Late strings.
 
 ghost use Rattle.std.specs.Prelude.{◌≡◌, ◌<◌, ◌++◌, ◌∷◌, [], true, ℕ, suc, List, IfOk, IfSome, OnOk, OnErr, is_some};
-ghost use Rattle.nj_scope.specs.Declarations.{DeclaredBy};
-ghost use Rattle.nj_scope.specs.ReadingList.{ReadStatement, value_after};
-ghost use Rattle.nj_scope.specs.Readings.{IsPrefix};
-ghost use Rattle.nj_scope.specs.RulesHeld.{IsNumber};
-ghost use Rattle.nj_scope.specs.Scopes.{IsScope, parent_at};
-ghost use Rattle.nj_edge_env.specs.LateStrings.{value_given, file_value, asked_text};
-ghost use Rattle.nj_edge_env.specs.LateEdges.{late_names};
-ghost use Rattle.nj_edge_env.specs.Inside.StringsHeld.{AreKeyStrings, AppendsLate, AppendsParts, AppendsPlain};
+ghost use Rattle.nj_edge_env.specs.Cited.{DeclaredBy, ReadStatement, value_after, IsPrefix, IsNumber, IsScope, parent_at, value_given, file_value, asked_text, late_names, AreKeyStrings, AppendsLate, AppendsParts, AppendsPlain};
 
 use crate::edge_paths::append_paths;
 use crate::key_memo::{KEYS, KeyText, keep_text, taller, text_known};

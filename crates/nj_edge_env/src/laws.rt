@@ -1,6 +1,6 @@
 //! Laws of late strings. A law is a theorem, stated as a function with an empty body.
 
-ghost use Rattle.nj_edge_env.specs.Laws.{LateTextIsGiven, OneTextIsGiven, CycleGivesNothing, BlockWins, RuleWins, FileIsLast, ComputedCycleIsFound};
+ghost use Rattle.nj_edge_env.specs.Cited.{LateTextIsGiven, OneTextIsGiven, CycleGivesNothing, BlockWins, RuleWins, FileIsLast, ComputedCycleIsFound};
 
 /// The values of an edge's names, in no order of evaluation: where the variables of the rule do not
 /// refer to each other in a cycle, each name has its late string, and no other; a variable on a

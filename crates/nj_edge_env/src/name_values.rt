@@ -1,9 +1,7 @@
 //! The values of one name, by edge: parts of one text.
 
 ghost use Rattle.std.specs.Prelude.{◌≡◌, ℕ, ◌+◌, ◌≤◌, ◌<◌, ◌==◌, ◌&&◌, not, if◌then◌else◌, Some, [], ◌∷◌, ◌++◌, length, slice_range, is_some, IfOk, OnOk, OnErr};
-ghost use Rattle.std.specs.List.{AllByRecursion};
-ghost use Rattle.std.specs.Map.{lookup};
-ghost use Rattle.nj_edge_env.specs.Inside.BlocksHeld.{values_of, AreRising, IsPart, BoundsAreHeld, IsBoundTo, BeginsWith, with_bound, ends_at, bound_of, list_at};
+ghost use Rattle.nj_edge_env.specs.Cited.{AllByRecursion, lookup, values_of, AreRising, IsPart, BoundsAreHeld, IsBoundTo, BeginsWith, with_bound, ends_at, bound_of, list_at};
 
 use crate::number_lists::NumberLists;
 use nj_names::short_number;

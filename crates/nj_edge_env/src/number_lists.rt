@@ -1,7 +1,7 @@
 //! Lists of numbers, by edge: parts of one list.
 
 ghost use Rattle.std.specs.Prelude.{◌≡◌, ℕ, ◌+◌, ◌-◌, ◌≤◌, ◌==◌, if◌then◌else◌, [], ◌∷◌, ◌++◌, length, replicate, slice_index_or, slice_range, OnOk, OnErr};
-ghost use Rattle.nj_edge_env.specs.Inside.BlocksHeld.{list_at, lists_of, AreStarts};
+ghost use Rattle.nj_edge_env.specs.Cited.{list_at, lists_of, AreStarts};
 
 use nj_names::short_number;
 use std::alloc::{AllocError, Global};

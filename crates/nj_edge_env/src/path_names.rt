@@ -1,8 +1,7 @@
 //! Names with a meaning of their own.
 
 ghost use Rattle.std.specs.Prelude.{◌≡◌};
-ghost use Rattle.nj_edge_env.specs.LateStrings.{names_paths, is_of_command, is_quoted};
-ghost use Rattle.nj_edge_env.specs.Inside.BlocksHeld.{is_pool_or_dyndep};
+ghost use Rattle.nj_edge_env.specs.Cited.{names_paths, is_of_command, is_quoted, is_pool_or_dyndep};
 
 /// Whether the name means paths of an edge.
 pub(crate) fn names_paths(name: &[u8]) -> bool

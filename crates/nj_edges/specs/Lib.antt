@@ -13,3 +13,5 @@ pub mod MoreInputs
 pub mod EdgeTables
 -- how the code does that
 pub mod Inside
+-- what the contracts cite
+pub mod Cited

@@ -1,12 +1,7 @@
 //! The edges that a change of files affects.
 
 ghost use Rattle.std.specs.Prelude.{◌≡◌, ◌↔◌, ℕ, ◌<◌, length, map, slice_index, All, Contains, IfOk, OnOk};
-ghost use Rattle.std.specs.List.Sorted.{IsStrictlyIncreasing};
-ghost use Rattle.nj_edges.specs.Changes.{IsAffected, AffectedEdgesNeedTheFiles};
-ghost use Rattle.nj_edges.specs.Edges.{edges_from};
-ghost use Rattle.nj_names.specs.Files.{path_at};
-ghost use Rattle.nj_edges.specs.Inside.ChangesHeld.{FindsMore, HasInputOf};
-ghost use Rattle.nj_edges.specs.Inside.UsersHeld.{numbers_of};
+ghost use Rattle.nj_edges.specs.Cited.{IsStrictlyIncreasing, IsAffected, AffectedEdgesNeedTheFiles, edges_from, path_at, FindsMore, HasInputOf, numbers_of};
 
 use crate::edges::EdgeNo;
 use crate::graph::EdgeGraph;

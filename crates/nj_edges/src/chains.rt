@@ -1,10 +1,7 @@
 //! Chains of inputs by which a file needs another.
 
 ghost use Rattle.std.specs.Prelude.{◌≡◌, ◌<◌, ◌∷◌, [], None, option_map, length, slice_index, All, IfOk, IfSome, OnOk};
-ghost use Rattle.nj_names.specs.NumberSets.{has, with_number};
-ghost use Rattle.nj_edges.specs.Chains.{PathIs};
-ghost use Rattle.nj_names.specs.Files.{path_at};
-ghost use Rattle.nj_edges.specs.Inside.ChainsHeld.{AddsMakers, ChainIs, ComeFromEarlier, MakesInput, StepIs, StepToIs, Traces, with_arrival};
+ghost use Rattle.nj_edges.specs.Cited.{has, with_number, PathIs, path_at, AddsMakers, ChainIs, ComeFromEarlier, MakesInput, StepIs, StepToIs, Traces, with_arrival};
 
 use crate::affected::edge_found;
 use crate::edges::{EdgeNo, Kind};

@@ -1,11 +1,7 @@
 //! The edges that are to be built again where files changed.
 
 ghost use Rattle.std.specs.Prelude.{◌≡◌, ◌↔◌, ℕ, ◌<◌, length, map, All, Contains, IfOk, OnOk};
-ghost use Rattle.std.specs.List.Sorted.{IsStrictlyIncreasing};
-ghost use Rattle.nj_edges.specs.Dirty.{IsDirty, OtherEdgesAreUntouched};
-ghost use Rattle.nj_names.specs.Files.{path_at};
-ghost use Rattle.nj_edges.specs.Inside.ChangesHeld.{FindsMore};
-ghost use Rattle.nj_edges.specs.Inside.DirtyHeld.{HasOneIn, HaveUsersIn};
+ghost use Rattle.nj_edges.specs.Cited.{IsStrictlyIncreasing, IsDirty, OtherEdgesAreUntouched, path_at, FindsMore, HasOneIn, HaveUsersIn};
 
 use crate::affected::{add_all, edge_found, flagged};
 use crate::edges::EdgeNo;

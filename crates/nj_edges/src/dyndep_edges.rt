@@ -1,13 +1,7 @@
 //! Files that are added to the edges of a graph, as dyndep files discover them.
 
 ghost use Rattle.std.specs.Prelude.{◌≡◌, ℕ, List, ◌<◌, ◌+◌, ◌^◌, ◌||◌, ◌++◌, [], ◌∷◌, None, Some, not, false, if◌then◌else◌, option_map, is_some, length, replicate, slice_get, slice_index_or, bytes_eq, IfOk, IfSome, OnOk, OnErr};
-ghost use Rattle.std.specs.List.{AllByRecursion, IsDistinct};
-ghost use Rattle.nj_edges.specs.Edges.{counted_inputs_of, edge_at, outputs_of, maker_of};
-ghost use Rattle.nj_edges.specs.Inside.EdgesHeld.{AreNumbers, IsWithin};
-ghost use Rattle.nj_names.specs.Files.{AreFiles};
-ghost use Rattle.nj_edges.specs.Graph.{FinishesAs};
-ghost use Rattle.nj_edges.specs.Joining.{none_added, join_of, with_added_output, with_added_input, with_joined, is_made_so_far, is_joined};
-ghost use Rattle.nj_edges.specs.Inside.JoiningHeld.{AddedInputsAreWithin, AddedOutputsAreWithin, AreJoinedMakers, AreSet, InputsAreWithin, added_inputs_of, added_outputs_of, flat, joined_inputs, joined_outputs, joined_row, joined_rows, joined_with, span_from};
+ghost use Rattle.nj_edges.specs.Cited.{AllByRecursion, IsDistinct, counted_inputs_of, edge_at, outputs_of, maker_of, AreNumbers, IsWithin, AreFiles, FinishesAs, none_added, join_of, with_added_output, with_added_input, with_joined, is_made_so_far, is_joined, AddedInputsAreWithin, AddedOutputsAreWithin, AreJoinedMakers, AreSet, InputsAreWithin, added_inputs_of, added_outputs_of, flat, joined_inputs, joined_outputs, joined_row, joined_rows, joined_with, span_from};
 
 use crate::edges::{EdgeNo, EdgeRow, Edges, KindEnds, OpenStarts, Span};
 use crate::graph::{EdgeGraph, Finished, row_at};

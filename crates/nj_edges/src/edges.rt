@@ -1,11 +1,7 @@
 //! Edges, which are build statements with the files that they name.
 
 ghost use Rattle.std.specs.Prelude.{◌≡◌, ℕ, ◌<◌, List, [], ◌∷◌, ◌++◌, Some, not, if◌then◌else◌, option_map, position, slice_get, is_some, length, bytes_eq, IfOk, IfSome, OnOk, OnErr};
-ghost use Rattle.std.specs.List.{IsDistinct, list_any};
-ghost use Rattle.nj_edges.specs.Edges.{is_among, is_named};
-ghost use Rattle.nj_names.specs.Files.{AreFiles};
-ghost use Rattle.nj_edges.specs.Inside.EdgesHeld.{row_between, has_number, is_made_by};
-ghost use Rattle.nj_edges.specs.EdgeTables.{no_files, EndWithin, with_output, with_input, with_validation, is_made, is_named_so_far, edge_read};
+ghost use Rattle.nj_edges.specs.Cited.{IsDistinct, list_any, is_among, is_named, AreFiles, row_between, has_number, is_made_by, no_files, EndWithin, with_output, with_input, with_validation, is_made, is_named_so_far, edge_read};
 
 use crate::list_parts::after;
 use crate::makers::{Makers, name};

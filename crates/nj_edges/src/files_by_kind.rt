@@ -1,8 +1,7 @@
 //! The files of an edge by their kinds.
 
 ghost use Rattle.std.specs.Prelude.{◌<◌, length, All};
-ghost use Rattle.nj_edges.specs.Edges.{edge_at};
-ghost use Rattle.nj_names.specs.Files.{AreFiles};
+ghost use Rattle.nj_edges.specs.Cited.{edge_at, AreFiles};
 
 use crate::edges::EdgeNo;
 use crate::graph::{EdgeGraph, row_at};

@@ -1,15 +1,7 @@
 //! The graph of all edges of a run.
 
 ghost use Rattle.std.specs.Prelude.{◌≡◌, ℕ, List, ◌+◌, ◌<◌, ◌≤◌, ◌^◌, None, Some, is_some, length, slice_get, option_map, position, bytes_eq, map, IfOk, All, IfSome, if◌then◌else◌, nat_lt, not};
-ghost use Rattle.std.specs.List.{AllByRecursion, IsDistinct, filter, list_any};
-ghost use Rattle.nj_cycles.specs.Cycles.{IsAcyclic};
-ghost use Rattle.nj_edges.specs.Edges.{edge_at, outputs_of, inputs_of, kind_at, is_named, maker_of, roots_of, users_of, validation_users_of};
-ghost use Rattle.nj_edges.specs.Inside.EdgesHeld.{AreNumbers, IsWithin, has_number, paths_at, within};
-ghost use Rattle.nj_edges.specs.Inside.UsersHeld.{HaveUsers, HaveUsersIfAny, numbers_of, using_edges};
-ghost use Rattle.nj_edges.specs.EdgeTables.{no_files};
-ghost use Rattle.nj_names.specs.Files.{path_at, AreFiles};
-ghost use Rattle.nj_edges.specs.Graph.{FinishesAs, IsFirstCycle};
-ghost use Rattle.nj_edges.specs.Needs.{makers_of_inputs};
+ghost use Rattle.nj_edges.specs.Cited.{AllByRecursion, IsDistinct, filter, list_any, IsAcyclic, edge_at, outputs_of, inputs_of, kind_at, is_named, maker_of, roots_of, users_of, validation_users_of, AreNumbers, IsWithin, has_number, paths_at, within, HaveUsers, HaveUsersIfAny, numbers_of, using_edges, no_files, path_at, AreFiles, FinishesAs, IsFirstCycle, makers_of_inputs};
 
 use crate::edges::{EdgeNo, EdgeRow, Edges, Kind, KindEnds};
 use crate::input_makers::InputMakers;

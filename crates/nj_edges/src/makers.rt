@@ -1,10 +1,7 @@
 //! The makers of files: which edge makes each.
 
 ghost use Rattle.std.specs.Prelude.{◌≡◌, ◌+◌, ◌<◌, ◌^◌, [], None, Some, length, replicate, slice_get, slice_index_or, slice_set, bytes_eq, IfOk, IfSome, OnOk, OnErr};
-ghost use Rattle.std.specs.List.{IsDistinct};
-ghost use Rattle.nj_names.specs.NameTables.{with_name};
-ghost use Rattle.nj_edges.specs.Inside.EdgesHeld.{with_maker};
-ghost use Rattle.nj_edges.specs.Inside.MakersHeld.{maker_held};
+ghost use Rattle.nj_edges.specs.Cited.{IsDistinct, with_name, with_maker, maker_held};
 
 use nj_names::{FileNo, Files};
 use std::alloc::{AllocError, Global};

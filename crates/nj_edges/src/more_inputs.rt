@@ -1,11 +1,7 @@
 //! Inputs that are added to the edges of a graph, as deps logs name them.
 
 ghost use Rattle.std.specs.Prelude.{◌≡◌, ℕ, List, ◌<◌, None, Some, length, replicate, slice_get, IfOk, OnOk, OnErr};
-ghost use Rattle.nj_edges.specs.Graph.{FinishesAs};
-ghost use Rattle.nj_edges.specs.Inside.EdgesHeld.{AreNumbers};
-ghost use Rattle.nj_edges.specs.Inside.MarksHeld.{MarksFiles, MarksInputs, is_marked};
-ghost use Rattle.nj_edges.specs.Joining.{join_of, none_added};
-ghost use Rattle.nj_edges.specs.MoreInputs.{at_next_edge, with_new_input};
+ghost use Rattle.nj_edges.specs.Cited.{FinishesAs, AreNumbers, MarksFiles, MarksInputs, is_marked, join_of, none_added, at_next_edge, with_new_input};
 
 use crate::dyndep_edges::JoiningEdges;
 use crate::edges::EdgeNo;

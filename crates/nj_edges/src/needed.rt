@@ -1,11 +1,7 @@
 //! The edges that files need.
 
 ghost use Rattle.std.specs.Prelude.{◌≡◌, ◌↔◌, ℕ, ◌<◌, length, map, nat_eq, All, Contains, IfOk, OnOk};
-ghost use Rattle.std.specs.List.{IsDistinct};
-ghost use Rattle.nj_edges.specs.Distances.{AreNearestFirst, IsNeeded, MakesOneOf};
-ghost use Rattle.nj_names.specs.Files.{path_at};
-ghost use Rattle.nj_edges.specs.Inside.ChangesHeld.{FindsMore};
-ghost use Rattle.nj_edges.specs.Inside.UsersHeld.{numbers_of};
+ghost use Rattle.nj_edges.specs.Cited.{IsDistinct, AreNearestFirst, IsNeeded, MakesOneOf, path_at, FindsMore, numbers_of};
 
 use crate::affected::{add, edge_found};
 use crate::edges::EdgeNo;

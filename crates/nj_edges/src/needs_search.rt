@@ -1,8 +1,7 @@
 //! Questions of the kind whether an edge needs another.
 
 ghost use Rattle.std.specs.Prelude.{◌≡◌, ◌↔◌, ◌<◌, length, IfOk, IfSome, IsTrue};
-ghost use Rattle.nj_edges.specs.Changes.{IsOrNeeds};
-ghost use Rattle.nj_edges.specs.Inside.NeedsSearched.{IsSearch};
+ghost use Rattle.nj_edges.specs.Cited.{IsOrNeeds, IsSearch};
 
 use crate::edges::EdgeNo;
 use crate::graph::EdgeGraph;

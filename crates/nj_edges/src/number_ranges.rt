@@ -1,8 +1,7 @@
 //! The numbers of all edges and of all files of a graph, one after another.
 
 ghost use Rattle.std.specs.Prelude.{◌≡◌, ◌<◌, length, All};
-ghost use Rattle.std.specs.Iterator.{YieldsFirstBy, item_count};
-ghost use Rattle.std.specs.List.{range_with_len};
+ghost use Rattle.nj_edges.specs.Cited.{YieldsFirstBy, item_count, range_with_len};
 
 use crate::edges::EdgeNo;
 use crate::graph::EdgeGraph;

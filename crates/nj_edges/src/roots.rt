@@ -1,9 +1,7 @@
 //! The roots of a graph: the outputs that no edge uses.
 
 ghost use Rattle.std.specs.Prelude.{◌≡◌, not, false, length, slice_index_or, IfOk};
-ghost use Rattle.std.specs.List.{filter};
-ghost use Rattle.nj_edges.specs.Inside.EdgesHeld.{AreNumbers, has_number};
-ghost use Rattle.nj_edges.specs.Inside.RootsHeld.{AreFlags};
+ghost use Rattle.nj_edges.specs.Cited.{filter, AreNumbers, has_number, AreFlags};
 
 use nj_names::FileNo;
 use std::alloc::{AllocError, Global};

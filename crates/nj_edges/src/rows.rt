@@ -1,7 +1,7 @@
 //! The rows of edges, which give the place of each edge's files.
 
 ghost use Rattle.std.specs.Prelude.{◌≡◌, ◌+◌, ◌<◌, ◌^◌, [], ◌∷◌, ◌++◌, Some, length, slice_get, IfOk, OnOk, OnErr};
-ghost use Rattle.nj_edges.specs.Inside.RowsHeld.{wide_row, wide_span};
+ghost use Rattle.nj_edges.specs.Cited.{wide_row, wide_span};
 
 use crate::edges::{EdgeRow, KindEnds, Span};
 use std::alloc::{AllocError, Global};

@@ -1,12 +1,7 @@
 //! The search for the edges that an edge needs.
 
 ghost use Rattle.std.specs.Prelude.{◌≡◌, ◌<◌, List, Some, true, length, map, slice_index, All, Contains, IfOk, OnOk};
-ghost use Rattle.nj_edges.specs.Changes.{IsOrNeeds};
-ghost use Rattle.nj_edges.specs.Distances.{MakesOneOf};
-ghost use Rattle.nj_edges.specs.Edges.{EdgePaths};
-ghost use Rattle.nj_edges.specs.Inside.ChangesHeld.{FindsMore};
-ghost use Rattle.nj_names.specs.Files.{path_at};
-ghost use Rattle.nj_edges.specs.Inside.NeedsSearched.{AreMakers, Finds, IsSearch, IsSearchAt, IsSearched, StartsWith, Tells};
+ghost use Rattle.nj_edges.specs.Cited.{IsOrNeeds, MakesOneOf, EdgePaths, FindsMore, path_at, AreMakers, Finds, IsSearch, IsSearchAt, IsSearched, StartsWith, Tells};
 
 use crate::edges::EdgeNo;
 use crate::graph::EdgeGraph;

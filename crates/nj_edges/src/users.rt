@@ -1,9 +1,7 @@
 //! The users of files: the edges that have a file among their inputs, or in another part of theirs.
 
 ghost use Rattle.std.specs.Prelude.{◌≡◌, ℕ, List, ◌+◌, ◌<◌, ◌^◌, Some, length, slice_get, slice_index_or, IfOk, OnOk};
-ghost use Rattle.std.specs.List.{AllByRecursion};
-ghost use Rattle.nj_edges.specs.Inside.EdgesHeld.{AreNumbers, IsWithin, within};
-ghost use Rattle.nj_edges.specs.Inside.UsersHeld.{AreCounted, AreCounts, AreEnds, AreMarks, AreParts, ArePlaced, HaveCapacity, HaveUsers, HaveUsersIfAny, numbers_of, plus_use, plus_uses, span_of, starts_with, users_before, using_edges};
+ghost use Rattle.nj_edges.specs.Cited.{AllByRecursion, AreNumbers, IsWithin, within, AreCounted, AreCounts, AreEnds, AreMarks, AreParts, ArePlaced, HaveCapacity, HaveUsers, HaveUsersIfAny, numbers_of, plus_use, plus_uses, span_of, starts_with, users_before, using_edges};
 
 use crate::edges::{EdgeNo, EdgeRow, Span};
 use crate::graph::row_at;

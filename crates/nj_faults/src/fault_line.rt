@@ -1,9 +1,7 @@
 //! The line that reports a fault, and its text for people to read.
 
 ghost use Rattle.std.specs.Prelude.{◌≡◌, ◌++◌, IfOk, Some, codes, unwrap_or};
-ghost use Rattle.std.specs.Option.{option_map};
-ghost use Rattle.std.specs.Str.Lossy.{utf8_lossy};
-ghost use Rattle.nj_faults.specs.FaultLines.{bare_line, cause_text, fault_line, fault_line_for, line_after, opening_text, shown_line, shown_place};
+ghost use Rattle.nj_faults.specs.Cited.{option_map, utf8_lossy, bare_line, cause_text, fault_line, fault_line_for, line_after, opening_text, shown_line, shown_place};
 
 use crate::fault::{Cause, GraphFault, Name, Place};
 use crate::limits::{TOO_DEEP_TEXT, TOO_MANY_OPENINGS_TEXT};

@@ -1,7 +1,7 @@
 //! The version of Ninja whose files are read.
 
 ghost use Rattle.std.specs.Prelude.{◌≡◌};
-ghost use Rattle.nj_faults.specs.Versions.{is_newer};
+ghost use Rattle.nj_faults.specs.Cited.{is_newer};
 
 use nj_text::version_of;
 

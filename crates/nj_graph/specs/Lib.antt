@@ -28,3 +28,5 @@ pub use Rattle.nj_edges.specs.Edges
 pub use Rattle.nj_names.specs.Files
 pub use Rattle.nj_statements.specs.Built
 pub use Rattle.nj_statements.specs.EdgeList
+-- what the contracts cite
+pub mod Cited

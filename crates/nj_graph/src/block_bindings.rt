@@ -1,9 +1,7 @@
 //! The bindings of edges' blocks.
 
 ghost use Rattle.std.specs.Prelude.{◌≡◌, List, length, slice_get, option_copied};
-ghost use Rattle.nj_scope.specs.ReadingList.{ReadStatement};
-ghost use Rattle.nj_statements.specs.EdgeList.{block_at, block_names_at, edges_read};
-ghost use Rattle.nj_graph.specs.Graph.{IsGraphOf};
+ghost use Rattle.nj_graph.specs.Cited.{ReadStatement, block_at, block_names_at, edges_read, IsGraphOf};
 
 use crate::graph::Graph;
 use nj_edges::EdgeNo;

@@ -1,10 +1,7 @@
 //! The `build` and `default` statements.
 
 ghost use Rattle.std.specs.Prelude.{◌≡◌, ◌<◌, length, OnOk};
-ghost use Rattle.nj_manifest.specs.Contents.{words_model, build_model};
-ghost use Rattle.nj_manifest.specs.Statements.{DefaultModel};
-ghost use Rattle.nj_graph.specs.Reading.{entry_at};
-ghost use Rattle.nj_graph.specs.Inside.ReaderContracts.{InFile, ScopesGrow, Declares};
+ghost use Rattle.nj_graph.specs.Cited.{words_model, build_model, DefaultModel, entry_at, InFile, ScopesGrow, Declares};
 
 use crate::reader::{OpenFile, Reader};
 use nj_faults::GraphFault;

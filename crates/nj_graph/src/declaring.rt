@@ -1,12 +1,7 @@
 //! The statements that declare something: bindings, rules and pools.
 
 ghost use Rattle.std.specs.Prelude.{◌≡◌, ◌<◌, length, IfOk, OnOk};
-ghost use Rattle.nj_text.specs.Words.{word_model};
-ghost use Rattle.nj_manifest.specs.Statements.{BindingModel};
-ghost use Rattle.nj_manifest.specs.Contents.{rule_model, pool_model, lines_model};
-ghost use Rattle.nj_graph.specs.Reading.{entry_at, depth_fault};
-ghost use Rattle.nj_graph.specs.Origins.{depth_of};
-ghost use Rattle.nj_graph.specs.Inside.ReaderContracts.{InFile, InScope, ScopesGrow, Checks, Declares};
+ghost use Rattle.nj_graph.specs.Cited.{word_model, BindingModel, rule_model, pool_model, lines_model, entry_at, depth_fault, depth_of, InFile, InScope, ScopesGrow, Checks, Declares};
 
 use crate::reader::{OpenFile, Reader};
 use nj_faults::{Cause, GraphFault, Name, is_newer};

@@ -1,17 +1,7 @@
 //! Joins deps logs to the graph of a run.
 
 ghost use Rattle.std.specs.Prelude.{◌≡◌, List, ◌<◌, fold, length, map, position, bytes_eq, option_and_then, IfOk, OnOk};
-ghost use Rattle.std.specs.List.{AllByRecursion};
-ghost use Rattle.nj_text.specs.Paths.{clean_path_of};
-ghost use Rattle.nj_names.specs.NameTables.{name_at};
-ghost use Rattle.nj_scope.specs.ReadingList.{ReadStatement};
-ghost use Rattle.nj_scope.specs.Readings.{IsPrefix};
-ghost use Rattle.nj_edges.specs.Edges.{edge_at, first_output};
-ghost use Rattle.nj_edges.specs.MoreInputs.{with_new_input};
-ghost use Rattle.nj_graph.specs.Graph.{edges_of, files_of, IsGraphOf};
-ghost use Rattle.nj_graph.specs.DepsLogs.{JoinsLog, inputs_logged, number_logged};
-ghost use Rattle.nj_graph.specs.Inside.InputSteps.{joined_edges};
-ghost use Rattle.nj_graph.specs.Inside.LogSteps.{AreNumbersLogged, inputs_by_numbers};
+ghost use Rattle.nj_graph.specs.Cited.{AllByRecursion, clean_path_of, name_at, ReadStatement, IsPrefix, edge_at, first_output, with_new_input, edges_of, files_of, IsGraphOf, JoinsLog, inputs_logged, number_logged, joined_edges, AreNumbersLogged, inputs_by_numbers};
 
 use crate::edge_inputs::{EdgeInputs, join_built};
 use crate::graph::Graph;

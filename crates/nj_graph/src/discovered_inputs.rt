@@ -1,15 +1,7 @@
 //! Joins the inputs that builds discovered to the graph of a run.
 
 ghost use Rattle.std.specs.Prelude.{◌≡◌, ◌<◌, List, fold, length, map, IfOk, OnOk};
-ghost use Rattle.std.specs.List.{AllByRecursion};
-ghost use Rattle.nj_names.specs.NameTables.{name_at};
-ghost use Rattle.nj_scope.specs.ReadingList.{ReadStatement};
-ghost use Rattle.nj_scope.specs.Readings.{IsPrefix};
-ghost use Rattle.nj_discovered.specs.Discoveries.{discovery_at};
-ghost use Rattle.nj_edges.specs.MoreInputs.{with_new_input};
-ghost use Rattle.nj_graph.specs.Graph.{edges_of, files_of, IsGraphOf};
-ghost use Rattle.nj_graph.specs.DepsLogs.{JoinsNamed};
-ghost use Rattle.nj_graph.specs.Inside.InputSteps.{AreFilesOf, inputs_found, joined_edges};
+ghost use Rattle.nj_graph.specs.Cited.{AllByRecursion, name_at, ReadStatement, IsPrefix, discovery_at, with_new_input, edges_of, files_of, IsGraphOf, JoinsNamed, AreFilesOf, inputs_found, joined_edges};
 
 use crate::edge_inputs::{EdgeInputs, join_built};
 use crate::graph::Graph;

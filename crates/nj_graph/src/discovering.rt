@@ -1,10 +1,7 @@
 //! What builds discovered for the edges of a graph.
 
 ghost use Rattle.std.specs.Prelude.{◌≡◌, List, IfOk, length};
-ghost use Rattle.nj_scope.specs.ReadingList.{ReadStatement};
-ghost use Rattle.nj_discovered.specs.Discovered.{IsLater};
-ghost use Rattle.nj_graph.specs.Graph.{edges_of, IsGraphOf};
-ghost use Rattle.nj_graph.specs.Discovering.{AreDiscovered};
+ghost use Rattle.nj_graph.specs.Cited.{ReadStatement, IsLater, edges_of, IsGraphOf, AreDiscovered};
 
 use crate::graph::Graph;
 use nj_deps::DepsLog;

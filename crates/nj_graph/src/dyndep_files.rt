@@ -1,14 +1,7 @@
 //! Joins dyndep files to the graph of a run.
 
 ghost use Rattle.std.specs.Prelude.{◌≡◌, ◌<◌, List, Some, length, slice_get, IfOk, OnOk};
-ghost use Rattle.nj_scope.specs.Readings.{EachPathOnce, IsPrefix};
-ghost use Rattle.nj_scope.specs.ReadingList.{ReadStatement};
-ghost use Rattle.nj_statements.specs.Built.{IsBuiltOf};
-ghost use Rattle.nj_statements.specs.EdgeList.{Pending};
-ghost use Rattle.nj_statements.specs.JoiningHeld.{HasJoined};
-ghost use Rattle.nj_graph.specs.Graph.{IsGraphOf};
-ghost use Rattle.nj_graph.specs.Joining.{Joins};
-ghost use Rattle.nj_graph.specs.Inside.JoiningContracts.{NamesFile, JoinsText, JoinsFile, JoinsFiles, JoinsBuilt, NextEntryIs};
+ghost use Rattle.nj_graph.specs.Cited.{EachPathOnce, IsPrefix, ReadStatement, IsBuiltOf, Pending, HasJoined, IsGraphOf, Joins, NamesFile, JoinsText, JoinsFile, JoinsFiles, JoinsBuilt, NextEntryIs};
 
 use crate::file_statements::text_at;
 use crate::graph::Graph;

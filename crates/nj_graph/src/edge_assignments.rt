@@ -1,9 +1,7 @@
 //! The assignments of edges: pools and dyndep files.
 
 ghost use Rattle.std.specs.Prelude.{◌≡◌, List, ◌<◌, length, option_copied};
-ghost use Rattle.nj_scope.specs.ReadingList.{ReadStatement};
-ghost use Rattle.nj_statements.specs.EdgeList.{assigned_at, assigned_read};
-ghost use Rattle.nj_graph.specs.Graph.{edges_of, IsGraphOf};
+ghost use Rattle.nj_graph.specs.Cited.{ReadStatement, assigned_at, assigned_read, edges_of, IsGraphOf};
 
 use crate::graph::Graph;
 use nj_edges::EdgeNo;

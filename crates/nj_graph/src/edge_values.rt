@@ -1,10 +1,7 @@
 //! The values of rules' variables when an edge uses them.
 
 ghost use Rattle.std.specs.Prelude.{◌≡◌, ◌<◌, ◌++◌, List, Some, length, slice_get, codes, IfOk, OnOk, OnErr};
-ghost use Rattle.nj_statements.specs.Built.{detail_at};
-ghost use Rattle.nj_scope.specs.ReadingList.{ReadStatement};
-ghost use Rattle.nj_graph.specs.Graph.{edges_of, IsGraphOf, late_text_of};
-ghost use Rattle.nj_graph.specs.ResponseFiles.{command_with_rsp_of};
+ghost use Rattle.nj_graph.specs.Cited.{detail_at, ReadStatement, edges_of, IsGraphOf, late_text_of, command_with_rsp_of};
 
 use crate::graph::Graph;
 use crate::response_files::with_content;

@@ -1,8 +1,7 @@
 //! Any error of a client's work on a graph.
 
 ghost use Rattle.std.specs.Prelude.{◌≡◌, Some};
-ghost use Rattle.nj_graph.specs.Errors.{TakesFault, error_of_text, error_text};
-ghost use Rattle.nj_graph.specs.declared.error.Error.TheVariants.{OutOfMemory};
+ghost use Rattle.nj_graph.specs.Cited.{TakesFault, error_of_text, error_text, OutOfMemory};
 
 use nj_faults::{Cause, GraphFault};
 use nj_text::{OUT_OF_MEMORY_TEXT, TextFault};

@@ -1,13 +1,7 @@
 //! The statements that name a file, and how it is opened.
 
 ghost use Rattle.std.specs.Prelude.{◌≡◌, ℕ, ◌<◌, List, length, IfOk, OnOk};
-ghost use Rattle.nj_text.specs.declared.spot.Spot.{Spot};
-ghost use Rattle.nj_text.specs.Words.{WordModel, word_model};
-ghost use Rattle.nj_scope.specs.Declarations.{DeclaredBy};
-ghost use Rattle.nj_scope.specs.ReadingList.{ReadStatement};
-ghost use Rattle.nj_graph.specs.Reading.{entry_at, expanded_in, path_fault};
-ghost use Rattle.nj_graph.specs.Inside.ReaderContracts.{site_scope};
-ghost use Rattle.nj_graph.specs.Inside.ReaderContracts.{Has, InFile, IsOpenIn, ScopesGrow, site_of, place_in, named_item, named_site, EntersScope, ReturnsText, OpensOrStops, GivesPath, OpensPath};
+ghost use Rattle.nj_graph.specs.Cited.{Spot, WordModel, word_model, DeclaredBy, ReadStatement, entry_at, expanded_in, path_fault, site_scope, Has, InFile, IsOpenIn, ScopesGrow, site_of, place_in, named_item, named_site, EntersScope, ReturnsText, OpensOrStops, GivesPath, OpensPath};
 
 use crate::reader::{OpenFile, Opened, Reader};
 use nj_faults::{Cause, GraphFault, MOST_OPENED, Name, PlaceRef};

@@ -1,12 +1,7 @@
 //! The undeclared inputs that were found so far.
 
 ghost use Rattle.std.specs.Prelude.{◌≡◌, ◌<◌, ◌∷◌, ◌++◌, ℕ, List, Some, [], length, map, All, IfOk, OnOk, bytes_eq};
-ghost use Rattle.nj_text.specs.Paths.{clean_path_of};
-ghost use Rattle.nj_names.specs.NameTables.{name_at};
-ghost use Rattle.nj_edges.specs.EdgeGraphs.{EdgeGraph};
-ghost use Rattle.nj_edges.specs.Repeats.{each_once};
-ghost use Rattle.nj_graph.specs.Undeclared.{AreThose, InputOfEdge, IsUndeclared, input_of_edge, inputs_of_edge};
-ghost use Rattle.nj_graph.specs.Inside.UndeclaredFound.{AddsFile, AreMade, FindsAt, IsFound, IsKnownIfAny, MadeIs};
+ghost use Rattle.nj_graph.specs.Cited.{clean_path_of, name_at, EdgeGraph, each_once, AreThose, InputOfEdge, IsUndeclared, input_of_edge, inputs_of_edge, AddsFile, AreMade, FindsAt, IsFound, IsKnownIfAny, MadeIs};
 
 use crate::made_files::MadeFile;
 use crate::undeclared::UndeclaredInput;

@@ -1,8 +1,7 @@
 //! The graph of a run.
 
 ghost use Rattle.std.specs.Prelude.{◌≡◌, ◌<◌, length, option_copied, option_and_then, slice_get, IfOk};
-ghost use Rattle.nj_graph.specs.Graph.{main_rules, main_rule_at, rule_name, description, has_description, description_text, NamesRise, ListsMainRules};
-ghost use Rattle.nj_graph.specs.Inside.GraphHeld.{HasMainRules};
+ghost use Rattle.nj_graph.specs.Cited.{main_rules, main_rule_at, rule_name, description, has_description, description_text, NamesRise, ListsMainRules, HasMainRules};
 
 use crate::origins::Origins;
 use nj_scope::{Declarations, LateValue, MAIN_SCOPE, Rule};

@@ -1,10 +1,7 @@
 //! The edges of a graph and the files that they name.
 
 ghost use Rattle.std.specs.Prelude.{◌≡◌, List, ◌<◌, length, All};
-ghost use Rattle.nj_names.specs.Files.{AreFiles};
-ghost use Rattle.nj_statements.specs.Built.{defaults_in_force, detail_at};
-ghost use Rattle.nj_scope.specs.ReadingList.{ReadStatement};
-ghost use Rattle.nj_graph.specs.Graph.{edges_of, files_of, IsGraphOf, rule_name, rule_name_at};
+ghost use Rattle.nj_graph.specs.Cited.{AreFiles, defaults_in_force, detail_at, ReadStatement, edges_of, files_of, IsGraphOf, rule_name, rule_name_at};
 
 use crate::graph::{Graph, rule_name};
 use nj_edges::{EdgeGraph, EdgeNo, FileNo};

@@ -1,12 +1,6 @@
 //! Laws of the reading of files.
 
-ghost use Rattle.nj_scope.specs.Laws.{IsInReadingOrder};
-ghost use Rattle.nj_scope.specs.ReadingList.{gathered};
-ghost use Rattle.nj_graph.specs.DepsLogs.{SameLogChangesNothing};
-ghost use Rattle.nj_graph.specs.Joining.{JoinedStaysJoined};
-ghost use Rattle.nj_graph.specs.Origins.{rule_place_given, pool_detail_given, opening_given};
-ghost use Rattle.nj_graph.specs.Laws.{ReadIsFaultless, OpenFilesAreBounded, OpeningsAreBounded, OthersAreNotRead, MainRulesRise, LaterBindingsCount, LaterBindingsChangeNoEdge};
-ghost use Rattle.nj_graph.specs.Laws.{StatementsAreFoundInTurn, EntriesAreFoundInTurn, FirstPositionIsFirst, SignIsBeforeTheFirst, WordsMeanPaths, EmptyWordMeansNothing};
+ghost use Rattle.nj_graph.specs.Cited.{IsInReadingOrder, gathered, SameLogChangesNothing, JoinedStaysJoined, rule_place_given, pool_detail_given, opening_given, ReadIsFaultless, OpenFilesAreBounded, OpeningsAreBounded, OthersAreNotRead, MainRulesRise, LaterBindingsCount, LaterBindingsChangeNoEdge, StatementsAreFoundInTurn, EntriesAreFoundInTurn, FirstPositionIsFirst, SignIsBeforeTheFirst, WordsMeanPaths, EmptyWordMeansNothing};
 
 /// The statements that are read of a run's files up to the first fault: none of them has a fault by
 /// those before it, so that the rules of the main scope have names of their own; at most 32 files

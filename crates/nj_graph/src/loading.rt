@@ -1,12 +1,7 @@
 //! Loads the files of a run.
 
 ghost use Rattle.std.specs.Prelude.{◌≡◌, ℕ, None, List, IfOk};
-ghost use Rattle.nj_scope.specs.Scopes.{parent_at};
-ghost use Rattle.nj_scope.specs.ReadingList.{ReadStatement};
-ghost use Rattle.nj_graph.specs.Laws.{Faultless};
-ghost use Rattle.nj_graph.specs.Loads.{Loads};
-ghost use Rattle.nj_graph.specs.Origins.{main_of};
-ghost use Rattle.nj_graph.specs.Inside.ReaderContracts.{Has, FinishesReading};
+ghost use Rattle.nj_graph.specs.Cited.{parent_at, ReadStatement, Faultless, Loads, main_of, Has, FinishesReading};
 
 use crate::graph::{Declared, Graph, rules_of_main};
 use crate::reader::Reader;

@@ -1,8 +1,7 @@
 //! The files that edges make at the paths of a deps log.
 
 ghost use Rattle.std.specs.Prelude.{◌≡◌, length, All, IfOk, OnOk, bytes_eq};
-ghost use Rattle.std.specs.List.{IsDistinct};
-ghost use Rattle.nj_graph.specs.Inside.UndeclaredFound.{AreMade, IsKnownIfAny, MadeIs};
+ghost use Rattle.nj_graph.specs.Cited.{IsDistinct, AreMade, IsKnownIfAny, MadeIs};
 
 use nj_deps::DepsLog;
 use nj_discovered::clean;

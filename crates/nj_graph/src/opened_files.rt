@@ -1,9 +1,7 @@
 //! The files that were opened.
 
 ghost use Rattle.std.specs.Prelude.{◌≡◌, List, length, option_map, slice_get};
-ghost use Rattle.nj_scope.specs.ReadingList.{ReadStatement, files_opened};
-ghost use Rattle.nj_graph.specs.Origins.{main_of, opening_model, openings_read};
-ghost use Rattle.nj_graph.specs.Graph.{IsGraphOf};
+ghost use Rattle.nj_graph.specs.Cited.{ReadStatement, files_opened, main_of, opening_model, openings_read, IsGraphOf};
 
 use crate::graph::Graph;
 use crate::origins::Opening;

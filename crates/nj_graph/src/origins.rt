@@ -1,9 +1,7 @@
 //! The origins of statements: the places of rules and pools, and the files that were opened.
 
 ghost use Rattle.std.specs.Prelude.{◌≡◌, ◌<◌, [], ◌∷◌, ◌++◌, Some, None, length, option_map, slice_get, IfOk, OnOk};
-ghost use Rattle.nj_scope.specs.Readings.{IsPrefix};
-ghost use Rattle.nj_graph.specs.Origins.{place_text, rule_place_at, opening_model, origins_read};
-ghost use Rattle.nj_graph.specs.Inside.OriginsHeld.{place_held};
+ghost use Rattle.nj_graph.specs.Cited.{IsPrefix, place_text, rule_place_at, opening_model, origins_read, place_held};
 
 use nj_faults::PlaceRef;
 use nj_names::{HashKeys, Names};

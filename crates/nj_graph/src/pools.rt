@@ -1,9 +1,7 @@
 //! The pools that were declared, with their places and depths.
 
 ghost use Rattle.std.specs.Prelude.{◌≡◌, List, length, slice_get, option_copied, option_map};
-ghost use Rattle.nj_scope.specs.ReadingList.{ReadStatement, pools};
-ghost use Rattle.nj_graph.specs.Origins.{place_text, pool_details};
-ghost use Rattle.nj_graph.specs.Graph.{IsGraphOf};
+ghost use Rattle.nj_graph.specs.Cited.{ReadStatement, pools, place_text, pool_details, IsGraphOf};
 
 use crate::graph::Graph;
 use nj_faults::PlaceRef;

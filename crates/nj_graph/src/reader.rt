@@ -1,11 +1,7 @@
 //! The reading of a run's files: texts, and their statements one after another.
 
 ghost use Rattle.std.specs.Prelude.{◌≡◌, ◌<◌, Some, None, length, IfOk, OnOk, IfSome};
-ghost use Rattle.nj_manifest.specs.Contents.{placed_model};
-ghost use Rattle.nj_scope.specs.Scopes.{parent_at};
-ghost use Rattle.nj_faults.specs.Faults.{IsFault, fault_at};
-ghost use Rattle.nj_graph.specs.Reading.{entry_at, opened_in, text_read, statement_read, main_read};
-ghost use Rattle.nj_graph.specs.Inside.ReaderContracts.{IsNew, InFile, ScopesGrow, ReadsItem, ReadsOrStops, NextIs};
+ghost use Rattle.nj_graph.specs.Cited.{placed_model, parent_at, IsFault, fault_at, entry_at, opened_in, text_read, statement_read, main_read, IsNew, InFile, ScopesGrow, ReadsItem, ReadsOrStops, NextIs};
 
 use crate::file_statements::{Naming, text_at};
 use crate::origins::Origins;

@@ -1,8 +1,7 @@
 //! Commands without their response files.
 
 ghost use Rattle.std.specs.Prelude.{◌≡◌, ◌+◌, ◌++◌, ◌≤◌, length, IfOk, IfSome, OnOk};
-ghost use Rattle.nj_graph.specs.ResponseFiles.{first_position, sign_position};
-ghost use Rattle.nj_graph.specs.ResponseFiles.{on_one_line, with_content};
+ghost use Rattle.nj_graph.specs.Cited.{first_position, sign_position, on_one_line, with_content};
 
 use memchr::memmem;
 use std::alloc::{AllocError, Global};

@@ -1,10 +1,7 @@
 //! The rules of all scopes with their places, and the rules of edges.
 
 ghost use Rattle.std.specs.Prelude.{◌≡◌, ◌<◌, List, length, option_map};
-ghost use Rattle.nj_scope.specs.ReadingList.{ReadStatement, rules_read};
-ghost use Rattle.nj_statements.specs.Built.{detail_at};
-ghost use Rattle.nj_graph.specs.Origins.{place_text, rule_place_at, rule_places};
-ghost use Rattle.nj_graph.specs.Graph.{edges_of, IsGraphOf, rule_number_at};
+ghost use Rattle.nj_graph.specs.Cited.{ReadStatement, rules_read, detail_at, place_text, rule_place_at, rule_places, edges_of, IsGraphOf, rule_number_at};
 
 use crate::graph::Graph;
 use nj_edges::EdgeNo;

@@ -1,11 +1,7 @@
 //! The scopes of a graph, and their bindings after all statements.
 
 ghost use Rattle.std.specs.Prelude.{◌≡◌, ◌<◌, ℕ, List, [], ◌∷◌, length, option_copied};
-ghost use Rattle.std.specs.List.{Contains};
-ghost use Rattle.nj_scope.specs.ReadingList.{ReadStatement, scope_of, scopes_opened, value_if_bound};
-ghost use Rattle.nj_scope.specs.Scopes.{IsScope, parent_at};
-ghost use Rattle.nj_statements.specs.Built.{detail_at};
-ghost use Rattle.nj_graph.specs.Graph.{edges_of, IsGraphOf, scope_number_at};
+ghost use Rattle.nj_graph.specs.Cited.{Contains, ReadStatement, scope_of, scopes_opened, value_if_bound, IsScope, parent_at, detail_at, edges_of, IsGraphOf, scope_number_at};
 
 use crate::graph::Graph;
 use nj_edges::EdgeNo;

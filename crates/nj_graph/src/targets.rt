@@ -1,10 +1,7 @@
 //! Targets, as words of a command line name them.
 
 ghost use Rattle.std.specs.Prelude.{◌≡◌, ◌<◌, Some, All, IfOk, length, map, option_map, slice_get};
-ghost use Rattle.nj_names.specs.Files.{path_at};
-ghost use Rattle.nj_graph.specs.Graph.{edges_of, files_of};
-ghost use Rattle.nj_graph.specs.Targets.{target, first_made_of, made_target, clean_target, picked, targets_named, targets_or, Picks, PicksTargets};
-ghost use Rattle.nj_statements.specs.Built.{defaults_in_force};
+ghost use Rattle.nj_graph.specs.Cited.{path_at, edges_of, files_of, target, first_made_of, made_target, clean_target, picked, targets_named, targets_or, Picks, PicksTargets, defaults_in_force};
 
 use crate::graph::Graph;
 use nj_edges::FileNo;

@@ -1,15 +1,7 @@
 //! Inputs that deps logs name for edges, and that these do not declare.
 
 ghost use Rattle.std.specs.Prelude.{◌≡◌, ◌<◌, List, [], length, map, All, IfOk, OnOk, bytes_eq};
-ghost use Rattle.std.specs.List.{AllByRecursion, IsDistinct};
-ghost use Rattle.nj_text.specs.Paths.{clean_path_of};
-ghost use Rattle.nj_names.specs.NameTables.{is_among, name_at};
-ghost use Rattle.nj_names.specs.NumberSets.{has};
-ghost use Rattle.nj_scope.specs.ReadingList.{ReadStatement};
-ghost use Rattle.nj_edges.specs.Repeats.{each_once};
-ghost use Rattle.nj_graph.specs.Graph.{edges_of, files_of, IsGraphOf};
-ghost use Rattle.nj_graph.specs.Undeclared.{AreThose, AreUndeclared, IsUndeclared, input_of_edge, paths_of_output};
-ghost use Rattle.nj_graph.specs.Inside.UndeclaredFound.{AreMade, IsFound, IsKnownIfAny, inputs_by_number};
+ghost use Rattle.nj_graph.specs.Cited.{AllByRecursion, IsDistinct, clean_path_of, is_among, name_at, has, ReadStatement, each_once, edges_of, files_of, IsGraphOf, AreThose, AreUndeclared, IsUndeclared, input_of_edge, paths_of_output, AreMade, IsFound, IsKnownIfAny, inputs_by_number};
 
 use crate::found_inputs::FoundInputs;
 use crate::graph::Graph;

@@ -3,3 +3,5 @@ pub mod Bases
 pub mod Keys
 -- how the code does that
 pub mod Inside
+-- what the contracts cite
+pub mod Cited

@@ -1,9 +1,7 @@
 //! Directories of builds, and the texts that name them.
 
 ghost use Rattle.std.specs.Prelude.{◌≡◌, ◌++◌, [], ◌∷◌, true, ◌-◌, ◌<◌, ◌≤◌, if◌then◌else◌, length, take, drop, IfOk, IfSome, OnOk, OnErr, bytes_eq, decimal, map, position, unwrap_or};
-ghost use Rattle.nj_text.specs.Paths.{clean_path_of, is_absolute};
-ghost use Rattle.nj_keys.specs.Bases.{is_quote, is_separator, is_path_byte, ends_before, begins_with_quote, stands_at, longest_at, front_mapped, mapped};
-ghost use Rattle.nj_keys.specs.Inside.Folders.{may_begin_after, paths};
+ghost use Rattle.nj_keys.specs.Cited.{clean_path_of, is_absolute, is_quote, is_separator, is_path_byte, ends_before, begins_with_quote, stands_at, longest_at, front_mapped, mapped, may_begin_after, paths};
 
 use itoa::Buffer;
 use nj_text::{TextFault, clean_path};

@@ -1,15 +1,7 @@
 //! The contents of an edge's key.
 
 ghost use Rattle.std.specs.Prelude.{◌≡◌, ◌<◌, ◌++◌, List, codes, IfOk, OnOk, length, map};
-ghost use Rattle.std.specs.List.{flat_map};
-ghost use Rattle.nj_graph.specs.ReadingList.{ReadStatement};
-ghost use Rattle.nj_graph.specs.Edges.{edge_at, outputs_of, maker_of};
-ghost use Rattle.nj_graph.specs.Files.{path_at};
-ghost use Rattle.nj_graph.specs.Graph.{edges_of, files_of, IsGraphOf};
-ghost use Rattle.nj_keys.specs.Bases.{mapped};
-ghost use Rattle.nj_keys.specs.Keys.{bars, field, fields_of, fields_text, input_text, inputs_with_keys};
-ghost use Rattle.nj_keys.specs.Keys.{maker_key, number, response_of, variable_of};
-ghost use Rattle.nj_keys.specs.Inside.Keeping.{kept_key};
+ghost use Rattle.nj_keys.specs.Cited.{flat_map, ReadStatement, edge_at, outputs_of, maker_of, path_at, edges_of, files_of, IsGraphOf, mapped, bars, field, fields_of, fields_text, input_text, inputs_with_keys, maker_key, number, response_of, variable_of, kept_key};
 
 use crate::bases::Bases;
 use itoa::Buffer;

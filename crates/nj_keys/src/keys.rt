@@ -1,10 +1,7 @@
 //! The keys of edges, each from those of the edges that make its inputs.
 
 ghost use Rattle.std.specs.Prelude.{◌≡◌, ℕ, ◌<◌, ◌≤◌, List, None, Some, IfNone, IfOk, IfSome, OnOk, length, slice_get};
-ghost use Rattle.nj_graph.specs.ReadingList.{ReadStatement};
-ghost use Rattle.nj_graph.specs.Graph.{edges_of, IsGraphOf};
-ghost use Rattle.nj_keys.specs.Keys.{IsKey, Needs};
-ghost use Rattle.nj_keys.specs.Inside.Keeping.{IsAcyclic, IsKept, KeepsKeys, KeepsMakers};
+ghost use Rattle.nj_keys.specs.Cited.{ReadStatement, edges_of, IsGraphOf, IsKey, Needs, IsAcyclic, IsKept, KeepsKeys, KeepsMakers};
 
 use crate::bases::Bases;
 use crate::fields::{Key, fields_text};

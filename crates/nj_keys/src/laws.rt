@@ -1,6 +1,6 @@
 //! Laws of keys and their lines.
 
-ghost use Rattle.nj_keys.specs.Keys.{EdgesHaveKeys, KeysAreUnique, LinesAreUnique, PagesOfLinesJoin, TextsTellFields};
+ghost use Rattle.nj_keys.specs.Cited.{EdgesHaveKeys, KeysAreUnique, LinesAreUnique, PagesOfLinesJoin, TextsTellFields};
 
 /// Edges with other fields have keys of other texts: the text of an edge's fields tells its command,
 /// its response file, its outputs and its inputs, with their kinds and the keys of the edges that

@@ -1,15 +1,7 @@
 //! The lines of commands, in pages.
 
 ghost use Rattle.std.specs.Prelude.{◌≡◌, ◌<◌, ◌++◌, ◌⊎◌, [], true, false, All, List, IfErr, IfOk, OnOk, length, unwrap_or};
-ghost use Rattle.nj_graph.specs.ReadingList.{ReadStatement};
-ghost use Rattle.nj_graph.specs.Edges.{edge_at, first_output};
-ghost use Rattle.nj_needs.specs.Graphs.{makers_of, row_of};
-ghost use Rattle.nj_needs.specs.Marks.{is_valid};
-ghost use Rattle.nj_needs.specs.Walks.{rest_of, BeginsAt, WalkState};
-ghost use Rattle.nj_needs.specs.PageWalks.{written, StopsAt};
-ghost use Rattle.nj_graph.specs.Graph.{edges_of, files_of, IsGraphOf};
-ghost use Rattle.nj_keys.specs.Keys.{line, ListsKeys};
-ghost use Rattle.nj_keys.specs.Inside.Keeping.{kept_key};
+ghost use Rattle.nj_keys.specs.Cited.{ReadStatement, edge_at, first_output, makers_of, row_of, is_valid, rest_of, BeginsAt, WalkState, written, StopsAt, edges_of, files_of, IsGraphOf, line, ListsKeys, kept_key};
 
 use crate::bases::Bases;
 use crate::fields::{Key, kept_key};

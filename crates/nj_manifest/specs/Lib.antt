@@ -16,3 +16,5 @@ pub mod Parsers
 pub mod Statements
 -- how the code does that
 pub mod Inside
+-- what the contracts cite
+pub mod Cited

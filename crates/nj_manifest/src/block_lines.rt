@@ -1,12 +1,7 @@
 //! The lines of a block.
 
 ghost use Rattle.std.specs.Prelude.{◌≡◌, map, OnOk, ◌++◌, ◌∷◌, []};
-ghost use Rattle.nj_text.specs.Words.{word_model};
-ghost use Rattle.nj_manifest.specs.Inside.ParserContracts.{TakesStep};
-ghost use Rattle.nj_manifest.specs.Statements.{allows, equals_value, line_next, block, gives};
-ghost use Rattle.nj_manifest.specs.Inside.Heads.{names, whole_rule, whole_pool};
-ghost use Rattle.nj_manifest.specs.Contents.{line_model, lines_model};
-ghost use Rattle.nj_manifest.specs.Inside.ParserContracts.{ParsesFrom, Wholes};
+ghost use Rattle.nj_manifest.specs.Cited.{word_model, TakesStep, allows, equals_value, line_next, block, gives, names, whole_rule, whole_pool, line_model, lines_model, ParsesFrom, Wholes};
 
 use crate::cause::Wanted;
 use crate::parse_fault::ParseFault;

@@ -1,8 +1,7 @@
 //! The causes of syntax faults, without their places.
 
 ghost use Rattle.std.specs.Prelude.{◌≡◌, Ok, Some, IfOk};
-ghost use Rattle.std.specs.Str.Lossy.{utf8_lossy};
-ghost use Rattle.nj_manifest.specs.Faults.{named_by, syntax_text, wanted_text};
+ghost use Rattle.nj_manifest.specs.Cited.{utf8_lossy, named_by, syntax_text, wanted_text};
 
 use crate::fault_text::FaultText;
 use nj_text::{BAD_BYTE_TEXT, BAD_ESCAPE_TEXT, TAB_TEXT};

@@ -1,12 +1,7 @@
 //! The lines of a dyndep file.
 
 ghost use Rattle.std.specs.Prelude.{◌≡◌, IfOk, map};
-ghost use Rattle.nj_text.specs.Words.{word_model, part_model};
-ghost use Rattle.nj_manifest.specs.Contents.{words_model};
-ghost use Rattle.nj_manifest.specs.Expansion.{expanded, no_values};
-ghost use Rattle.nj_manifest.specs.Inside.ParserContracts.{TakesStep, LeadsTo};
-ghost use Rattle.nj_manifest.specs.Dyndeps.{version_line, word_of_form, no_path, no_section, output_next, added_inputs, entry_line, restat_block};
-ghost use Rattle.nj_manifest.specs.DyndepParsers.{entry_model};
+ghost use Rattle.nj_manifest.specs.Cited.{word_model, part_model, words_model, expanded, no_values, TakesStep, LeadsTo, version_line, word_of_form, no_path, no_section, output_next, added_inputs, entry_line, restat_block, entry_model};
 
 use crate::block_lines::equals_value;
 use crate::cause::Wanted;

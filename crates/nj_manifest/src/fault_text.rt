@@ -1,7 +1,7 @@
 //! The text of a fault.
 
 ghost use Rattle.std.specs.Prelude.{◌≡◌, ◌++◌, Some, OnOk};
-ghost use Rattle.std.specs.Str.Lossy.{utf8_lossy};
+ghost use Rattle.nj_manifest.specs.Cited.{utf8_lossy};
 
 use nj_text::Lossy;
 use std::alloc::AllocError;

@@ -1,12 +1,7 @@
 //! The first lines of statements.
 
 ghost use Rattle.std.specs.Prelude.{◌≡◌, map};
-ghost use Rattle.nj_text.specs.Words.{word_model};
-ghost use Rattle.nj_manifest.specs.Contents.{words_model};
-ghost use Rattle.nj_manifest.specs.Statements.{outputs_next, targets_next, file_next};
-ghost use Rattle.nj_manifest.specs.Grammar.{RuleHead, PoolHead};
-ghost use Rattle.nj_manifest.specs.Inside.Heads.{name_alone, as_head, build_head, head_after, head_next};
-ghost use Rattle.nj_manifest.specs.Inside.ParserContracts.{TakesStep, name_model, outs_model, head_model};
+ghost use Rattle.nj_manifest.specs.Cited.{word_model, words_model, outputs_next, targets_next, file_next, RuleHead, PoolHead, name_alone, as_head, build_head, head_after, head_next, TakesStep, name_model, outs_model, head_model};
 
 use crate::block_lines::equals_value;
 use crate::cause::Wanted;

@@ -1,10 +1,6 @@
 //! Laws of the grammar of statements.
 
-ghost use Rattle.nj_manifest.specs.Laws.{StatementsAreTheForms, MissingLinesAreLacking};
-ghost use Rattle.nj_manifest.specs.DyndepForms.{EntriesAreTheForms, NextEntriesAreTheForms};
-ghost use Rattle.nj_manifest.specs.Leftmost.{FaultsAreLeftmost};
-ghost use Rattle.nj_manifest.specs.DyndepVersions.{VersionsAreTheForms};
-ghost use Rattle.nj_manifest.specs.DyndepLeftmost.{DyndepFaultsAreLeftmost, UnitsOfStringsAreApart};
+ghost use Rattle.nj_manifest.specs.Cited.{StatementsAreTheForms, MissingLinesAreLacking, EntriesAreTheForms, NextEntriesAreTheForms, FaultsAreLeftmost, VersionsAreTheForms, DyndepFaultsAreLeftmost, UnitsOfStringsAreApart};
 
 /// A statement is read from lines, or none at their end, exactly where the forms of Ninja's manual
 /// allow it.

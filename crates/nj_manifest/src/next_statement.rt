@@ -1,10 +1,7 @@
 //! The next statement of a text.
 
 ghost use Rattle.std.specs.Prelude.{◌≡◌, map, Some, option_map};
-ghost use Rattle.nj_manifest.specs.Statements.{next_statement};
-ghost use Rattle.nj_manifest.specs.Inside.Heads.{with_block, statement_here};
-ghost use Rattle.nj_manifest.specs.Contents.{statement_model, placed_model};
-ghost use Rattle.nj_manifest.specs.Inside.ParserContracts.{head_model, ParsesFrom, ParsesAt, ParsesNext, IsBetweenStatements};
+ghost use Rattle.nj_manifest.specs.Cited.{next_statement, with_block, statement_here, statement_model, placed_model, head_model, ParsesFrom, ParsesAt, ParsesNext, IsBetweenStatements};
 
 use crate::block_lines::{Keys, block, whole_pool, whole_rule};
 use crate::heads::head_next;

@@ -1,9 +1,7 @@
 //! Why a text is not a list of statements.
 
 ghost use Rattle.std.specs.Prelude.{◌≡◌, Some, option_map};
-ghost use Rattle.nj_manifest.specs.Faults.{fault_text, named_by, place_of, shown_fault, syntax_cause};
-ghost use Rattle.nj_text.specs.declared.fault.LexFault.TheVariants.{OutOfMemory};
-ghost use Rattle.nj_manifest.specs.declared.parse_fault.ParseFault.TheVariants.{Lex};
+ghost use Rattle.nj_manifest.specs.Cited.{fault_text, named_by, place_of, shown_fault, syntax_cause, OutOfMemory, Lex};
 
 use crate::cause::{SyntaxCause, Wanted};
 use nj_text::{LexFault, OUT_OF_MEMORY_TEXT, Spot};

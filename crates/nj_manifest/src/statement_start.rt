@@ -1,7 +1,7 @@
 //! Where the next statement begins.
 
 ghost use Rattle.std.specs.Prelude.{◌≡◌};
-ghost use Rattle.nj_manifest.specs.Inside.ParserContracts.{IsBetweenStatements, FindsOpening};
+ghost use Rattle.nj_manifest.specs.Cited.{IsBetweenStatements, FindsOpening};
 
 use crate::parse_fault::ParseFault;
 use nj_text::{Lexer, LineStart, Spot};

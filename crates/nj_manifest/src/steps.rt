@@ -1,9 +1,7 @@
 //! Reading on along a line.
 
 ghost use Rattle.std.specs.Prelude.{◌≡◌, map};
-ghost use Rattle.nj_text.specs.Words.{word_model};
-ghost use Rattle.nj_manifest.specs.Inside.ParserContracts.{TakesStep, LeadsTo, name_model};
-ghost use Rattle.nj_manifest.specs.LineSteps.{name_next, expect_sign, words_next, section_next};
+ghost use Rattle.nj_manifest.specs.Cited.{word_model, TakesStep, LeadsTo, name_model, name_next, expect_sign, words_next, section_next};
 
 use crate::cause::Wanted;
 use crate::parse_fault::ParseFault;

@@ -7,3 +7,5 @@ pub mod NumberSets
 pub mod PlainHash
 -- how the code does that
 pub mod Inside
+-- what the contracts cite
+pub mod Cited

@@ -1,7 +1,6 @@
 //! The hash of bytes that lie together.
-ghost use Rattle.nj_names.specs.ByteHash.{words_of, take_words, after_blocks, short_words, last_words, state_after};
-ghost use Rattle.nj_names.specs.NameHash.{with_byte};
 ghost use Rattle.std.specs.Prelude.{◌≡◌, fold};
+ghost use Rattle.nj_names.specs.Cited.{words_of, take_words, after_blocks, short_words, last_words, state_after, with_byte};
 
 use crate::name_hasher::folded_product;
 

@@ -1,8 +1,7 @@
 //! The files that build statements name, by their numbers.
 
 ghost use Rattle.std.specs.Prelude.{◌≡◌, ◌<◌, [], length, Some, option_map, position, slice_get, is_some, bytes_eq, IfOk, OnOk, OnErr};
-ghost use Rattle.std.specs.List.{IsDistinct, list_any};
-ghost use Rattle.nj_names.specs.NameTables.{with_name};
+ghost use Rattle.nj_names.specs.Cited.{IsDistinct, list_any, with_name};
 
 use crate::hash_keys::HashKeys;
 use crate::table::Names;

@@ -1,7 +1,7 @@
 //! Keys of hashes.
 
-ghost use Rattle.nj_names.specs.ByteHash.{hash_bytes};
 ghost use Rattle.std.specs.Prelude.{◌≡◌};
+ghost use Rattle.nj_names.specs.Cited.{hash_bytes};
 
 use crate::name_hasher::NameHasher;
 use std::hash::BuildHasher;

@@ -1,7 +1,6 @@
 //! The hasher of names.
-ghost use Rattle.nj_names.specs.ByteHash.{hash_bytes};
-ghost use Rattle.nj_names.specs.NameHash.{folded_product, take_block, take_byte, write, finish};
 ghost use Rattle.std.specs.Prelude.{◌≡◌};
+ghost use Rattle.nj_names.specs.Cited.{hash_bytes, folded_product, take_block, take_byte, write, finish};
 
 use crate::byte_hash::state_after;
 use std::hash::Hasher;

@@ -1,8 +1,7 @@
 //! Sets of numbers.
 
 ghost use Rattle.std.specs.Prelude.{◌≡◌, ℕ, ◌<◌, ◌≤◌, not, false, [], length, slice_index_or, nat_eq, All, IfOk, OnOk, OnErr};
-ghost use Rattle.std.specs.List.{IsDistinct};
-ghost use Rattle.nj_names.specs.NumberSets.{has, with_number};
+ghost use Rattle.nj_names.specs.Cited.{IsDistinct, has, with_number};
 
 use std::alloc::{AllocError, Global};
 use std::marker::Model;

@@ -1,6 +1,6 @@
 //! The hasher of hashes.
-ghost use Rattle.nj_names.specs.PlainHash.{write_plain};
 ghost use Rattle.std.specs.Prelude.{◌≡◌};
+ghost use Rattle.nj_names.specs.Cited.{write_plain};
 
 use crate::byte_hash::with_bytes;
 use std::hash::Hasher;

@@ -1,8 +1,7 @@
 //! Sets of numbers that are emptied at once.
 
 ghost use Rattle.std.specs.Prelude.{◌≡◌, ◌<◌, ◌≤◌, not, [], length, nat_eq, All, IfOk, OnErr, OnOk};
-ghost use Rattle.std.specs.List.{IsDistinct};
-ghost use Rattle.nj_names.specs.NumberSets.{has, with_number};
+ghost use Rattle.nj_names.specs.Cited.{IsDistinct, has, with_number};
 
 use std::alloc::{AllocError, Global};
 use std::marker::Model;

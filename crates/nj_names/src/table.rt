@@ -1,10 +1,7 @@
 //! The names of a run, by their numbers.
 
 ghost use Rattle.std.specs.Prelude.{◌≡◌, ◌<◌, ◌≤◌, ◌+◌, if◌then◌else◌, [], ◌∷◌, ◌++◌, length, Some, position, slice_get, slice_index_or, slice_range, is_some, is_ok, bytes_eq, nat_eq, IfOk, OnOk, OnErr};
-ghost use Rattle.std.specs.List.{IsDistinct, list_any};
-ghost use Rattle.indexmap.specs.IndexMap.{IsUnchanged, Updates};
-ghost use Rattle.nj_names.specs.NameTables.{with_name};
-ghost use Rattle.nj_names.specs.Inside.NamesHeld.{CanBeFound, EndsRise, IsFound, held_names, newest_in, start_in};
+ghost use Rattle.nj_names.specs.Cited.{IsDistinct, list_any, IsUnchanged, Updates, with_name, CanBeFound, EndsRise, IsFound, held_names, newest_in, start_in};
 
 use crate::hash_keys::HashKeys;
 use crate::plain_hasher::PlainHasher;

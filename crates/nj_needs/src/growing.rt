@@ -1,10 +1,7 @@
 //! Targets together with the validations of the edges that they need.
 
 ghost use Rattle.std.specs.Prelude.{◌≡◌, ◌<◌, ◌++◌, List, true, false, Some, length, map, All, IfOk, OnOk, IfSome, IfNone, slice_index_or};
-ghost use Rattle.std.specs.Option.{ForSome};
-ghost use Rattle.nj_edges.specs.Edges.{edge_at};
-ghost use Rattle.nj_names.specs.Files.{path_at, AreFiles};
-ghost use Rattle.nj_needs.specs.Growing.{grown_targets, RoundsAppend, GrownTargetsStay, GrownTargetsReachTheFollowed};
+ghost use Rattle.nj_needs.specs.Cited.{ForSome, edge_at, path_at, AreFiles, grown_targets, RoundsAppend, GrownTargetsStay, GrownTargetsReachTheFollowed};
 
 use crate::frame::Frame;
 use crate::looks::look_at;

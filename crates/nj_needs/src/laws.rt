@@ -1,7 +1,6 @@
 //! Laws of the order of the commands.
 
-ghost use Rattle.nj_needs.specs.Laws.{FuelIsEnough, EdgesComeAfterMakers, CommandsAreTheReached, CommandsComeOnce, CommandsComeAfterNeeds, FirstPlacesAreOne};
-ghost use Rattle.nj_needs.specs.Pages.{MarkKeepsTheRest, PagesJoin, RestIsSuffix};
+ghost use Rattle.nj_needs.specs.Cited.{FuelIsEnough, EdgesComeAfterMakers, CommandsAreTheReached, CommandsComeOnce, CommandsComeAfterNeeds, FirstPlacesAreOne, MarkKeepsTheRest, PagesJoin, RestIsSuffix};
 
 /// The unfolded order has fuel enough: with more of it the order is the same. So an edge unfolds to
 /// the unfolded order of each of its makers, in turn, and then the edge.

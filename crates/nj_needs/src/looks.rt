@@ -1,10 +1,8 @@
 //! A look at a place of a row: of the inputs of an edge, or of the targets.
 
 ghost use Rattle.std.specs.Prelude.{◌≡◌, ◌+◌, ◌^◌, ◌<◌, length, All, IfSome, slice_get};
-ghost use Rattle.std.specs.Option.{ForSome};
-ghost use Rattle.nj_needs.specs.Graphs.{count_of};
-ghost use Rattle.nj_needs.specs.Inside.Tops.{row_in};
 ghost use Rattle.nj_needs.specs.Walks.{number_of};
+ghost use Rattle.nj_needs.specs.Cited.{ForSome, count_of, row_in};
 
 use nj_edges::{EdgeGraph, EdgeNo, FileNo};
 

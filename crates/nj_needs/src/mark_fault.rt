@@ -1,8 +1,7 @@
 //! Faults of marks.
 
 ghost use Rattle.std.specs.Prelude.{◌≡◌, Some};
-ghost use Rattle.nj_needs.specs.declared.mark_fault.MarkFault.TheVariants.{OutOfMemory};
-ghost use Rattle.nj_needs.specs.MarkFaults.{fault_text};
+ghost use Rattle.nj_needs.specs.Cited.{OutOfMemory, fault_text};
 
 use nj_text::OUT_OF_MEMORY_TEXT;
 use std::alloc::{AllocError, AllocFailed};

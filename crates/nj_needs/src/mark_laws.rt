@@ -1,6 +1,6 @@
 //! Laws of the written form of marks.
 
-ghost use Rattle.nj_needs.specs.MarkLaws.{WrittenMarksAreGiven, GivenMarksAreWritten};
+ghost use Rattle.nj_needs.specs.Cited.{WrittenMarksAreGiven, GivenMarksAreWritten};
 
 /// The text that is written for a mark gives that mark.
 pub fn written_marks_are_given()

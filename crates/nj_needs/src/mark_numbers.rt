@@ -1,11 +1,8 @@
 //! The numbers of an address.
 
 ghost use Rattle.std.specs.Prelude.{◌≡◌, ◌∷◌, ◌<◌, [], Some, IfOk, IfErr, IfSome, length};
-ghost use Rattle.std.specs.Option.{option_copied};
-ghost use Rattle.std.specs.List.{slice_split};
-ghost use Rattle.nj_needs.specs.MarkTexts.{number_of, numbers_in};
-ghost use Rattle.nj_needs.specs.MarkFaults.{IsReadFault};
-ghost use Rattle.nj_needs.specs.Inside.MarkScanning.{has_plain_front, is_dot, parts_left};
+ghost use Rattle.nj_needs.specs.MarkTexts.{number_of};
+ghost use Rattle.nj_needs.specs.Cited.{option_copied, slice_split, numbers_in, IsReadFault, has_plain_front, is_dot, parts_left};
 
 use crate::mark_fault::MarkFault;
 use std::alloc::Global;

@@ -1,9 +1,7 @@
 //! Marks, and their written form.
 
 ghost use Rattle.std.specs.Prelude.{◌≡◌, [], ◌∷◌, Some, IfOk, IfErr, string_bytes, codes};
-ghost use Rattle.std.specs.Str.{bytes_eq};
-ghost use Rattle.nj_needs.specs.MarkTexts.{mark_text, given_mark, ReadsBack};
-ghost use Rattle.nj_needs.specs.MarkFaults.{IsReadFault};
+ghost use Rattle.nj_needs.specs.Cited.{bytes_eq, mark_text, given_mark, ReadsBack, IsReadFault};
 
 use crate::mark_fault::MarkFault;
 use crate::mark_numbers::numbers_in;

@@ -1,10 +1,8 @@
 //! The walk over the commands that targets need.
 
-ghost use Rattle.std.specs.Iterator.{item_count};
 ghost use Rattle.std.specs.Prelude.{◌≡◌, ◌<◌, length, IfOk, IfSome};
-ghost use Rattle.nj_needs.specs.MarkTexts.{ReadsBack};
-ghost use Rattle.nj_needs.specs.Counts.{saturated};
-ghost use Rattle.nj_needs.specs.Walks.{IsSound, IsSameWalk, NextIs, ReturnsNext, number_of};
+ghost use Rattle.nj_needs.specs.Walks.{number_of};
+ghost use Rattle.nj_needs.specs.Cited.{item_count, ReadsBack, saturated, IsSound, IsSameWalk, NextIs, ReturnsNext};
 
 pub(crate) mod beginning;
 

@@ -1,10 +1,7 @@
 //! The loop of `next`.
 
 ghost use Rattle.std.specs.Prelude.{◌≡◌, ◌<◌, ◌≤◌, IfSome};
-ghost use Rattle.nj_needs.specs.Graphs.{count_of};
-ghost use Rattle.nj_needs.specs.Inside.Standing.{turns_left_of};
-ghost use Rattle.nj_needs.specs.Inside.Views.{state_of, IsNeeds};
-ghost use Rattle.nj_needs.specs.Walks.{NextIs};
+ghost use Rattle.nj_needs.specs.Cited.{count_of, turns_left_of, state_of, IsNeeds, NextIs};
 
 use crate::resume_point::Saved;
 use crate::walk::{Turn, Walk};

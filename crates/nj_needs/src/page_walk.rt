@@ -1,8 +1,8 @@
 //! Pages of a walk, and the mark after each.
 
 ghost use Rattle.std.specs.Prelude.{◌≡◌, ◌<◌, ◌-◌, ℕ, Option, List, Some, IfOk, IfSome, length, option_map};
-ghost use Rattle.nj_needs.specs.PageWalks.{written, GoesOn, HasSoFar, StopsAt};
-ghost use Rattle.nj_needs.specs.Walks.{WalkState, number_of};
+ghost use Rattle.nj_needs.specs.Walks.{number_of};
+ghost use Rattle.nj_needs.specs.Cited.{written, GoesOn, HasSoFar, StopsAt, WalkState};
 
 use crate::marks::Mark;
 use crate::needs::Needs;

@@ -1,8 +1,7 @@
 //! The address of the edge that a walk returned last.
 
 ghost use Rattle.std.specs.Prelude.{◌≡◌, ◌+◌, ◌<◌, ◌≤◌, List, [], ◌∷◌, ◌++◌, length, min, take, IfOk};
-ghost use Rattle.nj_needs.specs.Inside.Paths.{places};
-ghost use Rattle.nj_needs.specs.Inside.Saved.{KeepsFront};
+ghost use Rattle.nj_needs.specs.Cited.{places, KeepsFront};
 
 use crate::frame::Frame;
 use crate::reserved_list::ReservedList;

@@ -1,15 +1,7 @@
 //! The way to a mark: whether it leads to an edge, and the turns up to there.
 
 ghost use Rattle.std.specs.Prelude.{◌≡◌, ◌≤◌, [], length, true, take};
-ghost use Rattle.std.specs.Bool.{OnTrue};
-ghost use Rattle.nj_cycles.specs.Cycles.{IsAcyclic};
-ghost use Rattle.nj_needs.specs.Counts.{saturated};
-ghost use Rattle.nj_needs.specs.Graphs.{makers_of, count_of, row_of};
-ghost use Rattle.nj_needs.specs.Inside.Heading.{IsHeading};
-ghost use Rattle.nj_needs.specs.Marks.{is_valid};
-ghost use Rattle.nj_needs.specs.Needs.{AreWithin};
-ghost use Rattle.nj_needs.specs.Inside.Standing.{IsWalk, left_of, top_of};
-ghost use Rattle.nj_needs.specs.Walks.{rest_of};
+ghost use Rattle.nj_needs.specs.Cited.{OnTrue, IsAcyclic, saturated, makers_of, count_of, row_of, IsHeading, is_valid, AreWithin, IsWalk, left_of, top_of, rest_of};
 
 use crate::needs::beginning::turns::Turns;
 use crate::walk::Walk;

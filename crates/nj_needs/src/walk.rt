@@ -2,9 +2,7 @@
 //! that is done.
 
 ghost use Rattle.std.specs.Prelude.{◌≡◌, ◌+◌, ◌-◌, ◌^◌, ◌<◌, ◌≤◌, [], ◌∷◌, ◌++◌, length, MatchOption, None, slice_get, slice_index_or, IfOk};
-ghost use Rattle.nj_needs.specs.Counts.{saturated};
-ghost use Rattle.nj_needs.specs.Inside.Standing.{IsWalk, TurnIs, top_of};
-ghost use Rattle.nj_needs.specs.Inside.Tops.{IsTop};
+ghost use Rattle.nj_needs.specs.Cited.{saturated, IsWalk, TurnIs, top_of, IsTop};
 
 use crate::frame::Frame;
 use crate::needs::beginning::turns::Turns;

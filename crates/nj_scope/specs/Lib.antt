@@ -15,3 +15,5 @@ pub mod Declarations
 pub mod RulesHeld
 -- how the code does that
 pub mod Inside
+-- what the contracts cite
+pub mod Cited

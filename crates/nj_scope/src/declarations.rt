@@ -1,15 +1,7 @@
 //! The declarations of a run's statements.
 
 ghost use Rattle.std.specs.Prelude.{◌≡◌, ℕ, ◌+◌, ◌<◌, List, [], ◌∷◌, ◌++◌, Some, None, true, false, length, not, slice_get, option_copied, option_map, IfOk, OnOk, OnErr, IfSome};
-ghost use Rattle.nj_text.specs.declared.spot.Spot.{Spot};
-ghost use Rattle.nj_text.specs.Words.{WordModel, word_model};
-ghost use Rattle.nj_manifest.specs.Contents.{lines_model};
-ghost use Rattle.nj_manifest.specs.Statements.{LineModel, BindingModel, RuleModel, PoolModel, SubninjaModel};
-ghost use Rattle.nj_scope.specs.Scopes.{IsScope, expanded, parent_at, rule_at};
-ghost use Rattle.nj_scope.specs.Pools.{is_pool};
-ghost use Rattle.nj_scope.specs.Declarations.{DeclaredBy, TakesIn, Keeps, SameScopes};
-ghost use Rattle.nj_scope.specs.ReadingList.{ReadStatement, value_after, value_if_bound, is_declared, rule_in_force};
-ghost use Rattle.nj_scope.specs.Inside.PoolOrDyndep.{is_pool_or_dyndep};
+ghost use Rattle.nj_scope.specs.Cited.{Spot, WordModel, word_model, lines_model, LineModel, BindingModel, RuleModel, PoolModel, SubninjaModel, IsScope, expanded, parent_at, rule_at, is_pool, DeclaredBy, TakesIn, Keeps, SameScopes, ReadStatement, value_after, value_if_bound, is_declared, rule_in_force, is_pool_or_dyndep};
 
 use crate::pools::Pools;
 use crate::rule::{Rule, RuleNo};

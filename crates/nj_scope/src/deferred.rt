@@ -1,9 +1,7 @@
 //! Values that are expanded later.
 
 ghost use Rattle.std.specs.Prelude.{◌≡◌, ◌<◌, List, [], ◌∷◌, ◌++◌, Some, length, slice_get, IfOk, OnOk, OnErr};
-ghost use Rattle.nj_text.specs.Words.{part_model, word_model};
-ghost use Rattle.nj_scope.specs.Late.{part_written, parts_written};
-ghost use Rattle.nj_scope.specs.Inside.LateHeld.{text_or_name};
+ghost use Rattle.nj_scope.specs.Cited.{part_model, word_model, part_written, parts_written, text_or_name};
 
 use nj_text::{Part, Word};
 use std::alloc::{AllocError, Global};

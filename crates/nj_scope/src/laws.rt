@@ -1,8 +1,6 @@
 //! Laws of bindings and declarations. A law is a theorem, stated as a function with an empty body.
 
-ghost use Rattle.nj_scope.specs.Laws.{LastBindingCounts, OthersAreInherited, OthersKeepTheirs, InForceIsDeclared};
-ghost use Rattle.nj_scope.specs.Laws.{IsInReadingOrder};
-ghost use Rattle.nj_scope.specs.ReadingList.{gathered, rule_given, pool_given, scope_given, path_named};
+ghost use Rattle.nj_scope.specs.Cited.{LastBindingCounts, OthersAreInherited, OthersKeepTheirs, InForceIsDeclared, IsInReadingOrder, gathered, rule_given, pool_given, scope_given, path_named};
 
 /// The value of a name, by the statements that were read: the last binding of its own scope counts,
 /// with the values that names had before it; without one the scopes around count; and no scope

@@ -1,8 +1,7 @@
 //! Files in memory, in place of files on a disk.
 
 ghost use Rattle.std.specs.Prelude.{◌≡◌, ℕ, ◌+◌, ◌-◌, ◌^◌, ◌≤◌, ◌↔◌, List, [], ◌∷◌, ◌++◌, Some, None, min, find, reverse, string_bytes, option_copied, if◌then◌else◌, bytes_eq, IfOk, OnOk, OnErr, IsErrOf};
-ghost use Rattle.nj_scope.specs.Memory.{bytes_added};
-ghost use Rattle.nj_scope.specs.Sources.{outcome_bytes};
+ghost use Rattle.nj_scope.specs.Cited.{bytes_added, outcome_bytes};
 
 use crate::source::{FileSource, SourceFault};
 use std::alloc::{AllocError, Global};

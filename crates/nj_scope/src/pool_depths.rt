@@ -1,7 +1,7 @@
 //! Which depths of pools are accepted.
 
 ghost use Rattle.std.specs.Prelude.{◌≡◌};
-ghost use Rattle.nj_scope.specs.Limits.{is_depth};
+ghost use Rattle.nj_scope.specs.Cited.{is_depth};
 
 use nj_text::leading_number;
 

@@ -1,7 +1,7 @@
 //! Pools.
 
 ghost use Rattle.std.specs.Prelude.{◌≡◌, ℕ, List, [], ◌∷◌, ◌++◌, length, not, slice_get, option_copied, IfOk, OnErr, if◌then◌else◌};
-ghost use Rattle.nj_scope.specs.Pools.{is_pool};
+ghost use Rattle.nj_scope.specs.Cited.{is_pool};
 
 use indexmap::IndexSet;
 use nj_names::HashKeys;

@@ -1,10 +1,7 @@
 //! Rules.
 
 ghost use Rattle.std.specs.Prelude.{◌≡◌, ◌<◌, ℕ, List, Some, None, map, option_copied, length, option_map, slice_get, slice_index, All, IfOk, IfSome, IfNone};
-ghost use Rattle.nj_scope.specs.Rules.{line_kept, given};
-ghost use Rattle.nj_scope.specs.RulesHeld.{last_lines, key_count, key_at, IsNumber, KeysAreNumbered, NumbersDiffer};
-ghost use Rattle.nj_scope.specs.Inside.KeysHeld.{line_held, AreIndexes, HasKeyAt};
-ghost use Rattle.nj_manifest.specs.Contents.{line_model};
+ghost use Rattle.nj_scope.specs.Cited.{line_kept, given, last_lines, key_count, key_at, IsNumber, KeysAreNumbered, NumbersDiffer, line_held, AreIndexes, HasKeyAt, line_model};
 
 use crate::deferred::LateValue;
 use crate::scopes::ScopeNo;

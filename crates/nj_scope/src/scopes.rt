@@ -1,10 +1,7 @@
 //! The scopes of variables and rules.
 
 ghost use Rattle.std.specs.Prelude.{◌≡◌, ℕ, ◌+◌, ◌<◌, ◌&&◌, ◌==◌, ◌++◌, List, Option, Some, None, length, option_copied, option_map, IfSome, IfOk, OnOk, OnErr, if◌then◌else◌, bytes_eq};
-ghost use Rattle.nj_scope.specs.Scopes.{IsScope, first_given, value_in, expanded, parent_at, bound_at, rule_at};
-ghost use Rattle.std.specs.Map.{lookup};
-ghost use Rattle.nj_scope.specs.Inside.ScopesHeld.{values_text};
-ghost use Rattle.nj_text.specs.Words.{word_model};
+ghost use Rattle.nj_scope.specs.Cited.{IsScope, first_given, value_in, expanded, parent_at, bound_at, rule_at, lookup, values_text, word_model};
 
 use crate::deferred::written_len;
 use crate::rule::RuleNo;

@@ -1,9 +1,7 @@
 //! The files that a run has read.
 
 ghost use Rattle.std.specs.Prelude.{◌≡◌, List, [], ◌∷◌, ◌++◌, true, false, length, slice_get, option_copied, option_map, IfOk, OnOk, OnErr};
-ghost use Rattle.nj_scope.specs.Opening.{OpensFile, shared_bytes};
-ghost use Rattle.nj_scope.specs.Readings.{EachPathOnce, paths_of, reading_of, is_read, bytes_in};
-ghost use Rattle.nj_scope.specs.Sources.{outcome_bytes};
+ghost use Rattle.nj_scope.specs.Cited.{OpensFile, shared_bytes, EachPathOnce, paths_of, reading_of, is_read, bytes_in, outcome_bytes};
 
 use crate::source::{FileSource, SourceFault};
 use indexmap::IndexMap;

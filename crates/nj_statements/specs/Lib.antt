@@ -10,3 +10,5 @@ pub mod Answers
 pub mod JoiningHeld
 -- how the code does that
 pub mod Inside
+-- what the contracts cite
+pub mod Cited

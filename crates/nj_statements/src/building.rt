@@ -1,18 +1,7 @@
 //! The edges that were read so far, and the defaults.
 
 ghost use Rattle.std.specs.Prelude.{◌≡◌, ℕ, ◌<◌, List, [], ◌∷◌, Some, option_map, length, slice_get, vec_len, vec_capacity, OnOk, OnErr, IfSome};
-ghost use Rattle.std.specs.Option.{option_or};
-ghost use Rattle.nj_manifest.specs.Contents.{words_model, outputs_model, used_rule, inputs_model, lines_model, build_model};
-ghost use Rattle.nj_manifest.specs.Statements.{DefaultModel};
-ghost use Rattle.nj_scope.specs.Readings.{IsPrefix};
-ghost use Rattle.nj_scope.specs.Scopes.{IsScope, parent_at, first_given};
-ghost use Rattle.nj_scope.specs.Declarations.{DeclaredBy};
-ghost use Rattle.nj_scope.specs.ReadingList.{ReadStatement, rule_in_force, rules_read};
-ghost use Rattle.nj_edges.specs.EdgeTables.{no_files};
-ghost use Rattle.nj_statements.specs.EdgeList.{Values, paths_given, line_values, edge_of_build, edges_read, paths_of_edges};
-ghost use Rattle.nj_statements.specs.BuildFaults.{paths_fault, late_fault, target_fault, build_fault, default_fault};
-ghost use Rattle.nj_statements.specs.Answers.{Checks, HasEdges, AddsNothing, ReadsStatement, entry_at_place};
-ghost use Rattle.nj_statements.specs.Inside.EdgeSteps.{SeesNames, AddsTargets, with_dyndep};
+ghost use Rattle.nj_statements.specs.Cited.{option_or, words_model, outputs_model, used_rule, inputs_model, lines_model, build_model, DefaultModel, IsPrefix, IsScope, parent_at, first_given, DeclaredBy, ReadStatement, rule_in_force, rules_read, no_files, Values, paths_given, line_values, edge_of_build, edges_read, paths_of_edges, paths_fault, late_fault, target_fault, build_fault, default_fault, Checks, HasEdges, AddsNothing, ReadsStatement, entry_at_place, SeesNames, AddsTargets, with_dyndep};
 
 use crate::context::Context;
 use crate::edge_record::Detail;

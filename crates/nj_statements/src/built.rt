@@ -1,14 +1,7 @@
 //! The edges and defaults of a run, after its last statement.
 
 ghost use Rattle.std.specs.Prelude.{◌≡◌, List, ◌<◌, Some, option_copied, length, All};
-ghost use Rattle.nj_scope.specs.ReadingList.{ReadStatement};
-ghost use Rattle.nj_names.specs.Files.{AreFiles};
-ghost use Rattle.nj_faults.specs.Faults.{IsFault, fault_at};
-ghost use Rattle.nj_statements.specs.EdgeList.{assigned_at};
-ghost use Rattle.nj_statements.specs.Answers.{HasEdges};
-ghost use Rattle.nj_statements.specs.Built.{ComesTo, defaults_in_force, detail_at};
-ghost use Rattle.nj_statements.specs.Records.{AreOfGraph, with_graph};
-ghost use Rattle.nj_statements.specs.Inside.Details.{text_at, spot_of};
+ghost use Rattle.nj_statements.specs.Cited.{ReadStatement, AreFiles, IsFault, fault_at, assigned_at, HasEdges, ComesTo, defaults_in_force, detail_at, AreOfGraph, with_graph, text_at, spot_of};
 
 use crate::building::{Building, DyndepEdge};
 use crate::edge_record::Detail;

@@ -1,25 +1,7 @@
 //! The additions of dyndep files to the edges of a run.
 
 ghost use Rattle.std.specs.Prelude.{◌≡◌, ◌<◌, ◌==◌, List, [], Some, None, option_map, unwrap_or, length, slice_get, replicate, slice_index_or, bytes_eq, IfOk, IfSome, OnOk, OnErr};
-ghost use Rattle.nj_scope.specs.Scopes.{first_given};
-ghost use Rattle.std.specs.Option.{option_or};
-ghost use Rattle.std.specs.List.{AllByRecursion, IsDistinct};
-ghost use Rattle.nj_text.specs.Words.{word_model};
-ghost use Rattle.nj_manifest.specs.Contents.{words_model};
-ghost use Rattle.nj_manifest.specs.DyndepParsers.{entry_model};
-ghost use Rattle.nj_scope.specs.Readings.{IsPrefix};
-ghost use Rattle.nj_scope.specs.ReadingList.{ReadStatement};
-ghost use Rattle.nj_edges.specs.Edges.{edge_at, first_output, first_edge, maker_of};
-ghost use Rattle.nj_names.specs.Files.{path_at};
-ghost use Rattle.nj_edges.specs.Joining.{join_of, none_added};
-ghost use Rattle.nj_faults.specs.Faults.{IsFault, fault_at};
-ghost use Rattle.nj_statements.specs.EdgeList.{path_given, paths_given, pending_read};
-ghost use Rattle.nj_statements.specs.BuildFaults.{empty_path, outputs_fault};
-ghost use Rattle.nj_statements.specs.Built.{ComesTo, IsBuiltOf, detail_at};
-ghost use Rattle.nj_statements.specs.Joining.{no_values, entry_fault, with_entry, lacking_fault};
-ghost use Rattle.nj_statements.specs.Answers.{Checks};
-ghost use Rattle.nj_statements.specs.JoiningHeld.{HasJoined, JoinsEntry, JoinsNothing, KeepsEdges, has_pending, still_pending};
-ghost use Rattle.nj_statements.specs.Inside.JoiningSteps.{IsMeant, fault_of_pending, bind_all, first_edges, count_bound, is_bound_to, if_bound, maker_fault, edge_bound, with_added_outputs, with_added_inputs};
+ghost use Rattle.nj_statements.specs.Cited.{first_given, option_or, AllByRecursion, IsDistinct, word_model, words_model, entry_model, IsPrefix, ReadStatement, edge_at, first_output, first_edge, maker_of, path_at, join_of, none_added, IsFault, fault_at, path_given, paths_given, pending_read, empty_path, outputs_fault, ComesTo, IsBuiltOf, detail_at, no_values, entry_fault, with_entry, lacking_fault, Checks, HasJoined, JoinsEntry, JoinsNothing, KeepsEdges, has_pending, still_pending, IsMeant, fault_of_pending, bind_all, first_edges, count_bound, is_bound_to, if_bound, maker_fault, edge_bound, with_added_outputs, with_added_inputs};
 
 use crate::building::DyndepEdge;
 use crate::built::{Built, cycle_fault, place_of};

@@ -1,15 +1,7 @@
 //! The faults of the edge that is being read by the variables of its rule.
 
 ghost use Rattle.std.specs.Prelude.{◌≡◌, ◌<◌, List, Some, codes, length, slice_get, IfOk, IfSome, OnOk};
-ghost use Rattle.nj_edge_env.specs.LateStrings.{LateNames, asked_text};
-ghost use Rattle.nj_edge_env.specs.ReferencesHeld.{TellsCycles};
-ghost use Rattle.nj_scope.specs.ReadingList.{ReadStatement, pools};
-ghost use Rattle.nj_statements.specs.BuildFaults.{variable_cycle_fault, unknown_pool, dyndep_not_input};
-ghost use Rattle.nj_scope.specs.Readings.{IsPrefix};
-ghost use Rattle.nj_statements.specs.EdgeList.{file_given, name_given};
-ghost use Rattle.nj_statements.specs.Answers.{Checks, numbered};
-ghost use Rattle.nj_statements.specs.Inside.Details.{AreNumbersOf};
-ghost use Rattle.nj_statements.specs.Inside.EdgeSteps.{SeesLate, IsFileGiven, assigned_by, names_fault};
+ghost use Rattle.nj_statements.specs.Cited.{LateNames, asked_text, TellsCycles, ReadStatement, pools, variable_cycle_fault, unknown_pool, dyndep_not_input, IsPrefix, file_given, name_given, Checks, numbered, AreNumbersOf, SeesLate, IsFileGiven, assigned_by, names_fault};
 
 use crate::context::Context;
 use crate::edge_record::Assigned;

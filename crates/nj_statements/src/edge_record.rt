@@ -1,7 +1,7 @@
 //! The record of an edge beside its paths and its block.
 
 ghost use Rattle.std.specs.Prelude.{◌≡◌, IfOk};
-ghost use Rattle.nj_statements.specs.Inside.Details.{IsDetailOf, spot_of};
+ghost use Rattle.nj_statements.specs.Cited.{IsDetailOf, spot_of};
 
 use nj_edges::FileNo;
 use nj_names::short_number;

@@ -1,13 +1,7 @@
 //! Laws of edges and of the additions of dyndep files to them. A law is a theorem, stated as a
 //! function with an empty body.
 
-ghost use Rattle.nj_scope.specs.Laws.{IsInReadingOrder};
-ghost use Rattle.nj_statements.specs.EdgeList.{edge_given, edges_read, assigned_given, assigned_read};
-ghost use Rattle.nj_statements.specs.Logged.{NamedInputsAreAdded};
-ghost use Rattle.nj_statements.specs.Laws.{AddsToOneEdge, OthersArePendingAsBefore, NamesStay};
-ghost use Rattle.nj_statements.specs.Laws.{EntriesAddToTheirEdges, EdgesMakeWhatIsDiscovered};
-ghost use Rattle.nj_statements.specs.Laws.{NoFileGetsTwoMakers};
-ghost use Rattle.nj_statements.specs.Laws.{PendingEdgesRise, DyndepFilesComeOnce};
+ghost use Rattle.nj_statements.specs.Cited.{IsInReadingOrder, edge_given, edges_read, assigned_given, assigned_read, NamedInputsAreAdded, AddsToOneEdge, OthersArePendingAsBefore, NamesStay, EntriesAddToTheirEdges, EdgesMakeWhatIsDiscovered, NoFileGetsTwoMakers, PendingEdgesRise, DyndepFilesComeOnce};
 
 /// The k-th edge is that of the k-th `build` statement, by the statements before it, and so is its
 /// assignment; there are no others.

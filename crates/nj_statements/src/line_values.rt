@@ -1,13 +1,7 @@
 //! The names on a line, and the paths that its words give.
 
 ghost use Rattle.std.specs.Prelude.{◌≡◌, IfOk, OnOk};
-ghost use Rattle.nj_text.specs.Paths.{clean_path_of};
-ghost use Rattle.nj_text.specs.Words.{part_model, word_model};
-ghost use Rattle.nj_scope.specs.Scopes.{part_expanded, expanded};
-ghost use Rattle.nj_statements.specs.EdgeList.{Values, path_given};
-ghost use Rattle.nj_statements.specs.BuildFaults.{empty_path};
-ghost use Rattle.nj_statements.specs.Answers.{Checks};
-ghost use Rattle.nj_statements.specs.Inside.EdgeSteps.{SeesNames};
+ghost use Rattle.nj_statements.specs.Cited.{clean_path_of, part_model, word_model, part_expanded, expanded, Values, path_given, empty_path, Checks, SeesNames};
 
 use crate::context::Context;
 use crate::scratch::{Capacity, clean_bytes};

@@ -1,13 +1,7 @@
 //! Buffers for the text of a word, and for its clean path.
 
 ghost use Rattle.std.specs.Prelude.{◌≡◌, [], ◌∷◌, false, Err, IfOk, OnOk, IfSome};
-ghost use Rattle.nj_text.specs.Calls.{is_empty};
-ghost use Rattle.nj_text.specs.Paths.{clean_path_of};
-ghost use Rattle.nj_text.specs.Words.{Text, word_model};
-ghost use Rattle.nj_text.specs.declared.paths.TextFault.TheVariants.{EmptyPath};
-ghost use Rattle.nj_scope.specs.Scopes.{expanded};
-ghost use Rattle.nj_statements.specs.EdgeList.{Values, path_given};
-ghost use Rattle.nj_statements.specs.Joining.{no_values};
+ghost use Rattle.nj_statements.specs.Cited.{is_empty, clean_path_of, Text, word_model, EmptyPath, expanded, Values, path_given, no_values};
 
 use nj_text::{Part, TextFault, Word, clean_into, is_clean};
 use std::alloc::{AllocError, Global};

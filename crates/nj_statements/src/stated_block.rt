@@ -1,14 +1,7 @@
 //! The blocks of build statements.
 
 ghost use Rattle.std.specs.Prelude.{◌≡◌, ℕ, ◌<◌, ◌≤◌, ◌==◌, if◌then◌else◌, false, List, [], ◌∷◌, None, length, IfOk, OnOk};
-ghost use Rattle.std.specs.Option.{option_or};
-ghost use Rattle.nj_manifest.specs.Contents.{lines_model};
-ghost use Rattle.nj_text.specs.Words.{word_model};
-ghost use Rattle.nj_scope.specs.Scopes.{IsScope, expanded, parent_at};
-ghost use Rattle.nj_scope.specs.Declarations.{DeclaredBy};
-ghost use Rattle.nj_scope.specs.ReadingList.{ReadStatement, value_after};
-ghost use Rattle.nj_edge_env.specs.Blocks.{bound_in, names_in};
-ghost use Rattle.nj_statements.specs.EdgeList.{block_of, names_bound};
+ghost use Rattle.nj_statements.specs.Cited.{option_or, lines_model, word_model, IsScope, expanded, parent_at, DeclaredBy, ReadStatement, value_after, bound_in, names_in, block_of, names_bound};
 
 use crate::scratch::only_bytes;
 use nj_edge_env::Blocks;

@@ -1,22 +1,7 @@
 //! The files that a build statement names.
 
 ghost use Rattle.std.specs.Prelude.{◌≡◌, ℕ, List, ◌==◌, ◌<◌, ◌≤◌, ◌+◌, ◌++◌, false, Some, length, slice_get, codes, IfOk, IfSome, OnOk, OnErr};
-ghost use Rattle.nj_scope.specs.Scopes.{expanded, first_given};
-ghost use Rattle.nj_text.specs.Calls.{is_empty};
-ghost use Rattle.nj_text.specs.Paths.{clean_path_of};
-ghost use Rattle.nj_text.specs.Words.{word_model};
-ghost use Rattle.nj_manifest.specs.Contents.{words_model, outputs_model, inputs_model};
-ghost use Rattle.nj_scope.specs.Readings.{IsPrefix};
-ghost use Rattle.nj_edges.specs.EdgeTables.{no_files, EndWithin, edge_read};
-ghost use Rattle.nj_edge_env.specs.LateEdges.{late_names};
-ghost use Rattle.nj_edge_env.specs.LateStrings.{asked_text};
-ghost use Rattle.nj_edge_env.specs.ReferencesHeld.{TellsCycles};
-ghost use Rattle.nj_statements.specs.EdgeList.{Values, path_given, paths_given, stated_paths, loses_own, edge_paths, file_given};
-ghost use Rattle.nj_statements.specs.BuildFaults.{empty_path, target_fault, outputs_fault, inputs_fault, paths_fault};
-ghost use Rattle.nj_statements.specs.Answers.{Checks};
-ghost use Rattle.nj_statements.specs.Inside.Details.{AreNumbersOf};
-ghost use Rattle.nj_statements.specs.Inside.EdgeSteps.{AreClean, KeepsClean, SeesNames, IsFileGiven, assigned_by, bound_by, Grows, AddsInputs, AddsEdge, names_read, with_outputs, with_input_unless, with_inputs, with_validations};
-ghost use Rattle.nj_statements.specs.Inside.StatedEdge.{edge_fault, names_meant, paths_meant};
+ghost use Rattle.nj_statements.specs.Cited.{expanded, first_given, is_empty, clean_path_of, word_model, words_model, outputs_model, inputs_model, IsPrefix, no_files, EndWithin, edge_read, late_names, asked_text, TellsCycles, Values, path_given, paths_given, stated_paths, loses_own, edge_paths, file_given, empty_path, target_fault, outputs_fault, inputs_fault, paths_fault, Checks, AreNumbersOf, AreClean, KeepsClean, SeesNames, IsFileGiven, assigned_by, bound_by, Grows, AddsInputs, AddsEdge, names_read, with_outputs, with_input_unless, with_inputs, with_validations, edge_fault, names_meant, paths_meant};
 
 use crate::context::Context;
 use crate::edge_record::Assigned;

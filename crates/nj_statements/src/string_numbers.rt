@@ -2,10 +2,7 @@
 //! and the paths of their dyndep files.
 
 ghost use Rattle.std.specs.Prelude.{◌≡◌, ◌<◌, ◌+◌, Some, option_map, option_copied, length, slice_get, IfOk, IfSome};
-ghost use Rattle.nj_scope.specs.Readings.{IsPrefix};
-ghost use Rattle.nj_names.specs.Files.{path_at};
-ghost use Rattle.nj_statements.specs.Answers.{numbered};
-ghost use Rattle.nj_statements.specs.Inside.Details.{numbered_at, IsNumbered};
+ghost use Rattle.nj_statements.specs.Cited.{IsPrefix, path_at, numbered, numbered_at, IsNumbered};
 
 use crate::edge_record::Detail;
 use nj_names::{FileNo, Files, Names, short_number};

@@ -1,9 +1,7 @@
 //! Blanks: spaces and joins.
 
 ghost use Rattle.std.specs.Prelude.{◌≡◌, ◌<◌, false, length, MatchOption, IfSome};
-ghost use Rattle.nj_text.specs.Bytes.{drop_while};
-ghost use Rattle.nj_text.specs.Inside.Scans.{units_within, begins_with_space_byte};
-ghost use Rattle.nj_text.specs.Words.{is_blank};
+ghost use Rattle.nj_text.specs.Cited.{drop_while, units_within, begins_with_space_byte, is_blank};
 
 use crate::cursor::Cursor;
 use crate::runs::Run;

@@ -1,9 +1,7 @@
 //! The clean path of a path, one component after another.
 
 ghost use Rattle.std.specs.Prelude.{◌≡◌, ◌++◌, ◌≤◌, List, ℕ, false, length, IfOk, OnOk, OnErr};
-ghost use Rattle.std.specs.List.{list_any, slice_split};
-ghost use Rattle.nj_text.specs.Paths.{is_slash, is_absolute, clean_path_of};
-ghost use Rattle.nj_text.specs.Inside.Cleaning.{Kept, component_of, with_component, text_with_component, nothing_kept, kept_after, text_kept, IsWritten, BeginsWith, DropsName};
+ghost use Rattle.nj_text.specs.Cited.{list_any, slice_split, is_slash, is_absolute, clean_path_of, Kept, component_of, with_component, text_with_component, nothing_kept, kept_after, text_kept, IsWritten, BeginsWith, DropsName};
 
 use crate::components::{Component, component_of, first_component};
 use std::alloc::AllocError;

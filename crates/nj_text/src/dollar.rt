@@ -1,9 +1,7 @@
 //! The kinds of units that begin with `$`: a join, an escape or a reference.
 
 ghost use Rattle.std.specs.Prelude.{◌≡◌, ◌≤◌, ◌+◌, ℕ, false, ◌∷◌, length};
-ghost use Rattle.nj_text.specs.Bytes.{is_line_feed};
-ghost use Rattle.nj_text.specs.Units.{after_dollar, in_braces};
-ghost use Rattle.nj_text.specs.Inside.Scans.{line_end_length, dollar_found, LandsIn};
+ghost use Rattle.nj_text.specs.Cited.{is_line_feed, after_dollar, in_braces, line_end_length, dollar_found, LandsIn};
 
 use crate::runs::{Run, first_byte, run_length, split_run};
 

@@ -1,10 +1,8 @@
 //! Why a text could not be read further.
 
 ghost use Rattle.std.specs.Prelude.{◌≡◌, Some};
-ghost use Rattle.std.specs.Option.{option_map};
 ghost use Rattle.nj_text.specs.declared.fault.WordFault.TheVariants.{OutOfMemory};
-ghost use Rattle.nj_text.specs.Calls.{fault_spot, unit_of};
-ghost use Rattle.nj_text.specs.Faults.{lex_line, lex_text};
+ghost use Rattle.nj_text.specs.Cited.{option_map, fault_spot, unit_of, lex_line, lex_text};
 
 use crate::spot::Spot;
 use std::alloc::{AllocError, AllocFailed};

@@ -6,8 +6,7 @@
 //! the test of a single byte, for all 256 bytes.
 
 ghost use Rattle.std.specs.Prelude.{◌≡◌, not, map, bit_and, slice_index_or};
-ghost use Rattle.std.specs.Simd.Lanes.{mask_l};
-ghost use Rattle.nj_text.specs.Inside.Runs.{in_run, lane_run};
+ghost use Rattle.nj_text.specs.Cited.{mask_l, in_run, lane_run};
 
 use crate::runs::Run;
 use std::simd::prelude::*;

@@ -1,6 +1,6 @@
 //! Laws of the cut of a text into units and lines.
 
-ghost use Rattle.nj_text.specs.Laws.{UnitsAreTheText, UnitsComeInPlace, LinesAreTheUnits, PartsComeInOrder};
+ghost use Rattle.nj_text.specs.Cited.{UnitsAreTheText, UnitsComeInPlace, LinesAreTheUnits, PartsComeInOrder};
 
 /// The units of a text, one after another, are the text.
 pub fn units_are_the_text()

@@ -1,10 +1,7 @@
 //! The lexer.
 
 ghost use Rattle.std.specs.Prelude.{◌≡◌, List, ℕ, Some, MatchOption};
-ghost use Rattle.std.specs.Option.{option_map};
-ghost use Rattle.nj_text.specs.Words.{word_model};
-ghost use Rattle.nj_text.specs.Calls.{Answers, ReturnsOrLacksMemory, at_front, start_line_of, ident_of, sign_of, path_word_of, value_of, spot_of, skip_blanks_of, TakesPlainWord, TakesBinding, Failed, unit_of};
-ghost use Rattle.nj_text.specs.Inside.States.{FinishesValue};
+ghost use Rattle.nj_text.specs.Cited.{option_map, word_model, Answers, ReturnsOrLacksMemory, at_front, start_line_of, ident_of, sign_of, path_word_of, value_of, spot_of, skip_blanks_of, TakesPlainWord, TakesBinding, Failed, unit_of, FinishesValue};
 
 use crate::blanks::skip_blanks;
 use crate::cursor::Cursor;

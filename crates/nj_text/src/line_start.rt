@@ -1,10 +1,7 @@
 //! The kinds of line starts, and how lines begin.
 
 ghost use Rattle.std.specs.Prelude.{◌≡◌, ◌<◌, false, length, MatchOption, IfSome};
-ghost use Rattle.nj_text.specs.Units.{opens_comment};
-ghost use Rattle.nj_text.specs.Inside.Scans.{begins_with_space_byte};
-ghost use Rattle.nj_text.specs.Calls.{without_comments};
-ghost use Rattle.nj_text.specs.Inside.States.{lines_at, BegunIs, BegunAfterSpaces};
+ghost use Rattle.nj_text.specs.Cited.{opens_comment, begins_with_space_byte, without_comments, lines_at, BegunIs, BegunAfterSpaces};
 
 use crate::cursor::Cursor;
 use crate::fault::UnitFault;

@@ -1,10 +1,7 @@
 //! Identifiers, words and values within a line.
 
 ghost use Rattle.std.specs.Prelude.{◌≡◌};
-ghost use Rattle.std.specs.Option.{option_map};
-ghost use Rattle.nj_text.specs.Words.{word_model};
-ghost use Rattle.nj_text.specs.Calls.{after_blanks, ident_at, word_at, value_at};
-ghost use Rattle.nj_text.specs.Inside.States.{Steps, StepsOrLacksMemory, unless_bad, line_at, other_lines_at};
+ghost use Rattle.nj_text.specs.Cited.{option_map, word_model, after_blanks, ident_at, word_at, value_at, Steps, StepsOrLacksMemory, unless_bad, line_at, other_lines_at};
 
 use crate::blanks::skip_blanks;
 use crate::cursor::Cursor;

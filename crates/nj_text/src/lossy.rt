@@ -1,9 +1,7 @@
 //! Bytes that people read as text.
 
 ghost use Rattle.std.specs.Prelude.{Some, ◌++◌};
-ghost use Rattle.std.specs.Fmt.{WritesOnOk};
-ghost use Rattle.std.specs.Str.Lossy.{utf8_lossy};
-ghost use Rattle.nj_text.specs.Inside.Chunks.{replaced};
+ghost use Rattle.nj_text.specs.Cited.{WritesOnOk, utf8_lossy, replaced};
 
 use std::fmt;
 

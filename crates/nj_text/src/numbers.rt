@@ -1,9 +1,7 @@
 //! Numbers and versions in texts.
 
 ghost use Rattle.std.specs.Prelude.{◌≡◌, ◌+◌, ◌-◌, ◌*◌, ◌==◌, true, min};
-ghost use Rattle.std.specs.List.{after_first};
-ghost use Rattle.nj_text.specs.Bytes.{is_digit};
-ghost use Rattle.nj_text.specs.Numbers.{greatest, leading_number_of, version_pair_of};
+ghost use Rattle.nj_text.specs.Cited.{after_first, is_digit, greatest, leading_number_of, version_pair_of};
 
 /// The number that the digits at the front of the text write, in base ten; `None` where the text
 /// does not begin with a digit. A number above 18446744073709551615 is reported as that one.

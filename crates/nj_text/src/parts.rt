@@ -2,11 +2,7 @@
 
 ghost use Rattle.std.specs.Prelude.{◌≡◌, ◌<◌, ◌+◌, [], ◌∷◌, ◌++◌, length, map, IfSome, OnOk, IfErr};
 ghost use Rattle.nj_text.specs.declared.fault.WordFault.TheVariants.{OutOfMemory};
-ghost use Rattle.nj_text.specs.Inside.Scans.{units_within};
-ghost use Rattle.nj_text.specs.Inside.Runs.{in_run};
-ghost use Rattle.nj_text.specs.Bytes.{begins_with};
-ghost use Rattle.nj_text.specs.Words.{opens_word};
-ghost use Rattle.nj_text.specs.Inside.Gathering.{run_of, Gathers, NextPartIs, TakesRun, NoneInRun, IsShorter};
+ghost use Rattle.nj_text.specs.Cited.{units_within, in_run, begins_with, opens_word, run_of, Gathers, NextPartIs, TakesRun, NoneInRun, IsShorter};
 
 use crate::cursor::Cursor;
 use crate::fault::{UnitFault, WordFault};

@@ -5,11 +5,7 @@
 //! compared at once with the sixteen that begin one byte later.
 
 ghost use Rattle.std.specs.Prelude.{◌≡◌, ◌+◌, ◌<◌, length};
-ghost use Rattle.std.specs.Bool.{OnTrue};
-ghost use Rattle.std.specs.List.{AllByRecursion, slice_split};
-ghost use Rattle.std.specs.Simd.Lanes.{chunk, mask_l, zip2};
-ghost use Rattle.nj_text.specs.Paths.{IsName, is_slash};
-ghost use Rattle.nj_text.specs.Inside.Cleaning.{any, begins_name, ends_with_slash, is_suspect, suspects};
+ghost use Rattle.nj_text.specs.Cited.{OnTrue, AllByRecursion, slice_split, chunk, mask_l, zip2, IsName, is_slash, any, begins_name, ends_with_slash, is_suspect, suspects};
 
 use crate::lanes::LANES;
 use std::simd::prelude::*;

@@ -1,6 +1,6 @@
 //! Laws of clean paths.
 
-ghost use Rattle.nj_text.specs.PathLaws.{CleanedPathsAreClean, CleanPathsStay, CleaningIsIdempotent};
+ghost use Rattle.nj_text.specs.Cited.{CleanedPathsAreClean, CleanPathsStay, CleaningIsIdempotent};
 
 /// A cleaned path is clean: it is `.` or `/`, or no component of it is empty or `.`, and `..`
 /// comes only before all other components, and in no absolute path.

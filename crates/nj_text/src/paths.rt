@@ -1,10 +1,8 @@
 //! Paths, and their clean form.
 
 ghost use Rattle.std.specs.Prelude.{◌≡◌, ◌++◌, ◌↔◌, [], Ok, Err, Some, IsTrue, IfOk, OnOk, OnErr};
-ghost use Rattle.nj_text.specs.declared.paths.TextFault.TheVariants.{EmptyPath, OutOfMemory};
-ghost use Rattle.nj_text.specs.Faults.{path_fault_text};
-ghost use Rattle.nj_text.specs.Paths.{clean_path_of};
-ghost use Rattle.nj_text.specs.Inside.Cleaning.{stays_clean};
+ghost use Rattle.nj_text.specs.declared.paths.TextFault.TheVariants.{OutOfMemory};
+ghost use Rattle.nj_text.specs.Cited.{EmptyPath, path_fault_text, clean_path_of, stays_clean};
 
 use crate::cleaning::{is_absolute, push_clean};
 use crate::components::{after_ups, all_stay, is_here};

@@ -2,10 +2,7 @@
 //! are.
 
 ghost use Rattle.std.specs.Prelude.{◌≡◌, ◌∷◌, IfSome};
-ghost use Rattle.nj_text.specs.Words.{word_model};
-ghost use Rattle.nj_text.specs.Calls.{Between, TakesBinding};
-ghost use Rattle.nj_text.specs.Inside.Scans.{advance};
-ghost use Rattle.nj_text.specs.Inside.States.{inside, lines_at, lines_within};
+ghost use Rattle.nj_text.specs.Cited.{word_model, Between, TakesBinding, advance, inside, lines_at, lines_within};
 
 use crate::cursor::Cursor;
 use crate::runs::{Run, first_byte};

@@ -4,9 +4,7 @@
 //! that want quotes. So sixteen of its bytes are tested at once.
 
 ghost use Rattle.std.specs.Prelude.{◌≡◌, ◌+◌, ◌≤◌, not, map, length};
-ghost use Rattle.std.specs.List.{prefix_len};
-ghost use Rattle.std.specs.Simd.Lanes.{chunk, mask_l};
-ghost use Rattle.nj_text.specs.Quotes.{is_plain_byte};
+ghost use Rattle.nj_text.specs.Cited.{prefix_len, chunk, mask_l, is_plain_byte};
 
 use crate::lanes::LANES;
 use std::simd::prelude::*;

@@ -1,12 +1,7 @@
 //! Plain words: one run of bytes each, as nearly all words are.
 
 ghost use Rattle.std.specs.Prelude.{◌≡◌};
-ghost use Rattle.nj_text.specs.Bytes.{drop_while};
-ghost use Rattle.nj_text.specs.Words.{is_blank};
-ghost use Rattle.nj_text.specs.Calls.{TakesPlainWord};
-ghost use Rattle.nj_text.specs.Inside.Scans.{units_within};
-ghost use Rattle.nj_text.specs.Inside.States.{inside, lines_within};
-ghost use Rattle.nj_text.specs.Inside.PlainWords.{no_word_begins, word_ends};
+ghost use Rattle.nj_text.specs.Cited.{drop_while, is_blank, TakesPlainWord, units_within, inside, lines_within, no_word_begins, word_ends};
 
 use crate::cursor::Cursor;
 use crate::runs::{Run, first_byte};

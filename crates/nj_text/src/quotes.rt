@@ -1,11 +1,7 @@
 //! Shell quotes of paths.
 
 ghost use Rattle.std.specs.Prelude.{◌≡◌, ◌++◌, ◌<◌, true, length, IfSome, OnOk, OnErr};
-ghost use Rattle.std.specs.Option.{option_copied};
-ghost use Rattle.std.specs.List.{list_all, flat_map};
-ghost use Rattle.nj_text.specs.Inside.Cleaning.{BeginsWith};
-ghost use Rattle.nj_text.specs.Quotes.{is_plain_byte, within_quotes, in_quotes, quoted};
-ghost use Rattle.nj_text.specs.Inside.Quoting.{after_run};
+ghost use Rattle.nj_text.specs.Cited.{option_copied, list_all, flat_map, BeginsWith, is_plain_byte, within_quotes, in_quotes, quoted, after_run};
 
 use crate::plain_bytes::plain_front;
 use std::alloc::AllocError;

@@ -1,9 +1,7 @@
 //! Runs of bytes of one kind, and how long they are.
 
 ghost use Rattle.std.specs.Prelude.{◌≡◌, ◌≤◌, [], ◌∷◌, ◌++◌, length, MatchOption};
-ghost use Rattle.std.specs.List.{prefix_len, take_while};
-ghost use Rattle.nj_text.specs.Bytes.{drop_while};
-ghost use Rattle.nj_text.specs.Inside.Runs.{in_run, lane_run};
+ghost use Rattle.nj_text.specs.Cited.{prefix_len, take_while, drop_while, in_run, lane_run};
 
 use crate::lanes::{LANES, LaneRun, stops};
 use memchr::memchr;

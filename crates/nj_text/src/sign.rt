@@ -1,11 +1,7 @@
 //! The signs of a line.
 
 ghost use Rattle.std.specs.Prelude.{◌≡◌, None};
-ghost use Rattle.nj_text.specs.Inside.Scans.{units_within};
-ghost use Rattle.nj_text.specs.Words.{next_fault};
-ghost use Rattle.nj_text.specs.Inside.Scans.{is_first, sign_length};
-ghost use Rattle.nj_text.specs.Calls.{after_blanks, sign_at};
-ghost use Rattle.nj_text.specs.Inside.States.{EndsLine, SignIs, unless_bad, line_at, other_lines_at};
+ghost use Rattle.nj_text.specs.Cited.{units_within, next_fault, is_first, sign_length, after_blanks, sign_at, EndsLine, SignIs, unless_bad, line_at, other_lines_at};
 
 use crate::blanks::skip_blanks;
 use crate::cursor::Cursor;

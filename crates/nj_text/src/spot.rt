@@ -1,7 +1,7 @@
 //! Places in a text.
 
 ghost use Rattle.std.specs.Prelude.{Some};
-ghost use Rattle.nj_text.specs.Faults.{spot_text};
+ghost use Rattle.nj_text.specs.Cited.{spot_text};
 
 use std::fmt;
 

@@ -1,8 +1,7 @@
 //! The next unit of a line.
 
 ghost use Rattle.std.specs.Prelude.{◌≡◌, ◌≤◌, ◌<◌, ◌+◌, ◌∷◌, length};
-ghost use Rattle.nj_text.specs.Words.{next_fault};
-ghost use Rattle.nj_text.specs.Inside.Scans.{NextUnitIs, unit_length, HasLength, units_within};
+ghost use Rattle.nj_text.specs.Cited.{next_fault, NextUnitIs, unit_length, HasLength, units_within};
 
 use crate::cursor::Cursor;
 use crate::dollar::{Dollar, after_dollar, line_end_length};

@@ -1,7 +1,7 @@
 //! Words and values: texts with references.
 
 ghost use Rattle.std.specs.Prelude.{◌≡◌};
-ghost use Rattle.nj_text.specs.Words.{plain_model, word_model};
+ghost use Rattle.nj_text.specs.Cited.{plain_model, word_model};
 
 use crate::spot::Spot;
 use smallvec::SmallVec;

@@ -1,7 +1,7 @@
 //! The rules that are requested by name.
 
 ghost use Rattle.std.specs.Prelude.{◌≡◌, ℕ, List, map, string_bytes, IfOk};
-ghost use Rattle.nj_tools.specs.Compdb.{is_chosen};
+ghost use Rattle.nj_tools.specs.Cited.{is_chosen};
 
 use std::alloc::{AllocError, Global};
 use std::marker::Model;

@@ -1,17 +1,7 @@
 //! The commands of edges, a line each.
 
 ghost use Rattle.std.specs.Prelude.{◌≡◌, ℕ, ◌<◌, ◌++◌, List, [], ◌∷◌, length, All, IfOk, IfSome, OnOk};
-ghost use Rattle.nj_scope.specs.ReadingList.{ReadStatement};
-ghost use Rattle.nj_graph.specs.Graph.{edges_of, files_of, IsGraphOf};
-ghost use Rattle.nj_tools.specs.Inside.Blocks.{PutsText};
-ghost use Rattle.nj_needs.specs.Order.{made_by};
-ghost use Rattle.nj_needs.specs.PageWalks.{written, StopsAt};
-ghost use Rattle.nj_needs.specs.Walks.{number_of};
-ghost use Rattle.nj_tools.specs.CommandStrings.{command_lines, own_commands};
-ghost use Rattle.nj_tools.specs.Inside.Collections.{single, own_makers};
-ghost use Rattle.nj_tools.specs.Inside.Commands.{command_line};
-ghost use Rattle.nj_tools.specs.Inside.Seen.{AreSeen, new_commands};
-ghost use Rattle.nj_tools.specs.Texts.{WritesText};
+ghost use Rattle.nj_tools.specs.Cited.{ReadStatement, edges_of, files_of, IsGraphOf, PutsText, made_by, written, StopsAt, number_of, command_lines, own_commands, single, own_makers, command_line, AreSeen, new_commands, WritesText};
 
 use crate::output_block::write_block;
 use crate::sinks::Sink;

@@ -1,22 +1,7 @@
 //! Compilation databases.
 
 ghost use Rattle.std.specs.Prelude.{◌≡◌, ◌<◌, ◌++◌, ℕ, List, All, Some, length, map, option_map, slice_get, string_bytes, IfErr, IfOk, IfSome, OnOk};
-ghost use Rattle.nj_scope.specs.ReadingList.{ReadStatement};
-ghost use Rattle.nj_names.specs.Files.{AreFiles};
-ghost use Rattle.nj_statements.specs.EdgeList.{edges_read};
-ghost use Rattle.nj_graph.specs.Graph.{edges_of, files_of, IsGraphOf};
-ghost use Rattle.nj_tools.specs.Inside.Blocks.{PutsText};
-ghost use Rattle.nj_tools.specs.Compdb.{
-  has_object,
-  compilation_of,
-  objects_text,
-  held_before,
-  compdb_text,
-  unheld_edge,
-  NamesEdge,
-  WritesCompdb,
-};
-ghost use Rattle.nj_tools.specs.Inside.CompdbHeld.{command_text, first_path, held_compilation, object_of_strings};
+ghost use Rattle.nj_tools.specs.Cited.{ReadStatement, AreFiles, edges_read, edges_of, files_of, IsGraphOf, PutsText, has_object, compilation_of, objects_text, held_before, compdb_text, unheld_edge, NamesEdge, WritesCompdb, command_text, first_path, held_compilation, object_of_strings};
 
 use crate::chosen_rules::ChosenRules;
 use crate::json_strings::{held_string, json_string};

@@ -1,23 +1,7 @@
 //! The edges of a graph as objects of JSON.
 
 ghost use Rattle.std.specs.Prelude.{◌≡◌, ◌<◌, List, IfErr, IfOk, IfSome, OnOk, length, option_map};
-ghost use Rattle.std.specs.List.{fold};
-ghost use Rattle.json.specs.Print.{print};
-ghost use Rattle.nj_scope.specs.ReadingList.{ReadStatement};
-ghost use Rattle.nj_edges.specs.Edges.{edge_at};
-ghost use Rattle.nj_graph.specs.Graph.{edges_of, IsGraphOf};
-ghost use Rattle.nj_tools.specs.Compdb.{NamesEdge, WritesCompdb};
-ghost use Rattle.nj_tools.specs.EdgeObjects.{
-  edge_lines,
-  edge_object,
-  file_members,
-  head_members,
-  unwritable_edge,
-  value_member,
-  value_members,
-};
-ghost use Rattle.nj_tools.specs.Inside.Blocks.{PutsText};
-ghost use Rattle.nj_tools.specs.Inside.ObjectTexts.{and_member, held_text};
+ghost use Rattle.nj_tools.specs.Cited.{fold, print, ReadStatement, edge_at, edges_of, IsGraphOf, NamesEdge, WritesCompdb, edge_lines, edge_object, file_members, head_members, unwritable_edge, value_member, value_members, PutsText, and_member, held_text};
 
 use crate::object_text::ObjectText;
 use crate::sink_lines::write_line;

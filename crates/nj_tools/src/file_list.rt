@@ -1,7 +1,7 @@
 //! Files without duplicates.
 
 ghost use Rattle.std.specs.Prelude.{◌≡◌, ◌<◌, All, [], length, IfOk, OnOk};
-ghost use Rattle.nj_tools.specs.Inside.Collections.{with_file, with_files};
+ghost use Rattle.nj_tools.specs.Cited.{with_file, with_files};
 
 use nj_graph::FileNo;
 use std::alloc::{AllocError, Global};

@@ -1,23 +1,7 @@
 //! The inputs of needed edges.
 
-ghost use Rattle.std.specs.Prelude.{◌≡◌, ℕ, ◌<◌, ◌++◌, List, All, [], ◌∷◌, length, map, flat_map};
-ghost use Rattle.std.specs.Prelude.{IfOk, OnOk, bytes_eq, if◌then◌else◌};
-ghost use Rattle.nj_text.specs.Quotes.{quoted};
-ghost use Rattle.nj_names.specs.declared.files.FileNo.{FileNo};
-ghost use Rattle.nj_names.specs.Files.{path_at};
-ghost use Rattle.nj_graph.specs.Graph.{edges_of, files_of};
-ghost use Rattle.nj_tools.specs.Inside.Blocks.{PutsText};
-ghost use Rattle.nj_tools.specs.Inside.Collections.{AreOf, IsFlagged, with_file, with_files};
-ghost use Rattle.nj_tools.specs.Inside.Collections.{new_file, new_files};
-ghost use Rattle.nj_tools.specs.Listings.{
-  each_once,
-  sorted,
-  needed_inputs,
-  printed,
-  terminated,
-  inputs_text,
-};
-ghost use Rattle.nj_tools.specs.Texts.{WritesText};
+ghost use Rattle.std.specs.Prelude.{◌≡◌, ℕ, ◌<◌, ◌++◌, List, All, [], ◌∷◌, length, map, flat_map, IfOk, OnOk, bytes_eq, if◌then◌else◌};
+ghost use Rattle.nj_tools.specs.Cited.{quoted, FileNo, path_at, edges_of, files_of, PutsText, AreOf, IsFlagged, with_file, with_files, new_file, new_files, each_once, sorted, needed_inputs, printed, terminated, inputs_text, WritesText};
 
 use crate::file_list::Collected;
 use crate::output_block::write_block;

@@ -1,8 +1,7 @@
 //! Strings in JSON.
 
 ghost use Rattle.std.specs.Prelude.{◌≡◌, IfOk, option_map};
-ghost use Rattle.nj_tools.specs.Compdb.{json_string};
-ghost use Rattle.nj_tools.specs.Inside.CompdbHeld.{held_string};
+ghost use Rattle.nj_tools.specs.Cited.{json_string, held_string};
 
 use serde_json::Value;
 use std::alloc::{AllocError, Global};

@@ -1,14 +1,6 @@
 //! Laws of the tools' output. A law is a theorem, stated as a function with an empty body.
 
-ghost use Rattle.nj_tools.specs.CompdbJson.{CompdbIsJson};
-ghost use Rattle.nj_tools.specs.Laws.{DepthZeroShowsAll};
-ghost use Rattle.nj_tools.specs.Listings.{LinesRise, ListedHaveLines};
-ghost use Rattle.nj_tools.specs.Listings.{
-  SortedInputsRise,
-  PrintedStringsDiffer,
-  ListedArePrinted,
-  PlainInputsAreSortedQuotes,
-};
+ghost use Rattle.nj_tools.specs.Cited.{CompdbIsJson, DepthZeroShowsAll, LinesRise, ListedHaveLines, SortedInputsRise, PrintedStringsDiffer, ListedArePrinted, PlainInputsAreSortedQuotes};
 
 /// Depth 0 shows each tree whole: where no edge needs itself by a chain, more levels change
 /// nothing.

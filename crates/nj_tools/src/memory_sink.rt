@@ -1,7 +1,7 @@
 //! A sink that keeps the bytes that it takes.
 
 ghost use Rattle.std.specs.Prelude.{◌≡◌, ◌≢◌, ◌<◌, ◌≤◌, ◌+◌, ◌⊎◌, [], length, IsErr, IsOk, IfOk, OnErr, None, false};
-ghost use Rattle.std.specs.Option.{ForSome};
+ghost use Rattle.nj_tools.specs.Cited.{ForSome};
 
 use crate::sinks::{Sink, SinkFault};
 use std::alloc::Global;

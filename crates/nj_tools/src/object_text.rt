@@ -1,15 +1,7 @@
 //! An object of JSON, member by member.
 
 ghost use Rattle.std.specs.Prelude.{◌≡◌, ◌<◌, ◌∷◌, [], All, IfOk, OnOk, length, map, option_map};
-ghost use Rattle.std.specs.Fmt.{decimal};
-ghost use Rattle.json.specs.Json.{array, boolean, number, string};
-ghost use Rattle.json.specs.Print.{print};
-ghost use Rattle.json.specs.Token.{begin_array, begin_object, end_array, end_object, key};
-ghost use Rattle.nj_names.specs.Files.{path_at};
-ghost use Rattle.nj_graph.specs.Graph.{files_of};
-ghost use Rattle.nj_tools.specs.EdgeObjects.{place_object};
-ghost use Rattle.nj_tools.specs.JsonObjects.{strings};
-ghost use Rattle.nj_tools.specs.Inside.ObjectTexts.{and_member, and_string, and_token, no_members_yet};
+ghost use Rattle.nj_tools.specs.Cited.{decimal, array, boolean, number, string, print, begin_array, begin_object, end_array, end_object, key, path_at, files_of, place_object, strings, and_member, and_string, and_token, no_members_yet};
 
 use json::Writer;
 use nj_graph::{FileNo, Graph, PlaceRef};

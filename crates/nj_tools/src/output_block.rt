@@ -1,6 +1,6 @@
 //! Text on its way to a sink: it is written in blocks, from one buffer that is reused.
 
-ghost use Rattle.nj_tools.specs.Inside.Blocks.{PutsBlock};
+ghost use Rattle.nj_tools.specs.Cited.{PutsBlock};
 
 use crate::sinks::{Sink, SinkFault};
 use crate::whole_text::write_whole;

@@ -1,26 +1,7 @@
 //! The files from which files are made, and those made from them.
 
 ghost use Rattle.std.specs.Prelude.{◌≡◌, ◌<◌, List, All, IfSome, length, map, option_map, codes};
-ghost use Rattle.nj_scope.specs.ReadingList.{ReadStatement};
-ghost use Rattle.nj_edges.specs.Edges.{edge_at};
-ghost use Rattle.nj_names.specs.Files.{path_at};
-ghost use Rattle.nj_edges.specs.declared.edges.Kind.{Kind};
-ghost use Rattle.nj_graph.specs.Graph.{edges_of, files_of, IsGraphOf};
-ghost use Rattle.nj_tools.specs.Inside.Blocks.{PutsText};
-ghost use Rattle.nj_tools.specs.Lines.{lines_after};
-ghost use Rattle.nj_tools.specs.Queries.{
-  query_text,
-  query_in,
-  maker_text,
-  inputs_by_kind,
-  outputs_of_all,
-};
-ghost use Rattle.nj_tools.specs.Inside.QueriesHeld.{
-  sign_of,
-  validations_section,
-  validated_section,
-};
-ghost use Rattle.nj_tools.specs.Texts.{WritesText};
+ghost use Rattle.nj_tools.specs.Cited.{ReadStatement, edge_at, path_at, Kind, edges_of, files_of, IsGraphOf, PutsText, lines_after, query_text, query_in, maker_text, inputs_by_kind, outputs_of_all, sign_of, validations_section, validated_section, WritesText};
 
 use crate::sink_lines::write_line;
 use crate::sinks::Sink;

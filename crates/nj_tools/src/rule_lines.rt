@@ -1,11 +1,7 @@
 //! The rules of the main file.
 
 ghost use Rattle.std.specs.Prelude.{◌≡◌, ◌<◌, ◌++◌, List, length, OnOk};
-ghost use Rattle.nj_scope.specs.ReadingList.{ReadStatement};
-ghost use Rattle.nj_graph.specs.Graph.{IsGraphOf, main_rules, main_rule_at};
-ghost use Rattle.nj_tools.specs.Inside.Blocks.{PutsText};
-ghost use Rattle.nj_tools.specs.RuleLists.{rule_line, rules_text};
-ghost use Rattle.nj_tools.specs.Texts.{WritesText};
+ghost use Rattle.nj_tools.specs.Cited.{ReadStatement, IsGraphOf, main_rules, main_rule_at, PutsText, rule_line, rules_text, WritesText};
 
 use crate::sink_lines::write_line;
 use crate::sinks::Sink;

@@ -1,8 +1,7 @@
 //! Lines on their way to a sink.
 
 ghost use Rattle.std.specs.Prelude.{◌≡◌, ◌++◌, OnOk};
-ghost use Rattle.nj_tools.specs.Inside.Blocks.{PutsText};
-ghost use Rattle.nj_tools.specs.Lines.{line};
+ghost use Rattle.nj_tools.specs.Cited.{PutsText, line};
 
 use crate::output_block::write_block;
 use crate::sinks::Sink;

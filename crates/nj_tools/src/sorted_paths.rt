@@ -1,11 +1,7 @@
 //! Paths of files in byte order, verbatim and quoted for a shell.
 
 ghost use Rattle.std.specs.Prelude.{◌≡◌, ◌<◌, not, All, length, map, filter, IfOk, OnOk};
-ghost use Rattle.nj_text.specs.Quotes.{quoted};
-ghost use Rattle.nj_names.specs.Files.{path_at};
-ghost use Rattle.nj_graph.specs.Graph.{files_of};
-ghost use Rattle.nj_tools.specs.Inside.QuotesHeld.{quote_strings, precedes_plain};
-ghost use Rattle.nj_tools.specs.Listings.{sorted};
+ghost use Rattle.nj_tools.specs.Cited.{quoted, path_at, files_of, quote_strings, precedes_plain, sorted};
 
 use nj_graph::{FileNo, Graph};
 use nj_text::quote_into;

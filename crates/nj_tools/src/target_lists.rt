@@ -1,23 +1,7 @@
 //! Lists of targets.
 
-ghost use Rattle.std.specs.Prelude.{◌≡◌, ◌<◌, List, All, length, map, filter, flat_map, is_none};
-ghost use Rattle.std.specs.Prelude.{IfOk, OnOk};
-ghost use Rattle.nj_scope.specs.ReadingList.{ReadStatement};
-ghost use Rattle.nj_edges.specs.Edges.{maker_of};
-ghost use Rattle.nj_names.specs.Files.{path_at};
-ghost use Rattle.nj_graph.specs.Graph.{edges_of, files_of, IsGraphOf};
-ghost use Rattle.nj_tools.specs.Inside.Blocks.{PutsText};
-ghost use Rattle.nj_tools.specs.Inside.Collections.{AreOf, with_files};
-ghost use Rattle.nj_tools.specs.Lines.{lines};
-ghost use Rattle.nj_tools.specs.Listings.{
-  sorted,
-  made_line,
-  outputs_of_rule,
-  sources_in,
-  outputs_text,
-  targets_text,
-};
-ghost use Rattle.nj_tools.specs.Texts.{WritesText};
+ghost use Rattle.std.specs.Prelude.{◌≡◌, ◌<◌, List, All, length, map, filter, flat_map, is_none, IfOk, OnOk};
+ghost use Rattle.nj_tools.specs.Cited.{ReadStatement, maker_of, path_at, edges_of, files_of, IsGraphOf, PutsText, AreOf, with_files, lines, sorted, made_line, outputs_of_rule, sources_in, outputs_text, targets_text, WritesText};
 
 use crate::file_list::Collected;
 use crate::sink_lines::write_line;

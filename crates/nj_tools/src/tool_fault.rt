@@ -1,8 +1,8 @@
 //! Why a tool stopped.
 
 ghost use Rattle.std.specs.Prelude.{◌≡◌, Some};
-ghost use Rattle.nj_tools.specs.Errors.{fault_text};
 ghost use Rattle.nj_tools.specs.declared.tool_fault.ToolFault.TheVariants.{Write, OutOfMemory};
+ghost use Rattle.nj_tools.specs.Cited.{fault_text};
 
 use crate::sinks::SinkFault;
 use nj_graph::EdgeNo;

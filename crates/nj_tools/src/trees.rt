@@ -1,19 +1,7 @@
 //! Trees of targets' inputs.
 
 ghost use Rattle.std.specs.Prelude.{◌≡◌, ◌<◌, ◌+◌, ◌++◌, List, [], ◌∷◌, All, length, map, OnOk};
-ghost use Rattle.nj_scope.specs.ReadingList.{ReadStatement};
-ghost use Rattle.nj_edges.specs.Edges.{maker_of};
-ghost use Rattle.nj_names.specs.Files.{path_at};
-ghost use Rattle.nj_graph.specs.Graph.{edges_of, files_of, IsGraphOf};
-ghost use Rattle.nj_tools.specs.Inside.Blocks.{PutsText};
-ghost use Rattle.nj_tools.specs.Listings.{
-  file_line,
-  indent,
-  inputs_of_maker,
-  levels_of,
-  trees_text,
-};
-ghost use Rattle.nj_tools.specs.Inside.Trees.{rows_of, AreKnown, rows_after};
+ghost use Rattle.nj_tools.specs.Cited.{ReadStatement, maker_of, path_at, edges_of, files_of, IsGraphOf, PutsText, file_line, indent, inputs_of_maker, levels_of, trees_text, rows_of, AreKnown, rows_after};
 
 use crate::sink_lines::write_line;
 use crate::sinks::Sink;

@@ -1,6 +1,6 @@
 //! Writing a whole text.
 
-ghost use Rattle.nj_tools.specs.Sinks.{Writes};
+ghost use Rattle.nj_tools.specs.Cited.{Writes};
 
 use crate::sinks::{Sink, SinkFault};
 

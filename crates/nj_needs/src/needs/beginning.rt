@@ -2,8 +2,7 @@
 //! name its constructor.
 
 ghost use Rattle.std.specs.Prelude.{◌≡◌, ◌<◌, [], length, All, IfOk};
-ghost use Rattle.nj_needs.specs.Resuming.{ResumeIs};
-ghost use Rattle.nj_needs.specs.Walks.{BeginsAt, commands_of};
+ghost use Rattle.nj_needs.specs.Cited.{ResumeIs, BeginsAt, commands_of};
 
 pub(crate) mod turns;
 

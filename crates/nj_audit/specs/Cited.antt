@@ -1,0 +1,33 @@
+-- What the contracts of this crate cite: each name comes from the module in its line.
+pub use Rattle.std.specs.List.{flat_map, cons_option, position_or_len, AllZip}
+pub use Rattle.nj_scope.specs.ReadingList.{ReadStatement}
+pub use Rattle.nj_graph.specs.Graph.{IsGraphOf, edges_of, files_of}
+pub use Rattle.nj_graph.specs.Undeclared.{input_of_edge}
+pub use Rattle.nj_audit.specs.Audits.{IsAudit}
+pub use Rattle.nj_audit.specs.Inside.ByKind.{asked_of, findings_of}
+pub use Rattle.nj_audit.specs.Kinds.{all_kinds, AskFor, contains, first_unknown, is_asked_for, is_on_by_default, is_taken, is_unknown}
+pub use Rattle.nj_audit.specs.Kinds.{name_of, texts}
+pub use Rattle.nj_audit.specs.LoggedInputs.{AreFoundIf, AreUndeclaredFindings, IsNamedUnordered, finding_of_input}
+pub use Rattle.nj_graph.specs.Edges.{is_among, maker_of}
+pub use Rattle.nj_audit.specs.Audit.{command_of, commands_at, has_command, repeated_commands, has_depfile_without_deps}
+pub use Rattle.nj_audit.specs.Audit.{depfiles_without_deps, repeated_inputs, repeated_inputs_at, path_of, defaults_of, first_output_at}
+pub use Rattle.nj_audit.specs.Audit.{is_unused_output, unused_outputs, unused_outputs_at, pools_of_edges, unused_pool, unused_pools}
+pub use Rattle.nj_audit.specs.Audit.{is_used_rule, unused_rule, unused_rules, is_set, missing_sources, user_of_missing, edge_numbers}
+pub use Rattle.nj_audit.specs.Audit.{is_known, names_in, rule_at, unused_names, unused_variables, unused_variables_at}
+pub use Rattle.nj_graph.specs.Origins.{place_text}
+pub use Rattle.nj_audit.specs.Findings.{edge_finding, finding_model}
+pub use Rattle.nj_audit.specs.Laws.{QuotedPathsAreWords}
+pub use Rattle.nj_graph.specs.Files.{path_at}
+pub use Rattle.nj_audit.specs.UnorderedFiles.{files_named, AreNamedUnordered, IsOther, IsTwin, IsUnordered, response_of}
+pub use Rattle.nj_audit.specs.Inside.FilesNamed.{AreKnown, AddsFiles, paths_of_name}
+pub use Rattle.nj_audit.specs.Inside.LoggedFound.{AddsLogged}
+pub use Rattle.nj_audit.specs.NamedPaths.{paths_in, paths_named, after_letter, after_sign, after_slash, path_named, without_folder}
+pub use Rattle.nj_edges.specs.Inside.ChangesHeld.{FindsMore}
+pub use Rattle.nj_audit.specs.Inside.Served.{HasCommand, MakesOneOf}
+pub use Rattle.nj_audit.specs.Serving.{ServesCommand}
+pub use Rattle.nj_audit.specs.ShellWords.{ends_at, is_cut, is_dropped, keeps_backslash, kept, next_quoting, read_text, words_after}
+pub use Rattle.nj_audit.specs.ShellWords.{words_of}
+pub use Rattle.nj_audit.specs.Inside.PlainBytes.{is_special}
+pub use Rattle.nj_audit.specs.declared.shell_words.Quoting.TheVariants.{Bare}
+pub use Rattle.nj_audit.specs.Inside.UnorderedFound.{AddsUnordered, AddsOnce}
+pub use Rattle.nj_audit.specs.Inside.References.{HasReferences}
