@@ -30,5 +30,6 @@ arguments = short_option (codes "-t") ∷ short_option (codes "-f")
     ∷ flag (long_option (codes "--dependency-order")) ∷ flag (long_option (codes "--no-shell-escape"))
     ∷ flag (long_option (codes "--print0")) ∷ record (new_rule (codes "words")) { action = Some Append } ∷ []
 
+-- the command line, as it is described to the parser
 unfoldable pub command : App
 command = record nothing_yet { top = record nothing_yet.top { rules = arguments } }

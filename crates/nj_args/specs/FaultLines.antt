@@ -6,6 +6,7 @@ use Rattle.nj_args.specs.declared.usage_fault.ToolOption.TheVariants as option
 use Rattle.nj_args.specs.declared.usage_fault.UsageFault.{UsageFault}
 use Rattle.nj_args.specs.declared.usage_fault.UsageFault.TheVariants as fault
 
+-- an option, as it is written
 abbrev pub option_text : ToolOption → List ℕ
 option_text option.Single = codes "-s"
 option_text option.Descriptions = codes "-d"
@@ -22,6 +23,7 @@ option_text option.Print0 = codes "--print0"
 abbrev pub quoting : (before word : List ℕ) → List ℕ
 quoting before word = before ++ (codes "'" ++ word ++ codes "'")
 
+-- the text of a usage fault
 abbrev pub fault_text : UsageFault → List ℕ
 fault_text fault.Unparsed = codes "cannot read the arguments"
 fault_text (fault.UnknownTool tool) = quoting (codes "unknown tool ") tool

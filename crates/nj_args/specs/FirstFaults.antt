@@ -65,9 +65,11 @@ pub data HasMistake (rows : List Row) : Mistake → UsageFault → Type 0 where
   no_depth : (name text : List ℕ) → NamesTool rows name Targets → words_in rows ≡ codes "depth" ∷ text ∷ [] → given_depth text ≡ None
       → HasMistake rows bad_depth (BadNumber text)
 
+-- the words do not have this mistake
 abbrev pub Lacks : List Row → Mistake → Type 0
 Lacks rows mistake = (fault : UsageFault) → ¬ HasMistake rows mistake fault
 
+-- the words have no mistake
 abbrev pub HasNoMistake : List Row → Type 0
 HasNoMistake rows = (mistake : Mistake) → Lacks rows mistake
 
@@ -91,5 +93,6 @@ abbrev pub FirstFaultIsReported : Type 0
 FirstFaultIsReported = (words : List (List ℕ)) → words ≢ [] → (fault : UsageFault)
     → (request_of words ≡ Err fault) ↔ IsFirstFault words fault
 
+-- words are a request exactly if they are faultless
 abbrev pub FaultlessWordsAreRequests : Type 0
 FaultlessWordsAreRequests = (words : List (List ℕ)) → words ≢ [] → IsOk (request_of words) ↔ AreFaultless words

@@ -21,10 +21,12 @@ use Rattle.nj_args.specs.declared.tools.Tool.TheVariants as tool
 
 -- ---- `commands`
 
+-- the number of `--take`, if it is given
 abbrev pub take_of : Option (List ℕ) → Result (Option ℕ) UsageFault
 take_of None = Ok None
 take_of (Some text) = ok_or (option_map Some (given_number text)) (BadNumber text)
 
+-- the mark of `--resume`; without that option, the start
 abbrev pub start_of : (validations : Bool) → Option (List ℕ) → Result (List ℕ) UsageFault
 start_of validations None = Ok []
 start_of validations (Some text) = ok_or (given_run_mark validations text) (BadMark text)

@@ -2,6 +2,7 @@
 use Rattle.std.specs.Prelude.{◌≡◌, ℕ, ◌==◌, Bool, true, false, if◌then◌else◌, Option, Some, None, List, [], ◌∷◌, ◌++◌, codes}
 use Rattle.nj_needs.specs.MarkTexts.{mark_text, given_mark}
 
+-- a mark of a run as text; a `v` tells that validations are followed
 abbrev pub run_mark_text : (validations : Bool) → (mark : List ℕ) → List ℕ
 run_mark_text false mark = mark_text mark
 run_mark_text true mark = codes "v" ++ mark_text mark

@@ -18,6 +18,7 @@ use Rattle.nj_ask.specs.declared.status.Status.TheVariants.{Done, Fault, Usage, 
 abbrev pub place_text : (file : List ℕ) → (line column : ℕ) → List ℕ
 place_text file line column = file ++ codes ":" ++ decimal line ++ codes ":" ++ decimal column ++ codes ": "
 
+-- the word for a kind of input
 abbrev pub kind_word : Option Kind → List ℕ
 kind_word (Some Explicit) = codes "explicit"
 kind_word (Some Implicit) = codes "implicit"

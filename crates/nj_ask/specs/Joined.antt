@@ -15,8 +15,10 @@ pub record Follows (old new : GraphModel) : Type 0 where
 abbrev pub AreEdgesOf : GraphModel → List EdgeNo → Type 0
 AreEdgesOf g edges = All (λ (edge : EdgeNo). edge.0 < length (edges_of g)) edges
 
+-- the doubtful edges are edges of the graph
 abbrev pub HasDoubtfulEdges : Discovered → Type 0
 HasDoubtfulEdges known = AreEdgesOf known.graph known.doubts.edges.items
 
+-- the edges with unknown inputs are edges of the graph
 abbrev pub HasEdges : DiscoveredGraph → Type 0
 HasEdges known = AreEdgesOf known.graph known.unknown.items

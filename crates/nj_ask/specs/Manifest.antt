@@ -24,6 +24,7 @@ opened_files g = filter_map (λ opening. number_at (files_of g) opening.path) g.
 abbrev pub opened_paths : GraphModel → List (List ℕ)
 opened_paths g = filter_map (λ opening. clean_name opening.path) g.origins.openings
 
+-- the clean path, if there is one, is one of these
 abbrev pub is_named_in : (paths : List (List ℕ)) → (clean : Option (List ℕ)) → Bool
 is_named_in paths None = false
 is_named_in paths (Some clean) = is_among paths clean

@@ -66,6 +66,7 @@ pub data HasWarnings (g : GraphModel) (entries : List ReadStatement) (q : Questi
 abbrev pub changed_numbers : GraphModel → Question → List ℕ
 changed_numbers g q = changed_files g q.folder q.paths
 
+-- the paths of the changed files
 abbrev pub changed_paths : GraphModel → Question → List (List ℕ)
 changed_paths g q = map (path_of g) (changed_numbers g q)
 

@@ -10,6 +10,7 @@ use Rattle.nj_audit.specs.declared.kinds.Kind.TheVariants.{UnusedVariable, Repea
 use Rattle.nj_audit.specs.declared.kinds.Kind.TheVariants.{DepfileWithoutDeps, RepeatedInput, UndeclaredInput}
 use Rattle.nj_audit.specs.declared.kinds.Kinds.{Kinds}
 
+-- the name of a kind
 abbrev pub name_of : Kind → List ℕ
 name_of UnusedOutput = codes "unused-output"
 name_of MissingSource = codes "missing-source"
@@ -21,6 +22,7 @@ name_of DepfileWithoutDeps = codes "depfile-without-deps"
 name_of RepeatedInput = codes "repeated-input"
 name_of UndeclaredInput = codes "undeclared-input"
 
+-- findings of the kind are reported without any option
 abbrev pub is_on_by_default : Kind → Bool
 is_on_by_default MissingSource = true
 is_on_by_default RepeatedCommand = true
@@ -37,6 +39,7 @@ is_taken only kind =
 abbrev pub is_asked_for : (only except : List (List ℕ)) → Kind → Bool
 is_asked_for only except kind = is_taken only kind && not (is_among except (name_of kind))
 
+-- all kinds, in the order in which they are reported
 abbrev pub all_kinds : List Kind
 all_kinds =
     UnusedOutput ∷ MissingSource ∷ UnusedRule ∷ UnusedPool ∷ UnusedVariable ∷ RepeatedCommand
@@ -56,6 +59,7 @@ texts words = map (λ word. word.now) words
 
 -- ---- kinds as flags
 
+-- the kind is among these
 abbrev pub contains : Kinds → Kind → Bool
 contains kinds UnusedOutput = kinds.unused_output
 contains kinds MissingSource = kinds.missing_source

@@ -13,6 +13,7 @@ pub record IsNamedUnordered (g : GraphModel) (entries : List ReadStatement) (fol
   pub named : Contains (map (path_of g) (files_named g entries folder input.edge)) input.path
   pub is_unordered : IsUnordered g input.edge input.path
 
+-- an undeclared input as a finding
 abbrev pub finding_of_input : GraphModel → InputOfEdge → FindingModel
 finding_of_input g input = edge_finding g input.edge UndeclaredInput input.path
 

@@ -46,6 +46,7 @@ kept quoting b = if is_dropped quoting b then [] else (if keeps_backslash quotin
 abbrev pub read_byte : Quoting → ℕ → List (Option ℕ)
 read_byte quoting b = if ends_at quoting b then None ∷ [] else map Some (kept quoting b)
 
+-- how a shell reads a text: each byte of a word, and where a word ends
 unfoldable pub read_text : Quoting → (text : List ℕ) → List (Option ℕ)
 read_text quoting [] = []
 read_text quoting (b ∷ text) = read_byte quoting b ++ read_text (next_quoting quoting b) text
@@ -61,5 +62,6 @@ words_after word [] = with_word word []
 words_after word (None ∷ read) = with_word word (words_after [] read)
 words_after word (Some b ∷ read) = words_after (word ++ b ∷ []) read
 
+-- the words of a command
 unfoldable pub words_of : (command : List ℕ) → List (List ℕ)
 words_of command = words_after [] (read_text Bare command)

@@ -64,6 +64,7 @@ abbrev pub step_kind_code : Option Kind → ℤ
 step_kind_code (Some kind) = kind_code kind
 step_kind_code None = pos 3
 
+-- 1 for yes, 0 for no
 abbrev pub bool_code : Bool → ℤ
 bool_code is = if is then pos 1 else pos 0
 
@@ -90,6 +91,7 @@ OfFault session result does = IfOpen session result (λ kept. MatchOption kept.f
 abbrev pub IfPlace : Option GraphFault → ℤ → (Place → Type 0) → Type 0
 IfPlace fault result does = MatchOption (option_and_then (λ f. f.place) fault) (result ≡ code_of Nothing) does
 
+-- what is said of the place of a session's fault
 abbrev pub OfPlace : Option Kept → ℤ → (Place → Type 0) → Type 0
 OfPlace session result does = IfOpen session result (λ kept. IfPlace kept.fault result does)
 

@@ -22,6 +22,7 @@ abbrev pub AreDirty : GraphModel → (files unknown edges : List ℕ) → Type 0
 AreDirty g files unknown edges = IsStrictlyIncreasing edges
     × ((edge : ℕ) → Contains edges edge ↔ IsDirty (edges_of g) (paths_of_files g files) unknown edge)
 
+-- the edges that a change of these files makes dirty are listed, or a status says why not
 abbrev pub ListsDirty : (before after : Kept) → (files : List ℕ) → Status → Type 0
 ListsDirty before after files Done =
     (g : GraphModel) × (before.graph ≡ Some g) × Lists before after × AreKnown g files

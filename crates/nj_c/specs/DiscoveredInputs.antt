@@ -64,6 +64,7 @@ times_of g times path = option_map (λ edge. time_found (slice_get times edge)) 
 abbrev pub depfile_by : (deps depfile : List ℕ) → Option (List ℕ)
 depfile_by deps depfile = if is_empty deps && not (is_empty depfile) then Some depfile else None
 
+-- the depfile of an edge, if Ninja would read it
 abbrev pub depfile_at : List ReadStatement → (edge : ℕ) → Option (List ℕ)
 depfile_at stated edge = depfile_by (late_text_of stated edge (codes "deps")) (late_text_of stated edge (codes "depfile"))
 

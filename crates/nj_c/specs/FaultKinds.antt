@@ -5,6 +5,7 @@ use Rattle.nj_manifest.specs.declared.cause.SyntaxCause.TheVariants.{BadByte, Ta
 use Rattle.nj_faults.specs.declared.fault.Cause.{Cause}
 use Rattle.nj_faults.specs.declared.fault.Cause.TheVariants.{Syntax, EmptyPath, BadDepth, DuplicateRule, DuplicatePool, VersionTooNew, Missing, PathNotText, TooDeep, TooManyOpenings, Io, UnknownRule, TwoMakers, UnknownTarget, RuleVariableCycle, UnknownPool, DyndepNotInput, DyndepNoStatement, DyndepTwice, DyndepExtra, Cycle, NoOutEdge, TextNotUtf8, OutOfMemory}
 
+-- the number of a syntax fault
 abbrev pub kind_of_syntax : {N : Type 0} → SyntaxCause N → ℤ
 kind_of_syntax BadByte = pos 1
 kind_of_syntax Tab = pos 2
@@ -18,6 +19,7 @@ kind_of_syntax MissingDepth = pos 9
 kind_of_syntax DyndepVersion = pos 10
 kind_of_syntax DyndepShape = pos 11
 
+-- the number of a fault
 abbrev pub kind_of : Cause → ℤ
 kind_of (Syntax x) = kind_of_syntax x
 kind_of EmptyPath = pos 12

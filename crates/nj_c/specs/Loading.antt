@@ -79,6 +79,7 @@ is_lacking h path = is_utf8 path && not (is_some (handed_in h path))
 abbrev pub lacking_dyndeps : Handed → (joins : Bool) → GraphModel → List (List ℕ)
 lacking_dyndeps h joins g = if joins then each_once bytes_eq (filter (is_lacking h) (dyndeps_of g)) else []
 
+-- these paths, or the others if there are none
 abbrev pub paths_or : (paths others : List (List ℕ)) → List (List ℕ)
 paths_or [] others = others
 paths_or (path ∷ paths) others = path ∷ paths
@@ -91,6 +92,7 @@ paths_to_load h joins (Err fault) = wanted_paths h
 
 -- ---- loading
 
+-- the graph of what was loaded
 abbrev pub graph_loaded : Result LoadedModel GraphFault → Result GraphModel GraphFault
 graph_loaded (Ok loaded) = Ok loaded.graph
 graph_loaded (Err fault) = Err fault
@@ -102,6 +104,7 @@ JoinsGraph between after true loaded result =
     (joined : Result LoadedModel GraphFault) × (result ≡ graph_loaded joined)
     × ((stated : List ReadStatement) → IsGraphOf loaded.graph stated → Joins stated loaded.files between after joined)
 
+-- the graph, with its dyndep files joined if that is requested
 abbrev pub GivesGraph : (between after : SourceState) → (joins : Bool) → Result LoadedModel GraphFault
     → Result GraphModel GraphFault → Type 0
 GivesGraph between after joins (Ok loaded) result = JoinsGraph between after joins loaded result

@@ -24,12 +24,15 @@ use Rattle.nj_c.specs.Loading.{SameRun}
 abbrev pub edge_numbers : Kept → List ℕ
 edge_numbers kept = map (λ e. e.0) kept.found.items
 
+-- each number is below this count
 abbrev pub AreBelow : (count : ℕ) → List ℕ → Type 0
 AreBelow count numbers = All (λ n. n < count) numbers
 
+-- each number is that of a file
 abbrev pub AreKnown : GraphModel → List ℕ → Type 0
 AreKnown g numbers = AreBelow (length (files_of g)) numbers
 
+-- these numbers as files
 abbrev pub numbered : List ℕ → List FileNo
 numbered numbers = map (λ n. record { 0 = n }) numbers
 
@@ -49,10 +52,12 @@ pub record Lists (before after : Kept) : Type 0 where
 
 -- ---- affected edges
 
+-- exactly the affected edges, by number
 abbrev pub IsReached : GraphModel → (files edges : List ℕ) → Type 0
 IsReached g files edges = IsStrictlyIncreasing edges
     × ((edge : ℕ) → Contains edges edge ↔ IsAffected (edges_of g) (paths_of_files g files) edge)
 
+-- the edges that a change of these files affects are listed, or a status says why not
 abbrev pub ListsReached : (before after : Kept) → (files : List ℕ) → Status → Type 0
 ListsReached before after files Done =
     (g : GraphModel) × (before.graph ≡ Some g) × Lists before after × AreKnown g files × IsReached g files (edge_numbers after)
@@ -71,6 +76,7 @@ pub record IsNeededList (edges : List EdgePaths) (files : List (List ℕ)) (numb
   pub each_once : IsDistinct nat_eq numbers
   pub nearest_first : AreNearestFirst edges files numbers
 
+-- the edges that these files need are listed, or a status says why not
 abbrev pub ListsNeeded : (before after : Kept) → (files : List ℕ) → Status → Type 0
 ListsNeeded before after files Done =
     (g : GraphModel) × (before.graph ≡ Some g) × Lists before after × AreKnown g files
@@ -113,6 +119,7 @@ abbrev pub IsBadMark : EdgeGraph → (targets : List FileNo) → (text : List �
 IsBadMark g targets text = IsNoMark text
     ⊎ ((mark : List ℕ) × (mark_of text ≡ Some mark) × (is_valid (makers_of g) (row_of g targets) mark ≡ false))
 
+-- a page of the edges that the targets need is listed, or a status says why not
 abbrev pub ListsPage : (before after : Kept) → (targets : List ℕ) → (text : List ℕ) → (limit : ℕ) → Status → Type 0
 ListsPage before after targets text limit Done =
     (g : GraphModel) × (before.graph ≡ Some g) × Lists before after × AreKnown g targets

@@ -17,6 +17,7 @@ use Rattle.nj_c.specs.Loading.{unread, ListsWanted}
 
 -- ---- the words
 
+-- a zero byte
 abbrev pub is_zero : ℕ → Bool
 is_zero byte = byte == 0
 
@@ -25,6 +26,7 @@ abbrev pub last_word : List ℕ → List (List ℕ)
 last_word [] = []
 last_word (byte ∷ bytes) = (byte ∷ bytes) ∷ []
 
+-- words without an empty one at the end
 abbrev pub without_empty_last : List (List ℕ) → List (List ℕ)
 without_empty_last [] = []
 without_empty_last (word ∷ []) = last_word word

@@ -3,6 +3,7 @@ use Rattle.std.specs.Prelude.{ℤ, pos}
 use Rattle.nj_c.specs.declared.status.Status.{Status}
 use Rattle.nj_c.specs.declared.status.Status.TheVariants.{Done, Nothing, Short, Fault, Wanted, NotLoaded, BadNumber, BadMark, NotUtf8, NotOpen, OutOfMemory, BadLog}
 
+-- the number of a status
 abbrev pub code_of : Status → ℤ
 code_of Done = pos 0
 code_of Nothing = pos 1

@@ -29,9 +29,11 @@ pub record Around : Type 0 where
   pub output : SinkState
   pub error : SinkState
 
+-- a source of files, and two outputs
 abbrev pub around : (source : SourceState) → (output error : SinkState) → Around
 around source output error = record { source = source; output = output; error = error }
 
+-- the line that says that memory lacked
 abbrev pub out_of_memory : List ℕ
 out_of_memory = fault_line no_memory
 

@@ -19,6 +19,7 @@ abbrev pub word_of : List ℕ → List (List ℕ)
 word_of [] = []
 word_of (byte ∷ bytes) = (byte ∷ bytes) ∷ []
 
+-- words in front of those of the first line
 abbrev pub onto_first : (words : List (List ℕ)) → List (List (List ℕ)) → List (List (List ℕ))
 onto_first words [] = words ∷ []
 onto_first words (line ∷ lines) = (words ++ line) ∷ lines
@@ -32,6 +33,7 @@ words_from so_far (LineEnd ∷ more) = word_of so_far ∷ words_from [] more
 
 -- ---- targets and inputs
 
+-- a word ends in a colon
 abbrev pub ends_in_colon : List ℕ → Bool
 ends_in_colon word = slice_index word (length word - 1) == 58
 
@@ -48,6 +50,7 @@ abbrev pub left_of : List (List ℕ) → List (List ℕ)
 left_of [] = []
 left_of (word ∷ words) = if ends_in_colon word then word ∷ [] else word ∷ left_of words
 
+-- the words of a line behind its targets
 abbrev pub right_of : List (List ℕ) → List (List ℕ)
 right_of words = drop (length (left_of words)) words
 
@@ -76,6 +79,7 @@ with_lines so_far (words ∷ lines) = elim (with_line so_far words) [ Ok named �
 abbrev pub has_colon : (lines : List (List (List ℕ))) → Bool
 has_colon lines = list_any (list_any ends_in_colon) lines
 
+-- no targets and no inputs
 abbrev pub nothing_named : DepfileModel
 nothing_named = record { targets = []; inputs = [] }
 

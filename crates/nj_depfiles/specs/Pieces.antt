@@ -36,6 +36,7 @@ line_end_at text place =
 abbrev pub backslashes : List ℕ → ℕ
 backslashes text = prefix_len (λ byte. byte == 92) text
 
+-- how many bytes stand for themselves at the front
 abbrev pub literals : List ℕ → ℕ
 literals text = prefix_len stands_for_itself text
 
@@ -73,6 +74,7 @@ sign_piece text =
 abbrev pub plain_piece : List ℕ → Cut
 plain_piece text = if literals text == 0 then sign_piece text else (NameBytes (take (literals text) text), literals text)
 
+-- the first piece, and how many bytes it takes
 abbrev pub first_piece : List ℕ → Cut
 first_piece text = if backslashes text == 0 then plain_piece text else after_backslashes (backslashes text) text
 
@@ -83,5 +85,6 @@ pieces_after zero (byte ∷ text) =
     let first = first_piece (byte ∷ text) in first.0 ∷ pieces_after (first.1 - 1) text
 pieces_after (suc skip) (byte ∷ text) = pieces_after skip text
 
+-- a text, cut into pieces
 abbrev pub pieces : List ℕ → List Piece
 pieces text = pieces_after 0 text

@@ -15,9 +15,11 @@ pub data LogRecord : Type 0 where
 unfoldable pub word : ℕ → List ℕ
 word number = to_le_bytes w32 number
 
+-- several such numbers
 abbrev pub words : List ℕ → List ℕ
 words numbers = flat_map word numbers
 
+-- the content of a record
 abbrev pub content_of : LogRecord → List ℕ
 content_of (path padded complement) = padded ++ word complement
 content_of (dependencies output low high inputs) = words (output ∷ low ∷ high ∷ inputs)
@@ -64,6 +66,7 @@ pub record AreKnown (paths : List (List ℕ)) (output low high : ℕ) (inputs : 
   pub high_fits : high < 2 ^ 32
   pub inputs_known : AllByRecursion (λ number. number < length paths) inputs
 
+-- a record fits the paths that were named before it
 abbrev pub Fits : (paths : List (List ℕ)) → LogRecord → Type 0
 Fits paths (path padded complement) = IsNext paths (path_in padded) complement
 Fits paths (dependencies output low high inputs) = AreKnown paths output low high inputs

@@ -20,6 +20,7 @@ pub record IsOfPaths (count : ℕ) (o : OutputModel) : Type 0 where
   pub output : o.output < count
   pub inputs : AllByRecursion (λ number. number < count) o.inputs
 
+-- an output with its inputs and its time
 abbrev pub output_model : LoggedOutput → OutputModel
 output_model logged =
     record { output = logged.output; time = logged.time; inputs = logged.inputs.now }
@@ -42,9 +43,11 @@ with_dependencies outputs (path padded complement) = outputs
 with_dependencies outputs (dependencies output low high inputs) =
     with_output outputs (record { output = output; time = low + 2 ^ 32 * high; inputs = inputs })
 
+-- the paths that these records name, in their order
 abbrev pub paths_of : List LogRecord → List (List ℕ)
 paths_of records = fold with_path [] records
 
+-- the outputs of these records, each with its last record
 abbrev pub outputs_of : List LogRecord → List OutputModel
 outputs_of records = fold with_dependencies [] records
 
@@ -59,6 +62,7 @@ CountInTurn paths (r ∷ records) = Counts paths r × CountInTurn (with_path pat
 abbrev pub EndsBefore : (paths : List (List ℕ)) → (rest : List ℕ) → Type 0
 EndsBefore paths rest = (r : LogRecord) (more : List ℕ) → Counts paths r → rest ≢ bytes_of r ++ more
 
+-- the line with which a log begins
 abbrev pub first_line : List ℕ
 first_line = codes "# ninjadeps" ++ 10 ∷ []
 

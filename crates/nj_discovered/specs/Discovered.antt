@@ -25,12 +25,15 @@ pub record Discovery : Type 0 where
   pub verdict : Verdict
   pub inputs : List (List ℕ)
 
+-- discovered inputs that are known, as clean paths
 abbrev pub known : (paths : List (List ℕ)) → Discovery
 known paths = record { verdict = verdict.Known; inputs = map clean_path_of paths }
 
+-- discovered inputs that are unknown, and why
 abbrev pub unknown : Unknown → Discovery
 unknown reason = record { verdict = verdict.Unknown reason; inputs = [] }
 
+-- discovered inputs that end a build, and why
 abbrev pub faulty : DepfileError → Discovery
 faulty fault = record { verdict = verdict.Faulty fault; inputs = [] }
 
@@ -49,10 +52,12 @@ abbrev pub doubt_of : (recorded : ℕ) → TimeFound → Option Unknown
 doubt_of recorded NoAnswer = Some why.NoTime
 doubt_of recorded (Time time) = if is_newer time recorded then Some why.NewerOutput else None
 
+-- these paths are known, unless there is a reason to doubt them
 abbrev pub unless_doubted : (doubt : Option Unknown) → (paths : List (List ℕ)) → Discovery
 unless_doubted None paths = known paths
 unless_doubted (Some reason) paths = unknown reason
 
+-- the discovery of a record, by the time of the output
 abbrev pub by_record : LogModel → OutputModel → TimeFound → Discovery
 by_record log o time = unless_doubted (doubt_of o.time time) (map (name_at log.paths) o.inputs)
 
@@ -75,10 +80,12 @@ abbrev pub by_stranger : (stranger : Option (List ℕ)) → (inputs : List (List
 by_stranger None inputs = known inputs
 by_stranger (Some target) inputs = faulty (error.NoSuchOutput target)
 
+-- an output, if there is one, has this path
 abbrev pub is_that : Option (List ℕ) → (path : List ℕ) → Bool
 is_that None path = false
 is_that (Some output) path = bytes_eq output path
 
+-- the first output of an edge has this path
 abbrev pub is_first_output : EdgePaths → (path : List ℕ) → Bool
 is_first_output edge path = is_that (first_output edge) path
 
@@ -90,10 +97,12 @@ by_targets edge (first ∷ others) inputs =
     then by_stranger (find (λ target. not (is_among (outputs_of edge) target)) others) inputs
     else unknown why.OtherTarget
 
+-- the discovery of a depfile that was parsed
 abbrev pub by_depfile : EdgePaths → Result DepfileModel DepfileFault → Discovery
 by_depfile edge (Ok named) = by_targets edge named.targets named.inputs
 by_depfile edge (Err fault) = faulty (error.Depfile fault)
 
+-- the discovery of a depfile
 abbrev pub by_text : EdgePaths → TextFound → Discovery
 by_text edge Unreadable = faulty error.Unreadable
 by_text edge (Text None) = unknown why.NoDepfile

@@ -4,6 +4,7 @@ use Rattle.nj_depfiles.specs.Faults as depfile
 use Rattle.nj_discovered.specs.declared.verdict.DepfileError.{DepfileError}
 use Rattle.nj_discovered.specs.declared.verdict.DepfileError.TheVariants.{Unreadable, Depfile, NoTarget, NoSuchOutput}
 
+-- the text of a fault about a target that no edge declares
 abbrev pub stranger_text : (target : List ℕ) → List ℕ
 stranger_text target = codes "depfile mentions '" ++ target ++ codes "' as an output, but no such output was declared"
 

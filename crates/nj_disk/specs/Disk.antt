@@ -2,6 +2,7 @@
 use Rattle.std.specs.Prelude.{ℕ, Option, None, List}
 use Rattle.nj_scope.specs.Sources.{SourceState}
 
+-- what is known of the disk
 pub record Disk : Type 0 where
   -- the name of the file that is read from standard input
   pub input_name : Option (List ℕ)

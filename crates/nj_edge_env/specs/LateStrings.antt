@@ -32,6 +32,7 @@ text_of_paths quoting inputs outputs name =
     else (if bytes_eq name (codes "in_newline") then Some (paths_text quoting 10 inputs)
     else (if bytes_eq name (codes "out") then Some (paths_text quoting 32 outputs) else None))
 
+-- a name that stands for paths of the edge
 abbrev pub names_paths : (name : List ℕ) → Bool
 names_paths name = is_among (codes "in" ∷ codes "in_newline" ∷ codes "out" ∷ []) name
 
@@ -60,6 +61,7 @@ file_value n name = if n.is_phony && is_of_command name then [] else n.file name
 
 -- ---- the value of a name
 
+-- a part refers to this name
 abbrev pub refers_in : PartModel → (name : List ℕ) → Bool
 refers_in (Text bytes) name = false
 refers_in (Name other) name = bytes_eq name other
@@ -97,5 +99,6 @@ late_text quoting n name = late_in (suc (length n.lines)) quoting n name
 abbrev pub is_quoted : (asked : List ℕ) → Bool
 is_quoted asked = not (is_among (codes "rspfile" ∷ codes "depfile" ∷ codes "dyndep" ∷ []) asked)
 
+-- the value of a variable, requested by itself
 abbrev pub asked_text : LateNames → (asked : List ℕ) → List ℕ
 asked_text n asked = late_text (is_quoted asked) n asked

@@ -9,13 +9,16 @@ use Rattle.nj_scope.specs.Rules.{RuleLineModel, given}
 use Rattle.nj_edge_env.specs.LateStrings.{rule_value, refers}
 use Rattle.nj_edge_env.specs.VariableCycles.{variable_cycle_of}
 
+-- a key of a rule, and whether its value refers to each of the keys
 pub record ReferringKeyModel : Type 0 where
   pub name : List ℕ
   pub refers : List Bool
 
+-- the key of this number
 abbrev pub name_at : List ReferringKeyModel → (number : ℕ) → List ℕ
 name_at keys number = unwrap_or (option_map (λ k. k.name) (slice_get keys number)) []
 
+-- whether the value of the key of this number refers to each of the keys
 abbrev pub row_at : List ReferringKeyModel → (number : ℕ) → List Bool
 row_at keys number = unwrap_or (option_map (λ k. k.refers) (slice_get keys number)) []
 

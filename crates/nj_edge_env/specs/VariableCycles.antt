@@ -18,9 +18,11 @@ RefersTo block lines key other = (parts : List PartModel) × (rule_value block l
 abbrev pub Reaches : (block : List ℕ → Option (List ℕ)) → List RuleLineModel → (key other : List ℕ) → Type 0
 Reaches block lines = Chain (RefersTo block lines)
 
+-- a key reaches itself
 abbrev pub IsOnCycle : (block : List ℕ → Option (List ℕ)) → List RuleLineModel → (key : List ℕ) → Type 0
 IsOnCycle block lines key = Reaches block lines key key
 
+-- no key reaches itself
 abbrev pub HasNoCycle : (block : List ℕ → Option (List ℕ)) → List RuleLineModel → Type 0
 HasNoCycle block lines = (key : List ℕ) → ¬ IsOnCycle block lines key
 
@@ -36,6 +38,7 @@ IsCycleFound block lines (Some key) = IsLeastOnCycle block lines key
 
 -- ---- the same, computed
 
+-- the keys of a rule's lines
 abbrev pub keys_of : List RuleLineModel → List (List ℕ)
 keys_of lines = map (λ l. l.key) lines
 

@@ -2,6 +2,7 @@
 use Rattle.std.specs.Prelude.{ℕ, List}
 use Rattle.nj_edges.specs.Edges.{EdgePaths}
 
+-- files and edges, both by their paths
 pub record EdgeGraph : Type 0 where
   pub files : List (List ℕ)
   pub edges : List EdgePaths

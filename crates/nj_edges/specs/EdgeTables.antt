@@ -17,27 +17,35 @@ pub record EdgeTable : Type 0 where
   pub edges : List EdgePaths
   pub «open» : OpenEdge
 
+-- an edge that names no files yet
 abbrev pub no_files : OpenEdge
 no_files = record { outputs = []; inputs = []; validations = [] }
 
+-- the table, with a number for this path
 abbrev pub naming : EdgeTable → (path : List ℕ) → EdgeTable
 naming t path = record t { files = with_name t.files path }
 
+-- the open edge has one more output
 abbrev pub plus_output : EdgeTable → (path : List ℕ) → EdgeTable
 plus_output t path = record t { «open» = record t.«open» { outputs = t.«open».outputs ++ path ∷ [] } }
 
+-- the open edge has one more output, whose path has a number
 abbrev pub with_output : EdgeTable → (path : List ℕ) → EdgeTable
 with_output t path = plus_output (naming t path) path
 
+-- the open edge has one more input
 abbrev pub plus_input : EdgeTable → (path : List ℕ) → EdgeTable
 plus_input t path = record t { «open» = record t.«open» { inputs = t.«open».inputs ++ path ∷ [] } }
 
+-- the open edge has one more input, whose path has a number
 abbrev pub with_input : EdgeTable → (path : List ℕ) → EdgeTable
 with_input t path = plus_input (naming t path) path
 
+-- the open edge has one more validation
 abbrev pub plus_validation : EdgeTable → (path : List ℕ) → EdgeTable
 plus_validation t path = record t { «open» = record t.«open» { validations = t.«open».validations ++ path ∷ [] } }
 
+-- the open edge has one more validation, whose path has a number
 abbrev pub with_validation : EdgeTable → (path : List ℕ) → EdgeTable
 with_validation t path = plus_validation (naming t path) path
 

@@ -28,6 +28,7 @@ edge_at edges number = slice_index_or edges number (record {
   is_phony = false;
 })
 
+-- the outputs of an edge, the explicit ones first
 abbrev pub outputs_of : EdgePaths → List (List ℕ)
 outputs_of e = e.explicit_outputs ++ e.implicit_outputs
 
@@ -35,6 +36,7 @@ outputs_of e = e.explicit_outputs ++ e.implicit_outputs
 abbrev pub first_output : EdgePaths → Option (List ℕ)
 first_output e = slice_get (outputs_of e) 0
 
+-- the inputs of an edge: explicit, implicit and order-only
 abbrev pub inputs_of : EdgePaths → List (List ℕ)
 inputs_of e = e.explicit_inputs ++ e.implicit_inputs ++ e.order_only_inputs
 
@@ -76,6 +78,7 @@ roots_of edges = filter (λ path. not (is_used edges path)) (flat_map outputs_of
 abbrev pub names : EdgePaths → (path : List ℕ) → Bool
 names e path = is_among (outputs_of e) path || is_among (inputs_of e) path || is_among e.validations path
 
+-- one of these edges names the path
 abbrev pub is_named : List EdgePaths → (path : List ℕ) → Bool
 is_named edges path = list_any (λ e. names e path) edges
 

@@ -22,6 +22,7 @@ pub record JoinTable : Type 0 where
   -- the files for the next one
   pub «open» : AddedFiles
 
+-- no files are collected
 abbrev pub none_added : AddedFiles
 none_added = record { outputs = []; inputs = [] }
 
@@ -48,12 +49,14 @@ join_of g = record {
   «open» = none_added;
 }
 
+-- one more output is collected for the next edge
 abbrev pub with_added_output : JoinTable → (path : List ℕ) → JoinTable
 with_added_output t path = record t {
   files = with_name t.files path;
   «open» = record t.«open» { outputs = t.«open».outputs ++ path ∷ [] };
 }
 
+-- one more input is collected for the next edge
 abbrev pub with_added_input : JoinTable → (path : List ℕ) → JoinTable
 with_added_input t path = record t {
   files = with_name t.files path;
@@ -72,5 +75,6 @@ with_joined t edge = record t {
 abbrev pub is_made_so_far : JoinTable → (path : List ℕ) → Bool
 is_made_so_far t path = is_some (maker_of t.joined path) || is_among t.«open».outputs path
 
+-- the edge was joined
 abbrev pub is_joined : JoinTable → (edge : ℕ) → Bool
 is_joined t edge = slice_index_or t.was_joined edge false

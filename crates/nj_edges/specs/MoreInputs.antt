@@ -21,6 +21,7 @@ inputs_so_far t = counted_inputs_of (edge_at t.table.stated t.edge) ++ t.table.�
 abbrev pub with_new_input : InputTable → (path : List ℕ) → InputTable
 with_new_input t path = if is_among (inputs_so_far t) path then t else record t { table = with_added_input t.table path }
 
+-- the collected inputs are those of this edge, and the next edge follows
 abbrev pub at_next_edge : InputTable → InputTable
 at_next_edge t = record { table = with_joined t.table t.edge; edge = t.edge + 1 }
 

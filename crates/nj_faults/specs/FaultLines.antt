@@ -63,6 +63,7 @@ bare_line fault = line_after (λ name. name) [] fault
 
 -- ---- for people to read, with U+FFFD for invalid UTF-8 in names
 
+-- the line of a fault, with what is not UTF-8 replaced
 abbrev pub shown_line : GraphFault → List ℕ
 shown_line fault = line_after utf8_lossy [] fault
 

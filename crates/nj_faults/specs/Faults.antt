@@ -14,6 +14,7 @@ fault_at file spot cause = record { place = Some (record { file = file; spot = s
 abbrev pub unplaced : Cause → GraphFault
 unplaced cause = record { place = None; cause = cause }
 
+-- out of memory
 abbrev pub no_memory : GraphFault
 no_memory = unplaced cause.OutOfMemory
 

@@ -10,6 +10,7 @@ reader_version = (1, 12)
 abbrev pub reader_version_text : List ℕ
 reader_version_text = codes "1.12"
 
+-- a version is newer than another, by major and minor
 abbrev pub is_newer_pair : (version than : ℕ × ℕ) → Bool
 is_newer_pair (major, minor) (than_major, than_minor) = nat_lt than_major major || (major == than_major && nat_lt than_minor minor)
 

@@ -51,6 +51,7 @@ JoinsNamed named stated (Err fault) = (fault ≡ no_memory) ⊎ IsCycleFault (ed
 abbrev pub with_log : LogModel → List ReadStatement → List ReadStatement
 with_log log entries = with_named (λ edge. inputs_logged log (number_logged log entries edge)) entries
 
+-- the result of joining a deps log to the edges of these statements
 abbrev pub JoinsLog : LogModel → (stated : List ReadStatement) → Result GraphModel GraphFault → Type 0
 JoinsLog log stated result = JoinsNamed (λ edge. inputs_logged log (number_logged log stated edge)) stated result
 

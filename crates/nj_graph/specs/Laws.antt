@@ -113,6 +113,7 @@ pub record HasSign (command file : List ℕ) (sign : ℕ) : Type 0 where
   pub here : HasPart command (codes "@" ++ file) sign
   pub first : FirstHasPart command file (sign + 1)
 
+-- the sign is found before the first occurrence of the response file's name
 abbrev pub SignIsBeforeTheFirst : Type 0
 SignIsBeforeTheFirst = (command file : List ℕ) → Finds (HasSign command file) (sign_position command file)
 

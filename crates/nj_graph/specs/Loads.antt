@@ -61,5 +61,6 @@ LoadsAfter old before after reading result =
 abbrev pub main_reached : (main : List ℕ) → (files : List Reading) → ReachedModel
 main_reached main files = let r = main_read files main in record { read = r; paths = paths_come_to main r }
 
+-- the result of loading a main file, and all that it includes
 abbrev pub Loads : (main : List ℕ) → (before after : SourceState) → Result LoadedModel GraphFault → Type 0
 Loads main before after result = LoadsAfter [] before after (main_reached main) result

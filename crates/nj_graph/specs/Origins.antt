@@ -19,6 +19,7 @@ place_text p = record { file = p.file.now; spot = p.spot }
 
 -- ---- rules
 
+-- the place of the rule that a statement declares, if any
 abbrev pub rule_place_given : ReadStatement → (before : List ReadStatement) → StatementModel → Option (Option Place)
 rule_place_given e before (RuleModel name lines) = Some (Some (place_of e))
 rule_place_given e before item = None
@@ -44,6 +45,7 @@ abbrev pub depth_of : (scope : List ℕ) → (before : List ReadStatement) → L
 depth_of scope before lines =
     unwrap_or (option_and_then (λ l. leading_number_of (expanded_in scope before l.value)) (slice_get lines (length lines - 1))) 0
 
+-- the place and the depth of the pool that a statement declares, if any
 abbrev pub pool_detail_given : ReadStatement → (before : List ReadStatement) → StatementModel → Option PoolDetail
 pool_detail_given e before (PoolModel name lines) = Some (record { place = place_of e; depth = depth_of (scope_of e) before lines })
 pool_detail_given e before item = None
@@ -67,14 +69,17 @@ pub record OpeningModel : Type 0 where
 abbrev pub opening_model : Opening → OpeningModel
 opening_model o = record { path = o.path.now; named_at = option_map place_text o.named_at; scope = o.scope.0 }
 
+-- the opening of a file by a statement
 abbrev pub opening_by : ReadStatement → (before : List ReadStatement) → WordModel → (scope : ℕ) → OpeningModel
 opening_by e before word scope = record { path = expanded_in (scope_of e) before word; named_at = Some (place_of e); scope = scope }
 
+-- the opening that a statement causes, if any
 abbrev pub opening_given : ReadStatement → (before : List ReadStatement) → StatementModel → Option OpeningModel
 opening_given e before (IncludeModel word) = Some (opening_by e before word e.scope)
 opening_given e before (SubninjaModel word) = Some (opening_by e before word (scopes_opened before))
 opening_given e before item = None
 
+-- the opening of the main file
 abbrev pub main_opening : (main : List ℕ) → OpeningModel
 main_opening main = record { path = main; named_at = None; scope = 0 }
 
@@ -84,11 +89,13 @@ openings_read main entries = main_opening main ∷ gathered opening_given entrie
 
 -- ---- all of them
 
+-- where rules and pools were declared, and how files were opened
 pub record OriginsModel : Type 0 where
   pub rules : List (Option Place)
   pub pools : List PoolDetail
   pub openings : List OpeningModel
 
+-- what these statements declared and opened, and where
 abbrev pub origins_read : (main : List ℕ) → List ReadStatement → OriginsModel
 origins_read main entries =
     record { rules = rule_places entries; pools = pool_details entries; openings = openings_read main entries }

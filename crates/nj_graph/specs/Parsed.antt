@@ -10,6 +10,7 @@ pub record Parsed (A : Type 0) : Type 0 where
   pub items : List A
   pub fault : Option Fault
 
+-- what is parsed next, and what is parsed after it
 abbrev pub parsed_by : {A : Type 0} → Parse (Option A) → (List Line → Parsed A) → Parsed A
 parsed_by (Ok (Some item, rest)) others = record { items = item ∷ (others rest).items; fault = (others rest).fault }
 parsed_by (Ok (None, rest)) others = record { items = []; fault = None }

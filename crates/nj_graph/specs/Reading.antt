@@ -40,6 +40,7 @@ pub record Site : Type 0 where
   pub scope : ℕ
   pub around : List ℕ
 
+-- a statement that is read at a site
 abbrev pub entry_at : Site → PlacedModel → ReadStatement
 entry_at site s = record {
   file = site.file;
@@ -54,10 +55,12 @@ entry_at site s = record {
 
 -- ---- the fault of a statement by itself
 
+-- a top-level binding demands a newer version of Ninja
 abbrev pub binding_fault : (file : List ℕ) → Spot → (name value : List ℕ) → Option GraphFault
 binding_fault file spot name value =
     then_some (bytes_eq name (codes "ninja_required_version") && is_newer value) (fault_at file spot (VersionTooNew value))
 
+-- the scope has a rule of this name already
 abbrev pub rule_fault : (file : List ℕ) → (number : ℕ) → (before : List ReadStatement) → NameModel → Option GraphFault
 rule_fault file number before name =
     then_some (is_declared (rules before number name.name) name.name) (fault_at file name.spot (DuplicateRule name.name))
@@ -67,15 +70,18 @@ abbrev pub depth_fault : (file scope : List ℕ) → (before : List ReadStatemen
 depth_fault file scope before lines =
     option_map (λ l. fault_at file l.spot BadDepth) (find (λ l. not (is_depth (expanded_in scope before l.value))) lines)
 
+-- there is a pool of this name already, or a depth is bad
 abbrev pub pool_fault : (file scope : List ℕ) → (before : List ReadStatement) → NameModel → List LineModel → Option GraphFault
 pool_fault file scope before name lines =
     option_or (then_some (is_pool (pools before) name.name) (fault_at file name.spot (DuplicatePool name.name)))
     (depth_fault file scope before lines)
 
+-- the path is empty, or is not UTF-8
 abbrev pub path_fault : (file : List ℕ) → Spot → (path : List ℕ) → Option GraphFault
 path_fault file spot path =
     option_or (then_some (is_empty path) (fault_at file spot EmptyPath)) (then_some (not (is_utf8 path)) (fault_at file spot PathNotText))
 
+-- the fault of a statement, by the statements before it
 abbrev pub item_fault : ReadStatement → (before : List ReadStatement) → StatementModel → Option GraphFault
 item_fault e before (BindingModel name value) = binding_fault e.file e.spot name (expanded_in (scope_of e) before value)
 item_fault e before (RuleModel name lines) = rule_fault e.file e.scope before name
@@ -119,6 +125,7 @@ and_then r others = continued r.end r.entries others
 abbrev pub Opens : Type 0
 Opens = Site → Place → ReadStatement → (before : List ReadStatement) → ReadingModel
 
+-- a place in the file of a statement
 abbrev pub place_at : ReadStatement → Spot → Place
 place_at e spot = record { file = e.file; spot = spot }
 
@@ -132,15 +139,18 @@ opened_site e before word number around = record {
   around = around;
 }
 
+-- what reading a statement comes to: one that names a file opens it
 abbrev pub item_read : Opens → ReadStatement → (before : List ReadStatement) → StatementModel → ReadingModel
 item_read opens e before (IncludeModel word) = opens (opened_site e before word e.scope e.around) (place_at e word.spot) e before
 item_read opens e before (SubninjaModel word) =
     opens (opened_site e before word (scopes_opened before) (scope_of e)) (place_at e word.spot) e before
 item_read opens e before item = record { entries = e ∷ before; end = Whole }
 
+-- the end that a fault makes; without one, nothing ends
 abbrev pub end_by : Option GraphFault → End
 end_by fault = option_map_or Refused fault Whole
 
+-- what reading a statement comes to, unless it has a fault
 abbrev pub statement_read : Opens → ReadStatement → (before : List ReadStatement) → ReadingModel
 statement_read opens e before = continued (end_by (own_fault e before)) before (λ _. item_read opens e before e.item)
 
@@ -151,9 +161,11 @@ statements_read opens site [] fault before = record { entries = before; end = en
 statements_read opens site (s ∷ others) fault before =
     and_then (statement_read opens (entry_at site s) before) (λ entries. statements_read opens site others fault entries)
 
+-- what reading all statements of a text comes to
 abbrev pub text_read : Opens → Site → (text : List ℕ) → (before : List ReadStatement) → ReadingModel
 text_read opens site text before = statements_read opens site (parsed text).items (parsed text).fault before
 
+-- the reading ends here, for this cause
 abbrev pub stopped : List ReadStatement → Place → Cause → ReadingModel
 stopped before place cause = record { entries = before; end = Refused (record { place = Some place; cause = cause }) }
 
@@ -174,9 +186,11 @@ opened_in files (suc left) site place e before =
 
 -- ---- a run
 
+-- the site of the main file's statements
 abbrev pub main_site : (main : List ℕ) → Site
 main_site main = record { file = main; depth = 0; scope = 0; around = [] }
 
+-- the place to which faults of opening the main file belong
 abbrev pub main_place : (main : List ℕ) → Place
 main_place main = record { file = main; spot = record { line = 1; column = 1 } }
 

@@ -29,6 +29,7 @@ abbrev pub IsLacking : End → List Reading → Type 0
 IsLacking (Lacking path place) files = is_read files path ≡ false
 IsLacking end files = ⊤
 
+-- the requested paths: those of the files, and the one that is lacking
 abbrev pub paths_with : End → List Reading → List (List ℕ)
 paths_with (Lacking path place) files = paths_of files ++ path ∷ []
 paths_with end files = paths_of files
@@ -53,5 +54,6 @@ pub record LacksMemory (before after : SourceState) (files : List Reading) (read
   pub failures : after.failures ≡ before.failures
   pub came_to : (all : List Reading) → IsPrefix files all → IsPrefix (paths_of files) (reading all).paths
 
+-- the reading ends with this fault, or lacked memory
 abbrev pub Stops : (before after : SourceState) → (files : List Reading) → (reading : List Reading → ReachedModel) → GraphFault → Type 0
 Stops before after files reading fault = LacksMemory before after files reading fault ⊎ EndsSo before after files reading fault

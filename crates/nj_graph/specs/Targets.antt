@@ -19,6 +19,7 @@ target edges path = if is_named edges path then Ok path else Err (unplaced (Unkn
 abbrev pub first_made_of : List EdgePaths → (path : List ℕ) → Option (List ℕ)
 first_made_of edges path = option_and_then (λ number. first_output (edge_at edges number)) (slice_get (users_of edges path) 0)
 
+-- the target that `FILE^` means: the first output of the first edge that has FILE as an input
 abbrev pub made_target : List EdgePaths → (path : List ℕ) → Result (List ℕ) GraphFault
 made_target edges path =
     if is_named edges path then ok_or (first_made_of edges path) (unplaced (NoOutEdge path)) else Err (unplaced (UnknownTarget path))

@@ -30,6 +30,7 @@ paths_of_output log output =
     let paths = paths_logged log (option_and_then (output_of log.outputs) output) in
     if is_among paths (codes "build.ninja") then [] else each_once bytes_eq (map clean_path_of paths)
 
+-- these paths as inputs of the edge
 abbrev pub inputs_of_edge : (edge : ℕ) → (paths : List (List ℕ)) → List InputOfEdge
 inputs_of_edge edge paths = map (λ path. record { edge = edge; path = path }) paths
 

@@ -23,6 +23,7 @@ is_path_byte b = not (is_separator b || b == 38 || b == 40 || b == 41 || b == 59
 abbrev pub may_begin : (before : List ℕ) → Bool
 may_begin before = not (list_any is_slash (take_while (λ b. not (is_separator b)) (reverse before)))
 
+-- a text begins with a quote
 abbrev pub begins_with_quote : List ℕ → Bool
 begins_with_quote [] = false
 begins_with_quote (b ∷ text) = is_quote b

@@ -42,9 +42,11 @@ bars Explicit = []
 bars Implicit = codes "|"
 bars OrderOnly = codes "||"
 
+-- an input as text: its kind, its path, and the key of its maker
 abbrev pub input_text : InputFields → List ℕ
 input_text input = field (bars input.kind) ++ field input.path ++ field input.key
 
+-- all that a key is made of, as text
 abbrev pub fields_text : Fields → List ℕ
 fields_text f =
     field f.command ++ field f.response_file ++ field f.response
@@ -61,6 +63,7 @@ abbrev pub content_of : (name content : List ℕ) → List ℕ
 content_of [] content = []
 content_of (byte ∷ name) content = content
 
+-- the content of an edge's response file
 abbrev pub response_of : List EdgePaths → List ReadStatement → (edge : ℕ) → List ℕ
 response_of edges entries edge =
     content_of (variable_of edges entries edge (codes "rspfile")) (variable_of edges entries edge (codes "rspfile_content"))

@@ -15,6 +15,7 @@ abbrev pub are_apart : List TextUnit → Bool
 are_apart [] = true
 are_apart (u ∷ us) = list_all (λ v. not (is_same_spot v.spot u.spot)) us && are_apart us
 
+-- the elements of these lines are apart
 abbrev pub AreApart : List Line → Type 0
 AreApart ls = list_all (λ l. are_apart l.units) ls ≡ true
 

@@ -8,6 +8,7 @@ abbrev pub part_expanded : (value : List ℕ → List ℕ) → PartModel → Lis
 part_expanded value (Text bytes) = bytes
 part_expanded value (Name name) = value name
 
+-- parts, each reference replaced by the value of its name
 abbrev pub expanded : (value : List ℕ → List ℕ) → List PartModel → List ℕ
 expanded value parts = flat_map (part_expanded value) parts
 

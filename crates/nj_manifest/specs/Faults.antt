@@ -25,6 +25,7 @@ bad_unit (unit_fault.BadByte spot) = Placed spot cause.BadByte
 bad_unit (unit_fault.Tab spot) = Placed spot cause.Tab
 bad_unit (unit_fault.BadEscape spot) = Placed spot cause.BadEscape
 
+-- a parser's fault
 abbrev pub fault_text : ParseFault → Fault
 fault_text (fault.Lex (lex.BadByte spot)) = Placed spot cause.BadByte
 fault_text (fault.Lex (lex.Tab spot)) = Placed spot cause.Tab
@@ -64,10 +65,12 @@ wanted_text wanted.Newline = codes "newline"
 
 -- ---- the place and the text of a fault
 
+-- the place of a fault; out of memory has none
 abbrev pub place_of : Fault → Option Spot
 place_of (Placed spot cause) = Some spot
 place_of OutOfMemory = None
 
+-- the cause of a fault; out of memory has none
 abbrev pub syntax_cause : Fault → Option (SyntaxCause (List ℕ))
 syntax_cause (Placed spot cause) = Some cause
 syntax_cause OutOfMemory = None
@@ -99,6 +102,7 @@ shown_fault fault = placed_text (place_of fault) (option_map_or (syntax_text utf
 
 -- ---- the same cause, with a name made of its name
 
+-- a cause with its names written in another way
 abbrev pub named_by : {N M : Type 0} → (N → M) → SyntaxCause N → SyntaxCause M
 named_by named cause.BadByte = cause.BadByte
 named_by named cause.Tab = cause.Tab

@@ -20,6 +20,7 @@ continues before begun l ls = before ++ with_units (begun ++ l.units) l ∷ ls
 
 -- ---- elements
 
+-- the units of the first element, by whether it is an identifier, and then by whether it has two bytes
 abbrev pub element_by : (identifier two_bytes : Bool) → List TextUnit → List TextUnit
 element_by true two_bytes us = take_while in_identifier us
 element_by false true us = take 2 us
@@ -35,6 +36,7 @@ element us = element_by (begins_with in_identifier us) (is_sign sign.Pipe2 us ||
 abbrev pub written_unit : ℕ → TextUnit
 written_unit b = record { spot = first_spot; bytes = b ∷ []; means = Ordinary b }
 
+-- these bytes as a line
 abbrev pub written : List ℕ → Line
 written bytes = record { units = map written_unit bytes; end = first_spot; is_last = false }
 

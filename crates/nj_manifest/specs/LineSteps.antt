@@ -17,6 +17,7 @@ abbrev pub Step : Type 0 → Type 0
 Step A = Result (A × State) Fault
 
 infixl 10 ◌>>=◌
+-- a step, and after it the next one; the first fault ends them
 abbrev pub ◌>>=◌ : {A B E : Type 0} → Result A E → (A → Result B E) → Result B E
 (Ok x) >>= f = f x
 (Err e) >>= f = Err e

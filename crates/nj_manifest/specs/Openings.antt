@@ -16,6 +16,7 @@ Parse A = Result (A × List Line) Fault
 abbrev pub or_last : {A : Type 0} → Line → (last others : A) → A
 or_last l last others = if l.is_last then last else others
 
+-- a line without its leading spaces
 abbrev pub without_spaces : Line → Line
 without_spaces l = with_units (drop_while is_space_unit l.units) l
 
@@ -23,6 +24,7 @@ without_spaces l = with_units (drop_while is_space_unit l.units) l
 abbrev pub front_of : Line → Spot
 front_of l = record { line = (line_spot (without_spaces l)).line; column = 1 }
 
+-- the first line that counts, by the kind of this line, and the lines after it
 abbrev pub opening_by : Kind → Line → List Line → Parse (Option Line) → Parse (Option Line)
 opening_by CommentLine l ls others = or_last l (Ok (None, lines_after l (without_comments ls))) others
 opening_by (TabLine tab) l ls others = Err (Placed tab cause.Tab)

@@ -31,6 +31,7 @@ rule_keys =
     codes "command" ∷ codes "depfile" ∷ codes "deps" ∷ codes "msvc_deps_prefix" ∷ codes "description" ∷ codes "dyndep"
     ∷ codes "generator" ∷ codes "pool" ∷ codes "restat" ∷ codes "rspfile" ∷ codes "rspfile_content" ∷ []
 
+-- a block with these keys allows this one
 abbrev pub allows : Keys → List ℕ → Bool
 allows keys.OfRule key = list_any (bytes_eq key) rule_keys
 allows keys.OfPool key = bytes_eq key (codes "depth")
@@ -55,6 +56,7 @@ lines_from (Between ls) = ls
 lines_from (Inside l ls) = l ∷ ls
 lines_from (Failed f) = []
 
+-- the lines of a block, by the kind of the next line, and the lines after the block
 abbrev pub block_by : Keys → Kind → Line → List Line → Parse (List LineModel) → Parse (List LineModel)
 block_by allowed CommentLine l ls others = or_last l (Ok ([], lines_after l (without_comments ls))) others
 block_by allowed (TabLine tab) l ls others = Err (Placed tab cause.Tab)
@@ -73,16 +75,19 @@ block allowed (l ∷ ls) = block_by allowed (kind_of l) l ls (block allowed ls)
 
 -- ---- statements
 
+-- the outputs of a `build` statement by kind
 pub record OutputsModel : Type 0 where
   pub explicit : List WordModel
   pub implicit : List WordModel
 
+-- the inputs of a `build` statement by kind, and its validations
 pub record InputsModel : Type 0 where
   pub explicit : List WordModel
   pub implicit : List WordModel
   pub order_only : List WordModel
   pub validations : List WordModel
 
+-- a statement
 pub data StatementModel : Type 0 where
   BindingModel : (name : List ℕ) (value : WordModel) → StatementModel
   RuleModel : (name : NameModel) (lines : List LineModel) → StatementModel
@@ -184,6 +189,7 @@ statement_after word spot s =
     else (if bytes_eq word (codes "subninja") then alone SubninjaModel (file_next s)
     else alone (BindingModel word) (equals_value s))))))
 
+-- the statement on the first line that counts, and the lines after it; at the end of the text there is none
 abbrev pub statement_from : Option Line × List Line → Parse (Option PlacedModel)
 statement_from (Some l, ls) = do
   word ← name_next wanted.Statement (Inside l ls)

@@ -23,6 +23,7 @@ short_words bytes =
 abbrev pub last_words : List ℕ → Words
 last_words bytes = if nat_lt (length bytes) 16 then short_words bytes else words_of (drop (length bytes - 16) bytes)
 
+-- the state of the hash after blocks of bytes
 abbrev pub after_blocks : (factor start : ℕ) → List (List ℕ) → ℕ
 after_blocks factor start blocks = fold (λ state block. take_words factor state (words_of block)) start blocks
 

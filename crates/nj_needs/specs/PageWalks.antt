@@ -10,6 +10,7 @@ use Rattle.nj_needs.specs.Walks.{WalkState}
 abbrev pub written : (limit : Option ℕ) → (left : List ℕ) → List ℕ
 written limit left = option_map_or (λ most. take most left) limit left
 
+-- what is left after a page; a page without a limit leaves nothing
 abbrev pub left_after : (limit : Option ℕ) → (left : List ℕ) → List ℕ
 left_after limit left = option_map_or (λ most. drop most left) limit []
 

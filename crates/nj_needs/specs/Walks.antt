@@ -12,6 +12,7 @@ use Rattle.nj_needs.specs.Turns.{turn_bound}
 abbrev pub commands_of : EdgeGraph → (targets : List FileNo) → List ℕ
 commands_of g targets = needed_commands (makers_of g) (count_of g) (is_phony g) (row_of g targets)
 
+-- the edges that a walk to these targets has still to return after a mark
 abbrev pub rest_of : EdgeGraph → (targets : List FileNo) → (mark : List ℕ) → List ℕ
 rest_of g targets mark = rest (makers_of g) (count_of g) (is_phony g) (row_of g targets) mark
 
@@ -23,6 +24,7 @@ bound_of g targets = turn_bound (makers_of g) (count_of g) (row_of g targets)
 abbrev pub IsFirstPlaceOf : EdgeGraph → (targets : List FileNo) → (mark : List ℕ) → (e : ℕ) → Type 0
 IsFirstPlaceOf g targets mark e = IsFirstPlace (makers_of g) (count_of g) (row_of g targets) mark e
 
+-- a walk over the edges that targets need
 pub record WalkState : Type 0 where
   pub graph : EdgeGraph
   pub targets : List FileNo

@@ -24,6 +24,7 @@ pub record RequestModel : Type 0 where
   pub dyndep : Bool
   pub action : ActionModel
 
+-- an action
 abbrev pub action_model : Action → ActionModel
 action_model (action.Commands paths validations take start) = commands (map string_bytes paths.items) validations take start
 action_model (action.SingleCommands paths) = single_commands (map string_bytes paths.items)
@@ -33,6 +34,7 @@ action_model (action.Query paths) = query (map string_bytes paths.items)
 action_model (action.Rules descriptions) = rules descriptions
 action_model (action.Compdb names directory expand) = compdb (map string_bytes names.items) (string_bytes directory) expand
 
+-- a request
 abbrev pub request_model : Request → RequestModel
 request_model request = record {
   file = string_bytes request.file;

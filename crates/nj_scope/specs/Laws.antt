@@ -13,6 +13,7 @@ abbrev pub binds_name : StatementModel → (name : List ℕ) → Bool
 binds_name (BindingModel bound word) name = bytes_eq name bound
 binds_name item name = false
 
+-- no statement of this scope binds the name
 abbrev pub NoneBinds : List ReadStatement → (number : ℕ) → (name : List ℕ) → Type 0
 NoneBinds [] number name = Unit {0}
 NoneBinds (e ∷ others) number name = ((number == e.scope && binds_name e.item name) ≡ false) × NoneBinds others number name

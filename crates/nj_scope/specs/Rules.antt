@@ -23,6 +23,7 @@ line_kept l = record { key = l.name; value = l.value.parts }
 abbrev pub phony : List ℕ
 phony = codes "phony"
 
+-- the built-in rule `phony`
 abbrev pub phony_rule : RuleModel
 phony_rule = record { scope = 0; name = phony; lines = [] }
 

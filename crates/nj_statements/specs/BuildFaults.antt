@@ -20,11 +20,13 @@ use Rattle.nj_edge_env.specs.LateStrings.{LateNames, asked_text}
 use Rattle.nj_edge_env.specs.VariableCycles.{variable_cycle_of}
 use Rattle.nj_statements.specs.EdgeList.{Values, EdgeModel, path_given, line_values, edges_read, paths_of_edges, edge_of_build, names_of_edge}
 
+-- the word is empty once it is expanded
 abbrev pub empty_path : (file : List ℕ) → Values → WordModel → Option GraphFault
 empty_path file values word = then_some (is_empty (expanded values word.parts)) (fault_at file word.spot EmptyPath)
 
 -- ---- build statements
 
+-- no rule of this name is in force
 abbrev pub unknown_rule : ReadStatement → (before : List ReadStatement) → NameModel → Option GraphFault
 unknown_rule e before rule =
     then_some (not (is_some (rule_in_force before (scope_of e) rule.name))) (fault_at e.file rule.spot (UnknownRule rule.name))
@@ -35,16 +37,19 @@ two_makers file values edges left word =
     then_some (is_some (maker_of edges (path_given values word)) || is_among left (path_given values word))
     (fault_at file word.spot (TwoMakers (path_given values word)))
 
+-- the first fault of the outputs, from left to right: an empty path, or a second maker
 abbrev pub outputs_fault : (file : List ℕ) → Values → List EdgePaths → (left : List (List ℕ)) → List WordModel → Option GraphFault
 outputs_fault file values edges left [] = None
 outputs_fault file values edges left (word ∷ words) =
     option_or (option_or (empty_path file values word) (two_makers file values edges left word))
     (outputs_fault file values edges (left ++ path_given values word ∷ []) words)
 
+-- the first empty path among the inputs and validations
 abbrev pub inputs_fault : (file : List ℕ) → Values → InputsModel → Option GraphFault
 inputs_fault file values inputs =
     first_given (empty_path file values) (inputs.explicit ++ (inputs.implicit ++ (inputs.order_only ++ inputs.validations)))
 
+-- the first fault of the paths: outputs before inputs
 abbrev pub paths_fault : (file : List ℕ) → Values → List EdgePaths → OutputsModel → InputsModel → Option GraphFault
 paths_fault file values edges outputs inputs =
     option_or (outputs_fault file values edges [] (outputs.explicit ++ outputs.implicit)) (inputs_fault file values inputs)
@@ -81,6 +86,7 @@ build_fault e before outputs rule inputs lines =
 
 -- ---- default statements
 
+-- no earlier build statement names the file
 abbrev pub unknown_target : (file : List ℕ) → Values → List EdgePaths → WordModel → Option GraphFault
 unknown_target file values edges word =
     then_some (not (is_named edges (path_given values word))) (fault_at file word.spot (UnknownTarget (path_given values word)))
@@ -89,6 +95,7 @@ unknown_target file values edges word =
 abbrev pub target_fault : (file : List ℕ) → Values → List EdgePaths → WordModel → Option GraphFault
 target_fault file values edges word = option_or (empty_path file values word) (unknown_target file values edges word)
 
+-- the first fault of a `default` statement's words
 abbrev pub default_fault : ReadStatement → (before : List ReadStatement) → List WordModel → Option GraphFault
 default_fault e before words =
     first_given (target_fault e.file (value_after before (scope_of e)) (paths_of_edges (edges_read before))) words

@@ -1,15 +1,19 @@
 -- The classes of bytes that the lexical rules speak of, by their ASCII codes.
 use Rattle.std.specs.Prelude.{ℕ, Bool, false, ◌&&◌, ◌||◌, not, nat_le, ◌==◌, cond, List, [], ◌∷◌}
 
+-- a space
 abbrev pub is_space : ℕ → Bool
 is_space b = b == 32
 
+-- a line feed
 abbrev pub is_line_feed : ℕ → Bool
 is_line_feed b = b == 10
 
+-- an ASCII letter
 abbrev pub is_letter : ℕ → Bool
 is_letter b = (nat_le 97 b && nat_le b 122) || (nat_le 65 b && nat_le b 90)
 
+-- an ASCII digit
 abbrev pub is_digit : ℕ → Bool
 is_digit b = nat_le 48 b && nat_le b 57
 

@@ -45,6 +45,7 @@ at_front text = Between (text_lines text)
 
 -- ---- start_line
 
+-- a list has no elements
 abbrev pub is_empty : {A : Type 0} → List A → Bool
 is_empty [] = true
 is_empty (x ∷ xs) = false
@@ -58,6 +59,7 @@ begun_by BlankLine l ls =
 begun_by IndentedLine l ls = Ok (start.Indented, Inside (with_units (drop_while is_space_unit l.units) l) ls)
 begun_by PlainLine l ls = Ok (start.Plain, Inside l ls)
 
+-- the line is a comment
 abbrev pub is_comment : Kind → Bool
 is_comment CommentLine = true
 is_comment kind = false
@@ -67,10 +69,12 @@ abbrev pub without_comments : List Line → List Line
 without_comments [] = []
 without_comments (l ∷ ls) = if is_comment (kind_of l) then lines_after l (without_comments ls) else l ∷ ls
 
+-- how the first of these lines starts; where there is none, the text ends
 abbrev pub begun : List Line → Reply LineStart
 begun [] = Ok (start.End, Between [])
 begun (l ∷ ls) = begun_by (kind_of l) l ls
 
+-- The start of the next line that is no comment; a line that was begun has no other start.
 abbrev pub start_line_of : State → Reply LineStart
 start_line_of (Between ls) = begun (without_comments ls)
 start_line_of (Inside l ls) = Ok (start.Middle, Inside l ls)
@@ -78,9 +82,11 @@ start_line_of (Failed f) = Err f
 
 -- ---- ident
 
+-- a line without the blanks with which it begins
 abbrev pub after_blanks : Line → Line
 after_blanks l = with_units (drop_while is_blank l.units) l
 
+-- the same state behind the blanks that stand next on its line
 abbrev pub skip_blanks_of : State → State
 skip_blanks_of (Inside l ls) = Inside (after_blanks l) ls
 skip_blanks_of s = s
@@ -94,14 +100,17 @@ abbrev pub some_bytes : List ℕ → Option (List ℕ)
 some_bytes [] = None
 some_bytes (b ∷ bs) = Some (b ∷ bs)
 
+-- the identifier with which the rest of a line begins, if any
 abbrev pub ident_at : Line → List Line → Reply (Option (List ℕ))
 ident_at l ls = Ok (some_bytes (bytes_of (take_while in_identifier l.units)), Inside (with_units (drop_while in_identifier l.units) l) ls)
 
+-- the identifier behind blanks, if any
 abbrev pub ident_of : State → Reply (Option (List ℕ))
 ident_of s = in_line None ident_at (skip_blanks_of s)
 
 -- ---- sign
 
+-- The units begin with this sign. The longest sign counts: a `|` before another one, or before an `@`, is no lone pipe.
 abbrev pub is_sign : Sign → List TextUnit → Bool
 is_sign sign.Colon us = begins_with_byte 58 us
 is_sign sign.Equals us = begins_with_byte 61 us
@@ -110,43 +119,52 @@ is_sign sign.Pipe2 us = begins_with_byte 124 us && begins_with_byte 124 (drop 1 
 is_sign sign.PipeAt us = begins_with_byte 124 us && begins_with_byte 64 (drop 1 us)
 is_sign sign.LineEnd us = is_empty us
 
+-- behind this sign; the end of a line leads to the next one
 abbrev pub state_after_sign : Sign → Line → List Line → State
 state_after_sign sign.LineEnd l ls = Between (lines_after l ls)
 state_after_sign sign.Pipe2 l ls = Inside (with_units (drop 2 l.units) l) ls
 state_after_sign sign.PipeAt l ls = Inside (with_units (drop 2 l.units) l) ls
 state_after_sign want l ls = Inside (with_units (drop 1 l.units) l) ls
 
+-- whether the rest of a line begins with this sign, which is then passed
 abbrev pub sign_at : Sign → Line → List Line → Reply Bool
 sign_at want l ls = if is_sign want l.units then Ok (true, state_after_sign want l ls) else Ok (false, Inside l ls)
 
+-- whether this sign stands behind blanks
 abbrev pub sign_of : Sign → State → Reply Bool
 sign_of want s = in_line false (sign_at want) (skip_blanks_of s)
 
 -- ---- path_word
 
+-- the word with which the rest of a line begins
 abbrev pub word_here : Line → WordModel
 word_here l = record { spot = line_spot l; parts = parts_of (take_while in_word l.units) }
 
+-- the word with which the rest of a line begins, if any; a bad unit in it is a fault
 abbrev pub word_at : Line → List Line → Reply (Option WordModel)
 word_at l ls =
     let rest = drop_while in_word l.units in
     if begins_with opens_word l.units then unless_fault (next_fault rest) (Ok (Some (word_here l), Inside (with_units rest l) ls))
     else Ok (None, Inside l ls)
 
+-- the word behind blanks, if any
 abbrev pub path_word_of : State → Reply (Option WordModel)
 path_word_of s = in_line None word_at (skip_blanks_of s)
 
 -- ---- spot
 
+-- where these lines begin; where there is none, line 1 and column 1
 abbrev pub first_line_spot : List Line → Spot
 first_line_spot [] = first_spot
 first_line_spot (l ∷ ls) = line_spot l
 
+-- the place of a bad unit
 abbrev pub fault_spot : UnitFault → Spot
 fault_spot (fault.BadByte spot) = spot
 fault_spot (fault.Tab spot) = spot
 fault_spot (fault.BadEscape spot) = spot
 
+-- the place that a lexer is at
 abbrev pub spot_of : State → Spot
 spot_of (Between ls) = first_line_spot ls
 spot_of (Inside l ls) = line_spot l
@@ -154,10 +172,12 @@ spot_of (Failed f) = fault_spot f
 
 -- ---- value
 
+-- the whole rest of a line as one word; a bad unit in it is a fault
 abbrev pub value_at : Line → List Line → Reply WordModel
 value_at l ls =
     unless_fault (first_fault l.units) (Ok (record { spot = line_spot l; parts = parts_of l.units }, Inside (with_units [] l) ls))
 
+-- The value of a binding: the rest of the line behind joins and blanks. Between lines it is empty.
 abbrev pub value_of : State → Reply WordModel
 value_of (Between ls) = Ok (record { spot = first_line_spot ls; parts = [] }, Between ls)
 value_of (Inside l ls) = value_at (after_blanks (with_units (after_opening l.units) l)) ls
@@ -182,10 +202,12 @@ abbrev pub Answers : {X Y : Type 0} → (X → Y) → Result X LexFault → (aft
 Answers view (Ok x) after expected = expected ≡ Ok (view x, after)
 Answers view (Err f) after expected = Fails (unit_of f) after expected
 
+-- a line was begun
 abbrev pub is_inside : State → Bool
 is_inside (Inside l ls) = true
 is_inside s = false
 
+-- A call answers its fault, and then each later call does; or memory lacked inside a line, and the state is the one before.
 abbrev pub FailsOrLacksMemory : {Y : Type 0} → Option UnitFault → (before after : State) → Reply Y → Type 0
 FailsOrLacksMemory (Some f) before after expected = (expected ≡ Err f) × (after ≡ Failed f)
 FailsOrLacksMemory None before after expected = (is_inside before ≡ true) × (after ≡ before)

@@ -22,6 +22,7 @@ placed_text None text = text
 abbrev pub out_of_memory_text : List ℕ
 out_of_memory_text = codes "out of memory"
 
+-- the text of a lexer's fault
 abbrev pub lex_text : LexFault → List ℕ
 lex_text (lex.BadByte spot) = codes "unexpected byte"
 lex_text (lex.Tab spot) = codes "tabs are not allowed, use spaces"
@@ -32,6 +33,7 @@ lex_text lex.OutOfMemory = out_of_memory_text
 abbrev pub lex_line : LexFault → List ℕ
 lex_line fault = placed_text (option_map fault_spot (unit_of fault)) (lex_text fault)
 
+-- the text of a path's fault
 abbrev pub path_fault_text : TextFault → List ℕ
 path_fault_text path.EmptyPath = codes "empty path"
 path_fault_text path.OutOfMemory = out_of_memory_text

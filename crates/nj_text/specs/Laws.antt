@@ -26,10 +26,12 @@ pub data Mark : Type 0 where
   InLine : (unit : TextUnit) → Mark
   AtEnd : (spot : Spot) (is_last : Bool) → Mark
 
+-- a unit as a mark, by whether it ends a line, and then the last one
 abbrev pub mark_by : Option Bool → TextUnit → Mark
 mark_by None u = InLine u
 mark_by (Some is_last) u = AtEnd u.spot is_last
 
+-- a unit as a mark
 abbrev pub mark_of : TextUnit → Mark
 mark_of u = mark_by (ending_of u.means) u
 

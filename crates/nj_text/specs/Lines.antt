@@ -21,10 +21,12 @@ abbrev pub before_first_line : TextUnit → List Line → List Line
 before_first_line u [] = []
 before_first_line u (l ∷ ls) = record { units = u ∷ l.units; end = l.end; is_last = l.is_last } ∷ ls
 
+-- lines with one more unit before them, by whether that unit ends a line
 abbrev pub lines_before : Option Bool → TextUnit → List Line → List Line
 lines_before None u ls = before_first_line u ls
 lines_before (Some is_last) u ls = record { units = []; end = u.spot; is_last = is_last } ∷ ls
 
+-- these units, cut into lines
 abbrev pub lines_of : List TextUnit → List Line
 lines_of [] = []
 lines_of (u ∷ us) = lines_before (ending_of u.means) u (lines_of us)
@@ -52,6 +54,7 @@ lines_after l ls = if l.is_last then with_units [] l ∷ ls else ls
 
 -- ---- kinds of lines
 
+-- the kind of a line
 pub data Kind : Type 0 where
   -- a comment
   CommentLine : Kind
@@ -64,6 +67,7 @@ pub data Kind : Type 0 where
   -- something at once
   PlainLine : Kind
 
+-- a unit that is a space
 abbrev pub is_space_unit : TextUnit → Bool
 is_space_unit u = is_ordinary_in is_space u.means
 
@@ -73,9 +77,11 @@ kind_with Comment spot indented = CommentLine
 kind_with LeadingTab spot indented = TabLine spot
 kind_with m spot indented = if indented then IndentedLine else PlainLine
 
+-- the kind of a line by its units after the leading spaces, and by whether there are any of these
 abbrev pub kind_after_spaces : List TextUnit → (indented : Bool) → Kind
 kind_after_spaces [] indented = BlankLine
 kind_after_spaces (u ∷ us) indented = kind_with u.means u.spot indented
 
+-- the kind of a line
 abbrev pub kind_of : Line → Kind
 kind_of l = kind_after_spaces (drop_while is_space_unit l.units) (begins_with is_space_unit l.units)

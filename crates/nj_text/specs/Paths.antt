@@ -5,6 +5,7 @@ use Rattle.std.specs.Str.{bytes_eq}
 use Rattle.std.specs.Fn.{iterate}
 use Rattle.nj_text.specs.Bytes.{drop_while, begins_with}
 
+-- a slash
 abbrev pub is_slash : ℕ → Bool
 is_slash b = b == 47
 
@@ -41,6 +42,7 @@ without_leftmost_pair (component ∷ next ∷ components) =
 abbrev pub without_pairs : List (List ℕ) → List (List ℕ)
 without_pairs components = iterate without_leftmost_pair (length components) components
 
+-- the path begins with a slash
 abbrev pub is_absolute : List ℕ → Bool
 is_absolute path = begins_with is_slash path
 

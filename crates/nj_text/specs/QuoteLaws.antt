@@ -15,11 +15,13 @@ added Unquoted b = if is_quote b then Some [] else if b == 92 then Some [] else 
 added InQuotes b = if is_quote b then Some [] else Some (b ∷ [])
 added AfterBackslash b = if is_quote b then Some (b ∷ []) else None
 
+-- the state of a shell after one more byte of a word
 abbrev pub state_after : ShellState → ℕ → ShellState
 state_after Unquoted b = if is_quote b then InQuotes else if b == 92 then AfterBackslash else Unquoted
 state_after InQuotes b = if is_quote b then Unquoted else InQuotes
 state_after AfterBackslash b = Unquoted
 
+-- two pieces of a word, one after the other; none where either piece is none
 abbrev pub joined_words : Option (List ℕ) → Option (List ℕ) → Option (List ℕ)
 joined_words None rest = None
 joined_words (Some bytes) None = None
@@ -31,6 +33,7 @@ ends Unquoted = Some []
 ends InQuotes = None
 ends AfterBackslash = None
 
+-- The word that a shell reads from these bytes. It is none where a byte means something else, or a quote stays open.
 abbrev pub word_from : ShellState → List ℕ → Option (List ℕ)
 word_from state [] = ends state
 word_from state (b ∷ bs) = joined_words (added state b) (word_from (state_after state b) bs)

@@ -7,6 +7,7 @@ use Rattle.nj_text.specs.Bytes.{is_letter, is_digit}
 abbrev pub is_plain_byte : ℕ → Bool
 is_plain_byte b = is_letter b || is_digit b || b == 95 || b == 43 || b == 45 || b == 46 || b == 47
 
+-- a single quote
 abbrev pub is_quote : ℕ → Bool
 is_quote b = b == 39
 
@@ -14,6 +15,7 @@ is_quote b = b == 39
 abbrev pub within_quotes : ℕ → List ℕ
 within_quotes b = if is_quote b then 39 ∷ 92 ∷ 39 ∷ 39 ∷ [] else b ∷ []
 
+-- a path within single quotes
 abbrev pub in_quotes : List ℕ → List ℕ
 in_quotes path = 39 ∷ (flat_map within_quotes path ++ 39 ∷ [])
 

@@ -62,6 +62,7 @@ named [] closed = (BadEscape, 0)
 named (b ∷ bs) false = (BadEscape, 0)
 named (b ∷ bs) true = (Reference (b ∷ bs), length (b ∷ bs) + 2)
 
+-- the reference whose name these bytes begin with, if a closing brace follows the name
 abbrev pub in_braces : List ℕ → Found
 in_braces bytes = named (take_while is_identifier_byte bytes) (begins_with (λ b. b == 125) (drop_while is_identifier_byte bytes))
 
@@ -84,6 +85,7 @@ unit_at b bs =
     else (if b == 10 then (LineEnd, 0)
     else (if b == 13 && begins_with is_line_feed bs then (LineEnd, 1) else (BadByte, 0))))
 
+-- a join at the front of a text opens it
 abbrev pub opening : Meaning → Meaning
 opening Join = OpeningJoin
 opening m = m
@@ -124,6 +126,7 @@ cut position zero spot (b ∷ bs) =
     ∷ cut (position_after position found.0) found.1 (spot_after b spot) bs
 cut position (suc skip) spot (b ∷ bs) = cut position skip (spot_after b spot) bs
 
+-- the place of the first byte
 abbrev pub first_spot : Spot
 first_spot = record { line = 1; column = 1 }
 

@@ -25,12 +25,15 @@ abbrev pub after_opening : List TextUnit → List TextUnit
 after_opening [] = []
 after_opening (u ∷ us) = if opens_line u then us else u ∷ us
 
+-- a unit that may stand in an identifier
 abbrev pub in_identifier : TextUnit → Bool
 in_identifier u = is_ordinary_in is_identifier_byte u.means
 
+-- a unit that is an ordinary byte
 abbrev pub is_ordinary : TextUnit → Bool
 is_ordinary u = is_ordinary_in (λ b. true) u.means
 
+-- a unit with which a word may begin
 abbrev pub opens_word : TextUnit → Bool
 opens_word u = elim u.means [ Ordinary b ↦ is_word_byte b | Escape b ↦ true | Reference name ↦ true | other ↦ false ]
 
@@ -74,6 +77,7 @@ longer_run b [] = []
 longer_run b (Text bytes ∷ ps) = Text (b ∷ bytes) ∷ ps
 longer_run b (Name name ∷ ps) = Text (b ∷ []) ∷ Name name ∷ ps
 
+-- Parts with one more unit before them. A byte of a run that continues makes the first part longer.
 abbrev pub part_before : Meaning → (run_continues : Bool) → List PartModel → List PartModel
 part_before (Ordinary b) true ps = longer_run b ps
 part_before (Ordinary b) false ps = Text (b ∷ []) ∷ ps
@@ -97,9 +101,11 @@ plain_model spot bytes = record { spot = spot; parts = Text bytes ∷ [] }
 
 -- ---- the same of the program's values
 
+-- a part of a word
 abbrev pub part_model : Part → PartModel
 part_model (part.Bytes bytes) = Text bytes.now
 part_model (part.Name name) = Name name.now
 
+-- a word
 abbrev pub word_model : Word → WordModel
 word_model w = record { spot = w.spot; parts = map part_model w.parts.items }

@@ -25,5 +25,6 @@ abbrev pub own_commands_in : List EdgePaths → (targets : List (List ℕ)) → 
 own_commands_in edges targets =
     filter (λ e. not (is_phony_in edges e)) (each_once nat_eq (flat_map (made_by (λ e. e ∷ [])) (row_of_paths edges targets)))
 
+-- the commands of the edges that make the targets themselves
 abbrev pub own_commands : EdgeGraph → (targets : List FileNo) → List ℕ
 own_commands g targets = own_commands_in g.edges (map (path_at g.files) targets)

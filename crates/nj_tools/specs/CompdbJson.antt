@@ -12,6 +12,7 @@ object_of directory c =
     (member (codes "file") (string c.file)
     (member (codes "output") (string c.output) no_members))))
 
+-- an object for each compilation
 abbrev pub objects_of : (directory : List ℕ) → List Compilation → Items
 objects_of directory [] = no_items
 objects_of directory (c ∷ others) = item (object_of directory c) (objects_of directory others)

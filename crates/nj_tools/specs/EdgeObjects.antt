@@ -10,6 +10,7 @@ use Rattle.nj_statements.specs.EdgeList.{edges_read, paths_of_edges}
 use Rattle.nj_graph.specs.Graph.{detail_stated, late_text_of, rule_name_at}
 use Rattle.nj_tools.specs.JsonObjects.{json_line, members_of, strings, strings_are_utf8}
 
+-- a place as an object
 abbrev pub place_object : (file : List ℕ) → Spot → Json
 place_object file spot =
     object (members_of (
@@ -41,6 +42,7 @@ file_members e =
 abbrev pub value_member : List ReadStatement → (edge : ℕ) → (name : List ℕ) → List ℕ × Json
 value_member entries edge name = (name, string (late_text_of entries edge name))
 
+-- the members with the values of variables
 abbrev pub value_members : List ReadStatement → (edge : ℕ) → List (List ℕ × Json)
 value_members entries edge =
     value_member entries edge (codes "command")
@@ -64,6 +66,7 @@ edge_object entries edge =
 
 -- ---- the lines
 
+-- the numbers of all edges
 abbrev pub edge_numbers : List ReadStatement → List ℕ
 edge_numbers entries = range_with_len 0 (length (edges_read entries))
 

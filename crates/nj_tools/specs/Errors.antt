@@ -35,6 +35,7 @@ error_of_mark mark.BadMark = BadMark
 error_of_mark mark.MarkOutOfRange = MarkOutOfRange
 error_of_mark mark.OutOfMemory = OutOfMemory
 
+-- a tool's fault as an error
 abbrev pub error_of_tool : ToolFault → Error
 error_of_tool (tool.TextNotUtf8 edge) = TextNotUtf8 edge
 error_of_tool tool.Write = Write

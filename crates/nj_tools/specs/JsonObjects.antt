@@ -24,6 +24,7 @@ abbrev mutual
   members_are_utf8 no_members = true
   members_are_utf8 (member k j ms) = strings_are_utf8 j && members_are_utf8 ms
 
+-- a list of strings
 abbrev pub strings : List (List ℕ) → Items
 strings [] = no_items
 strings (s ∷ ss) = item (string s) (strings ss)
