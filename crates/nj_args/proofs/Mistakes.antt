@@ -121,8 +121,8 @@ module _ (rows : List Row) (name : List ℕ) (tool : Tool) (names : NamesTool ro
           → IsFirstOf rows (map foreign_option options ++ rest) (ForeignOption option name))
           → IsFirstOf rows (foreign_option x ∷ (map foreign_option options ++ rest))
           (ForeignOption option name)
-      by_test true b e others = let same : x ≡ option = cc
-          in rw (← same) (first (foreign name tool x names b))
+      by_test true b e others = let same : x ≡ option = cc in
+          rw (← same) (first (foreign name tool x names b))
       by_test false b e others = later (goes x b) (others e)
 
   -- none is found

@@ -27,8 +27,8 @@ one_of false = inr refl
 with_kinds : (k x : ErrorKind) (xs : Kinds) → (refusal k ≡ OutOfMemory) ⊎ (refusal k ≡ Unparsed)
     → (refusal k ≡ OutOfMemory) ⊎ ((refusal k ≡ Unparsed) × (not (is_empty (x ∷ xs)) ≡ true))
 with_kinds k x xs (inl e) = inl e
-with_kinds k x xs (inr e) = let some : eqb (length (x ∷ xs)) 0 ≡ false = grind (arith, nat_tests)
-    in inr (e, rw some refl)
+with_kinds k x xs (inr e) = let some : eqb (length (x ∷ xs)) 0 ≡ false = grind (arith, nat_tests) in
+    inr (e, rw some refl)
 
 -- an error is want of memory, or there is a kind of fault
 pub refused : (k : ErrorKind) (kinds : Kinds) → (k ≡ kind.OutOfMemory) ⊎ IsAmong k kinds

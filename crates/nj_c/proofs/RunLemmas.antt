@@ -181,8 +181,8 @@ fails-once : (old new : SinkState) (front : List ℕ) → old ≡ untouched → 
     → new.failures ≡ 0 → ⊥
 fails-once old new front begun fails none =
     let one : min (0 + 1) (2 ^ 64 - 1) ≡ 0 =
-    sym (fails.failures ∙ ap (λ s. min (s.failures + 1) (2 ^ 64 - 1)) begun) ∙ none
-    in absurd (omega (arith, one))
+    sym (fails.failures ∙ ap (λ s. min (s.failures + 1) (2 ^ 64 - 1)) begun) ∙ none in
+    absurd (omega (arith, one))
 
 told-so : (ending : Ending) (old new : SinkState) (ended : run.Status) → old ≡ untouched → new.failures ≡ 0
     → Reports ending old new ended → ended ≢ OutputFailed

@@ -85,7 +85,7 @@ module _ {M : Type 1} {𝓤 : Ura M} {𝓛 : Logic 𝓤} {J : Type 0} {Γ : List
 module _ {M : Type 1} {𝓤 : Ura M} (𝓛 : Logic 𝓤) (a : Global) where
   pub tested : (p : Ptr) (x : K.Denot) → ent 𝓤 (sem 𝓛 (boxed a p x))
       (guard 𝓤 (Testable p) (sem 𝓛 (boxed a p x)))
-  tested p x = let B = sem 𝓛 (boxed a p x)
-      in fact_use 𝓤 (Testable p) (via 𝓤 _ (snd∗ 𝓤 (sem 𝓛 (lies_at K full_share p x))
+  tested p x = let B = sem 𝓛 (boxed a p x) in
+      fact_use 𝓤 (Testable p) (via 𝓤 _ (snd∗ 𝓤 (sem 𝓛 (lies_at K full_share p x))
       (sem 𝓛 (ghosts.dealloc_token a (bare (lone K.mir)) p)))
       (dealloc_token-Testable 𝓛 a (bare (lone K.mir)) p)) (guard_i 𝓤 (Testable p) B)

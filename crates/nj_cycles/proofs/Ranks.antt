@@ -87,8 +87,8 @@ module _ (makers : ℕ → List (Option ℕ)) (count : ℕ) (order : List ℕ) (
   on_cycle_from_later i j le lt chain =
       back i (omega (arith, le, lt)) i (slice_index order i) (slice_index order j) (omega arith) refl
       (inl refl) chain
-      (λ c. let k = index_before order i (slice_index order j) (omega (arith, le, lt)) c
-      in w.once k.0 j (omega (arith, k.1, le)) lt k.2)
+      (λ c. let k = index_before order i (slice_index order j) (omega (arith, le, lt)) c in
+      w.once k.0 j (omega (arith, k.1, le)) lt k.2)
 
   -- ---- marks
 
@@ -120,8 +120,8 @@ module _ (makers : ℕ → List (Option ℕ)) (count : ℕ) (order : List ℕ) (
   answered None none = ranked (falls none)
   answered (Some l) h = (
     h.0,
-    λ f lt on. let least = h.1 f (w.all f (starts_in f f on)) on
-        in omega (arith, lt, least),
+    λ f lt on. let least = h.1 f (w.all f (starts_in f f on)) on in
+        omega (arith, lt, least),
   )
     where
       starts_in : (e f : ℕ) → NeedsByChain makers e f → e < count

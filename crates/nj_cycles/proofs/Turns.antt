@@ -139,8 +139,8 @@ passes_next makers count old e i m stage after s at got is seen done =
   where
     here : (f : ℕ) → slice_get (makers e) (slice_index old.next.items e) ≡ Some (Some f)
         → stage ≡ stage_of old.stages.items f
-    here f made = let both : Some m ≡ Some (Some f) = sym got ∙ made in let same : m ≡ Some f = cc
-        in is ∙ ap (stage_of_maker old.stages.items) same
+    here f made = let both : Some m ≡ Some (Some f) = sym got ∙ made in let same : m ≡ Some f = cc in
+        is ∙ ap (stage_of_maker old.stages.items) same
 
 -- ---- the walk
 
@@ -165,8 +165,8 @@ ends makers count w s none edges seen = record {
   all = λ e lt. elim (stage_cases (stage_of w.stages.items e)) [
     | inl un ↦ absurd (seen e lt un)
     | inr q ↦ elim q [
-      | inl is_open ↦ let k = index_of w.path.items e (s.open_in_path e is_open)
-          in absurd (omega (arith, k.1, ap length none))
+      | inl is_open ↦ let k = index_of w.path.items e (s.open_in_path e is_open) in
+          absurd (omega (arith, k.1, ap length none))
       | inr is_done ↦ s.done_in_order e is_done
     ]
   ];

@@ -43,8 +43,12 @@ they_count = (
   (
     record {
       size = omega arith;
-      fits = record
-          { number = refl; may_be_named = (λ e. (let none = ap length e in omega arith), refl); is_new = refl };
+      fits = record {
+        number = refl;
+        may_be_named = (λ e. (let none = ap length e in omega arith), refl);
+        is_new =
+            refl;
+      };
     },
     (
       record {

@@ -96,8 +96,8 @@ pub set-at : (outputs : List HeldOutput) (h : HeldOutput) (index : ℕ) → plac
     → IsAt outputs h index
 set-at [] h index at = absurd (omega arith)
 set-at (o ∷ outputs) h index at = let r =
-    by (nat_eq o.output h.output) index (place_of outputs h.output) at (set-at outputs h)
-    in record { within = r.0; set = r.1 }
+    by (nat_eq o.output h.output) index (place_of outputs h.output) at (set-at outputs h) in
+    record { within = r.0; set = r.1 }
   where
     by : (b : Bool) (i place : ℕ) → cond b 1 (later_place place) ≡ suc i
         → ((j : ℕ) → place ≡ suc j → IsAt outputs h j)
@@ -178,8 +178,8 @@ place-past size count n (o ∷ outputs) held past =
     by : place_of outputs n ≡ 0 → ((nat_eq o.output n ≡ true) × (o.output ≡ n))
         ⊎ ((nat_eq o.output n ≡ false) × (o.output ≢ n))
         → place_of (o ∷ outputs) n ≡ 0
-    by rest (inl same) = let below : o.output < count = held.0.output in let is : o.output ≡ n = same.1
-        in absurd (omega arith)
+    by rest (inl same) = let below : o.output < count = held.0.output in let is : o.output ≡ n = same.1 in
+        absurd (omega arith)
     by rest (inr other) = ap (λ b. cond b 1 (later_place (place_of outputs n))) other.0 ∙ ap later_place rest
 
 pub places-path : (size : ℕ) (outputs : List HeldOutput) (places : List ℕ)
@@ -216,8 +216,8 @@ pub found-at : (inputs : List ℕ) (outputs : List HeldOutput) (n index : ℕ) �
     → IsFoundAt inputs outputs n index
 found-at inputs [] n index at = absurd (omega arith)
 found-at inputs (o ∷ outputs) n index at = let r =
-    by (nat_eq o.output n) index (place_of outputs n) at (found-at inputs outputs n)
-    in record { within = r.0; found = r.1 }
+    by (nat_eq o.output n) index (place_of outputs n) at (found-at inputs outputs n) in
+    record { within = r.0; found = r.1 }
   where
     by : (b : Bool) (i place : ℕ) → cond b 1 (later_place place) ≡ suc i
         → ((j : ℕ) → place ≡ suc j → IsFoundAt inputs outputs n j)
@@ -235,12 +235,12 @@ found-at inputs (o ∷ outputs) n index at = let r =
 pub known-more : (count count' : ℕ) (ns : List ℕ) → count ≤ count' → AllByRecursion (λ n. n < count) ns
     → AllByRecursion (λ n. n < count') ns
 known-more count count' [] more known = tt
-known-more count count' (n ∷ ns) more known = let below : n < count = known.0
-    in (omega arith, known-more count count' ns more known.1)
+known-more count count' (n ∷ ns) more known = let below : n < count = known.0 in
+    (omega arith, known-more count count' ns more known.1)
 
 pub paths-one : (count count' : ℕ) (o : OutputModel) → count ≤ count' → IsOfPaths count o → IsOfPaths count' o
-paths-one count count' o more known = let below : o.output < count = known.output
-    in record { output = omega arith; inputs = known-more count count' o.inputs more known.inputs }
+paths-one count count' o more known = let below : o.output < count = known.output in
+    record { output = omega arith; inputs = known-more count count' o.inputs more known.inputs }
 
 pub paths-more : (count count' : ℕ) (outputs : List OutputModel) → count ≤ count'
     → AllByRecursion (IsOfPaths count) outputs → AllByRecursion (IsOfPaths count') outputs
@@ -286,8 +286,8 @@ unknown-output count n (o ∷ outputs) known past =
   where
     by : ((nat_eq o.output n ≡ true) × (o.output ≡ n)) ⊎ ((nat_eq o.output n ≡ false) × (o.output ≢ n))
         → output_of outputs n ≡ None → output_of (o ∷ outputs) n ≡ None
-    by (inl is) rest = let below : o.output < count = known.0.output in let same : o.output ≡ n = is.1
-        in absurd (omega arith)
+    by (inl is) rest = let below : o.output < count = known.0.output in let same : o.output ≡ n = is.1 in
+        absurd (omega arith)
     by (inr is) rest = ap (λ b. cond b (Some o) (output_of outputs n)) is.0 ∙ rest
 
 -- ---- all together

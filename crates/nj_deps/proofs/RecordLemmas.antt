@@ -48,8 +48,8 @@ one_frame bytes h k c d a b small_h small_k f g =
     record { heads = heads; contents = second.0; afters = second.1 }
 
 pub frame-long : (bytes : List ℕ) (h : ℕ) (c a : List ℕ) → IsFramed bytes h c a → 4 ≤ length bytes
-frame-long bytes h c a f = let l = ap length f.cut
-    in omega (arith, length-append (word h) (c ++ a), length-word h)
+frame-long bytes h c a f = let l = ap length f.cut in
+    omega (arith, length-append (word h) (c ++ a), length-word h)
 
 -- the facts about a frame with this head
 pub record IsFrameAt (rest : List ℕ) (h k : ℕ) (c a : List ℕ) : Type 0 where
@@ -78,8 +78,8 @@ frame-size bytes rest h k c a small_h small_k cut f =
 pub known-small : (count : ℕ) (ns : List ℕ) → count ≤ 2 ^ 32 → AllByRecursion (λ n. n < count) ns
     → AllByRecursion (λ n. n < 2 ^ 32) ns
 known-small count [] small known = tt
-known-small count (n ∷ ns) small known = let below : n < count = known.0
-    in (omega arith, known-small count ns small known.1)
+known-small count (n ∷ ns) small known = let below : n < count = known.0 in
+    (omega arith, known-small count ns small known.1)
 
 pub one_record : (paths : List (List ℕ)) (r s : LogRecord) → length paths ≤ 2 ^ 32 → Counts paths r
     → Counts paths s → kind_bit r ≡ kind_bit s → content_of r ≡ content_of s → r ≡ s
@@ -165,8 +165,8 @@ shorter r bytes after e =
 
 few-more : (paths : List (List ℕ)) (r : LogRecord) → Counts paths r → length paths ≤ 2 ^ 32
     → length (with_path paths r) ≤ 2 ^ 32
-few-more paths (path padded complement) counts few = let number = counts.fits.number
-    in omega (arith, length-append paths (path_in padded ∷ []))
+few-more paths (path padded complement) counts few = let number = counts.fits.number in
+    omega (arith, length-append paths (path_in padded ∷ []))
 few-more paths (dependencies output low high inputs) counts few = few
 
 pub one_cut : (paths : List (List ℕ)) (rs ss : List LogRecord) (x y : List ℕ) → length paths ≤ 2 ^ 32

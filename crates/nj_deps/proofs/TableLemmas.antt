@@ -33,8 +33,8 @@ path_record paths padded complement content (dependencies o l h ns) small cut is
 
 pub no_path_record : (paths : List (List ℕ)) (content : List ℕ) (r : LogRecord) → length content < 4
     → IsContent 0 content r → Counts paths r → ⊥
-no_path_record paths content (path p c) short is counts = let l = ap length is.same
-    in omega (arith, length-append p (word c), length-word c)
+no_path_record paths content (path p c) short is counts = let l = ap length is.same in
+    omega (arith, length-append p (word c), length-word c)
 no_path_record paths content (dependencies o l h ns) short is counts = let kind = is.kind in omega arith
 
 -- ---- dependencies
@@ -146,8 +146,8 @@ pub no-path-adds : (padded : List ℕ) (complement : ℕ) (content : List ℕ) (
     → (MayBeNamed (path_in padded) → complement + length old.paths + 1 ≢ 2 ^ 32)
     → Adds 0 content old old false
 no-path-adds padded complement content old small cut other = (
-  (λ r is counts. (let next = path_record old.paths padded complement content r small cut is counts
-      in other next.may_be_named next.number)),
+  (λ r is counts. (let next = path_record old.paths padded complement content r small cut is counts in
+      other next.may_be_named next.number)),
   refl,
 )
 

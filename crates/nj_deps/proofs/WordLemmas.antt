@@ -46,10 +46,10 @@ length-words (n ∷ ns) = omega (arith, length-append (word n) (words ns), lengt
 pub words_are : (ns ms : List ℕ) → AllByRecursion (λ n. n < 2 ^ 32) ns → AllByRecursion (λ n. n < 2 ^ 32) ms
     → words ns ≡ words ms → ns ≡ ms
 words_are [] [] small_ns small_ms e = refl
-words_are [] (m ∷ ms) small_ns small_ms e = let l = ap length e
-    in absurd (omega (arith, length-words (m ∷ ms)))
-words_are (n ∷ ns) [] small_ns small_ms e = let l = ap length e
-    in absurd (omega (arith, length-words (n ∷ ns)))
+words_are [] (m ∷ ms) small_ns small_ms e = let l = ap length e in
+    absurd (omega (arith, length-words (m ∷ ms)))
+words_are (n ∷ ns) [] small_ns small_ms e = let l = ap length e in
+    absurd (omega (arith, length-words (n ∷ ns)))
 words_are (n ∷ ns) (m ∷ ms) small_ns small_ms e =
     let both = apart (word n) (word m) (words ns) (words ms) (length-word n ∙ sym (length-word m)) e in
     let head : n ≡ m = word_is n m small_ns.0 small_ms.0 both.0 in
@@ -105,22 +105,23 @@ all_read count bytes rest old new so_far whole short =
       so_far.numbers,
       so_far.appended,
       so_far.cut
-          ∙ ap (λ r. words so_far.numbers ++ r) (nil_from_length rest none) ∙ append-nil (words so_far.numbers),
+          ∙ ap (λ r. words so_far.numbers ++ r) (nil_from_length rest none)
+          ∙ append-nil (words so_far.numbers),
       so_far.known,
     )
 
 -- numbers below the count that have a number among their words
 below-among : (count : ℕ) (ns : List ℕ) (n : ℕ) (others is : List ℕ) → count ≤ 2 ^ 32 → n < 2 ^ 32
     → words is ≡ words ns ++ (word n ++ others) → AllByRecursion (λ k. k < count) is → n < count
-below-among count [] n others [] few small e all = let l = ap length e
-    in absurd (omega (arith, length-append (word n) others, length-word n))
+below-among count [] n others [] few small e all = let l = ap length e in
+    absurd (omega (arith, length-append (word n) others, length-word n))
 below-among count [] n others (i ∷ is) few small e all =
     let both = apart (word i) (word n) (words is) others (length-word i ∙ sym (length-word n)) e in
     let below : i < count = all.0 in
     let same : i ≡ n = word_is i n (omega arith) small both.0 in
     omega arith
-below-among count (m ∷ ns) n others [] few small e all = let l = ap length e
-    in absurd (omega (
+below-among count (m ∷ ns) n others [] few small e all = let l = ap length e in
+    absurd (omega (
       arith,
       length-append (words (m ∷ ns)) (word n ++ others),
       length-append (word m) (words ns),

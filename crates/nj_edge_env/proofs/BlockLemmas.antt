@@ -48,8 +48,8 @@ first-from name (m ∷ names) (suc n) inside here before = (
 
 pub first-position : (name : List ℕ) (names : List (List ℕ)) (n : ℕ) → position (bytes_eq name) names ≡ Some n
     → IsFirstAt name names n
-first-position name names n h = let p = position-Some (bytes_eq name) names n [] h
-    in first-from name names n p.0 p.1 p.2
+first-position name names n h = let p = position-Some (bytes_eq name) names n [] h in
+    first-from name names n p.0 p.1 p.2
 
 pub first-new : (name : List ℕ) (names : List (List ℕ)) → list_any (bytes_eq name) names ≡ false
     → IsFirstAt name (names ++ name ∷ []) (length names)

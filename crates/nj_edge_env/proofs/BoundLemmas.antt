@@ -170,8 +170,8 @@ rising-up_to bounds i j d rising h within = by (eqb_tells i j)
 pub none-after : (bounds : List Bound) (edge i : ℕ) (last : Bound) → AreRising bounds → i + 1 ≡ length bounds
     → last ≡ get_or bounds i last → last.edge < edge → bound_of bounds edge ≡ None
 none-after bounds edge i last rising n is less = none-at bounds edge last
-    (λ j h same. let up = rising-up_to bounds j i last rising (omega arith) (omega arith)
-    in omega (arith, up, same, ap (λ b. b.edge) is, less))
+    (λ j h same. let up = rising-up_to bounds j i last rising (omega arith) (omega arith) in
+    omega (arith, up, same, ap (λ b. b.edge) is, less))
 
 -- ---- the search
 
@@ -196,8 +196,8 @@ searched-other bounds edge i b rising h is point apart =
   where
     by : (j : ℕ) → j < length bounds → (get_or bounds j b).edge ≡ edge → (t : Bool) → ltb j i ≡ t → ⊥
     by j within same true less = let below =
-        ltb-true (get_or bounds j b).edge edge (point.0 j b (omega arith) (ltb-true j i less))
-        in omega (arith, below, same)
+        ltb-true (get_or bounds j b).edge edge (point.0 j b (omega arith) (ltb-true j i less)) in
+        omega (arith, below, same)
     by j within same false later =
         let more : i ≤ j = ltb-false j i later in
         let from = ltb-false (get_or bounds i b).edge edge (point.1 i b (omega arith) h) in
@@ -273,8 +273,8 @@ bound_of-with (c ∷ []) len b rising parts e = by (eqb_tells c.edge b.edge)
 bound_of-with (c ∷ d ∷ bounds) len b rising parts e =
     ap (λ o. cond (nat_eq e c.edge) (Some c) o) (bound_of-with (d ∷ bounds) len b rising.1 parts.1 e)
     ∙ swapped (nat_eq e c.edge) (nat_eq e b.edge) (Some c) (Some b) (bound_of (d ∷ bounds) e)
-    (λ p q. let same = sym (same-from_test e c.edge p) ∙ same-from_test e b.edge q
-    in omega (arith, same, rising.0.0, parts.1.0.edge))
+    (λ p q. let same = sym (same-from_test e c.edge p) ∙ same-from_test e b.edge q in
+    omega (arith, same, rising.0.0, parts.1.0.edge))
 
 all_with : (P : Bound → Type 0) (bounds : List Bound) (b : Bound) → AllByRecursion P bounds → P b
     → AllByRecursion P (with_bound bounds b)

@@ -200,8 +200,8 @@ module _ (block : List ℕ → Option (List ℕ)) (lines : List RuleLineModel) w
           (leads_wider (name ∷ reaching steps block lines name) (name ∷ reaching (suc steps) block lines name)
           wider)) [
             | inl same ↦ inl (λ key among. let r =
-                unfiltered (leads (name ∷ reaching (suc steps) block lines name)) (keys_of lines) key among
-                in filtered (leads (name ∷ reaching steps block lines name)) (keys_of lines) key r.0
+                unfiltered (leads (name ∷ reaching (suc steps) block lines name)) (keys_of lines) key among in
+                filtered (leads (name ∷ reaching steps block lines name)) (keys_of lines) key r.0
                 (same key r.0 r.1))
             | inr more_keys ↦ inr (omega arith)
           ]
@@ -311,8 +311,8 @@ no_less x y z p q h = by (order z y) refl
   where
     by : (o : Ordering) → order z y ≡ o → ⊥
     by Less e = p (nat_list_cmp_total.trans x z y h e)
-    by Equal e = let r = turned x z Less h in let s = nat_list_cmp_total.congr z y x e
-        in p (let t = turned y x Greater (sym s ∙ r) in t)
+    by Equal e = let r = turned x z Less h in let s = nat_list_cmp_total.congr z y x e in
+        p (let t = turned y x Greater (sym s ∙ r) in t)
     by Greater e = q (turned z y Greater e)
 
 among_two : (x y : List ℕ) → (lesser x y ≡ x) ⊎ (lesser x y ≡ y)

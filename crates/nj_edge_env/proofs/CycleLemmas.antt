@@ -156,8 +156,8 @@ module _ (keys : List ReferringKeyModel) (counts : List Bool) where
   )
 
   pub known_edges : AreEdges makers (length keys)
-  known_edges key other needs = let need = need_is key other needs
-      in (row_within keys key other need.refers, need.within)
+  known_edges key other needs = let need = need_is key other needs in
+      (row_within keys key other need.refers, need.within)
 
   starts_within : (key other : ℕ) → NeedsByChain makers key other → key < length keys
   starts_within key other (one needs) = (known_edges key other needs).0
@@ -175,8 +175,8 @@ module _ (keys : List ReferringKeyModel) (counts : List Bool) where
   none_first empty = (
     λ key. 0,
     record {
-      falls = λ key other needs. let within = (known_edges key other needs).0
-          in absurd (omega (arith, within, empty));
+      falls = λ key other needs. let within = (known_edges key other needs).0 in
+          absurd (omega (arith, within, empty));
       bounded = λ key within. absurd (omega (arith, within, empty));
       within = λ key other needs. (known_edges key other needs).1;
     },
@@ -191,8 +191,8 @@ module _ (block : List ℕ → Option (List ℕ)) (lines : List RuleLineModel) (
       of : (o : Option (List PartModel)) → rule_value unbound lines key ≡ o
           → refers (unwrap_or o []) other ≡ true → RefersTo block lines key other
       of None e h = absurd (true≢false (sym h))
-      of (Some parts) e h = let is = rule_value_is unbound lines key parts e
-          in (parts, rule_value_of block lines key is.no_paths free ∙ is.given, h)
+      of (Some parts) e h = let is = rule_value_is unbound lines key parts e in
+          (parts, rule_value_of block lines key is.no_paths free ∙ is.given, h)
 
   -- a key that needs another refers to it
   refers_to : (a b : ℕ) → Needs (makers_counted keys counts) a b
@@ -242,12 +242,12 @@ module _ (block : List ℕ → Option (List ℕ)) (lines : List RuleLineModel) (
 
   first_found : (first : Option ℕ) → IsFirstOnCycle (makers_counted keys counts) (length keys) first
       → IsCycleFound block lines (option_map (name_at keys) first)
-  first_found None (rank, is) = λ x on. let k = loop_of x on
-      in falling_ranks_leave_no_cycle (makers_counted keys counts) rank is.falls k.0 k.3
+  first_found None (rank, is) = λ x on. let k = loop_of x on in
+      falling_ranks_leave_no_cycle (makers_counted keys counts) rank is.falls k.0 k.3
   first_found (Some m) (on, lowest) = (
     reaches m m on,
-    λ x there less. let k = loop_of x there
-        in by k.0 k.1 k.3 (subst (λ y. slice_cmp nat_cmp y (name_at keys m) ≡ Less) (sym k.2) less),
+    λ x there less. let k = loop_of x there in
+        by k.0 k.1 k.3 (subst (λ y. slice_cmp nat_cmp y (name_at keys m) ≡ Less) (sym k.2) less),
   )
     where
       by : (n : ℕ) → n < length keys → NeedsByChain (makers_counted keys counts) n n
@@ -256,8 +256,8 @@ module _ (block : List ℕ → Option (List ℕ)) (lines : List RuleLineModel) (
         | inl lower ↦ lowest n lower loop
         | inr no_lower ↦ elim (cases_lt m n) [
           | inl lt ↦ are.rise m n lt below less
-          | inr le ↦ let same : n ≡ m = omega (arith, no_lower, le)
-              in not_less_own (name_at keys m) (subst
+          | inr le ↦ let same : n ≡ m = omega (arith, no_lower, le) in
+              not_less_own (name_at keys m) (subst
               (λ k. slice_cmp nat_cmp (name_at keys k) (name_at keys m) ≡ Less) same less)
         ]
       ]
@@ -272,8 +272,8 @@ module _ (block : List ℕ → Option (List ℕ)) (lines : List RuleLineModel) (
 -- fewer keys count where a block binds some
 unbound_refers : (block : List ℕ → Option (List ℕ)) (lines : List RuleLineModel) (a b : List ℕ)
     → RefersTo block lines a b → RefersTo unbound lines a b
-unbound_refers block lines a b r = let is = rule_value_is block lines a r.0 r.1
-    in (r.0, rule_value_of unbound lines a is.no_paths refl ∙ is.given, r.2)
+unbound_refers block lines a b r = let is = rule_value_is block lines a r.0 r.1 in
+    (r.0, rule_value_of unbound lines a is.no_paths refl ∙ is.given, r.2)
 
 unbound_reaches : (block : List ℕ → Option (List ℕ)) (lines : List RuleLineModel) (a b : List ℕ)
     → Reaches block lines a b → Reaches unbound lines a b

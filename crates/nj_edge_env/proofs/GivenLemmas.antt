@@ -433,12 +433,12 @@ cycle_gives_nothing quoting n key text (by_block p e) c =
     not_a_rule_s n.block n.lines key key (rule_value_none (names_paths key) (n.block key)
     (value_given n.lines key) (inr (text, e))) c
 cycle_gives_nothing quoting n key text (by_rule parts value e f) c =
-    let r = turned n.block n.lines key c in cycle_gives_nothing quoting n r.0 (value r.0)
-    (f r.0 (same_refers r.1)) r.2
+    let r = turned n.block n.lines key c in
+    cycle_gives_nothing quoting n r.0 (value r.0) (f r.0 (same_refers r.1)) r.2
   where
     same_refers : {other : List ℕ} → RefersTo n.block n.lines key other → refers parts other ≡ true
-    same_refers {other} r = let t : r.0 ≡ parts = cc (sym r.1 ∙ e)
-        in subst (λ ps. refers ps other ≡ true) t r.2
+    same_refers {other} r = let t : r.0 ≡ parts = cc (sym r.1 ∙ e) in
+        subst (λ ps. refers ps other ≡ true) t r.2
 cycle_gives_nothing quoting n key text (by_file p q e) c =
     not_a_rule_s n.block n.lines key key (rule_value_of n.block n.lines key p q ∙ e) c
 

@@ -15,8 +15,8 @@ use Rattle.nj_edge_env.proofs.BoundLemmas.{Compared, slice_kept}
 
 pub start-within : (len start : ℕ) (starts : List ℕ) → AreStarts len (start ∷ starts) → start ≤ len
 start-within len start [] h = h
-start-within len start (next ∷ starts) h = let rest = start-within len next starts h.1
-    in omega (arith, h.0, rest)
+start-within len start (next ∷ starts) h = let rest = start-within len next starts h.1 in
+    omega (arith, h.0, rest)
 
 pub within-at : (len : ℕ) (starts : List ℕ) (i d : ℕ) → AreStarts len starts → i < length starts
     → get_or starts i d ≤ len

@@ -148,7 +148,8 @@ module _ (lines : List RuleLineModel) (slices : List (Bor (List ℕ))) (sorted :
         true≢false (sym (ap is_lt less') ∙ rise')
 
     next : (n : ℕ) → n + 1 < length slices → slice_cmp nat_cmp (name (n + 1)) (name n) ≢ Less
-    next n below = let one = some_at slices n (omega (arith, below)) in let other = some_at slices (n + 1) below
+    next n below = let one = some_at slices n (omega (arith, below)) in let other =
+        some_at slices (n + 1) below
         in next-by n one.0 other.0 below one.1 other.1
 
     rises : (number other : ℕ) → number < other → other < length slices
@@ -161,8 +162,8 @@ module _ (lines : List RuleLineModel) (slices : List (Bor (List ℕ))) (sorted :
         elim (cases_lt number other) [
           | inl less ↦ no_less (name (suc other)) (name other) (name number) step
               (rises number other less (omega (arith, below)))
-          | inr most ↦ let same : other ≡ number = omega (arith, lt, most)
-              in subst (λ k. slice_cmp nat_cmp (name (suc other)) (name k) ≢ Less) same step
+          | inr most ↦ let same : other ≡ number = omega (arith, lt, most) in
+              subst (λ k. slice_cmp nat_cmp (name (suc other)) (name k) ≢ Less) same step
         ]
 
     -- the row of a key
@@ -171,7 +172,8 @@ module _ (lines : List RuleLineModel) (slices : List (Bor (List ℕ))) (sorted :
         → slice_index_or (row_at (map key_of slices) number) other false
         ≡ refers_unbound lines (name number) (name other)
     row_is number other one two here there below =
-        ap (λ o. slice_index_or (unwrap_or (option_map (λ (k : ReferringKeyModel). k.refers) o) []) other false)
+        ap (λ o. slice_index_or (unwrap_or (option_map (λ (k : ReferringKeyModel). k.refers) o) []) other
+        false)
         (slice_get-map key_of slices number ∙ ap (option_map key_of) here)
         ∙ get_or-map (λ (x : Bor (List ℕ)). refers_unbound lines one.now x.now) slices other two false below
         ∙ ap (λ (x : Bor (List ℕ)). refers_unbound lines one.now x.now)

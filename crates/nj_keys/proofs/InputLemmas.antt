@@ -63,8 +63,8 @@ module _ (folders : List (List ℕ)) (edges : List EdgePaths) (keys : ℕ → Li
 
   inputs-append : (index : ℕ) (paths more : List (List ℕ))
       → inputs_from index (paths ++ more) ≡ inputs_from index paths ++ inputs_from (index + length paths) more
-  inputs-append index [] more = let same : index ≡ index + 0 = omega arith
-      in ap (λ n. inputs_from n more) same
+  inputs-append index [] more = let same : index ≡ index + 0 = omega arith in
+      ap (λ n. inputs_from n more) same
   inputs-append index (path ∷ paths) more =
       let next : (index + 1) + length paths ≡ index + length (path ∷ paths) = omega arith in
       let input = input_fields folders edges keys (kind_at e index) path in

@@ -28,8 +28,8 @@ pub key-of-kept : (folders : List (List ℕ)) (edges : List EdgePaths) (entries 
     (keys : List (Option (List ℕ))) (e : ℕ)
     → IsKept keys e → KeepsKeys folders edges entries keys → IsKey folders edges entries e (kept_key keys e)
 key-of-kept folders edges entries keys e (key, is) kept =
-    let same : kept_key keys e ≡ key = ap (λ o. unwrap_or (unwrap_or o None) []) is
-    in subst (IsKey folders edges entries e) (sym same) (kept e key is)
+    let same : kept_key keys e ≡ key = ap (λ o. unwrap_or (unwrap_or o None) []) is in
+    subst (IsKey folders edges entries e) (sym same) (kept e key is)
 
 pub only-none : {X : Type 0} (P : Option X → Type 0) → ((x : X) → P (Some x) → ⊥) → (o : Option X) → P o
     → o ≡ None
@@ -95,8 +95,8 @@ key-missing None none = refl
 
 pub kept-here : (keys : List (Option (List ℕ))) (e : ℕ) → e < length keys
     → is_some (get_or keys e None) ≡ true → IsKept keys e
-kept-here keys e below some = let key = key-there (get_or keys e None) some
-    in (key.0, slice_get-get_or keys e None below ∙ ap Some key.1)
+kept-here keys e below some = let key = key-there (get_or keys e None) some in
+    (key.0, slice_get-get_or keys e None below ∙ ap Some key.1)
 
 pub missing-here : (keys : List (Option (List ℕ))) (e : ℕ) → e < length keys
     → is_some (get_or keys e None) ≡ false → slice_get keys e ≡ Some None

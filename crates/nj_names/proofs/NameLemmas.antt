@@ -126,8 +126,8 @@ start-after start (end ∷ ends) (suc n) d below = start-after end ends n d (ome
 pub start-before : (start : ℕ) (ends : List ℕ) (n d : ℕ) → 0 < n → n < length ends
     → get_or ends (n - 1) d ≡ start_in start ends n
 start-before start ends zero d after below = absurd (omega arith)
-start-before start ends (suc n) d after below = let e : suc n - 1 ≡ n = omega arith
-    in rw e (sym (start-after start ends n d (omega arith)))
+start-before start ends (suc n) d after below = let e : suc n - 1 ≡ n = omega arith in
+    rw e (sym (start-after start ends n d (omega arith)))
 
 -- a name more
 pub rise-push : (start : ℕ) (ends : List ℕ) (size more : ℕ) → EndsRise start ends size
@@ -211,8 +211,8 @@ newest-none hash names wanted (suc c) h m below =
         → ((hash (name_of names c) == wanted) ≡ true × (hash (name_of names c) ≡ wanted))
         ⊎ ((hash (name_of names c) == wanted) ≡ false × (hash (name_of names c) ≢ wanted))
         → hash (name_of names m) ≢ wanted
-    by rest (inl same) = let top : suc c ≡ 0 = ap (λ b. cond b (suc c) down) (sym same.0) ∙ h
-        in absurd (omega arith)
+    by rest (inl same) = let top : suc c ≡ 0 = ap (λ b. cond b (suc c) down) (sym same.0) ∙ h in
+        absurd (omega arith)
     by rest (inr apart) = late apart.1 (rest (ap (λ b. cond b (suc c) down) (sym apart.0) ∙ h)) (cases_eq m c)
 
 -- the found name is among those that count
@@ -375,13 +375,13 @@ any-none name (p ∷ names) absent = by (any-none name names (λ m below. absent
 module _ (names : List (List ℕ)) (earlier name : List ℕ) where
   pub turn-within : (at : ℕ) → 0 < at → Searched names earlier name at → at - 1 < length names
   turn-within zero after s = absurd (omega arith)
-  turn-within (suc n) after s = let e : suc n - 1 ≡ n = omega arith
-      in rw e (searched-within names earlier name n s)
+  turn-within (suc n) after s = let e : suc n - 1 ≡ n = omega arith in
+      rw e (searched-within names earlier name n s)
 
   pub turn-falls : (at : ℕ) → 0 < at → Searched names earlier name at → get_or earlier (at - 1) 0 < at
   turn-falls zero after s = absurd (omega arith)
-  turn-falls (suc n) after s = let e : suc n - 1 ≡ n = omega arith
-      in rw e (searched-falls names earlier name n s)
+  turn-falls (suc n) after s = let e : suc n - 1 ≡ n = omega arith in
+      rw e (searched-falls names earlier name n s)
 
   pub turn-next : (at : ℕ) (there : List ℕ) → 0 < at → Searched names earlier name at
       → slice_get names (at - 1) ≡ Some there → bytes_eq there name ≡ false

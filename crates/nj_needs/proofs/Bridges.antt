@@ -13,8 +13,8 @@ use Rattle.nj_needs.specs.Graphs.{row_of_paths, row_of, count_of}
 
 pub AreWithin-paths : (edges : List EdgePaths) (paths : List (List ℕ))
     → AreWithin (row_of_paths edges paths) (length edges)
-AreWithin-paths edges paths e c = let made = made-of (maker_of edges) paths e c
-    in first-below _ edges e made.1
+AreWithin-paths edges paths e c = let made = made-of (maker_of edges) paths e c in
+    first-below _ edges e made.1
 
 pub AreWithin-from : (g : EdgeGraph) (targets : List FileNo) → AreWithin (row_of g targets) (count_of g)
 AreWithin-from g targets = AreWithin-paths g.edges (map (path_at g.files) targets)

@@ -43,8 +43,8 @@ numeral_front [] h = h
 numeral_front (d ∷ []) h = by_test (eqb d 43) refl
   where
     by_test : (t : Bool) → eqb d 43 ≡ t → not t ≡ true
-    by_test true e = let p : d ≡ 43 = grind (arith, nat_tests, e)
-        in absurd (let x : is_ascii_digit 43 ≡ true = ap is_ascii_digit (sym p) ∙ h in cc)
+    by_test true e = let p : d ≡ 43 = grind (arith, nat_tests, e) in
+        absurd (let x : is_ascii_digit 43 ≡ true = ap is_ascii_digit (sym p) ∙ h in cc)
     by_test false e = refl
 numeral_front (d ∷ e ∷ ds) h = and_of (not (eqb d 43)) (not (eqb d 48)) (by_test (eqb d 43) refl)
     (and_true (not (eqb d 48)) (all_ascii_digits (d ∷ e ∷ ds)) h).0
@@ -127,8 +127,8 @@ numeral_digits_of : (bs : List ℕ) → all_ascii_digits bs ≡ true → 0 < len
     → is_numeral bs ≡ true
 numeral_digits_of [] h l f = absurd (omega arith)
 numeral_digits_of (d ∷ []) h l f = (and_true (is_ascii_digit d) true h).0
-numeral_digits_of (d ∷ c ∷ ds) h l f = let e : eqb d 48 ≡ false = grind (arith, nat_tests)
-    in and_of (not (eqb d 48)) (all_ascii_digits (d ∷ c ∷ ds)) (ap not e) h
+numeral_digits_of (d ∷ c ∷ ds) h l f = let e : eqb d 48 ≡ false = grind (arith, nat_tests) in
+    and_of (not (eqb d 48)) (all_ascii_digits (d ∷ c ∷ ds)) (ap not e) h
 
 decimal_zero : is_numeral (decimal 0) ≡ true
 unfolding digits
@@ -153,8 +153,8 @@ plain-digits (d ∷ ds) h =
     rw (no_dot (eqb d 46) refl both.0) (plain-digits ds both.1)
   where
     no_dot : (t : Bool) → eqb d 46 ≡ t → is_ascii_digit d ≡ true → eqb d 46 ≡ false
-    no_dot true e f = let p : d ≡ 46 = grind (arith, nat_tests, e)
-        in absurd (let x : is_ascii_digit 46 ≡ true = ap is_ascii_digit (sym p) ∙ f in cc)
+    no_dot true e f = let p : d ≡ 46 = grind (arith, nat_tests, e) in
+        absurd (let x : is_ascii_digit 46 ≡ true = ap is_ascii_digit (sym p) ∙ f in cc)
     no_dot false e f = e
 
 pub no_dot-decimal : (n : ℕ) → n < 2 ^ 64 → list_any is_dot (decimal n) ≡ false

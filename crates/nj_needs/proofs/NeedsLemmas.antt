@@ -126,7 +126,8 @@ module _ (w v : Walk) (graph : v.turns.graph ≡ w.turns.graph) (targets : v.tur
             ≡ left_of w.turns.graph.now w.turns.targets.now w.path.items w.place
         looked-left = rw (graph, targets) t.left
 
-        pub looked-less : turns_left_of v.turns.graph.now v.turns.targets.now v.path.items v.place < turns_left_of
+        pub looked-less : turns_left_of v.turns.graph.now v.turns.targets.now v.path.items v.place <
+            turns_left_of
             w.turns.graph.now w.turns.targets.now w.path.items w.place
         looked-less = rw (graph, targets) (omega (arith, t.turn))
 
@@ -146,13 +147,15 @@ module _ (w v : Walk) (graph : v.turns.graph ≡ w.turns.graph) (targets : v.tur
 
     module _ (e : ℕ) (phony : Bool) (t : HasClosed w.turns.graph.now w.turns.targets.now w.path.items w.place
         v.path.items v.place e phony) where
-      pub closed-less : turns_left_of v.turns.graph.now v.turns.targets.now v.path.items v.place < turns_left_of
+      pub closed-less : turns_left_of v.turns.graph.now v.turns.targets.now v.path.items v.place <
+          turns_left_of
           w.turns.graph.now w.turns.targets.now w.path.items w.place
       closed-less = rw (graph, targets) (omega (arith, t.turn))
 
       pub closed-front : (s r : Saved) → r.numbers ≡ s.numbers → r.kept ≡ min s.kept (length v.path.items)
           → KeepsFront s w.path.items → KeepsFront r v.path.items
-      closed-front s r numbers kept h = front-closed s r w.path.items v.path.items t.popped.0 t.popped.1 numbers
+      closed-front s r numbers kept h = front-closed s r w.path.items v.path.items t.popped.0 t.popped.1
+          numbers
           kept h
 
       -- a phony edge

@@ -84,8 +84,8 @@ commands-reached makers count phony targets acyclic inside e =
 all_differ : (x : ℕ) (xs : List ℕ) → list_any (nat_eq x) xs ≡ false
     → AllByRecursion (λ y. nat_eq x y ≡ false) xs
 all_differ x [] h = tt
-all_differ x (y ∷ xs) h = let p = or_parts (nat_eq x y) (list_any (nat_eq x) xs) h
-    in (p.0, all_differ x xs p.1)
+all_differ x (y ∷ xs) h = let p = or_parts (nat_eq x y) (list_any (nat_eq x) xs) h in
+    (p.0, all_differ x xs p.1)
 
 pub IsDistinct-from : (xs : List ℕ) → Differ xs → IsDistinct nat_eq xs
 unfolding IsDistinct

@@ -52,11 +52,11 @@ same-after : (e : ℕ) (xs ys ms ns : List ℕ) → xs ++ e ∷ ms ≡ ys ++ e �
     → list_any (nat_eq e) ys ≡ false → ms ≡ ns
 same-after e [] [] ms ns is f g = cc
 same-after e [] (y ∷ ys) ms ns is f g =
-    absurd (let same : e ≡ y = cc in let i : In (y ∷ ys) e = subst (λ z. In (z ∷ ys) e) same (In-head e ys)
-    in cc)
+    absurd (let same : e ≡ y = cc in let i : In (y ∷ ys) e = subst (λ z. In (z ∷ ys) e) same (In-head e ys) in
+    cc)
 same-after e (x ∷ xs) [] ms ns is f g =
-    absurd (let same : e ≡ x = cc in let i : In (x ∷ xs) e = subst (λ z. In (z ∷ xs) e) same (In-head e xs)
-    in cc)
+    absurd (let same : e ≡ x = cc in let i : In (x ∷ xs) e = subst (λ z. In (z ∷ xs) e) same (In-head e xs) in
+    cc)
 same-after e (x ∷ xs) (y ∷ ys) ms ns is f g =
     let later : xs ++ e ∷ ms ≡ ys ++ e ∷ ns = cc in
     same-after e xs ys ms ns later (absent x xs f) (absent y ys g)
@@ -130,8 +130,8 @@ module _ (phony : ℕ → Bool) where
       (subst Differ joined (Differ-filter plain (each_once nat_eq whole) (Differ-first whole))) in
       let first : list_any (nat_eq e) (filter plain (each_once nat_eq before)) ≡ false =
       false_from_ne_true (list_any (nat_eq e) (filter plain (each_once nat_eq before)))
-      (λ i. let j : In before e = In-first before e (In-filter plain (each_once nat_eq before) e i).0
-      in cc) in
+      (λ i. let j : In before e = In-first before e (In-filter plain (each_once nat_eq before) e i).0 in
+      cc) in
       same-after e (filter plain (each_once nat_eq before)) (taken ++ front) (without (before ++ e ∷ []) C)
       left (sym after ∙ joined) first once
 

@@ -70,8 +70,8 @@ module _ (makers : ℕ → List (Option ℕ)) (count : ℕ) (rank : ℕ → ℕ)
 
   row-front : (n : ℕ) (row : List (Option ℕ)) (x : ℕ) → In (unfolded_row makers count (take n row)) x
       → In (unfolded_row makers count row) x
-  row-front n row x i = let r = In-row (unfolded makers count) (take n row) x i
-      in In-row_from (unfolded makers count) row r.0 x (Among-take n row r.0 r.1) r.2
+  row-front n row x i = let r = In-row (unfolded makers count) (take n row) x i in
+      In-row_from (unfolded makers count) row r.0 x (Among-take n row r.0 r.1) r.2
 
   -- the edges done at a mark are of the unfolded order
   pub done-within : (row : List (Option ℕ)) → ((m : ℕ) → Among row m → m < count) → (mark : List ℕ)
@@ -182,8 +182,8 @@ last_split : (m : Frame) (ms : List Frame)
     → (front : List Frame) × (l : Frame) × (m ∷ ms ≡ front ++ l ∷ [])
     × ((goal at : ℕ) → m.at < goal → at ≡ l.at + 1 → IsAhead front goal at)
 last_split m [] = ([], m, refl, λ goal at lt is. omega arith)
-last_split m (k ∷ ks) = let r = last_split k ks
-    in (m ∷ r.0, r.1, ap (λ (fs : List Frame). m ∷ fs) r.2, λ goal at lt is. lt)
+last_split m (k ∷ ks) = let r = last_split k ks in
+    (m ∷ r.0, r.1, ap (λ (fs : List Frame). m ∷ fs) r.2, λ goal at lt is. lt)
 
 ahead-push : (more : List Frame) (goal at : ℕ) (f : Frame) → IsAhead more goal at → (more ≡ [] → f.at < goal)
     → IsAhead (more ++ f ∷ []) goal 0

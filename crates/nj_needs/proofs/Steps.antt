@@ -93,8 +93,8 @@ module _ (makers : ℕ → List (Option ℕ)) (count : ℕ) (rank : ℕ → ℕ)
   not-opened : (path : List Frame) (p m : ℕ) → IsLinked makers row path
       → slice_get (top_row makers row path) p ≡ Some (Some m) → list_any (nat_eq m) (opened path) ≡ false
   not-opened path p m linked at = false_from_ne_true (list_any (nat_eq m) (opened path))
-      (λ i. let r : rank m < rank m = rank-opened makers count rank ranked row path linked p m at m i
-      in absurd (omega arith))
+      (λ i. let r : rank m < rank m = rank-opened makers count rank ranked row path linked p m at m i in
+      absurd (omega arith))
 
   pub open-turns : (path : List Frame) (f : Frame) → IsLinked makers row path
       → slice_get (top_row makers row path) f.at ≡ Some (Some f.edge)

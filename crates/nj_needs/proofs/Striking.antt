@@ -168,8 +168,8 @@ pub Differ-first : (xs : List ℕ) → Differ (each_once nat_eq xs)
 Differ-first [] = tt
 Differ-first (x ∷ xs) = (
   false_from_ne_true (list_any (nat_eq x) (filter (λ y. not (nat_eq y x)) (each_once nat_eq xs)))
-      (λ i. let r = In-filter (λ y. not (nat_eq y x)) (each_once nat_eq xs) x i
-      in let t : not (nat_eq x x) ≡ true = r.1 in let s : nat_eq x x ≡ true = eq-eqb x x refl in
+      (λ i. let r = In-filter (λ y. not (nat_eq y x)) (each_once nat_eq xs) x i in
+      let t : not (nat_eq x x) ≡ true = r.1 in let s : nat_eq x x ≡ true = eq-eqb x x refl in
       let n : not (nat_eq x x) ≡ false = ap not s in cc),
   Differ-filter (λ y. not (nat_eq y x)) (each_once nat_eq xs) (Differ-first xs),
 )

@@ -1,7 +1,7 @@
 //! A look at a place of a row: of the inputs of an edge, or of the targets.
 
-ghost use Rattle.std.specs.Prelude.{◌≡◌, ◌+◌, ◌^◌, ◌<◌, length, All, IfSome, slice_get};
 ghost use Rattle.nj_needs.specs.Walks.{number_of};
+ghost use Rattle.std.specs.Prelude.{◌≡◌, ◌+◌, ◌^◌, ◌<◌, length, All, IfSome, slice_get};
 ghost use Rattle.nj_needs.specs.Cited.{ForSome, count_of, row_in};
 
 use nj_edges::{EdgeGraph, EdgeNo, FileNo};

@@ -1,7 +1,7 @@
 //! The numbers of an address.
 
-ghost use Rattle.std.specs.Prelude.{◌≡◌, ◌∷◌, ◌<◌, [], Some, IfOk, IfErr, IfSome, length};
 ghost use Rattle.nj_needs.specs.MarkTexts.{number_of};
+ghost use Rattle.std.specs.Prelude.{◌≡◌, ◌∷◌, ◌<◌, [], Some, IfOk, IfErr, IfSome, length};
 ghost use Rattle.nj_needs.specs.Cited.{option_copied, slice_split, numbers_in, IsReadFault, has_plain_front, is_dot, parts_left};
 
 use crate::mark_fault::MarkFault;

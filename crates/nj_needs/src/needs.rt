@@ -1,7 +1,7 @@
 //! The walk over the commands that targets need.
 
-ghost use Rattle.std.specs.Prelude.{◌≡◌, ◌<◌, length, IfOk, IfSome};
 ghost use Rattle.nj_needs.specs.Walks.{number_of};
+ghost use Rattle.std.specs.Prelude.{◌≡◌, ◌<◌, length, IfOk, IfSome};
 ghost use Rattle.nj_needs.specs.Cited.{item_count, ReadsBack, saturated, IsSound, IsSameWalk, NextIs, ReturnsNext};
 
 pub(crate) mod beginning;

@@ -1,7 +1,7 @@
 //! Pages of a walk, and the mark after each.
 
-ghost use Rattle.std.specs.Prelude.{◌≡◌, ◌<◌, ◌-◌, ℕ, Option, List, Some, IfOk, IfSome, length, option_map};
 ghost use Rattle.nj_needs.specs.Walks.{number_of};
+ghost use Rattle.std.specs.Prelude.{◌≡◌, ◌<◌, ◌-◌, ℕ, Option, List, Some, IfOk, IfSome, length, option_map};
 ghost use Rattle.nj_needs.specs.Cited.{written, GoesOn, HasSoFar, StopsAt, WalkState};
 
 use crate::marks::Mark;

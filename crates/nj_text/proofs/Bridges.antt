@@ -361,8 +361,8 @@ value_of_line (u ∷ us) h = by_end (ending_of u.means) refl (value_of_line us) 
 
     by_end : (o : Option Bool) → ending_of u.means ≡ o → (HasLine (lines_of us) → IsValue us)
         → HasLine (lines_before o u (lines_of us)) → IsValue (u ∷ us)
-    by_end None e rest k = let has = line_after u (lines_of us) k
-        in by_case has e (rest has) (value_or_bad u.means u.spot e)
+    by_end None e rest k = let has = line_after u (lines_of us) k in
+        by_case has e (rest has) (value_or_bad u.means u.spot e)
     by_end (Some b) e rest k = value_ends u us b e
 
 -- the rest of a line after a front of it has a line too

@@ -106,9 +106,8 @@ clean-stays path h = by_front (is_absolute path) refl
     rooted : (bs : List ℕ) → eqb (length bs) 0 || all_stay true (slice_split is_slash bs) ≡ true
         → clean_path_of (47 ∷ bs) ≡ 47 ∷ bs
     rooted [] h = clean_root
-    rooted (b ∷ bs) h = let some : eqb (suc (length bs)) 0 ≡ false = grind (arith, nat_tests)
-        in absolute_stays (b ∷ bs) (sym (ap (λ t. t || all_stay true (slice_split is_slash (b ∷ bs))) some)
-        ∙ h)
+    rooted (b ∷ bs) h = let some : eqb (suc (length bs)) 0 ≡ false = grind (arith, nat_tests) in
+        absolute_stays (b ∷ bs) (sym (ap (λ t. t || all_stay true (slice_split is_slash (b ∷ bs))) some) ∙ h)
 
     relative : (t : Bool) → is_here path ≡ t → t || all_stay false (slice_split is_slash path) ≡ true
         → is_absolute path ≡ false → clean_path_of path ≡ path

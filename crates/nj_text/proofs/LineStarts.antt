@@ -514,7 +514,8 @@ pub spaces_cut : (spot : Spot) (bytes xs ys : List ℕ) (there : Spot) → bytes
     × (cut AtStart 0 spot bytes ≡ space_units spot (b ∷ bs) ++ cut AfterSpaces 0 there ys)
 spaces_cut spot bytes [] ys there whole run t c e = absurd (true≢false e)
 spaces_cut spot bytes (x ∷ xs) ys there whole run t c e =
-    let all : AllIn is_space (x ∷ xs) = subst (AllIn is_space) (sym run) (AllIn-take_while is_space bytes) in (
+    let all : AllIn is_space (x ∷ xs) = subst (AllIn is_space) (sym run) (AllIn-take_while is_space bytes)
+    in (
       x,
       xs,
       are_spaces (x ∷ xs) all,
@@ -533,13 +534,13 @@ not_nine b h e = h cc
 -- a place after a line end, as the cursor has it
 pub lines_moved : (spot there : Spot) (bs rest : List ℕ) (n : ℕ) → there ≡ spot → rest ≡ drop (n + 0) bs
     → lines_from there rest ≡ lines_from spot (drop n bs)
-lines_moved spot there bs rest n s r = let e : n + 0 ≡ n = omega arith
-    in ap (λ p. lines_from p rest) s ∙ ap (lines_from spot) (r ∙ ap (λ k. drop k bs) e)
+lines_moved spot there bs rest n s r = let e : n + 0 ≡ n = omega arith in
+    ap (λ p. lines_from p rest) s ∙ ap (lines_from spot) (r ∙ ap (λ k. drop k bs) e)
 
 pub within_moved : (spot there : Spot) (bs rest : List ℕ) (n k : ℕ) → there ≡ spot
     → rest ≡ drop ((n - k) + k) bs → k < n → lines_within there rest ≡ lines_within spot (drop n bs)
-within_moved spot there bs rest n k s r h = let e : (n - k) + k ≡ n = omega arith
-    in ap (λ p. lines_within p rest) s ∙ ap (lines_within spot) (r ∙ ap (λ m. drop m bs) e)
+within_moved spot there bs rest n k s r h = let e : (n - k) + k ≡ n = omega arith in
+    ap (λ p. lines_within p rest) s ∙ ap (lines_within spot) (r ∙ ap (λ m. drop m bs) e)
 
 pub plain_ordinary : (b : ℕ) (bs : List ℕ) → is_first b bs ≡ true → begins_with_space_byte bs ≡ false
     → starts_plainly (Ordinary b) ≡ true

@@ -41,8 +41,8 @@ not_longer : (xs a ys b : List ℕ) → xs ++ a ≡ ys ++ 47 ∷ b → length xs
     → list_any is_slash a ≡ false → ⊥
 not_longer [] a ys b e l h = no_slash a ys b h e
 not_longer (x ∷ xs) a [] b e l h = absurd (omega arith)
-not_longer (x ∷ xs) a (y ∷ ys) b e l h = let t : xs ++ a ≡ ys ++ 47 ∷ b = cc
-    in not_longer xs a ys b t (omega arith) h
+not_longer (x ∷ xs) a (y ∷ ys) b e l h = let t : xs ++ a ≡ ys ++ 47 ∷ b = cc in
+    not_longer xs a ys b t (omega arith) h
 
 -- the name goes with the slash before it
 pub drops-at : (floor : ℕ) (head name new : List ℕ) → list_any is_slash name ≡ false → floor ≤ length head

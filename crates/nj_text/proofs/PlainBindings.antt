@@ -127,8 +127,8 @@ some_length : (b : ℕ) (bs : List ℕ) → eqb (length (b ∷ bs)) 0 ≡ false
 some_length b bs = by_test (eqb (length (b ∷ bs)) 0) refl
   where
     by_test : (t : Bool) → eqb (length (b ∷ bs)) 0 ≡ t → t ≡ false
-    by_test true e = let zero_long : length (b ∷ bs) ≡ 0 = eqb-true (length (b ∷ bs)) 0 e
-        in absurd (omega arith)
+    by_test true e = let zero_long : length (b ∷ bs) ≡ 0 = eqb-true (length (b ∷ bs)) 0 e in
+        absurd (omega arith)
     by_test false e = refl
 
 value_starts : (spot : Spot) (b : ℕ) (rest xs bs ys : List ℕ) → rest ≡ xs ++ ys → xs ≡ b ∷ bs

@@ -26,8 +26,8 @@ module _ {X : Type 0} (p : X → Bool) where
     where
       by_test : (b : Bool) → p x ≡ b → (n ≤ prefix_len p xs → prefix_len p xs ≡ n + prefix_len p (drop n xs))
           → prefix_len p (x ∷ xs) ≡ suc n + prefix_len p (drop n xs)
-      by_test true e rest = let one = prefix_len-cons_yes p x xs e
-          in omega (arith, one, rest (omega (arith, one, low)))
+      by_test true e rest = let one = prefix_len-cons_yes p x xs e in
+          omega (arith, one, rest (omega (arith, one, low)))
       by_test false e rest = absurd (omega (arith, prefix_len-cons_no p x xs e, low))
 
 -- the byte after the front does not pass

@@ -68,8 +68,8 @@ stop_is P b feed colon bar h = by_feed (eqb b 10) refl
 stop_starts : (spot : Spot) (bytes : List ℕ) → no_word_begins bytes ≡ true
     → StartsWith false (units_within spot bytes)
 stop_starts spot [] h = absurd (false≢true h)
-stop_starts spot (b ∷ bs) h = let P : ℕ → Type 0 = λ x. StartsWith false (units_within spot (x ∷ bs))
-    in stop_is P b (feed_starts spot bs) (colon_starts spot bs) (bar_starts spot bs) h
+stop_starts spot (b ∷ bs) h = let P : ℕ → Type 0 = λ x. StartsWith false (units_within spot (x ∷ bs)) in
+    stop_is P b (feed_starts spot bs) (colon_starts spot bs) (bar_starts spot bs) h
 
 word_byte_is_ordinary : (b : ℕ) → is_word_byte b ≡ true → is_ordinary_byte b ≡ true
 word_byte_is_ordinary b h = by_test (is_ordinary_byte b) refl
@@ -119,10 +119,10 @@ stop_ends spot [] h = absurd (false≢true h)
 stop_ends spot (b ∷ bs) h = by_space (eqb b 32) refl
   where
     by_space : (t : Bool) → eqb b 32 ≡ t → EndsWord (units_within spot (b ∷ bs))
-    by_space true e = let P : ℕ → Type 0 = λ x. EndsWord (units_within spot (x ∷ bs))
-        in subst P (sym (eqb-true b 32 e)) (space_ends spot bs)
-    by_space false e = let P : ℕ → Type 0 = λ x. EndsWord (units_within spot (x ∷ bs))
-        in stop_is P b (feed_ends spot bs) (colon_ends spot bs) (bar_ends spot bs) (rw e at h)
+    by_space true e = let P : ℕ → Type 0 = λ x. EndsWord (units_within spot (x ∷ bs)) in
+        subst P (sym (eqb-true b 32 e)) (space_ends spot bs)
+    by_space false e = let P : ℕ → Type 0 = λ x. EndsWord (units_within spot (x ∷ bs)) in
+        stop_is P b (feed_ends spot bs) (colon_ends spot bs) (bar_ends spot bs) (rw e at h)
 
 -- ---- the word
 

@@ -147,8 +147,8 @@ seconds : (spot : Spot) (bytes : List ℕ) → is_first 124 bytes ≡ true
     → (begins_with_byte 124 (drop 1 (line spot bytes).units) ≡ is_first 124 (drop 1 bytes))
     × (begins_with_byte 64 (drop 1 (line spot bytes).units) ≡ is_first 64 (drop 1 bytes))
 seconds spot [] e = absurd cc
-seconds spot (x ∷ xs) e = let p : is_ordinary_byte x ≡ true = rw (eqb-true x 124 e) refl
-    in (second_byte 124 refl spot x xs p, second_byte 64 refl spot x xs p)
+seconds spot (x ∷ xs) e = let p : is_ordinary_byte x ≡ true = rw (eqb-true x 124 e) refl in
+    (second_byte 124 refl spot x xs p, second_byte 64 refl spot x xs p)
 
 same_sign : (want : Sign) (spot : Spot) (bytes : List ℕ) → (want ≡ sign.LineEnd → ⊥)
     → is_sign want (line spot bytes).units ≡ has_sign want bytes

@@ -70,13 +70,13 @@ floor_low ups (n ∷ names) h = omega (
 
 text_with_component-first : (front : ℕ) (out p : List ℕ) → length out ≤ front
     → text_with_component front out p ≡ out ++ p
-text_with_component-first front out p h = let e : ltb front (length out) ≡ false = grind (arith, nat_tests)
-    in rw e refl
+text_with_component-first front out p h = let e : ltb front (length out) ≡ false = grind (arith, nat_tests) in
+    rw e refl
 
 text_with_component-next : (front : ℕ) (out p : List ℕ) → front < length out
     → text_with_component front out p ≡ out ++ 47 ∷ p
-text_with_component-next front out p h = let e : ltb front (length out) ≡ true = grind (arith, nat_tests)
-    in rw e refl
+text_with_component-next front out p h = let e : ltb front (length out) ≡ true = grind (arith, nat_tests) in
+    rw e refl
 
 pub push-text : (base : List ℕ) (ps : List (List ℕ)) (p : List ℕ) → AllGo ps
     → text_with_component (length base) (base ++ text_of ps) p ≡ base ++ text_of (ps ++ p ∷ [])

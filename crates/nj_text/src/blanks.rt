@@ -1,6 +1,6 @@
 //! Blanks: spaces and joins.
 
-ghost use Rattle.std.specs.Prelude.{◌≡◌, ◌<◌, false, length, MatchOption, IfSome};
+ghost use Rattle.std.specs.Prelude.{IfSome, ◌≡◌, ◌<◌, false, length, MatchOption};
 ghost use Rattle.nj_text.specs.Cited.{drop_while, units_within, begins_with_space_byte, is_blank};
 
 use crate::cursor::Cursor;

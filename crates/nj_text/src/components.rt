@@ -1,7 +1,7 @@
 //! The components between the slashes of a path.
 
-ghost use Rattle.std.specs.Prelude.{◌≡◌, ◌∷◌, false};
 ghost use Rattle.std.specs.Option.{IfSome};
+ghost use Rattle.std.specs.Prelude.{◌≡◌, ◌∷◌, false};
 ghost use Rattle.nj_text.specs.Cited.{option_copied, list_any, slice_split, is_slash, component_of, components_left, all_stay, is_here};
 
 use crate::path_lanes::are_names;

@@ -1,7 +1,7 @@
 //! Why a text could not be read further.
 
-ghost use Rattle.std.specs.Prelude.{◌≡◌, Some};
 ghost use Rattle.nj_text.specs.declared.fault.WordFault.TheVariants.{OutOfMemory};
+ghost use Rattle.std.specs.Prelude.{◌≡◌, Some};
 ghost use Rattle.nj_text.specs.Cited.{option_map, fault_spot, unit_of, lex_line, lex_text};
 
 use crate::spot::Spot;

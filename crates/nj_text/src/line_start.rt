@@ -1,6 +1,6 @@
 //! The kinds of line starts, and how lines begin.
 
-ghost use Rattle.std.specs.Prelude.{◌≡◌, ◌<◌, false, length, MatchOption, IfSome};
+ghost use Rattle.std.specs.Prelude.{IfSome, ◌≡◌, ◌<◌, false, length, MatchOption};
 ghost use Rattle.nj_text.specs.Cited.{opens_comment, begins_with_space_byte, without_comments, lines_at, BegunIs, BegunAfterSpaces};
 
 use crate::cursor::Cursor;

@@ -1,6 +1,6 @@
 //! The parts of words and values.
 
-ghost use Rattle.std.specs.Prelude.{◌≡◌, ◌<◌, ◌+◌, [], ◌∷◌, ◌++◌, length, map, IfSome, OnOk, IfErr};
+ghost use Rattle.std.specs.Prelude.{IfSome, ◌≡◌, ◌<◌, ◌+◌, [], ◌∷◌, ◌++◌, length, map, OnOk, IfErr};
 ghost use Rattle.nj_text.specs.declared.fault.WordFault.TheVariants.{OutOfMemory};
 ghost use Rattle.nj_text.specs.Cited.{units_within, in_run, begins_with, opens_word, run_of, Gathers, NextPartIs, TakesRun, NoneInRun, IsShorter};
 

@@ -1,7 +1,7 @@
 //! Paths, and their clean form.
 
-ghost use Rattle.std.specs.Prelude.{◌≡◌, ◌++◌, ◌↔◌, [], Ok, Err, Some, IsTrue, IfOk, OnOk, OnErr};
 ghost use Rattle.nj_text.specs.declared.paths.TextFault.TheVariants.{OutOfMemory};
+ghost use Rattle.std.specs.Prelude.{◌≡◌, ◌++◌, ◌↔◌, [], Ok, Err, Some, IsTrue, IfOk, OnOk, OnErr};
 ghost use Rattle.nj_text.specs.Cited.{EmptyPath, path_fault_text, clean_path_of, stays_clean};
 
 use crate::cleaning::{is_absolute, push_clean};

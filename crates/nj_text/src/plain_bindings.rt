@@ -1,7 +1,7 @@
 //! Plain bindings: `NAME = VALUE` with a value of one run of bytes, as nearly all lines of blocks
 //! are.
 
-ghost use Rattle.std.specs.Prelude.{◌≡◌, ◌∷◌, IfSome};
+ghost use Rattle.std.specs.Prelude.{IfSome, ◌≡◌, ◌∷◌};
 ghost use Rattle.nj_text.specs.Cited.{word_model, Between, TakesBinding, advance, inside, lines_at, lines_within};
 
 use crate::cursor::Cursor;

@@ -1,6 +1,6 @@
 //! Shell quotes of paths.
 
-ghost use Rattle.std.specs.Prelude.{◌≡◌, ◌++◌, ◌<◌, true, length, IfSome, OnOk, OnErr};
+ghost use Rattle.std.specs.Prelude.{IfSome, ◌≡◌, ◌++◌, ◌<◌, true, length, OnOk, OnErr};
 ghost use Rattle.nj_text.specs.Cited.{option_copied, list_all, flat_map, BeginsWith, is_plain_byte, within_quotes, in_quotes, quoted, after_run};
 
 use crate::plain_bytes::plain_front;

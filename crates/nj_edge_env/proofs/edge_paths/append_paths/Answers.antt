@@ -17,8 +17,8 @@ paths-preserved c =
         ap (λ v. v.items) w.out-is
             ∙ w.in_ok-push.ensures.items,
       )
-      | else-index-gt0 w ↦ let z : c.paths.index ≡ 0 = omega (arith, w.if-index-gt0.false)
-          in inr (z, ap (λ v. v.items) w.out-is)
+      | else-index-gt0 w ↦ let z : c.paths.index ≡ 0 = omega (arith, w.if-index-gt0.false) in
+          inr (z, ap (λ v. v.items) w.out-is)
     ])
     c.in_ok-append_path.ensures.appended
 

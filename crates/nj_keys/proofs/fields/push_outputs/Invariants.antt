@@ -5,5 +5,5 @@ use Rattle.nj_keys.proofs.fields.push_outputs.Given as goal
 
 abbrev pub invariant-outputs : goal.invariant-outputs
 invariant-outputs l =
-    let texts = output_texts l.bases (files_of l.graph)
-    in l.text.items ++ texts (drop l.output-index l.outputs) ≡ l.initial.text.items ++ texts l.outputs
+    let texts = output_texts l.bases (files_of l.graph) in
+    l.text.items ++ texts (drop l.output-index l.outputs) ≡ l.initial.text.items ++ texts l.outputs

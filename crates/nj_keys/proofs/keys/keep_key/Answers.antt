@@ -90,7 +90,7 @@ open-preserved c =
       began = began-closed keys c.args.edge.0 key frame below within
           (subst (BeganWith keys c.args.edge.0) popped i.began);
       keys = λ entries graph kept.
-          let so_far = i.keys entries graph kept
-          in keys-set keys frame.edge.0 key c.args.bases.now edges entries
+          let so_far = i.keys entries graph kept in
+          keys-set keys frame.edge.0 key c.args.bases.now edges entries
           (c.in_ok-key_of-in-None.ensures entries graph so_far) so_far;
     }

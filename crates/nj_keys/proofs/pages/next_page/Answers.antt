@@ -36,8 +36,7 @@ commands-preserved c =
 
 pub keep_key-requires-clause-acyclic : goal.keep_key-requires-clause-acyclic
 keep_key-requires-clause-acyclic c =
-    let acyclic = rw c.deref.ensures at c.edge_count.ensures.acyclic
-    in (
+    let acyclic = rw c.deref.ensures at c.edge_count.ensures.acyclic in (
       acyclic.0,
       record {
         falls = acyclic.1.falls;

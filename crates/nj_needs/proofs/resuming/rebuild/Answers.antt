@@ -38,8 +38,8 @@ returns-then-len-before-clause-rest c =
     c.steps.number-index c.steps-test.true (record { walk = i.walk; path = i.path; valid = i.valid })
     r.graph r.targets r.walk_after path r.place e.graph e.targets e.walk e.turn) [
       | inl cut ↦ cut.1
-      | inr opened ↦ absurd (let one = opened.0 in let same = ap length path
-          in omega (arith, one, same, c.if-len-before.true, c.len.ensures, c.len-before.ensures))
+      | inr opened ↦ absurd (let one = opened.0 in let same = ap length path in
+          omega (arith, one, same, c.if-len-before.true, c.len.ensures, c.len-before.ensures))
     ]
 
 pub steps-preserved : goal.steps-preserved
@@ -54,8 +54,8 @@ steps-preserved c =
     elim (stepped u c.reach.new.walk c.take_turn.new.self c.take_turn.result c.args.numbers.now
     c.steps.number-index c.steps-test.true (record { walk = i.walk; path = i.path; valid = i.valid })
     r.graph r.targets r.walk_after path r.place e.graph e.targets e.walk e.turn) [
-      | inl cut ↦ absurd (let same = ap length (cut.0 ∙ path)
-          in omega (arith, same, c.len.ensures, c.len-before.ensures, c.if-len-before.false))
+      | inl cut ↦ absurd (let same = ap length (cut.0 ∙ path) in
+          omega (arith, same, c.len.ensures, c.len-before.ensures, c.if-len-before.false))
       | inr o ↦ o
     ] in
     record {

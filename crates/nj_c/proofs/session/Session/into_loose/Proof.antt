@@ -44,8 +44,8 @@ into_loose_spec 𝓤 𝓛 𝓜 𝓡 wired =
     proved_at 𝓛 ended hs c 𝓜 𝓡 (Goes-dropped 𝓛 0 (plain (λ _. S)) yes (λ κs x f. refl), tt) #self fn
     (code.unfolded 𝓤 H 𝓜 𝓡 wired) (λ z are.
     let κs = z.0.0 in let qs = z.0.1 in let d = z.0.3.0 in let a = d.alloc in let Post : Val → SProp 𝓤 =
-    (walk_of 𝓛 ended hs c).post z in let Run : List Val → SProp 𝓤 = λ ws. WpFn 𝓤 H 𝓣.C 𝓣.Λ fn ws Post
-    in let Out : RattleType = type_at (ended).signature.result κs in
+    (walk_of 𝓛 ended hs c).post z in let Run : List Val → SProp 𝓤 = λ ws. WpFn 𝓤 H 𝓣.C 𝓣.Λ fn ws Post in
+    let Out : RattleType = type_at (ended).signature.result κs in
     qed 𝓛 ((raw (alive 𝓛 (ended).signature κs qs) ⊛ ‵
     (owns (types_at (ended).signature.params κs) z.0.3 z.0.4)) ∷ raw (emp 𝓤) ∷ []) ∵
     split ! $ move ! (1 ∷ []) $ fsplit ! $ session_out ! d z.0.4.0 (λ h ws gh.

@@ -18,12 +18,12 @@ edges-preserved c =
           c.edges.invariant.more k.more;
       marked = λ i below. elim (cases_lt i index) [
         | inl less ↦ k.more.kept (slice_index edges i) (c.edges.invariant.marked i less)
-        | inr le ↦ let last : i ≡ index = omega (arith, below, le)
-            in subst (λ j. IsMarked c.mark.new.self.flags.items (slice_index edges j)) (sym last) k.marked
+        | inr le ↦ let last : i ≡ index = omega (arith, below, le) in
+            subst (λ j. IsMarked c.mark.new.self.flags.items (slice_index edges j)) (sym last) k.marked
       ];
     }
 
 pub returns-clause-marked : goal.returns-clause-marked
-returns-clause-marked c = λ e h. let k = index_of c.args.edges.now e h
-    in subst (IsMarked c.edges.self.flags.items) k.2
+returns-clause-marked c = λ e h. let k = index_of c.args.edges.now e h in
+    subst (IsMarked c.edges.self.flags.items) k.2
     (c.edges.invariant.marked k.0 (omega (arith, k.1, c.edges-test.false)))
