@@ -225,32 +225,6 @@ module _ (g : EdgeGraph) (wv : Bool) where
 -- ---- the first step from an edge to a file
 
 module _ (g : EdgeGraph) (wv : Bool) (edge : EdgeNo) (to : FileNo) (to_known : to.0 < length g.files) where
-  abbrev target : List ℕ
-  target = path_at g.files to
-
-  -- none of the first inputs is the file
-  abbrev NoneBefore : ℕ → Type 0
-  NoneBefore index = (i : ℕ) → i < index → i < length (inputs_with wv (edge_at g.edges edge.0))
-      → get_or (inputs_with wv (edge_at g.edges edge.0)) i (path_at g.files to) ≡ path_at g.files to → ⊥
-
-  pub none-here : (index : ℕ) (s : Step) → IsStepAt g wv edge index s → s.file ≢ to → NoneBefore index
-      → NoneBefore (index + 1)
-  none-here index s at apart before i below within is = elim (cases_lt i index) [
-    | inl earlier ↦ before i earlier within is
-    | inr past ↦
-        let here : index ≡ i = omega (arith, below, past) in
-        let input : slice_get (inputs_with wv (edge_at g.edges edge.0)) i ≡ Some (path_at g.files s.file)
-        = ap (λ k. slice_get (inputs_with wv (edge_at g.edges edge.0)) k) (sym here ∙ sym at.index_is)
-        ∙ ap (λ e. slice_get (inputs_with wv (edge_at g.edges e.0)) s.index) (sym at.edge_is)
-        ∙ at.is_step.input in
-        apart (at.only to to_known (sym (get_or_from_slice_get (inputs_with wv (edge_at g.edges edge.0)) i
-        (path_at g.files s.file) target input) ∙ is))
-  ]
-
-  pub none-at-all : (index : ℕ) → length (inputs_with wv (edge_at g.edges edge.0)) ≤ index → NoneBefore index
-      → HasInput g wv (path_at g.files to) edge.0 → ⊥
-  none-at-all index past before (i, within, is) = before i (omega (arith, within, past)) within is
-
   pub found-here : (index : ℕ) (s : Step) → IsStepAt g wv edge index s → s.file ≡ to
       → StepToIs g wv edge (path_at g.files to) (Some s)
   found-here index s at is = (at.edge_is, at.is_step, ap (path_at g.files) is)

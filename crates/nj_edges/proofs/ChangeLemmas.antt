@@ -6,7 +6,7 @@ use Rattle.std.specs.Prelude.{Contains, slice_index}
 use Rattle.std.specs.List.{All, list_any}
 use Rattle.std.specs.List.Sorted.{IsStrictlyIncreasing}
 use Rattle.std.proofs.lemmas.Bool.{both_ways, cases_lt, or_cases}
-use Rattle.std.proofs.lemmas.List.{get_or_past, length_push, map_push, take_more}
+use Rattle.std.proofs.lemmas.List.{length_push, map_push, take_more}
 use Rattle.std.proofs.lemmas.List.Elements.{Contains-append_left, Contains-push, Contains-push_cases}
 use Rattle.std.proofs.lemmas.List.Folds.{list_any-append}
 use Rattle.nj_names.specs.NumberSets.{NumberSetModel, has, with_number}
@@ -24,12 +24,6 @@ use Rattle.nj_edges.proofs.GraphUsers.{users-known}
 use Rattle.nj_edges.proofs.Passing.{from-more, from-passes, from-rises, passes-from}
 
 -- ---- flags
-
-pub flagged-below : (flags : List Bool) (e : ℕ) → IsFlagged flags e → e < length flags
-flagged-below flags e is = elim (cases_lt e (length flags)) [
-  | inl below ↦ below
-  | inr past ↦ absurd (both_ways (get_or flags e false) (get_or_past flags e false past) is)
-]
 
 -- the edges with a flag, by number
 pub flagged-listed : (flags : List Bool) (e : ℕ)
@@ -140,8 +134,8 @@ finds-then P Q R old mid new left right both a b = record {
           λ has. more.0 (subst (Contains old.numbers) (sym stays) has),
           subst R stays (left (slice_index mid.numbers i) more.1),
         )
-    | inr after ↦ let more = b.added i after below
-        in (λ has. more.0 (a.kept (slice_index new.numbers i) has), right (slice_index new.numbers i) more.1)
+    | inr after ↦ let more = b.added i after below in
+        (λ has. more.0 (a.kept (slice_index new.numbers i) has), right (slice_index new.numbers i) more.1)
   ];
   stays = λ i below. b.stays i (omega (arith, below, a.longer)) ∙ a.stays i below;
 }

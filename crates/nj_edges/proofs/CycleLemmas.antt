@@ -12,7 +12,7 @@ use Rattle.nj_edges.specs.declared.edges.EdgeRow.{EdgeRow}
 use Rattle.nj_edges.specs.declared.edges.OpenStarts.{OpenStarts}
 use Rattle.nj_edges.specs.EdgeGraphs.{EdgeGraph}
 use Rattle.nj_edges.specs.Edges.{EdgePaths, edge_at, outputs_of, inputs_of, first_edge, maker_of, is_among}
-use Rattle.nj_edges.specs.Inside.EdgesHeld.{paths_at, within, edge_of, table_of, EdgesAreHeld}
+use Rattle.nj_edges.specs.Inside.EdgesHeld.{paths_at, within, table_of, EdgesAreHeld}
 use Rattle.nj_edges.specs.EdgeTables.{EdgeTable}
 use Rattle.nj_names.specs.Files.{path_at}
 use Rattle.nj_edges.specs.Inside.GraphHeld.{ends_of}
@@ -69,14 +69,6 @@ range-first files ns start end d path rises within is =
     let below : start < length ns = omega arith in
     let count : end - start ≡ suc (end - start - 1) = omega arith in
     rw (drop-cons ns start d, count) (ap (λ o. Some (unwrap_or o [])) is)
-
--- as many edges as rows
-pub row-below : (files : List (List ℕ)) (outputs inputs validations : List FileNo) (rows : List EdgeRow)
-    (starts : OpenStarts) (t : EdgeTable) → table_of files outputs inputs validations rows starts ≡ t
-    → (e : ℕ) → e < length t.edges → e < length rows
-row-below files outputs inputs validations rows starts t is e below =
-    subst (λ n. e < n) (ap (λ u. length u.edges) (sym is)
-    ∙ length-map rows (edge_of files outputs inputs validations)) below
 
 -- the row of an edge that is on a cycle has its outputs
 module _ (files : List (List ℕ)) (makers : List (Option ℕ)) (outputs inputs validations : List FileNo)

@@ -5,9 +5,11 @@ use Rattle.std.proofs.Common.{slice_range, get_or, Option, Some, None, is_some, 
 use Rattle.std.proofs.Common.{bytes_eq, refl, sym, ap, subst, ◌∙◌, true≢false, arith, length-append}
 use Rattle.std.proofs.Common.{length-drop, add-one, set}
 use Rattle.std.specs.List.{AllByRecursion, IsDistinct, list_any, flat_map}
+use Rattle.std.proofs.Math.Bool.{or-false, or-true}
 use Rattle.std.proofs.lemmas.Bool.Decides.{eqb_tells}
 use Rattle.std.proofs.lemmas.List.{map_push, append-nil, drop-append-le, take-append-le, take-append-drop}
 use Rattle.std.proofs.lemmas.List.{length-map, length-set}
+use Rattle.std.proofs.lemmas.List.Folds.{list_any-append}
 use Rattle.std.proofs.lemmas.Option.{slice_get_within, slice_get-get_or, unwrap_or-slice_get}
 use Rattle.std.proofs.lemmas.Option.{get_or_from_slice_get}
 use Rattle.std.proofs.lemmas.Slice.Eq.{bytes_eq-Decides}
@@ -115,8 +117,8 @@ AreNumbers-more n m ns le are = all-of (λ f. f.0 < n) (λ f. f.0 < m) (λ f bel
 
 pub within-append : (ns others : List FileNo) (span : Span) (start : ℕ) → IsWithin span start
     → start ≤ length ns → within (ns ++ others) span ≡ within ns span
-within-append ns others span start inside le = let rises = inside.rises in let ends = inside.ends
-    in slice_range-append ns others span.start span.end rises (omega arith)
+within-append ns others span start inside le = let rises = inside.rises in let ends = inside.ends in
+    slice_range-append ns others span.start span.end rises (omega arith)
 
 -- the paths of some files, and one more
 pub paths_at-push : (files : List (List ℕ)) (ns : List FileNo) (f : FileNo) (path : List ℕ)
@@ -132,19 +134,19 @@ open-push files ns start f path le here =
 
 -- ---- the parts of a list one after the other
 
-parts-same : (ns : List FileNo) (f : FileNo) (start : ℕ) → start ≤ length ns → (spans : List Span)
+parts-same : (ns others : List FileNo) (start : ℕ) → start ≤ length ns → (spans : List Span)
     → AllByRecursion (λ span. IsWithin span start) spans
-    → flat_map (within (ns ++ f ∷ [])) spans ≡ flat_map (within ns) spans
-parts-same ns f start le [] all = refl
-parts-same ns f start le (span ∷ spans) all =
-    let first = within-append ns (f ∷ []) span start all.0 le in
-    let more = parts-same ns f start le spans all.1 in cc
+    → flat_map (within (ns ++ others)) spans ≡ flat_map (within ns) spans
+parts-same ns others start le [] all = refl
+parts-same ns others start le (span ∷ spans) all =
+    let first = within-append ns others span start all.0 le in
+    let more = parts-same ns others start le spans all.1 in cc
 
-pub joined-push : (ns : List FileNo) (f : FileNo) (start : ℕ) → start ≤ length ns → (spans : List Span)
+pub joined-more : (ns others : List FileNo) (start : ℕ) → start ≤ length ns → (spans : List Span)
     → AllByRecursion (λ span. IsWithin span start) spans → AreJoined spans start ns
-    → AreJoined spans start (ns ++ f ∷ [])
-joined-push ns f start le spans all joined =
-    parts-same ns f start le spans all ∙ joined ∙ sym (take-append-le start ns (f ∷ []) le)
+    → AreJoined spans start (ns ++ others)
+joined-more ns others start le spans all joined = parts-same ns others start le spans all ∙ joined
+    ∙ sym (take-append-le start ns others le)
 
 pub joined-end : (ns : List FileNo) (start : ℕ) → start ≤ length ns → (spans : List Span)
     → AreJoined spans start ns → AreJoined (spans ++ record { start = start; end = length ns } ∷ [])
@@ -162,37 +164,37 @@ all-map f P [] all = tt
 all-map f P (x ∷ xs) all = (all.0, all-map f P xs all.1)
 
 -- each edge that was read stays
-module _ (files : List (List ℕ)) (outputs inputs validations : List FileNo) (starts : OpenStarts) (f : FileNo)
-  where
-    pub edges-output : starts.outputs ≤ length outputs → (rows : List EdgeRow)
-        → AllByRecursion (RowIsWithin starts.outputs starts.inputs starts.validations) rows
-        → edges_of files (outputs ++ f ∷ []) inputs validations rows
-        ≡ edges_of files outputs inputs validations rows
-    edges-output le [] all = refl
-    edges-output le (row ∷ rows) all =
-        let same = within-append outputs (f ∷ []) row.outputs starts.outputs all.0.outputs le in
-        let more = edges-output le rows all.1 in
-        rw (same, more) refl
+module _ (files : List (List ℕ)) (outputs inputs validations : List FileNo) (starts : OpenStarts)
+    (others : List FileNo) where
+  pub edges-output : starts.outputs ≤ length outputs → (rows : List EdgeRow)
+      → AllByRecursion (RowIsWithin starts.outputs starts.inputs starts.validations) rows
+      → edges_of files (outputs ++ others) inputs validations rows
+      ≡ edges_of files outputs inputs validations rows
+  edges-output le [] all = refl
+  edges-output le (row ∷ rows) all =
+      let same = within-append outputs (others) row.outputs starts.outputs all.0.outputs le in
+      let more = edges-output le rows all.1 in
+      rw (same, more) refl
 
-    pub edges-input : starts.inputs ≤ length inputs → (rows : List EdgeRow)
-        → AllByRecursion (RowIsWithin starts.outputs starts.inputs starts.validations) rows
-        → edges_of files outputs (inputs ++ f ∷ []) validations rows
-        ≡ edges_of files outputs inputs validations rows
-    edges-input le [] all = refl
-    edges-input le (row ∷ rows) all =
-        let same = within-append inputs (f ∷ []) row.inputs starts.inputs all.0.inputs le in
-        let more = edges-input le rows all.1 in
-        rw (same, more) refl
+  pub edges-input : starts.inputs ≤ length inputs → (rows : List EdgeRow)
+      → AllByRecursion (RowIsWithin starts.outputs starts.inputs starts.validations) rows
+      → edges_of files outputs (inputs ++ others) validations rows
+      ≡ edges_of files outputs inputs validations rows
+  edges-input le [] all = refl
+  edges-input le (row ∷ rows) all =
+      let same = within-append inputs (others) row.inputs starts.inputs all.0.inputs le in
+      let more = edges-input le rows all.1 in
+      rw (same, more) refl
 
-    pub edges-validation : starts.validations ≤ length validations → (rows : List EdgeRow)
-        → AllByRecursion (RowIsWithin starts.outputs starts.inputs starts.validations) rows
-        → edges_of files outputs inputs (validations ++ f ∷ []) rows
-        ≡ edges_of files outputs inputs validations rows
-    edges-validation le [] all = refl
-    edges-validation le (row ∷ rows) all =
-        let same = within-append validations (f ∷ []) row.validations starts.validations all.0.validations le in
-        let more = edges-validation le rows all.1 in
-        rw (same, more) refl
+  pub edges-validation : starts.validations ≤ length validations → (rows : List EdgeRow)
+      → AllByRecursion (RowIsWithin starts.outputs starts.inputs starts.validations) rows
+      → edges_of files outputs inputs (validations ++ others) rows
+      ≡ edges_of files outputs inputs validations rows
+  edges-validation le [] all = refl
+  edges-validation le (row ∷ rows) all =
+      let same = within-append validations (others) row.validations starts.validations all.0.validations le in
+      let more = edges-validation le rows all.1 in
+      rw (same, more) refl
 
 -- ---- naming a file
 
@@ -292,8 +294,8 @@ makers-push rows makers none held n below = by (eqb_tells n (length makers))
 -- ---- the whole after a name
 
 module _ (files : List (List ℕ)) (makers : List (Option ℕ)) (outputs inputs validations : List FileNo)
-    (rows : List EdgeRow) (starts : OpenStarts)
-    (held : EdgesAreHeld files makers outputs inputs validations rows starts) (path : List ℕ) where
+    (rows : List EdgeRow) (starts : OpenStarts) (held : EdgesAreHeld files makers outputs inputs validations
+    rows starts) (path : List ℕ) where
   pub table-grown : table_of (files ++ path ∷ []) outputs inputs validations rows starts
       ≡ record (table_of files outputs inputs validations rows starts) { files = files ++ path ∷ [] }
   table-grown =
@@ -342,36 +344,7 @@ module _ (files : List (List ℕ)) (makers : List (Option ℕ)) (outputs inputs 
         validations_start = held.validations_start;
       }
 
-  -- where the file's number is the number of the next maker, it is new
-  pub held-then : (new : List (List ℕ)) (n : ℕ) → new ≡ with_name files path → IsDistinct bytes_eq new
-      → slice_get new n ≡ Some path → n ≡ length makers
-      → EdgesAreHeld new (makers ++ None ∷ []) outputs inputs validations rows starts
-  held-then new n is distinct here next =
-      by (named-cases files path n (ap (λ fs. slice_get fs n) (sym is) ∙ here))
-    where
-      by : IsNew files path n ⊎ IsOld files path n
-          → EdgesAreHeld new (makers ++ None ∷ []) outputs inputs validations rows starts
-      by (inl late) = subst (λ fs. EdgesAreHeld fs (makers ++ None ∷ []) outputs inputs validations rows
-          starts) (sym (is ∙ late.grown)) (held-new (subst (IsDistinct bytes_eq) (is ∙ late.grown) distinct))
-      by (inr old) = let count : length makers ≡ length files = held.makers_count
-          in let below : n < length files = old.below in absurd (omega arith)
-
-  pub held-else : (new : List (List ℕ)) (n : ℕ) → new ≡ with_name files path → slice_get new n ≡ Some path
-      → (n ≡ length makers → ⊥) → EdgesAreHeld new makers outputs inputs validations rows starts
-  held-else new n is here apart = by (named-cases files path n (ap (λ fs. slice_get fs n) (sym is) ∙ here))
-    where
-      by : IsNew files path n ⊎ IsOld files path n
-          → EdgesAreHeld new makers outputs inputs validations rows starts
-      by (inl late) = absurd (apart (late.last ∙ sym held.makers_count))
-      by (inr old) = subst (λ fs. EdgesAreHeld fs makers outputs inputs validations rows starts)
-          (sym (is ∙ old.same)) held
-
 -- ---- a file of the edge that is being read
-
--- the number of a file in the table is that in the fields
-pub number-named : (t u : EdgeTable) (n : ℕ) {path : List ℕ} → t ≡ u → slice_get u.files n ≡ Some path
-    → slice_get t.files n ≡ Some path
-number-named t u n is here = ap (λ v. slice_get v.files n) is ∙ here
 
 module _ (files : List (List ℕ)) (makers : List (Option ℕ)) (outputs inputs validations : List FileNo)
     (rows : List EdgeRow) (starts : OpenStarts)
@@ -380,24 +353,24 @@ module _ (files : List (List ℕ)) (makers : List (Option ℕ)) (outputs inputs 
   pub table-output : table_of files (outputs ++ f ∷ []) inputs validations rows starts
       ≡ plus_output (table_of files outputs inputs validations rows starts) path
   table-output =
-      let edges = edges-output files outputs inputs validations starts f held.outputs_start rows held.rows_are
-      in
+      let edges = edges-output files outputs inputs validations starts
+      (f ∷ []) held.outputs_start rows held.rows_are in
       let opened = open-push files outputs starts.outputs f path held.outputs_start here in
       rw (edges, opened) refl
 
   pub table-input : table_of files outputs (inputs ++ f ∷ []) validations rows starts
       ≡ plus_input (table_of files outputs inputs validations rows starts) path
   table-input =
-      let edges = edges-input files outputs inputs validations starts f held.inputs_start rows held.rows_are
-      in
+      let edges = edges-input files outputs inputs validations starts
+      (f ∷ []) held.inputs_start rows held.rows_are in
       let opened = open-push files inputs starts.inputs f path held.inputs_start here in
       rw (edges, opened) refl
 
   pub table-validation : table_of files outputs inputs (validations ++ f ∷ []) rows starts
       ≡ plus_validation (table_of files outputs inputs validations rows starts) path
   table-validation =
-      let edges = edges-validation files outputs inputs validations starts f held.validations_start rows
-      held.rows_are in
+      let edges = edges-validation files outputs inputs validations starts
+      (f ∷ []) held.validations_start rows held.rows_are in
       let opened = open-push files validations starts.validations f path held.validations_start here in
       rw (edges, opened) refl
 
@@ -561,25 +534,20 @@ pub first-same : {E : Type 0} (t u : E → Bool) → ((e : E) → t e ≡ u e) �
 first-same t u same [] = refl
 first-same t u same (e ∷ es) = let here = same e in let more = first-same t u same es in cc
 
-is_some-map : {A B : Type 0} (f : A → B) (o : Option A) → is_some (option_map f o) ≡ is_some o
-is_some-map f None = refl
-is_some-map f (Some x) = refl
+pub some-in : {E : Type 0} (test : E → Bool) (es : List E) → is_some (first_edge test es) ≡ list_any test es
+some-in test [] = refl
+some-in test (e ∷ es) = by (test e) (first_edge test es) (some-in test es)
+  where
+    by : (b : Bool) (o : Option ℕ) → is_some o ≡ list_any test es
+        → is_some (cond b (Some 0) (option_map (λ n. n + 1) o)) ≡ (b || list_any test es)
+    by true o same = refl
+    by false None same = same
+    by false (Some n) same = same
 
 first-some : {E : Type 0} (test : E → Bool) (es : List E) (e : E)
     → is_some (first_edge test (es ++ e ∷ [])) ≡ (is_some (first_edge test es) || test e)
-first-some test [] e = by (test e)
-  where
-    by : (b : Bool) → is_some {T = ℕ} (cond b (Some 0) None) ≡ b
-    by true = refl
-    by false = refl
-first-some test (x ∷ es) e = by (test x) (first-some test es e)
-  where
-    by : (b : Bool) → is_some (first_edge test (es ++ e ∷ [])) ≡ (is_some (first_edge test es) || test e)
-        → is_some {T = ℕ} (cond b (Some 0) (option_map (λ n. n + 1) (first_edge test (es ++ e ∷ []))))
-        ≡ (is_some {T = ℕ} (cond b (Some 0) (option_map (λ n. n + 1) (first_edge test es))) || test e)
-    by true more = refl
-    by false more = is_some-map (λ n. n + 1) (first_edge test (es ++ e ∷ [])) ∙ more
-        ∙ ap (λ b. b || test e) (sym (is_some-map (λ n. n + 1) (first_edge test es)))
+first-some test es e = some-in test (es ++ e ∷ []) ∙ list_any-append test es (e ∷ [])
+    ∙ ap (λ b. list_any test es || b) (or-false (test e)) ∙ ap (λ b. b || test e) (sym (some-in test es))
 
 module _ (files : List (List ℕ)) (makers : List (Option ℕ)) (outputs inputs validations : List FileNo)
     (rows : List EdgeRow) (starts : OpenStarts)
@@ -669,25 +637,8 @@ first-other test (x ∷ es) e e' same = ap (λ o. cond (test x) (Some 0) (option
 
 pub has-push : (n : ℕ) (ns : List FileNo) (f : FileNo)
     → has_number n (ns ++ f ∷ []) ≡ (has_number n ns || (n == f.0))
-has-push n [] f = by (n == f.0)
-  where
-    by : (b : Bool) → (b || false) ≡ (false || b)
-    by true = refl
-    by false = refl
-has-push n (g ∷ ns) f = by (n == g.0) (has-push n ns f)
-  where
-    by : (b : Bool) → has_number n (ns ++ f ∷ []) ≡ (has_number n ns || (n == f.0))
-        → (b || has_number n (ns ++ f ∷ [])) ≡ ((b || has_number n ns) || (n == f.0))
-    by true more = refl
-    by false more = more
-
-or-true : (b : Bool) → (b || true) ≡ true
-or-true true = refl
-or-true false = refl
-
-or-false : (b : Bool) → (b || false) ≡ b
-or-false true = refl
-or-false false = refl
+has-push n ns f = list_any-append (λ (g : FileNo). n == g.0) ns (f ∷ [])
+    ∙ ap (λ b. has_number n ns || b) (or-false (n == f.0))
 
 absent : {A : Type 0} (o : Option A) → is_some o ≡ false → o ≡ None
 absent None h = refl
@@ -705,6 +656,84 @@ get-set_other (y ∷ xs) zero x zero apart = absurd (apart refl)
 get-set_other (y ∷ xs) zero x (suc j) apart = refl
 get-set_other (y ∷ xs) (suc i) x zero apart = refl
 get-set_other (y ∷ xs) (suc i) x (suc j) apart = get-set_other xs i x j (λ e. apart (ap suc e))
+
+-- a row at the front passes first
+pub first-front : {E : Type 0} (test : E → Bool) (es : List E) (e : E) (n : ℕ) → first_edge test es ≡ Some n
+    → first_edge test (es ++ e ∷ []) ≡ Some n
+first-front test [] e n h = absurd (true≢false (sym (ap is_some h)))
+first-front test (x ∷ es) e n h = by (test x) (first_edge test es) (first-front test es e) h
+  where
+    by : (b : Bool) (o : Option ℕ) → ((m : ℕ) → o ≡ Some m → first_edge test (es ++ e ∷ []) ≡ Some m)
+        → cond b (Some 0) (option_map (λ n. n + 1) o) ≡ Some n
+        → cond b (Some 0) (option_map (λ n. n + 1) (first_edge test (es ++ e ∷ []))) ≡ Some n
+    by true o more is = is
+    by false None more is = absurd (true≢false (sym (ap is_some is)))
+    by false (Some m) more is = ap (option_map (λ n. n + 1)) (more m refl) ∙ is
+
+-- another row at the end, which passes, where some row did
+first-again : {E : Type 0} (test : E → Bool) (es : List E) (e e' : E)
+    → is_some (first_edge test (es ++ e ∷ [])) ≡ true → test e' ≡ true
+    → first_edge test (es ++ e ∷ []) ≡ first_edge test (es ++ e' ∷ [])
+first-again test es e e' some passes = by (test e) refl
+  where
+    front : (o : Option ℕ) → first_edge test es ≡ o → is_some o ≡ true
+        → first_edge test es ≡ first_edge test (es ++ e' ∷ [])
+    front None is h = absurd (true≢false (sym h))
+    front (Some n) is h = is ∙ sym (first-front test es e' n is)
+
+    by : (b : Bool) → test e ≡ b → first_edge test (es ++ e ∷ []) ≡ first_edge test (es ++ e' ∷ [])
+    by true is = first-other test es e e' (is ∙ sym passes)
+    by false is = first-more test es e is ∙ front (first_edge test es) refl
+        (ap is_some (sym (first-more test es e is)) ∙ some)
+
+module _ (files : List (List ℕ)) (makers : List (Option ℕ)) (outputs inputs validations : List FileNo)
+    (rows : List EdgeRow) (starts : OpenStarts) (held : EdgesAreHeld files makers outputs inputs validations
+    rows starts) (others : List FileNo) where
+  pub held-inputs : AreNumbers (length files) others → EdgesAreHeld files makers outputs
+      (inputs ++ others) validations rows starts
+  held-inputs are = record {
+    distinct = held.distinct;
+    makers_count = held.makers_count;
+    makers_are = held.makers_are;
+    outputs_are = held.outputs_are;
+    inputs_are = all-append (λ g. g.0 < length files) inputs others held.inputs_are are;
+    validations_are = held.validations_are;
+    rows_are = held.rows_are;
+    outputs_joined = held.outputs_joined;
+    inputs_joined = joined-more inputs others starts.inputs held.inputs_start
+        (map (λ (row : EdgeRow). row.inputs) rows) (all-map (λ (row : EdgeRow). row.inputs)
+        (λ span. IsWithin span starts.inputs) rows (all-of
+        (RowIsWithin starts.outputs starts.inputs starts.validations)
+        (λ row. IsWithin row.inputs starts.inputs) (λ row h. h.inputs) rows held.rows_are))
+        held.inputs_joined;
+    validations_joined = held.validations_joined;
+    outputs_start = held.outputs_start;
+    inputs_start = let start = held.inputs_start in simp length-append (omega arith);
+    validations_start = held.validations_start;
+  }
+
+  pub held-validations : AreNumbers (length files) others
+      → EdgesAreHeld files makers outputs inputs (validations ++ others) rows starts
+  held-validations are = record {
+    distinct = held.distinct;
+    makers_count = held.makers_count;
+    makers_are = held.makers_are;
+    outputs_are = held.outputs_are;
+    inputs_are = held.inputs_are;
+    validations_are = all-append (λ g. g.0 < length files) validations others held.validations_are are;
+    rows_are = held.rows_are;
+    outputs_joined = held.outputs_joined;
+    inputs_joined = held.inputs_joined;
+    validations_joined = joined-more validations others starts.validations held.validations_start
+        (map (λ (row : EdgeRow). row.validations) rows) (all-map (λ (row : EdgeRow). row.validations)
+        (λ span. IsWithin span starts.validations) rows (all-of
+        (RowIsWithin starts.outputs starts.inputs starts.validations)
+        (λ row. IsWithin row.validations starts.validations) (λ row h. h.validations) rows held.rows_are))
+        held.validations_joined;
+    outputs_start = held.outputs_start;
+    inputs_start = held.inputs_start;
+    validations_start = let start = held.validations_start in simp length-append (omega arith);
+  }
 
 module _ (files : List (List ℕ)) (makers : List (Option ℕ)) (outputs inputs validations : List FileNo)
     (rows : List EdgeRow) (starts : OpenStarts)
@@ -764,23 +793,22 @@ module _ (files : List (List ℕ)) (makers : List (Option ℕ)) (outputs inputs 
           ∙ ap Some (first-other (has_number m) closed_rows (drop starts.outputs outputs)
           (drop starts.outputs outputs ++ f ∷ []) has)
 
-  pub held-output : f.0 < length files → first_edge (has_number f.0) (output_rows outputs starts.outputs rows)
-      ≡ None
-      → EdgesAreHeld files (set makers f.0 (Some (length rows))) (outputs ++ f ∷ []) inputs validations rows
-      starts
-  held-output capacity none = record {
+  -- one more output, whoever made it
+  held-made : (ms : List (Option ℕ)) → length ms ≡ length makers
+      → HaveMakers (closed_rows ++ (drop starts.outputs outputs ++ f ∷ []) ∷ []) ms → f.0 < length files
+      → EdgesAreHeld files ms (outputs ++ f ∷ []) inputs validations rows starts
+  held-made ms count are capacity = record {
     distinct = held.distinct;
-    makers_count = length-set makers f.0 (Some (length rows)) ∙ held.makers_count;
-    makers_are = subst (λ rs. HaveMakers rs (set makers f.0 (Some (length rows)))) (sym rows-output)
-        (makers-output (subst (λ n. f.0 < n) (sym held.makers_count) capacity) none);
+    makers_count = count ∙ held.makers_count;
+    makers_are = subst (λ rs. HaveMakers rs ms) (sym rows-output) are;
     outputs_are = all-push (λ g. g.0 < length files) outputs f held.outputs_are capacity;
     inputs_are = held.inputs_are;
     validations_are = held.validations_are;
     rows_are = held.rows_are;
-    outputs_joined = joined-push outputs f starts.outputs held.outputs_start
-        (map (λ (row : EdgeRow). row.outputs) rows)
-        (all-map (λ (row : EdgeRow). row.outputs) (λ span. IsWithin span starts.outputs) rows
-        (all-of (RowIsWithin starts.outputs starts.inputs starts.validations)
+    outputs_joined = joined-more outputs (f ∷ []) starts.outputs held.outputs_start
+        (map (λ (row : EdgeRow). row.outputs) rows) (all-map (λ (row : EdgeRow). row.outputs)
+        (λ span. IsWithin span starts.outputs) rows (all-of
+        (RowIsWithin starts.outputs starts.inputs starts.validations)
         (λ row. IsWithin row.outputs starts.outputs) (λ row h. h.outputs) rows held.rows_are))
         held.outputs_joined;
     inputs_joined = held.inputs_joined;
@@ -789,6 +817,37 @@ module _ (files : List (List ℕ)) (makers : List (Option ℕ)) (outputs inputs 
     inputs_start = held.inputs_start;
     validations_start = held.validations_start;
   }
+
+  pub held-output : f.0 < length files → first_edge (has_number f.0) (output_rows outputs starts.outputs rows)
+      ≡ None
+      → EdgesAreHeld files (set makers f.0 (Some (length rows)))
+      (outputs ++ f ∷ []) inputs validations rows starts
+  held-output capacity none =
+      held-made (set makers f.0 (Some (length rows))) (length-set makers f.0 (Some (length rows)))
+      (makers-output (subst (λ n. f.0 < n) (sym held.makers_count) capacity) none) capacity
+
+  -- a file with a maker keeps it
+  pub held-again : f.0 < length files → is_some (get_or makers f.0 None) ≡ true
+      → EdgesAreHeld files makers (outputs ++ f ∷ []) inputs validations rows starts
+  held-again capacity made = held-made makers refl (λ m below. held.makers_are m below
+      ∙ ap Some (by m below (eqb_tells m f.0))) capacity
+    where
+      next : List FileNo
+      next = drop starts.outputs outputs
+
+      by : (m : ℕ) → m < length makers → ((m == f.0) ≡ true × (m ≡ f.0)) ⊎ ((m == f.0) ≡ false × (m ≢ f.0))
+          → first_edge (has_number m) (closed_rows ++ next ∷ [])
+          ≡ first_edge (has_number m) (closed_rows ++ (next ++ f ∷ []) ∷ [])
+      by m below (inl same) =
+          let has : has_number m (next ++ f ∷ []) ≡ true = has-push m next f
+          ∙ ap (λ b. has_number m next || b) same.0 ∙ or-true (has_number m next) in
+          let some : is_some (first_edge (has_number m) (closed_rows ++ next ∷ [])) ≡ true =
+          ap is_some (sym (get_or_from_slice_get makers m
+          (first_edge (has_number m) (closed_rows ++ next ∷ [])) None (held.makers_are m below)))
+          ∙ ap (λ k. is_some (get_or makers k None)) same.1 ∙ made in
+          first-again (has_number m) closed_rows next (next ++ f ∷ []) some has
+      by m below (inr apart) = first-other (has_number m) closed_rows next (next ++ f ∷ [])
+          (sym (has-push m next f ∙ ap (λ b. has_number m next || b) apart.0 ∙ or-false (has_number m next)))
 
   -- a file whose maker is none is made by none
   pub unmade : (found : Option ℕ) → f.0 < length files → found ≡ get_or makers f.0 None
@@ -802,49 +861,13 @@ module _ (files : List (List ℕ)) (makers : List (Option ℕ)) (outputs inputs 
 
   pub held-input : f.0 < length files → EdgesAreHeld files makers outputs (inputs ++ f ∷ []) validations rows
       starts
-  held-input capacity = record {
-    distinct = held.distinct;
-    makers_count = held.makers_count;
-    makers_are = held.makers_are;
-    outputs_are = held.outputs_are;
-    inputs_are = all-push (λ g. g.0 < length files) inputs f held.inputs_are capacity;
-    validations_are = held.validations_are;
-    rows_are = held.rows_are;
-    outputs_joined = held.outputs_joined;
-    inputs_joined = joined-push inputs f starts.inputs held.inputs_start
-        (map (λ (row : EdgeRow). row.inputs) rows)
-        (all-map (λ (row : EdgeRow). row.inputs) (λ span. IsWithin span starts.inputs) rows
-        (all-of (RowIsWithin starts.outputs starts.inputs starts.validations)
-        (λ row. IsWithin row.inputs starts.inputs) (λ row h. h.inputs) rows held.rows_are))
-        held.inputs_joined;
-    validations_joined = held.validations_joined;
-    outputs_start = held.outputs_start;
-    inputs_start = let start = held.inputs_start in simp length-append (omega arith);
-    validations_start = held.validations_start;
-  }
+  held-input capacity = held-inputs files makers outputs inputs validations rows starts held (f ∷ [])
+      (capacity, tt)
 
   pub held-validation : f.0 < length files
       → EdgesAreHeld files makers outputs inputs (validations ++ f ∷ []) rows starts
-  held-validation capacity = record {
-    distinct = held.distinct;
-    makers_count = held.makers_count;
-    makers_are = held.makers_are;
-    outputs_are = held.outputs_are;
-    inputs_are = held.inputs_are;
-    validations_are = all-push (λ g. g.0 < length files) validations f held.validations_are capacity;
-    rows_are = held.rows_are;
-    outputs_joined = held.outputs_joined;
-    inputs_joined = held.inputs_joined;
-    validations_joined = joined-push validations f starts.validations held.validations_start
-        (map (λ (row : EdgeRow). row.validations) rows)
-        (all-map (λ (row : EdgeRow). row.validations) (λ span. IsWithin span starts.validations) rows
-        (all-of (RowIsWithin starts.outputs starts.inputs starts.validations)
-        (λ row. IsWithin row.validations starts.validations) (λ row h. h.validations) rows held.rows_are))
-        held.validations_joined;
-    outputs_start = held.outputs_start;
-    inputs_start = held.inputs_start;
-    validations_start = let start = held.validations_start in simp length-append (omega arith);
-  }
+  held-validation capacity = held-validations files makers outputs inputs validations rows starts held
+      (f ∷ []) (capacity, tt)
 
 -- how many files the edge that is being read has
 pub length-open : (files : List (List ℕ)) (ns : List FileNo) (start : ℕ)

@@ -18,7 +18,6 @@ use Rattle.nj_edges.specs.declared.edges.EdgeRow.{EdgeRow}
 use Rattle.nj_edges.specs.declared.edges.OpenStarts.{OpenStarts}
 use Rattle.nj_edges.specs.EdgeGraphs.{EdgeGraph}
 use Rattle.nj_edges.specs.Edges.{EdgePaths, edge_at, outputs_of, first_edge, maker_of, inputs_of}
-use Rattle.nj_edges.specs.Edges.{counted_inputs_of}
 use Rattle.nj_edges.specs.Inside.EdgesHeld.{paths_at, within, edge_of, edges_of, table_of, has_number}
 use Rattle.nj_edges.specs.Inside.EdgesHeld.{AreNumbers, RowIsWithin, output_rows, makers_in_rows}
 use Rattle.nj_edges.specs.Inside.EdgesHeld.{EdgesAreHeld}
@@ -77,8 +76,8 @@ counted-joined paths explicit implicit le =
 get-some : (makers : List (Option ℕ)) (file e : ℕ) → get_or makers file None ≡ Some e → file < length makers
 get-some [] file e h = absurd (true≢false (sym (ap is_some h)))
 get-some (m ∷ makers) zero e h = omega arith
-get-some (m ∷ makers) (suc file) e h = let rest : file < length makers = get-some makers file e h
-    in omega arith
+get-some (m ∷ makers) (suc file) e h = let rest : file < length makers = get-some makers file e h in
+    omega arith
 
 pub first-below : {E : Type 0} (test : E → Bool) (es : List E) (n : ℕ) → first_edge test es ≡ Some n
     → n < length es
@@ -89,8 +88,8 @@ first-below test (e ∷ es) n h = by (test e) (first_edge test es) (first-below 
         → cond b (Some 0) (option_map (λ m. m + 1) o) ≡ Some n → n < suc (length es)
     by true o rest is = let none : 0 ≡ n = ap (λ p. unwrap_or p 0) is in omega arith
     by false None rest is = absurd (true≢false (sym (ap is_some is)))
-    by false (Some m) rest is = let next : m + 1 ≡ n = ap (λ p. unwrap_or p 0) is
-        in let below : m < length es = rest m refl in omega arith
+    by false (Some m) rest is = let next : m + 1 ≡ n = ap (λ p. unwrap_or p 0) is in
+        let below : m < length es = rest m refl in omega arith
 
 -- each edge of a list of makers is that of an element
 pub made-of : {X : Type 0} (maker : X → Option ℕ) (xs : List X) (m : ℕ) → Contains (map maker xs) (Some m)
@@ -109,16 +108,16 @@ made-in-rows : (inputs : List FileNo) (rows : List EdgeRow) (makers : List (Opti
     → (file : ℕ) × (get_or makers file None ≡ Some f) × (e < length rows)
 made-in-rows inputs [] makers e f c = absurd (omega (arith, c.1))
 made-in-rows inputs (row ∷ rows) makers zero f c = let made =
-    made-of (λ (n : FileNo). get_or makers n.0 None) (within inputs row.inputs) f c
-    in (made.0.0, made.1, omega arith)
-made-in-rows inputs (row ∷ rows) makers (suc e) f c = let made = made-in-rows inputs rows makers e f c
-    in (made.0, made.1, omega (arith, made.2))
+    made-of (λ (n : FileNo). get_or makers n.0 None) (within inputs row.inputs) f c in
+    (made.0.0, made.1, omega arith)
+made-in-rows inputs (row ∷ rows) makers (suc e) f c = let made = made-in-rows inputs rows makers e f c in
+    (made.0, made.1, omega (arith, made.2))
 
 pub rows-known : (inputs : List FileNo) (rows : List EdgeRow) (makers : List (Option ℕ))
     → ((file e : ℕ) → get_or makers file None ≡ Some e → e < length rows)
     → AreEdges (makers_in_rows inputs rows makers) (length rows)
-rows-known inputs rows makers known e f c = let made = made-in-rows inputs rows makers e f c
-    in (made.2, known made.0 f made.1)
+rows-known inputs rows makers known e f c = let made = made-in-rows inputs rows makers e f c in
+    (made.2, known made.0 f made.1)
 
 module _ (files : List (List ℕ)) (makers : List (Option ℕ)) (outputs inputs validations : List FileNo)
     (rows : List EdgeRow) (held : EdgesAreHeld files makers outputs inputs validations rows
@@ -318,19 +317,6 @@ module _ (files : List (List ℕ)) (makers : List (Option ℕ)) (outputs inputs 
       row.kinds.implicit_inputs (row-within edge row h).kinds.explicit_inputs)
       ∙ ap inputs_of (edge-is edge row h))
 
-  pub counted-inputs-at : (edge : ℕ) (row : EdgeRow) → slice_get rows edge ≡ Some row
-      → AreFiles g.files (take row.kinds.implicit_inputs (within inputs row.inputs))
-      (counted_inputs_of (edge_at g.edges edge))
-  counted-inputs-at edge row h =
-      files-are (take row.kinds.implicit_inputs (within inputs row.inputs))
-      (counted_inputs_of (edge_at g.edges edge))
-      (all-take (λ f. f.0 < length files) row.kinds.implicit_inputs (within inputs row.inputs)
-      (within-numbers (length files) inputs row.inputs held.inputs_are))
-      (sym (take-map (path_at files) row.kinds.implicit_inputs (within inputs row.inputs))
-      ∙ sym (counted-joined (paths_at files (within inputs row.inputs)) row.kinds.explicit_inputs
-      row.kinds.implicit_inputs (row-within edge row h).kinds.explicit_inputs)
-      ∙ ap counted_inputs_of (edge-is edge row h))
-
   pub explicit-inputs-at : (edge : ℕ) (row : EdgeRow) → slice_get rows edge ≡ Some row
       → AreFiles g.files (take row.kinds.explicit_inputs (within inputs row.inputs))
       (edge_at g.edges edge).explicit_inputs
@@ -398,10 +384,6 @@ module _ (files : List (List ℕ)) (makers : List (Option ℕ)) (outputs inputs 
       (ap (λ (e : EdgePaths). e.validations) (edge-is edge row h))
 
   -- ---- a file's maker
-
-  pub file-below : (n : ℕ) → n < length g.files → n < length makers
-  file-below n below = subst (λ m. n < m) (sym held.makers_count)
-      (subst (λ (v : EdgeGraph). n < length v.files) (sym is) below)
 
   pub maker-at : (f : FileNo) → f.0 < length g.files
       → get_or makers f.0 None ≡ maker_of g.edges (path_at g.files f)

@@ -103,8 +103,8 @@ module _ (files : List (List ℕ)) (makers : List (Option ℕ)) (outputs inputs 
 
     pub starts-below : (starts numbers : List ℕ) (uses : ℕ → List ℕ)
         → HaveUsers (length files) starts numbers uses → f.0 + 1 < length starts
-    starts-below starts numbers uses users = let count : length starts ≡ length files + 1 = users.count_is
-        in let less = below in omega (arith, count, less)
+    starts-below starts numbers uses users = let count : length starts ≡ length files + 1 = users.count_is in
+        let less = below in omega (arith, count, less)
 
 -- the parts, as borrowed
 pub parts-lent : (count : ℕ) (starts ss : List ℕ) (edges es : List EdgeNo) (uses : ℕ → List ℕ) → ss ≡ starts

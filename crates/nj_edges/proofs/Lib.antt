@@ -8,13 +8,10 @@ pub mod CycleLemmas
 pub mod DirtyLemmas
 mod DirtyRows
 pub mod EdgeLemmas
-pub mod EndLemmas
-pub mod FinishLemmas
 pub mod GraphLemmas
 pub mod GraphUsers
-pub mod JoinedLists
+pub mod JoinedLemmas
 pub mod JoiningLemmas
-pub mod KnownLemmas
 pub mod ListLemmas
 pub mod MakerLemmas
 pub mod MarkLemmas
@@ -27,6 +24,4 @@ pub mod NumberLemmas
 pub mod Passing
 pub mod RootLemmas
 pub mod SearchLemmas
-pub mod StartLemmas
-pub mod StatedLemmas
 pub mod UserLemmas

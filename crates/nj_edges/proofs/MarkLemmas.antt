@@ -112,7 +112,8 @@ module _ (table : JoinTable) (edge : ℕ) (old new : List (Option ℕ))
         → is_marked new f.0 edge ≡ is_among stated (path_at table.files f)
     tells f below =
         marked-is f.0 edge ∙ by (has_number f.0 marks.files)
-        ∙ has-among table.files distinct f.0 (path_at table.files f) (get-path table.files f below) marks.files
+        ∙ has-among table.files distinct f.0 (path_at table.files f) (get-path table.files f below)
+        marks.files
         marks.known
         ∙ ap (λ ps. is_among ps (path_at table.files f)) by-numbers
       where
@@ -177,20 +178,9 @@ module _ (t : InputTable) (marks : List (Option ℕ)) (are : AreMarked t marks) 
       (λ same. omega (arith, edge_is, same, least)) ∙ are.not_joined e (omega (arith, edge_is, least)))
       marked
 
-  pub first-join : is_joined t.table t.edge ≡ false
-  first-join = are.not_joined t.edge (omega arith)
-
   -- ---- an input that the edge has
 
   module _ (path : List ℕ) where
-    -- with a path that is there, or is not
-    pub with-there : is_among (inputs_so_far t) path ≡ true → with_new_input t path ≡ t
-    with-there h = ap (λ b. cond b t (record t { table = with_added_input t.table path })) h
-
-    pub with-new : is_among (inputs_so_far t) path ≡ false
-        → with_new_input t path ≡ record t { table = with_added_input t.table path }
-    with-new h = ap (λ b. cond b t (record t { table = with_added_input t.table path })) h
-
     among-more : (p : List ℕ) → is_among (inputs_so_far (record t { table = with_added_input t.table path }))
         p ≡ (is_among (inputs_so_far t) p || bytes_eq p path)
     among-more p =
@@ -217,9 +207,6 @@ module _ (t : InputTable) (marks : List (Option ℕ)) (are : AreMarked t marks) 
         where
           same-some : {x y : List ℕ} → Some x ≡ Some y → x ≡ y
           same-some {x = x} h = ap (λ o. unwrap_or o x) h
-
-      pub marked-here : is_marked marks g.0 t.edge ≡ is_among (inputs_so_far t) path
-      marked-here = are.tell g below ∙ ap (is_among (inputs_so_far t)) at-here
 
       own-mark : is_marked (set marks g.0 (Some t.edge)) g.0 t.edge ≡ true
       own-mark = ap (λ o. is_edge o t.edge)
@@ -295,14 +282,6 @@ module _ (t : InputTable) (marks : List (Option ℕ)) (are : AreMarked t marks) 
     -- ---- a file that is new
 
     module _ (absent : is_among t.table.files path ≡ false) where
-      -- it is no input of the edge
-      pub not-there : is_among (inputs_so_far t) path ≡ false
-      not-there = by (is_among (inputs_so_far t) path) (are.known path)
-        where
-          by : (b : Bool) → (b ≡ true → is_among t.table.files path ≡ true) → b ≡ false
-          by true known = absurd (true≢false (sym (known refl) ∙ absent))
-          by false known = refl
-
       abbrev more-marks : List (Option ℕ)
       more-marks = marks ++ Some t.edge ∷ []
 

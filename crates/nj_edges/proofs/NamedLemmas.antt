@@ -3,7 +3,7 @@ use Rattle.std.proofs.Common.{◌≡◌, ◌<◌, ◌||◌, ℕ, zero, suc, Bool
 use Rattle.std.proofs.Common.{take, drop, slice_get, Option, Some, bytes_eq, refl, sym, ap, subst, ◌∙◌}
 use Rattle.std.proofs.Common.{true≢false}
 use Rattle.std.specs.List.{AllByRecursion, IsDistinct, flat_map, list_any}
-use Rattle.std.proofs.Math.Bool.{or-true}
+use Rattle.std.proofs.Math.Bool.{or-false, or-true}
 use Rattle.std.proofs.Math.Seq.{drop-length}
 use Rattle.std.proofs.lemmas.List.{take-append-drop, map-append}
 use Rattle.std.proofs.lemmas.List.Folds.{list_any-append}
@@ -38,10 +38,6 @@ or-parts false false false false y z = refl
 or-same : {a b c x y z : Bool} → a ≡ x → b ≡ y → c ≡ z → (a || b || c) ≡ (x || y || z)
 or-same {b = b} {c = c} {x = x} {y = y} p q r =
     ap (λ t. t || b || c) p ∙ ap (λ t. x || t || c) q ∙ ap (λ t. x || y || t) r
-
-or-none : (b : Bool) → (b || false) ≡ b
-or-none true = refl
-or-none false = refl
 
 any-parts : {E : Type 0} (p q r : E → Bool) (es : List E)
     → list_any (λ e. p e || q e || r e) es ≡ (list_any p es || list_any q es || list_any r es)
@@ -107,13 +103,12 @@ among-parts files part ns span edge P same rows all start joined path =
     ∙ among-flat part path (map edge rows))
 
 module _ (files : List (List ℕ)) (makers : List (Option ℕ)) (outputs inputs validations : List FileNo)
-    (rows : List EdgeRow) (starts : OpenStarts)
-    (held : EdgesAreHeld files makers outputs inputs validations rows starts)
-    (named : AreNamed (length files) outputs inputs validations) (path : List ℕ) where
-  at-numbers : list_any (bytes_eq path) files
-      ≡ (is_among (paths_at files outputs) path || is_among (paths_at files inputs) path
-      || is_among (paths_at files validations) path)
-  at-numbers = by (list_any (bytes_eq path) files) refl
+    (rows : List EdgeRow) (starts : OpenStarts) (held : EdgesAreHeld files makers outputs inputs validations
+    rows starts) (path : List ℕ) where
+  at-numbers : AreNamed (length files) outputs inputs validations
+      → list_any (bytes_eq path) files ≡ (is_among (paths_at files outputs) path || is_among
+      (paths_at files inputs) path || is_among (paths_at files validations) path)
+  at-numbers named = by (list_any (bytes_eq path) files) refl
     where
       by : (b : Bool) → list_any (bytes_eq path) files ≡ b
           → b ≡ (is_among (paths_at files outputs) path || is_among (paths_at files inputs) path
@@ -156,11 +151,11 @@ module _ (files : List (List ℕ)) (makers : List (Option ℕ)) (outputs inputs 
   validations-among = among-parts files (λ e. e.validations) validations (λ row. row.validations) edge Inside
       (λ row inside. refl) rows held.rows_are starts.validations held.validations_joined path
 
-  -- the files that are held are those that edges name
-  pub named-files : list_any (bytes_eq path) files
-      ≡ is_named_so_far (table_of files outputs inputs validations rows starts) path
-  named-files =
-      at-numbers ∙ or-same outputs-among inputs-among validations-among
+  numbers-named : (is_among (paths_at files outputs) path || is_among (paths_at files inputs) path || is_among
+      (paths_at files validations) path) ≡ is_named_so_far
+      (table_of files outputs inputs validations rows starts) path
+  numbers-named =
+      or-same outputs-among inputs-among validations-among
       ∙ sym (or-parts (list_any (λ e. is_among (outputs_of e) path) (map edge rows))
       (list_any (λ e. is_among (inputs_of e) path) (map edge rows))
       (list_any (λ (e : EdgePaths). is_among e.validations path) (map edge rows))
@@ -173,12 +168,28 @@ module _ (files : List (List ℕ)) (makers : List (Option ℕ)) (outputs inputs 
       (sym (any-parts (λ e. is_among (outputs_of e) path) (λ e. is_among (inputs_of e) path)
       (λ (e : EdgePaths). is_among e.validations path) (map edge rows)))
 
+  -- the files that are held are those that edges name
+  named-files : AreNamed (length files) outputs inputs validations
+      → list_any (bytes_eq path) files ≡ is_named_so_far
+      (table_of files outputs inputs validations rows starts) path
+  named-files named = at-numbers named ∙ numbers-named
+
+  -- and the other way round
+  pub named-number : (n : ℕ) → slice_get files n ≡ Some path
+      → is_named_so_far (table_of files outputs inputs validations rows starts) path ≡ true
+      → (has_number n outputs || has_number n inputs || has_number n validations) ≡ true
+  named-number n here is =
+      or-same (has-among files held.distinct n path here outputs held.outputs_are)
+      (has-among files held.distinct n path here inputs held.inputs_are)
+      (has-among files held.distinct n path here validations held.validations_are)
+      ∙ numbers-named ∙ is
+
 -- where no edge is being read
 pub closed-named : (t : EdgeTable) (path : List ℕ) → t.«open» ≡ no_files
     → is_named_so_far t path ≡ is_named t.edges path
-closed-named t path none = ap (λ (o : OpenEdge). is_named t.edges path
-    || (is_among o.outputs path || is_among o.inputs path || is_among o.validations path)) none
-    ∙ or-none (is_named t.edges path)
+closed-named t path none = ap (λ (o : OpenEdge). is_named t.edges path ||
+    (is_among o.outputs path || is_among o.inputs path || is_among o.validations path)) none
+    ∙ or-false (is_named t.edges path)
 
 pub table-files : (files : List (List ℕ)) (makers : List (Option ℕ))
     (outputs inputs validations : List FileNo) (rows : List EdgeRow) (starts : OpenStarts)
@@ -187,7 +198,7 @@ pub table-files : (files : List (List ℕ)) (makers : List (Option ℕ))
     → list_any (bytes_eq path) t.files ≡ is_named_so_far t path
 table-files files makers outputs inputs validations rows starts held t is path =
     subst (λ u. list_any (bytes_eq path) u.files ≡ is_named_so_far u path) is
-    (named-files files makers outputs inputs validations rows starts held.edges_are held.named path)
+    (named-files files makers outputs inputs validations rows starts held.edges_are path held.named)
 
 pub graph-files : (files : List (List ℕ)) (makers : List (Option ℕ))
     (outputs inputs validations : List FileNo) (rows : List EdgeRow)
@@ -199,9 +210,10 @@ graph-files files makers outputs inputs validations rows held named g is path =
     let none : (table_of files outputs inputs validations rows (ends_of outputs inputs validations)).«open»
     ≡ no_files = rw (drop-length outputs, drop-length inputs, drop-length validations) refl in
     subst (λ (h : EdgeGraph). list_any (bytes_eq path) h.files ≡ is_named h.edges path) is
-    (named-files files makers outputs inputs validations rows (ends_of outputs inputs validations) held named
-    path ∙ closed-named (table_of files outputs inputs validations rows
-    (ends_of outputs inputs validations)) path none)
+    (named-files files makers outputs inputs validations rows
+    (ends_of outputs inputs validations) held path named
+    ∙ closed-named (table_of files outputs inputs validations rows (ends_of outputs inputs validations))
+    path none)
 
 -- ---- the files of the edge that is being read
 

@@ -105,8 +105,8 @@ module _ (edges : List EdgePaths) (files : List (List ℕ)) where
 
   needed-in : (n e : ℕ) → IsNeededIn edges files n e → IsNeeded edges files e
   needed-in zero e makes = (e, makes, inl refl)
-  needed-in (suc n) e (f, needed, step) = let before = needed-in n f needed
-      in (before.0, before.1, step-on before.0 f e before.2 step)
+  needed-in (suc n) e (f, needed, step) = let before = needed-in n f needed in
+      (before.0, before.1, step-on before.0 f e before.2 step)
 
   -- ---- turn by turn
 

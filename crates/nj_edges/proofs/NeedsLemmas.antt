@@ -97,8 +97,8 @@ module _ (edges : List EdgePaths) where
         in
         elim (cases_lt i place) [
           | inl earlier ↦ finds.kept e (held.closed i e earlier old_step)
-          | inr now ↦ let is : i ≡ place = omega (arith, now, within)
-              in finds.all e (subst (λ n. Step (slice_index old.numbers n) e) is old_step)
+          | inr now ↦ let is : i ≡ place = omega (arith, now, within) in
+              finds.all e (subst (λ n. Step (slice_index old.numbers n) e) is old_step)
         ]
 
     pub searched-continues : IsSearched edges starts new (place + 1)
@@ -238,7 +238,8 @@ module _ (g : EdgeGraph) where
         λ has. elim (Contains-push_cases (made (take i ns)) (Some edge) (Some e)
             (subst (λ os. Contains os (Some e)) next has)) [
               | inl was ↦ Contains-append_left found (edge ∷ []) e ((are.are e).1 was)
-              | inr now ↦ subst (Contains (found ++ edge ∷ [])) (same_Some edge e now) (Contains-push found edge)
+              | inr now ↦ subst (Contains (found ++ edge ∷ [])) (same_Some edge e now)
+                  (Contains-push found edge)
             ],
       );
       known = All-push (λ e. e < length g.edges) found edge are.known known;

@@ -186,8 +186,8 @@ module _ (begins : ℕ → Type 0) (step : ℕ → ℕ → Type 0) where
 
     pub found-nearer : place < length numbers → (steps e : ℕ) → steps ≤ distance (slice_index numbers place)
         → IsReachedIn begins step steps e → IsFoundWithin steps e
-    found-nearer below zero e le reached = let begun = held.begun e reached
-        in (begun.0, omega (arith, begun.1))
+    found-nearer below zero e le reached = let begun = held.begun e reached in
+        (begun.0, omega (arith, begun.1))
     found-nearer below (suc steps) e le (f, reached, stepped) =
         let found = found-nearer below steps f (omega (arith, le)) reached in
         next-found steps f e found (λ i within is. elim (cases_lt i place) [

@@ -155,8 +155,8 @@ rows-next files part rows e at row found at-is here is =
 
 edges-fewer : {E : Type 0} (k j : ℕ) (test : E → Bool) (es : List E)
     → length (edges_from (k + j) test (drop j es)) ≤ length (edges_from k test es)
-edges-fewer k zero test es = let same : k + 0 ≡ k = omega arith
-    in subst (λ m. length (edges_from m test es) ≤ length (edges_from k test es)) (sym same) (omega arith)
+edges-fewer k zero test es = let same : k + 0 ≡ k = omega arith in
+    subst (λ m. length (edges_from m test es) ≤ length (edges_from k test es)) (sym same) (omega arith)
 edges-fewer k (suc j) test [] = omega arith
 edges-fewer k (suc j) test (x ∷ xs) = by (test x)
     (subst (λ m. length (edges_from m test (drop j xs)) ≤ length (edges_from (k + 1) test xs)) next
@@ -189,8 +189,8 @@ before-rises uses m (suc n) below = by (eqb_tells m (suc n)) (λ less. before-ri
         → (m ≤ n → users_before uses m ≤ users_before uses n)
         → users_before uses m ≤ users_before uses (suc n)
     by (inl same) up = subst (λ k. users_before uses m ≤ users_before uses k) same.1 (omega arith)
-    by (inr apart) up = let differs : m ≢ suc n = apart.1
-        in let rises : users_before uses m ≤ users_before uses n = up (omega arith) in omega (arith, rises)
+    by (inr apart) up = let differs : m ≢ suc n = apart.1 in
+        let rises : users_before uses m ≤ users_before uses n = up (omega arith) in omega (arith, rises)
 
 before-next : (uses : ℕ → List ℕ) (n : ℕ) → users_before uses (n + 1) ≡ users_before uses n + length (uses n)
 before-next uses n = ap (users_before uses) (add-one n)
@@ -296,7 +296,8 @@ module _ (all uses : ℕ → List ℕ) (places marks : List ℕ) (edges : List E
                 let old : get_or places n 0 + length (uses n) ≡ users_before all (n + 1) =
                 placed.ends_are n below in
                 let next : get_or places n 0 ≡ place + 1 = ap (λ k. get_or places k 0) same.1 ∙ place-next in
-                let sum : place + suc (length (uses n)) ≡ users_before all (n + 1) = omega (arith, old, next) in
+                let sum : place + suc (length (uses n)) ≡ users_before all (n + 1) = omega (arith, old, next)
+                in
                 ap (λ p. p + length (plus_use f edge uses n)) (here-is n same.1)
                 ∙ ap (λ es. place + length es) (plus-here f edge uses other n same.1) ∙ sum
             ends n below (inr apart) = ap (λ p. p + length (plus_use f edge uses n)) (other-is n apart.1)
@@ -306,7 +307,8 @@ module _ (all uses : ℕ → List ℕ) (places marks : List ℕ) (edges : List E
             behind : (n i : ℕ) → n < length places → n ≡ f → i < length (edge ∷ uses n)
                 → number_at edges' (place + i) ≡ get_or (edge ∷ uses n) i 0
             behind n zero below same i-below = ap (λ k. number_at edges' k) (omega arith)
-                ∙ ap (λ (e : EdgeNo). e.0) (get_or-set_same edges place (record { 0 = edge }) (record { 0 = 0 })
+                ∙ ap (λ (e : EdgeNo). e.0) (get_or-set_same edges place (record { 0 = edge })
+                (record { 0 = 0 })
                 (let within = place-within in rw place-is within))
             behind n (suc j) below same i-below =
                 let next : get_or places n 0 ≡ place + 1 = ap (λ k. get_or places k 0) same ∙ place-next in

@@ -13,17 +13,17 @@ pub use Rattle.nj_edges.specs.Chains.{PathIs}
 pub use Rattle.nj_edges.specs.Inside.ChainsHeld.{AddsMakers, ChainIs, ComeFromEarlier, MakesInput, StepIs, StepToIs, Traces, with_arrival}
 pub use Rattle.nj_edges.specs.Dirty.{IsDirty, OtherEdgesAreUntouched}
 pub use Rattle.nj_edges.specs.Inside.DirtyHeld.{HasOneIn, HaveUsersIn}
-pub use Rattle.std.specs.List.{AllByRecursion, IsDistinct, list_any, filter, range_with_len}
-pub use Rattle.nj_edges.specs.Inside.EdgesHeld.{AreNumbers, IsWithin, row_between, has_number, is_made_by, paths_at, within, with_maker}
+pub use Rattle.std.specs.List.{IsDistinct, list_any, AllByRecursion, filter, range_with_len}
+pub use Rattle.nj_edges.specs.EdgeTables.{no_files, EndWithin, with_output, with_input, with_validation, is_made, is_named_so_far}
+pub use Rattle.nj_edges.specs.EdgeTables.{edge_read, plus_output}
+pub use Rattle.nj_edges.specs.Inside.EdgesHeld.{AreNumbers, HasFiles, row_between, has_number, is_made_by, IsWithin, paths_at, within}
+pub use Rattle.nj_edges.specs.Inside.EdgesHeld.{with_maker}
 pub use Rattle.nj_edges.specs.Graph.{FinishesAs, IsFirstCycle}
 pub use Rattle.nj_edges.specs.Joining.{none_added, join_of, with_added_output, with_added_input, with_joined, is_made_so_far, is_joined}
-pub use Rattle.nj_edges.specs.Inside.JoiningHeld.{AddedInputsAreWithin, AddedOutputsAreWithin, AreJoinedMakers, AreSet, InputsAreWithin}
-pub use Rattle.nj_edges.specs.Inside.JoiningHeld.{added_inputs_of, added_outputs_of, flat, joined_inputs, joined_outputs, joined_row}
-pub use Rattle.nj_edges.specs.Inside.JoiningHeld.{joined_rows, joined_with, span_from}
-pub use Rattle.nj_edges.specs.EdgeTables.{no_files, EndWithin, with_output, with_input, with_validation, is_made, is_named_so_far}
-pub use Rattle.nj_edges.specs.EdgeTables.{edge_read}
 pub use Rattle.nj_cycles.specs.Cycles.{IsAcyclic}
 pub use Rattle.nj_edges.specs.Needs.{makers_of_inputs}
+pub use Rattle.nj_edges.specs.Inside.JoiningHeld.{JoinIsHeld, all_joined, joined_edge, plus_inputs, plus_outputs, plus_validations}
+pub use Rattle.nj_edges.specs.Inside.JoiningHeld.{spans_of, with_edge}
 pub use Rattle.nj_names.specs.NameTables.{with_name}
 pub use Rattle.nj_edges.specs.Inside.MakersHeld.{maker_held}
 pub use Rattle.nj_edges.specs.Inside.MarksHeld.{MarksFiles, MarksInputs, is_marked}

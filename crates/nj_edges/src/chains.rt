@@ -5,7 +5,7 @@ ghost use Rattle.nj_edges.specs.Cited.{has, with_number, PathIs, path_at, AddsMa
 
 use crate::affected::edge_found;
 use crate::edges::{EdgeNo, Kind};
-use crate::graph::{EdgeGraph, row_at};
+use crate::graph::EdgeGraph;
 use crate::list_parts::part;
 use nj_names::{FileNo, NumberSet};
 use std::alloc::{AllocError, Global};
@@ -120,7 +120,7 @@ impl EdgeGraph {
         requires { edge.0 < length self.now.edges }
         ensures { StepIs self.now with_validations edge index result }
     {
-        let row = row_at(&self.rows, edge.0);
+        let row = self.rows.row(edge.0);
         let inputs = part(&self.inputs, row.inputs.start, row.inputs.end);
         if index < inputs.len() {
             return Some(Step {

@@ -1,9 +1,9 @@
 //! Edges, which are build statements with the files that they name.
 
 ghost use Rattle.std.specs.Prelude.{◌≡◌, ℕ, ◌<◌, List, [], ◌∷◌, ◌++◌, Some, not, if◌then◌else◌, option_map, position, slice_get, is_some, length, bytes_eq, IfOk, IfSome, OnOk, OnErr};
-ghost use Rattle.nj_edges.specs.Cited.{IsDistinct, list_any, is_among, is_named, AreFiles, row_between, has_number, is_made_by, no_files, EndWithin, with_output, with_input, with_validation, is_made, is_named_so_far, edge_read};
+ghost use Rattle.nj_edges.specs.Cited.{IsDistinct, list_any, edge_at, is_among, is_named, maker_of, AreFiles, HasFiles, row_between, has_number, is_made_by, no_files, EndWithin, with_output, with_input, with_validation, is_made, is_named_so_far, edge_read};
 
-use crate::list_parts::after;
+use crate::list_parts::{after, part};
 use crate::makers::{Makers, name};
 use crate::rows::Rows;
 use nj_names::{FileNo, Files, HashKeys};
@@ -58,6 +58,16 @@ pub(crate) struct OpenStarts {
     pub(crate) outputs: usize,
     pub(crate) inputs: usize,
     pub(crate) validations: usize,
+}
+
+// The files of an edge.
+#[derive(Clone, Copy)]
+pub(crate) struct EdgeFiles<'a> {
+    pub(crate) outputs: &'a [FileNo],
+    pub(crate) inputs: &'a [FileNo],
+    pub(crate) validations: &'a [FileNo],
+    pub(crate) kinds: KindEnds,
+    pub(crate) is_phony: bool,
 }
 
 /// The edges of a graph, and the one that is being read.
@@ -128,10 +138,20 @@ impl Edges {
         ensures added { OnOk result (self.new ≡ with_input self.old path.now) }
         ensures refused { OnErr result (self.new ≡ self.old) }
     {
+        self.add_input_named(path)?;
+        Ok(())
+    }
+
+    /// The same, and returns the number of its file.
+    pub(crate) fn add_input_named(&mut self, path: &[u8]) -> Result<FileNo, AllocError>
+        ensures added { OnOk result (self.new ≡ with_input self.old path.now) }
+        ensures number { IfOk result (λ file. slice_get self.new.files file.0 ≡ Some path.now) }
+        ensures refused { OnErr result (self.new ≡ self.old) }
+    {
         self.inputs.reserve(1)?;
         let file = name(&mut self.files, &mut self.makers, path)?;
         self.inputs.push_reserved(file);
-        Ok(())
+        Ok(file)
     }
 
     /// Appends an input to the edge that is being read, unless that edge makes the file itself.
@@ -215,6 +235,40 @@ impl Edges {
         ensures { result ≡ length self.now.edges }
     {
         self.rows.count()
+    }
+
+    /// The edge that makes the file at this path, of those that were read; `None` if none does.
+    pub(crate) fn maker_read(&self, path: &[u8]) -> Option<EdgeNo>
+        ensures maker { option_map (λ edge. edge.0) result ≡ maker_of self.now.edges path.now }
+        ensures known { IfSome result (λ edge. edge.0 < length self.now.edges) }
+    {
+        let file = self.files.number(path)?;
+        let edge = self.makers.maker(file)?;
+        // the next number is that of the edge that is being read
+        if edge < self.rows.count() {
+            return Some(EdgeNo(edge));
+        }
+        None
+    }
+
+    /// The files of an edge that was read.
+    pub(crate) fn edge_files(&self, edge: EdgeNo) -> EdgeFiles<'_>
+        requires { edge.0 < length self.now.edges }
+        ensures { HasFiles self.now.files (edge_at self.now.edges edge.0) result.outputs.now
+            result.inputs.now result.validations.now result.kinds result.is_phony }
+    {
+        let row = self.rows.row(edge.0);
+        EdgeFiles {
+            outputs: part(&self.outputs, row.outputs.start, row.outputs.end),
+            inputs: part(&self.inputs, row.inputs.start, row.inputs.end),
+            validations: part(
+                &self.validations,
+                row.validations.start,
+                row.validations.end,
+            ),
+            kinds: row.kinds,
+            is_phony: row.is_phony,
+        }
     }
 
     /// The outputs that the edge that is being read has so far.
@@ -309,7 +363,12 @@ fn has_file(files: &[FileNo], file: FileNo) -> bool
 }
 
 // The row of the edge that begins and ends there.
-fn row_between(starts: OpenStarts, ends: OpenStarts, kinds: KindEnds, is_phony: bool) -> EdgeRow
+pub(crate) fn row_between(
+    starts: OpenStarts,
+    ends: OpenStarts,
+    kinds: KindEnds,
+    is_phony: bool,
+) -> EdgeRow
     ensures { result ≡ row_between starts ends kinds is_phony }
 {
     EdgeRow {

@@ -4,7 +4,7 @@ ghost use Rattle.std.specs.Prelude.{◌<◌, length, All};
 ghost use Rattle.nj_edges.specs.Cited.{edge_at, AreFiles};
 
 use crate::edges::EdgeNo;
-use crate::graph::{EdgeGraph, row_at};
+use crate::graph::EdgeGraph;
 use crate::list_parts::{after, part};
 use nj_names::FileNo;
 
@@ -16,7 +16,7 @@ impl EdgeGraph {
             (edge_at self.now.edges edge.0).implicit_outputs }
         ensures known { All (λ file. file.0 < length self.now.files) result.now }
     {
-        let row = row_at(&self.rows, edge.0);
+        let row = self.rows.row(edge.0);
         let outputs = part(&self.outputs, row.outputs.start, row.outputs.end);
         after(outputs, row.kinds.explicit_outputs)
     }
@@ -28,7 +28,7 @@ impl EdgeGraph {
             (edge_at self.now.edges edge.0).implicit_inputs }
         ensures known { All (λ file. file.0 < length self.now.files) result.now }
     {
-        let row = row_at(&self.rows, edge.0);
+        let row = self.rows.row(edge.0);
         let inputs = part(&self.inputs, row.inputs.start, row.inputs.end);
         part(inputs, row.kinds.explicit_inputs, row.kinds.implicit_inputs)
     }
@@ -40,7 +40,7 @@ impl EdgeGraph {
             (edge_at self.now.edges edge.0).order_only_inputs }
         ensures known { All (λ file. file.0 < length self.now.files) result.now }
     {
-        let row = row_at(&self.rows, edge.0);
+        let row = self.rows.row(edge.0);
         let inputs = part(&self.inputs, row.inputs.start, row.inputs.end);
         after(inputs, row.kinds.implicit_inputs)
     }

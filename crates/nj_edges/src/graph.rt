@@ -122,7 +122,7 @@ impl EdgeGraph {
             (outputs_of (edge_at self.now.edges edge.0)) }
         ensures known { All (λ file. file.0 < length self.now.files) result.now }
     {
-        let row = row_at(&self.rows, edge.0);
+        let row = self.rows.row(edge.0);
         part(&self.outputs, row.outputs.start, row.outputs.end)
     }
 
@@ -133,7 +133,7 @@ impl EdgeGraph {
             (inputs_of (edge_at self.now.edges edge.0)) }
         ensures known { All (λ file. file.0 < length self.now.files) result.now }
     {
-        let row = row_at(&self.rows, edge.0);
+        let row = self.rows.row(edge.0);
         part(&self.inputs, row.inputs.start, row.inputs.end)
     }
 
@@ -163,7 +163,7 @@ impl EdgeGraph {
             (edge_at self.now.edges edge.0).validations }
         ensures known { All (λ file. file.0 < length self.now.files) result.now }
     {
-        let row = row_at(&self.rows, edge.0);
+        let row = self.rows.row(edge.0);
         part(
             &self.validations,
             row.validations.start,
@@ -218,7 +218,7 @@ impl EdgeGraph {
             (edge_at self.now.edges edge.0).explicit_inputs }
         ensures known { All (λ file. file.0 < length self.now.files) result.now }
     {
-        let row = row_at(&self.rows, edge.0);
+        let row = self.rows.row(edge.0);
         let inputs = part(&self.inputs, row.inputs.start, row.inputs.end);
         first(inputs, row.kinds.explicit_inputs)
     }
@@ -231,7 +231,7 @@ impl EdgeGraph {
             (edge_at self.now.edges edge.0).explicit_outputs }
         ensures known { All (λ file. file.0 < length self.now.files) result.now }
     {
-        let row = row_at(&self.rows, edge.0);
+        let row = self.rows.row(edge.0);
         let outputs = part(&self.outputs, row.outputs.start, row.outputs.end);
         first(outputs, row.kinds.explicit_outputs)
     }
@@ -241,7 +241,7 @@ impl EdgeGraph {
         requires { edge.0 < length self.now.edges }
         ensures { result ≡ length (edge_at self.now.edges edge.0).explicit_outputs }
     {
-        row_at(&self.rows, edge.0).kinds.explicit_outputs
+        self.rows.row(edge.0).kinds.explicit_outputs
     }
 
     /// How many inputs of an edge are explicit; these are the first of its inputs.
@@ -249,7 +249,7 @@ impl EdgeGraph {
         requires { edge.0 < length self.now.edges }
         ensures { result ≡ length (edge_at self.now.edges edge.0).explicit_inputs }
     {
-        row_at(&self.rows, edge.0).kinds.explicit_inputs
+        self.rows.row(edge.0).kinds.explicit_inputs
     }
 
     /// The kind of the input at an index.
@@ -257,7 +257,7 @@ impl EdgeGraph {
         requires { edge.0 < length self.now.edges }
         ensures { result ≡ kind_at (edge_at self.now.edges edge.0) index }
     {
-        kind_before(row_at(&self.rows, edge.0).kinds, index)
+        kind_before(self.rows.row(edge.0).kinds, index)
     }
 
     /// Whether the rule of an edge is `phony`, so that it has no command.
@@ -265,16 +265,8 @@ impl EdgeGraph {
         requires { edge.0 < length self.now.edges }
         ensures { result ≡ (edge_at self.now.edges edge.0).is_phony }
     {
-        row_at(&self.rows, edge.0).is_phony
+        self.rows.row(edge.0).is_phony
     }
-}
-
-// The row of an edge.
-pub(crate) fn row_at(rows: &Rows, edge: usize) -> EdgeRow
-    requires { edge < length rows.now }
-    ensures { slice_get rows.now edge ≡ Some result }
-{
-    rows.row(edge)
 }
 
 // The kind of the input at an index, by where the kinds end.
@@ -310,22 +302,13 @@ impl Edges {
             &self.validations,
             &self.rows,
         )?;
-        let Edges {
-            files,
-            makers,
-            outputs,
-            inputs,
-            validations,
-            rows,
-            ..
-        } = self;
         Ok(Finished::Graph(EdgeGraph {
-            files,
-            makers,
-            outputs,
-            inputs,
-            validations,
-            rows,
+            files: self.files,
+            makers: self.makers,
+            outputs: self.outputs,
+            inputs: self.inputs,
+            validations: self.validations,
+            rows: self.rows,
             roots: lists.roots,
             users: lists.users,
             validation_users: lists.validation_users,
@@ -344,7 +327,7 @@ impl Edges {
         };
         match first_on_cycle(alloc, &held)? {
             Some(edge) => {
-                let row = row_at(&self.rows, edge);
+                let row = self.rows.row(edge);
                 let cycle = cycle_edge(alloc, &self.files, &self.outputs, row, EdgeNo(edge))?;
                 Ok(Some(cycle))
             }

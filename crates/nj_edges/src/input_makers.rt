@@ -3,7 +3,6 @@
 ghost use Rattle.std.specs.Prelude.{◌≡◌, ℕ, ◌<◌, ◌≤◌, Some, None, All, length, slice_index_or};
 ghost use Rattle.nj_edges.specs.Inside.EdgesHeld.{makers_in_rows};
 
-use crate::graph::row_at;
 use crate::list_parts::part;
 use crate::makers::Makers;
 use crate::rows::Rows;
@@ -33,7 +32,7 @@ impl<'a> EdgeInputs for InputMakers<'a> {
     }
 
     fn maker_at(&self, edge: usize, index: usize) -> Option<Option<usize>> {
-        let row = row_at(self.rows, edge);
+        let row = self.rows.row(edge);
         let file = *part(self.inputs, row.inputs.start, row.inputs.end).get(index)?;
         Some(self.makers.maker(file))
     }

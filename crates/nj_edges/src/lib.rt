@@ -9,6 +9,7 @@ mod edges;
 mod files_by_kind;
 mod graph;
 mod input_makers;
+mod joined_edges;
 mod list_parts;
 mod makers;
 mod more_inputs;

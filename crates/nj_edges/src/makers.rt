@@ -41,13 +41,6 @@ impl Makers {
         Ok(Makers { numbers })
     }
 
-    /// The number of files.
-    pub(crate) fn count(&self) -> usize
-        ensures { result ≡ length self.now }
-    {
-        self.numbers.as_slice().len()
-    }
-
     /// The edge that makes a file.
     pub(crate) fn maker(&self, file: FileNo) -> Option<usize>
         requires { file.0 < length self.now }
@@ -85,34 +78,6 @@ pub(crate) fn name(
     let file = files.name(path)?;
     if file.0 == makers.numbers.as_slice().len() {
         makers.numbers.push_reserved(0);
-    }
-    Ok(file)
-}
-
-/// The number of the file at this path, which is named from now on. A new file has no maker in
-/// either list.
-pub(crate) fn name_for_both(
-    files: &mut Files,
-    makers: &mut Makers,
-    added_makers: &mut Makers,
-    path: &[u8],
-) -> Result<FileNo, AllocError>
-    requires stated { length makers.old ≡ length files.old }
-    requires added { length added_makers.old ≡ length files.old }
-    ensures named { OnOk result (files.new ≡ with_name files.old path.now) }
-    ensures each_path_once { OnOk result (IsDistinct bytes_eq files.new) }
-    ensures makers { OnOk result (makers.new ≡ with_maker files.old path.now makers.old) }
-    ensures added { OnOk result (added_makers.new
-        ≡ with_maker files.old path.now added_makers.old) }
-    ensures number { IfOk result (λ file. slice_get files.new file.0 ≡ Some path.now) }
-    ensures refused { OnErr result (files.new ≡ files.old) }
-    ensures makers_refused { OnErr result (makers.new ≡ makers.old) }
-    ensures added_refused { OnErr result (added_makers.new ≡ added_makers.old) }
-{
-    added_makers.numbers.reserve(1)?;
-    let file = name(files, makers, path)?;
-    if file.0 == added_makers.numbers.as_slice().len() {
-        added_makers.numbers.push_reserved(0);
     }
     Ok(file)
 }

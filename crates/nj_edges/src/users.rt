@@ -4,7 +4,6 @@ ghost use Rattle.std.specs.Prelude.{◌≡◌, ℕ, List, ◌+◌, ◌<◌, ◌^
 ghost use Rattle.nj_edges.specs.Cited.{AllByRecursion, AreNumbers, IsWithin, within, AreCounted, AreCounts, AreEnds, AreMarks, AreParts, ArePlaced, HaveCapacity, HaveUsers, HaveUsersIfAny, numbers_of, plus_use, plus_uses, span_of, starts_with, users_before, using_edges};
 
 use crate::edges::{EdgeNo, EdgeRow, Span};
-use crate::graph::row_at;
 use crate::list_parts::part;
 use crate::rows::Rows;
 use nj_names::FileNo;
@@ -138,7 +137,7 @@ fn files_of<'a>(files: &'a [FileNo], rows: &Rows, row_part: RowPart, edge: usize
     ensures { (row : EdgeRow) × (slice_get rows.now edge ≡ Some row)
         × (result.now ≡ within files.now (span_of row_part row)) }
 {
-    let span = span_of(row_at(rows, edge), row_part);
+    let span = span_of(rows.row(edge), row_part);
     part(files, span.start, span.end)
 }
 

@@ -115,6 +115,19 @@ pub record EdgesAreHeld (files : List (List ℕ)) (makers : List (Option ℕ)) (
   pub inputs_start : starts.inputs ≤ length inputs
   pub validations_start : starts.validations ≤ length validations
 
+-- an edge has the files of these numbers, of which these kinds
+pub record HasFiles (files : List (List ℕ)) (e : EdgePaths) (outputs inputs validations : List FileNo) (kinds : KindEnds)
+    (is_phony : Bool) : Type 0 where
+  pub is : e ≡ edge_read (record {
+    outputs = paths_at files outputs;
+    inputs = paths_at files inputs;
+    validations = paths_at files validations;
+  }) kinds is_phony
+  pub outputs_are : AreNumbers (length files) outputs
+  pub inputs_are : AreNumbers (length files) inputs
+  pub validations_are : AreNumbers (length files) validations
+  pub kinds_end : EndWithin kinds (length outputs) (length inputs)
+
 -- no other edge makes an output of the edge that is being read
 abbrev pub OpenAreNew : (outputs : List FileNo) → (open_outputs : ℕ) → List EdgeRow → Type 0
 OpenAreNew outputs open_outputs rows =

@@ -7,9 +7,9 @@ use Rattle.nj_edges.proofs.users.files_of.Goals as goal
 pub part-requires-clause-rises : goal.part-requires-clause-rises
 part-requires-clause-rises c = rw c.span_of-span.ensures
     (all-get (λ row. IsWithin (span_of c.args.row_part row) (length c.args.files.now)) c.args.rows.now
-    c.args.edge c.row_at.result c.requires.rows c.row_at.ensures).rises
+    c.args.edge c.row.result c.requires.rows c.row.ensures).rises
 
 pub part-requires-clause-within : goal.part-requires-clause-within
 part-requires-clause-within c = rw c.span_of-span.ensures
     (all-get (λ row. IsWithin (span_of c.args.row_part row) (length c.args.files.now)) c.args.rows.now
-    c.args.edge c.row_at.result c.requires.rows c.row_at.ensures).ends
+    c.args.edge c.row.result c.requires.rows c.row.ensures).ends

@@ -1,18 +1,10 @@
 use Rattle.nj_edges.proofs.JoiningLemmas.{input-held, input-table}
 use Rattle.nj_edges.proofs.dyndep_edges.JoiningEdges.add_input.Goals as goal
 
-pub invariant_of-self-2 : goal.invariant_of-self-2
-invariant_of-self-2 c =
-    rw (c.push_reserved.ensures.items, c.in_ok-reserve.ensures.items)
-    (input-held _ _ _ _ _ _ _ _ _ _ _ _ c.self.invariant c.args.path.now c.name_for_both.new.files
-    c.name_for_both.new.makers c.name_for_both.new.added_makers c.in_ok-file.file
-    c.in_ok-file.ensures.named c.in_ok-file.ensures.makers c.in_ok-file.ensures.added
-    c.in_ok-file.ensures.each_path_once c.in_ok-file.ensures.number _ c.self.view_is)
+pub invariant_of-self : goal.invariant_of-self
+invariant_of-self c = input-held _ _ _ _ c.self.invariant _ c.args.path.now c.add_input_named.result
+    c.add_input_named.ensures.added c.add_input_named.ensures.refused
 
 pub returns-clause-added : goal.returns-clause-added
-returns-clause-added c =
-    rw (c.push_reserved.ensures.items, c.in_ok-reserve.ensures.items)
-    (input-table _ _ _ _ _ _ _ _ _ _ _ _ c.self.invariant c.args.path.now c.name_for_both.new.files
-    c.name_for_both.new.makers c.name_for_both.new.added_makers c.in_ok-file.file
-    c.in_ok-file.ensures.named c.in_ok-file.ensures.makers c.in_ok-file.ensures.added
-    c.in_ok-file.ensures.each_path_once c.in_ok-file.ensures.number _ c.self.view_is)
+returns-clause-added c = input-table _ _ _ _ c.self.invariant _ c.args.path.now _ c.self.view_is
+    c.add_input_named.result c.add_input_named.ensures.added

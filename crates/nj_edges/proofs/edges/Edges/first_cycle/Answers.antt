@@ -29,17 +29,17 @@ cycle_edge-requires-clause-some c =
     let least = on-edge c.args.self.now.edges c.in-Some.edge
     (first-table _ _ _ _ _ _ held c.args.self.now c.self.inside.starts c.self.view_is
     (Some c.in-Some.edge) found) in
-    let here = c.row_at-row.ensures in
+    let here = c.row-row.ensures in
     some-output _ _ _ _ _ _ held c.self.inside.starts c.args.self.now c.self.view_is c.in-Some.edge
-    c.row_at-row.result here least.1
+    c.row-row.result here least.1
 
 pub cycle_edge-requires-clause-within : goal.cycle_edge-requires-clause-within
 cycle_edge-requires-clause-within c =
     let held = held-whole _ _ _ _ _ _ _ c.self.invariant.edges_are c.args.self.now c.self.view_is c.requires
     in
-    let here = c.row_at-row.ensures in
+    let here = c.row-row.ensures in
     rw c.deref-in-Some.ensures.value (outputs-end _ _ _ _ _ _ held c.self.inside.starts c.args.self.now
-    c.self.view_is c.in-Some.edge c.row_at-row.result here)
+    c.self.view_is c.in-Some.edge c.row-row.result here)
 
 pub returns-in_ok-cycle-in-Some : goal.returns-in_ok-cycle-in-Some
 returns-in_ok-cycle-in-Some c =
@@ -50,9 +50,9 @@ returns-in_ok-cycle-in-Some c =
     let least = on-edge c.args.self.now.edges c.in-Some.edge
     (first-table _ _ _ _ _ _ held c.args.self.now c.self.inside.starts c.self.view_is
     (Some c.in-Some.edge) found) in
-    let here = c.row_at-row.ensures in
+    let here = c.row-row.ensures in
     let first = first-output _ _ _ _ _ _ held c.self.inside.starts c.args.self.now c.self.view_is
-    c.in-Some.edge c.row_at-row.result here in
+    c.in-Some.edge c.row-row.result here in
     let cycle = c.in_ok-cycle-in-Some in
     let output = rw c.deref-in-Some.ensures.value at cycle.ensures.output in
     subst (λ (e : EdgeNo). (e.0 < length c.args.self.now.edges)

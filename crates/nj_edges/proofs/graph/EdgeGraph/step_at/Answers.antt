@@ -12,7 +12,7 @@ returns-then-index-inputs c =
     (inputs_of (edge_at c.args.self.now.edges c.args.edge.0)) =
     rw (c.part-inputs.ensures, c.deref.ensures.value)
     (inputs-at _ _ _ _ _ _ c.self.invariant.edges_are c.args.self.now c.self.view_is c.args.edge.0
-    c.row_at-row.result c.row_at-row.ensures) in
+    c.row-row.result c.row-row.ensures) in
     let known = files-known c.args.self.now.files c.part-inputs.result.now
     (inputs_of (edge_at c.args.self.now.edges c.args.edge.0)) files in
     input-step c.args.self.now (rw (sym c.self.view_is) c.self.invariant.edges_are.distinct)
@@ -25,7 +25,7 @@ returns c =
     (inputs_of (edge_at c.args.self.now.edges c.args.edge.0)) =
     rw (c.part-inputs.ensures, c.deref.ensures.value)
     (inputs-at _ _ _ _ _ _ c.self.invariant.edges_are c.args.self.now c.self.view_is c.args.edge.0
-    c.row_at-row.result c.row_at-row.ensures) in
+    c.row-row.result c.row-row.ensures) in
     validation-step c.args.self.now (rw (sym c.self.view_is) c.self.invariant.edges_are.distinct)
     c.args.with_validations c.args.edge c.args.index c.part-inputs.result.now files
     c.validations.result.now c.in_ok-file.field-0.now c.validations.ensures.files c.validations.ensures.known

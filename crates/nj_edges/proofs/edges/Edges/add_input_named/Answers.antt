@@ -1,5 +1,5 @@
 use Rattle.nj_edges.proofs.AddLemmas.{input-held, input-table}
-use Rattle.nj_edges.proofs.edges.Edges.add_input.Goals as goal
+use Rattle.nj_edges.proofs.edges.Edges.add_input_named.Goals as goal
 
 pub returns-clause-added : goal.returns-clause-added
 returns-clause-added c =
