@@ -35,6 +35,16 @@ build a b$ c | d: every s$ t u | v || dd w |@ x
   dyndep = dd
 build all: phony a
 """
+# two edges that a dyndep file is joined to
+BOUND = """\
+rule r
+  command = r
+  restat = of the rule
+build o: r || dd
+  dyndep = dd
+build p: r || dd
+  dyndep = dd
+"""
 WANTED = [
     {
         "edge": 0,
@@ -146,6 +156,16 @@ def of_projects(graph, program, folder):
     PROJECTS["dyndep file"].write_to(folder)
     found = objects(graph, folder, "--dyndep")[0]
     yield from expect("joined", (found["implicit_outputs"], found["implicit_inputs"]), (["o2"], ["dd", "extra"]))
+
+
+@check
+def of_a_dyndep_file_with_restat(graph, folder):
+    (folder / "build.ninja").write_text(BOUND)
+    for value, wanted in ("1", "1"), ("0", "1"), ("", "of the rule"), ("$x", "of the rule"):
+        (folder / "dd").write_text(f"ninja_dyndep_version = 1\nbuild o: dyndep\n  restat = {value}\nbuild p: dyndep\n")
+        found = [it["restat"] for it in objects(graph, folder, "--dyndep")]
+        yield from expect(f"restat = {value}", found, [wanted, "of the rule"])
+        yield from expect("not joined", [it["restat"] for it in objects(graph, folder)], ["of the rule"] * 2)
 
 
 @check(needs=["cmake", "ninja", "cc"])

@@ -23,17 +23,14 @@ use Rattle.nj_graph.proofs.Stated.{graph-edges}
 use Rattle.nj_tools.specs.declared.tool_fault.ToolFault.{ToolFault}
 use Rattle.nj_edges.specs.declared.edges.EdgeNo.{EdgeNo}
 use Rattle.nj_tools.specs.declared.tool_fault.ToolFault.TheVariants.{TextNotUtf8, Write, OutOfMemory}
-use Rattle.nj_tools.specs.Sinks.{SinkState, Takes, FailsWithin}
-use Rattle.nj_tools.specs.Inside.Blocks.{IsUnderway}
-use Rattle.nj_tools.specs.Texts.{TakesFront, StopsWithin}
+use Rattle.nj_tools.specs.Sinks.{SinkState}
+use Rattle.nj_tools.specs.Texts.{StopsWithin}
 use Rattle.nj_tools.specs.Lines.{line}
 use Rattle.nj_tools.specs.Compdb.{Compilation, is_chosen, has_object, listed_edges, compilation_of, is_text}
 use Rattle.nj_tools.specs.Compdb.{json_string, object_text, objects_text, held_before, unheld_edge}
 use Rattle.nj_tools.specs.Compdb.{compdb_text, NamesEdge, WritesCompdb}
-use Rattle.nj_tools.specs.Inside.CompdbHeld.{end_text, first_path, in_json, held_compilation}
+use Rattle.nj_tools.specs.Inside.CompdbHeld.{end_text, first_path, in_json, held_compilation, list_text}
 use Rattle.nj_tools.specs.Inside.CompdbHeld.{object_of_strings}
-use Rattle.nj_tools.proofs.BlockLemmas.{TakesFront-whole, StopsWithin-whole, StopsWithin-more}
-use Rattle.nj_tools.proofs.BlockLemmas.{IsUnderway-more, FailsWithin-unjoined, Takes-unjoined, puts-no_memory}
 use Rattle.nj_tools.proofs.SinkLemmas.{Takes-nil}
 
 -- ---- a path
@@ -243,64 +240,44 @@ module _ (entries : List ReadStatement) (rules : List (List ℕ)) (expand : Bool
       by true rest h = absurd cc
       by false rest h = rest h
 
-  -- the text written for the first edges, and the separator before the next object
-  pub record HasWritten (directory : List ℕ) (old new : SinkState) (before unjoined separator : List ℕ)
-      (i : ℕ) : Type 0 where
+  -- the objects of the first edges
+  abbrev pub so_far : (directory : List ℕ) → (i : ℕ) → List ℕ
+  so_far directory i = objects_text directory (map reported (first_listed i))
+
+  -- JSON can contain the first edges, and the separator is that of the next object
+  pub record HasWritten (separator : List ℕ) (i : ℕ) : Type 0 where
     pub held : find unheld (first_listed i) ≡ None
     pub separator_is : separator ≡ separator_after (first_listed i)
-    pub underway : IsUnderway old new (before ++ objects_text directory (map reported (first_listed i)))
-        unjoined
 
-  pub written-nothing : (directory : List ℕ) (s : SinkState) (unjoined separator : List ℕ)
-      → separator ≡ 10 ∷ [] → IsUnderway s s (unjoined ++ []) unjoined
-      → HasWritten directory s s unjoined unjoined separator 0
+  pub written-nothing : (directory : List ℕ) → so_far directory 0 ≡ []
   unfolding objects_text
-  written-nothing directory s unjoined separator is nothing =
-      record { held = refl; separator_is = is; underway = nothing }
+  written-nothing directory = refl
 
-  module _ (directory : List ℕ) (old new : SinkState) (before unjoined separator : List ℕ) (i : ℕ)
-      (so_far : HasWritten directory old new before unjoined separator i) where
-    held-so_far : (more : List Compilation)
-        × (held_before entries rules expand ≡ map reported (first_listed i) ++ more)
-    held-so_far =
-        let parts = listed-front i in (
-          take_while is_text (map reported parts.0),
-          ap (λ ns. take_while is_text (map reported ns)) parts.1
-              ∙ held-front (first_listed i) parts.0 so_far.held,
-        )
-
-    -- it is a prefix of all
-    front : IsPrefix (before ++ objects_text directory (map reported (first_listed i)))
-        (before ++ objects_text directory (held_before entries rules expand))
-    front =
-        let held = held-so_far in
-        let objects = objects-front directory (map reported (first_listed i)) held.0 in (
-          objects.0,
-          ap (λ t. before ++ t) (ap (objects_text directory) held.1 ∙ objects.1)
-              ∙ sym (append_assoc before (objects_text directory (map reported (first_listed i))) objects.0),
-        )
-
-    pub takes-front : TakesFront old new (before ++ objects_text directory (held_before entries rules expand))
-    takes-front = TakesFront-whole old new _ unjoined _ front so_far.underway
-
-    pub stops-in : (fault : ToolFault) → StopsWithin old new
-        (before ++ objects_text directory (map reported (first_listed i))) fault
-        → StopsWithin old new (before ++ objects_text directory (held_before entries rules expand)) fault
-    stops-in fault stops = StopsWithin-whole old new _ _ fault front stops
+  module _ (directory separator : List ℕ) (i : ℕ) (has : HasWritten separator i) where
+    -- the objects of the first edges begin those of all
+    pub so_far-front : IsPrefix (so_far directory i)
+        (objects_text directory (held_before entries rules expand))
+    so_far-front =
+        let parts = listed-front i in
+        let held =
+        ap (λ ns. take_while is_text (map reported ns)) parts.1
+        ∙ held-front (first_listed i) parts.0 has.held in
+        let objects =
+        objects-front directory (map reported (first_listed i))
+        (take_while is_text (map reported parts.0)) in
+        (objects.0, ap (objects_text directory) held ∙ objects.1)
 
     -- all edges were looked at
     module _ (all : i ≡ length (edges_read entries)) where
       pub none-unheld : None ≡ unheld_edge entries rules expand
-      none-unheld = sym (ap (find unheld) (listed-all i all) ∙ so_far.held)
+      none-unheld = sym (ap (find unheld) (listed-all i all) ∙ has.held)
 
-      pub all-written : IsUnderway old new (before
-          ++ objects_text directory (held_before entries rules expand)) unjoined
+      pub all-written : so_far directory i ≡ objects_text directory (held_before entries rules expand)
       all-written =
-          let held = ap (λ ns. take_while is_text (map reported ns))
-          (listed-all i all ∙ sym (append-nil (first_listed i)))
-          ∙ held-front (first_listed i) [] so_far.held ∙ append-nil (map reported (first_listed i)) in
-          subst (λ cs. IsUnderway old new (before ++ objects_text directory cs) unjoined) (sym held)
-          so_far.underway
+          ap (objects_text directory)
+          (sym (ap (λ ns. take_while is_text (map reported ns))
+          (listed-all i all ∙ sym (append-nil (first_listed i))) ∙ held-front (first_listed i) [] has.held
+          ∙ append-nil (map reported (first_listed i))))
 
     -- the next edge
 
@@ -308,16 +285,14 @@ module _ (entries : List ReadStatement) (rules : List (List ℕ)) (expand : Bool
       abbrev test : Option Bool
       test = option_map (has_object entries rules) (slice_get (edges_read entries) i)
 
-      skipped : Some false ≡ test → first_listed (i + 1) ≡ first_listed i
+      pub skipped : Some false ≡ test → first_listed (i + 1) ≡ first_listed i
       skipped other = from-more 0 (has_object entries rules) (edges_read entries) i false below other
           ∙ append-nil (first_listed i)
 
-      pub passed-edge : Some false ≡ test → HasWritten directory old new before unjoined separator (i + 1)
+      pub passed-edge : Some false ≡ test → HasWritten separator (i + 1)
       passed-edge other = record {
-        held = ap (find unheld) (skipped other) ∙ so_far.held;
-        separator_is = so_far.separator_is ∙ ap separator_after (sym (skipped other));
-        underway = subst (λ ns. IsUnderway old new (before ++ objects_text directory (map reported ns))
-            unjoined) (sym (skipped other)) so_far.underway;
+        held = ap (find unheld) (skipped other) ∙ has.held;
+        separator_is = has.separator_is ∙ ap separator_after (sym (skipped other));
       }
 
       module _ (passes : Some true ≡ test) where
@@ -334,120 +309,91 @@ module _ (entries : List ReadStatement) (rules : List (List ℕ)) (expand : Bool
           not_text = held-none (reported i) none
 
           rest : (more : List ℕ) × (listed_edges entries rules ≡ first_listed i ++ (i ∷ more))
-          rest = let parts = listed-front (i + 1)
-              in (
-                parts.0,
-                parts.1 ∙ ap (λ ns. ns ++ parts.0) listed
-                    ∙ append_assoc (first_listed i) (i ∷ []) parts.0,
-              )
+          rest = let parts = listed-front (i + 1) in (
+            parts.0,
+            parts.1 ∙ ap (λ ns. ns ++ parts.0) listed
+                ∙ append_assoc (first_listed i) (i ∷ []) parts.0,
+          )
 
           pub is-unheld : Some i ≡ unheld_edge entries rules expand
-          is-unheld = sym (ap (find unheld) rest.1 ∙ find-front (first_listed i) (i ∷ rest.0) so_far.held
+          is-unheld =
+              sym (ap (find unheld) rest.1 ∙ find-front (first_listed i) (i ∷ rest.0) has.held
               ∙ ap (λ b. cond (not b) (Some i) (find unheld rest.0)) not_text)
 
-          pub before-unheld : IsUnderway old new
-              (before ++ objects_text directory (held_before entries rules expand)) unjoined
+          pub before-unheld : so_far directory i ≡ objects_text directory (held_before entries rules expand)
           before-unheld =
-              let held = ap (λ ns. take_while is_text (map reported ns)) rest.1
-              ∙ held-front (first_listed i) (i ∷ rest.0) so_far.held
+              ap (objects_text directory)
+              (sym (ap (λ ns. take_while is_text (map reported ns)) rest.1 ∙ held-front (first_listed i)
+              (i ∷ rest.0) has.held
               ∙ ap (λ cs. map reported (first_listed i) ++ cs)
               (take_while-cons is_text (reported i) (map reported rest.0)
               ∙ ap (λ b. cond b (reported i ∷ take_while is_text (map reported rest.0)) []) not_text)
-              ∙ append-nil (map reported (first_listed i)) in
-              subst (λ cs. IsUnderway old new (before ++ objects_text directory cs) unjoined) (sym held)
-              so_far.underway
+              ∙ append-nil (map reported (first_listed i))))
 
         -- it has an object
 
         module _ (json : Compilation) (some : Some json ≡ held_compilation (reported i)) where
           still-held : find unheld (first_listed (i + 1)) ≡ None
-          still-held = ap (find unheld) listed ∙ find-front (first_listed i) (i ∷ []) so_far.held
+          still-held =
+              ap (find unheld) listed ∙ find-front (first_listed i) (i ∷ []) has.held
               ∙ ap (λ b. cond (not b) (Some i) None) (held-some (reported i) json some).0
 
           separator-same : (ns : List ℕ) → separator_after ns ≡ separator_after (map reported ns)
           separator-same [] = refl
           separator-same (n ∷ ns) = refl
 
-          text-is : objects_text directory (map reported (first_listed (i + 1)))
-              ≡ objects_text directory (map reported (first_listed i))
-              ++ (separator ++ object_of_strings directory json)
-          text-is =
+          pub object-next : so_far directory i ++ (separator ++ object_of_strings directory json)
+              ≡ so_far directory (i + 1)
+          object-next = sym (
               ap (λ ns. objects_text directory (map reported ns)) listed
               ∙ ap (objects_text directory) (map-append reported (first_listed i) (i ∷ []))
               ∙ objects-more directory (map reported (first_listed i)) (reported i)
-              ∙ ap (λ t. objects_text directory (map reported (first_listed i))
-              ++ (t ++ object_text directory (reported i)))
-              (sym (so_far.separator_is ∙ separator-same (first_listed i)))
-              ∙ ap (λ t. objects_text directory (map reported (first_listed i)) ++ (separator ++ t))
+              ∙ ap (λ t. so_far directory i ++ (t ++ object_text directory (reported i)))
+              (sym (has.separator_is ∙ separator-same (first_listed i)))
+              ∙ ap (λ t. so_far directory i ++ (separator ++ t))
               (object-is directory (reported i) ∙ ap (object_of_strings directory)
               (sym (held-some (reported i) json some).1))
-
-          whole-is : before ++ objects_text directory (map reported (first_listed i))
-              ++ (separator ++ object_of_strings directory json)
-              ≡ before ++ objects_text directory (map reported (first_listed (i + 1)))
-          whole-is = append_assoc before (objects_text directory (map reported (first_listed i)))
-              (separator ++ object_of_strings directory json) ∙ ap (λ t. before ++ t) (sym text-is)
+              )
 
           separator-next : (ns : List ℕ) → 44 ∷ 10 ∷ [] ≡ separator_after (ns ++ i ∷ [])
           separator-next [] = refl
           separator-next (n ∷ ns) = refl
 
-          pub object-written : (later : SinkState) (after next : List ℕ) → next ≡ 44 ∷ 10 ∷ []
-              → IsUnderway new later (unjoined ++ (separator ++ object_of_strings directory json)) after
-              → HasWritten directory old later before after next (i + 1)
-          object-written later after next is written = record {
-            held = still-held;
-            separator_is = is ∙ separator-next (first_listed i) ∙ ap separator_after (sym listed);
-            underway = subst (λ t. IsUnderway old later t after) whole-is
-                (IsUnderway-more old new later _ unjoined _ after so_far.underway written);
-          }
+          pub object-written : (next : List ℕ) → next ≡ 44 ∷ 10 ∷ [] → HasWritten next (i + 1)
+          object-written next is =
+              record {
+                held = still-held;
+                separator_is = is ∙ separator-next (first_listed i)
+                    ∙ ap separator_after (sym listed);
+              }
 
-          pub stops-at_object : (later : SinkState) (fault : ToolFault)
-              → StopsWithin new later (unjoined ++ (separator ++ object_of_strings directory json)) fault
-              → StopsWithin old later (before ++ objects_text directory (held_before entries rules expand))
-              fault
-          stops-at_object later fault stops =
-              StopsWithin-whole old later _ _ fault front_next
-              (subst (λ t. StopsWithin old later t fault) whole-is
-              (StopsWithin-more old new later _ unjoined _ fault so_far.underway stops))
-            where
-              front_next : IsPrefix (before ++ objects_text directory (map reported (first_listed (i + 1))))
-                  (before ++ objects_text directory (held_before entries rules expand))
-              front_next =
-                  let parts = listed-front (i + 1) in
-                  let held = ap (λ ns. take_while is_text (map reported ns)) parts.1
-                  ∙ held-front (first_listed (i + 1)) parts.0 still-held in
-                  let objects = objects-front directory (map reported (first_listed (i + 1)))
-                  (take_while is_text (map reported parts.0)) in (
-                    objects.0,
-                    ap (λ t. before ++ t) (ap (objects_text directory) held ∙ objects.1)
-                        ∙ sym (append_assoc before (objects_text directory
-                        (map reported (first_listed (i + 1)))) objects.0),
-                  )
+  pub object-front : (directory separator next : List ℕ) (i : ℕ) → HasWritten next (i + 1) → (part : List ℕ)
+      → so_far directory i ++ part ≡ so_far directory (i + 1)
+      → IsPrefix (so_far directory i ++ part) (objects_text directory (held_before entries rules expand))
+  object-front directory separator next i has part is =
+      let (more, begins) = so_far-front directory next (i + 1) has in
+      (more, begins ∙ ap (λ t. t ++ more) (sym is))
 
 -- ---- the whole list
 
--- a stop within the text
-stops-in_compdb : (old new : SinkState) (text : List ℕ) (unheld : Option ℕ) (fault : ToolFault)
-    → StopsWithin old new text fault → WritesCompdb old new text unheld (Err fault)
-stops-in_compdb old new text unheld Write stops = stops
-stops-in_compdb old new text unheld OutOfMemory stops = stops
-stops-in_compdb old new text unheld (TextNotUtf8 edge) stops = absurd stops
-
--- the fault that is answered
-compdb-with : (old new : SinkState) (text : List ℕ) (unheld : Option ℕ) (fault : ToolFault)
+-- a fault within the text, which is answered
+pub list-stops : (old new : SinkState) (text : List ℕ) (unheld : Option ℕ) (fault : ToolFault)
     (result : Result Unit ToolFault)
     → IsErrAnd result (λ e. e ≡ fault) → StopsWithin old new text fault
     → WritesCompdb old new text unheld result
-compdb-with old new text unheld fault result err stops =
-    let (e, is, same) = err_from_is_err_and result err
-    in rw (is, same) (stops-in_compdb old new text unheld fault stops)
+list-stops old new text unheld fault result err stops =
+    let (e, is, same) = err_from_is_err_and result err in rw (is, same) (by fault stops)
+  where
+    by : (f : ToolFault) → StopsWithin old new text f → WritesCompdb old new text unheld (Err f)
+    by Write within = within
+    by OutOfMemory within = within
+    by (TextNotUtf8 edge) within = absurd within
 
 -- memory ran out before anything was written
-pub compdb-no_memory : (s : SinkState) (text : List ℕ) (unheld : Option ℕ) (result : Result Unit ToolFault)
+pub list-no_memory : (s : SinkState) (text : List ℕ) (unheld : Option ℕ) (result : Result Unit ToolFault)
     → IsErrAnd result (λ e. e ≡ OutOfMemory) → WritesCompdb s s text unheld result
-compdb-no_memory s text unheld result err =
-    compdb-with s s text unheld OutOfMemory result err (puts-no_memory s [] text)
+list-no_memory s text unheld result err =
+    list-stops s s text unheld OutOfMemory result err ([], (text, refl), Takes-nil s)
 
 module _ (entries : List ReadStatement) (directory : List ℕ) (chosen rules : List (List ℕ)) (expand : Bool)
     (same : (rule : List ℕ) → is_chosen chosen rule ≡ is_chosen rules rule) where
@@ -458,84 +404,18 @@ module _ (entries : List ReadStatement) (directory : List ℕ) (chosen rules : L
       (λ e. not e.paths.is_phony && not (is_empty (inputs_of e.paths)) && f (rule_name_of entries e))
       (edges_read entries)) (λ i rule. same rule i)
 
-  unheld-same : unheld_edge entries chosen expand ≡ unheld_edge entries rules expand
+  pub unheld-same : unheld_edge entries chosen expand ≡ unheld_edge entries rules expand
   unheld-same = ap (λ ns. find (λ edge. not (is_text (compilation_of entries expand edge))) ns) listed-same
 
-  module _ (first json : List ℕ) (first_is : first ≡ codes "[") (json_is : json ≡ json_string directory) where
-    abbrev objects : List ℕ
-    objects = objects_text json (held_before entries chosen expand)
-
-    parts : compdb_text entries directory rules expand
-        ≡ first ++ objects ++ end_text (unheld_edge entries chosen expand)
-    unfolding compdb_text
-    parts =
-        sym (ap (λ t. t ++ objects ++ end_text (unheld_edge entries chosen expand)) first_is
-        ∙ ap (λ d. codes "[" ++ objects_text d (held_before entries chosen expand)
-        ++ end_text (unheld_edge entries chosen expand)) json_is
-        ∙ ap (λ ns. codes "[" ++ objects_text (json_string directory)
-        (take_while is_text (map (compilation_of entries expand) ns))
-        ++ end_text (find (λ edge. not (is_text (compilation_of entries expand edge))) ns)) listed-same)
-
-    -- a fault before the end of the list
-    pub compdb-stops : (old new : SinkState) (fault : ToolFault) (result : Result Unit ToolFault)
-        → IsErrAnd result (λ e. e ≡ fault) → StopsWithin old new (first ++ objects) fault
-        → WritesCompdb old new (compdb_text entries directory rules expand) (unheld_edge entries rules expand)
-        result
-    compdb-stops old new fault result err stops =
-        compdb-with old new _ _ fault result err
-        (StopsWithin-whole old new (first ++ objects) _ fault
-        (end_text (unheld_edge entries chosen expand), parts) stops)
-
-    -- memory ran out while text is pending
-    pub compdb-no_capacity : (old new : SinkState) (unjoined : List ℕ) (result : Result Unit ToolFault)
-        → IsErrAnd result (λ e. e ≡ OutOfMemory) → IsUnderway old new (first ++ objects) unjoined
-        → WritesCompdb old new (compdb_text entries directory rules expand) (unheld_edge entries rules expand)
-        result
-    compdb-no_capacity old new unjoined result err so_far =
-        compdb-stops old new OutOfMemory result err
-        (TakesFront-whole old new (first ++ objects) unjoined _ ([], sym (append-nil (first ++ objects)))
-        so_far)
-
-    -- JSON cannot contain an edge
-    pub compdb-unheld : (old between new : SinkState) (unjoined sent : List ℕ) (edge : EdgeNo)
-        → Some edge.0 ≡ unheld_edge entries chosen expand
-        → IsUnderway old between (first ++ objects) unjoined → Takes between new sent → sent ≡ unjoined
-        → (unheld_edge entries rules expand ≡ Some edge.0)
-        × Takes old new (compdb_text entries directory rules expand)
-    compdb-unheld old between new unjoined sent edge is so_far taken all = (
-      sym (is ∙ unheld-same),
-      subst (Takes old new) (sym (parts ∙ ap (λ u. first ++ objects ++ end_text u) (sym is)
-          ∙ append-nil (first ++ objects))) (Takes-unjoined old between new _ unjoined sent so_far taken all),
-    )
-
-    -- the end of the list
-
-    module _ (old between : SinkState) (unjoined : List ℕ) (all : None ≡ unheld_edge entries chosen expand)
-        (so_far : IsUnderway old between (first ++ objects) unjoined) where
-      whole : first ++ objects ++ end_text None ≡ compdb_text entries directory rules expand
-      whole = ap (λ u. first ++ objects ++ end_text u) all ∙ sym parts
-
-      ended : IsUnderway old between (compdb_text entries directory rules expand) (unjoined ++ end_text None)
-      ended = subst (λ t. IsUnderway old between t (unjoined ++ end_text None)) whole
-          (IsUnderway-more old between between _ unjoined (end_text None) _ so_far
-          ([], refl, Takes-nil between))
-
-      pub compdb-fails : (new : SinkState) (sent : List ℕ) (result : Result Unit ToolFault)
-          → IsErrAnd result (λ e. e ≡ Write) → FailsWithin between new sent → sent ≡ unjoined ++ end_text None
-          → WritesCompdb old new (compdb_text entries directory rules expand)
-          (unheld_edge entries rules expand) result
-      compdb-fails new sent result err fails is =
-          compdb-with old new _ _ Write result err
-          (FailsWithin-unjoined old between new _ _ sent ended fails is)
-
-      pub compdb-done : (new : SinkState) (sent : List ℕ) → Takes between new sent
-          → sent ≡ unjoined ++ end_text None
-          → (unheld_edge entries rules expand ≡ None)
-          × Takes old new (compdb_text entries directory rules expand)
-      compdb-done new sent taken is = (
-        sym (all ∙ unheld-same),
-        Takes-unjoined old between new _ _ sent ended taken is,
-      )
+  pub list-is : (json : List ℕ) → json ≡ json_string directory
+      → list_text entries json chosen expand ≡ compdb_text entries directory rules expand
+  unfolding compdb_text
+  list-is json json_is =
+      ap (λ d. codes "[" ++ objects_text d (held_before entries chosen expand)
+      ++ end_text (unheld_edge entries chosen expand)) json_is
+      ∙ ap (λ ns. codes "[" ++ objects_text (json_string directory)
+      (take_while is_text (map (compilation_of entries expand) ns))
+      ++ end_text (find (λ edge. not (is_text (compilation_of entries expand edge))) ns)) listed-same
 
 -- ---- the edge of a fault
 

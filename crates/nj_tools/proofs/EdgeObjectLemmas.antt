@@ -4,12 +4,10 @@ use Rattle.std.proofs.Common.{option_map, unwrap_or, List, [], ◌∷◌, ◌++�
 use Rattle.std.proofs.Common.{subst, ◌∙◌, append_assoc, append-nil, flat_map, Result, Err, codes, arith}
 use Rattle.std.specs.Prelude.{find}
 use Rattle.std.specs.List.{fold}
-use Rattle.std.specs.Result.{IsErrAnd}
 use Rattle.std.proofs.lemmas.List.{take_more}
 use Rattle.std.proofs.lemmas.List.Concat.{flat_map-append}
 use Rattle.std.proofs.lemmas.List.FromFn.{get_or-range_with_len, length-range_with_len}
 use Rattle.std.proofs.lemmas.List.Sums.{fold-append}
-use Rattle.std.proofs.lemmas.Result.{err_from_is_err_and}
 use Rattle.std.specs.Fmt.{decimal}
 use Rattle.json.specs.Json.{Json, array, boolean, number, string}
 use Rattle.json.specs.Print.{print}
@@ -22,19 +20,11 @@ use Rattle.nj_text.specs.declared.spot.Spot.{Spot}
 use Rattle.nj_edges.specs.Edges.{EdgePaths, edge_at}
 use Rattle.nj_statements.specs.EdgeList.{edges_read, paths_of_edges}
 use Rattle.nj_graph.specs.Graph.{detail_stated, rule_name_at}
-use Rattle.nj_tools.specs.declared.tool_fault.ToolFault.{ToolFault}
-use Rattle.nj_tools.specs.declared.tool_fault.ToolFault.TheVariants.{OutOfMemory, TextNotUtf8, Write}
-use Rattle.nj_tools.specs.Compdb.{WritesCompdb}
 use Rattle.nj_tools.specs.EdgeObjects.{edge_lines, edge_numbers, edge_object, file_members, head_members}
 use Rattle.nj_tools.specs.EdgeObjects.{place_object, unwritable_edge, value_member, value_members}
 use Rattle.nj_tools.specs.JsonObjects.{json_line, strings, strings_are_utf8}
 use Rattle.nj_tools.specs.Lines.{line}
-use Rattle.nj_tools.specs.Sinks.{SinkState}
-use Rattle.nj_tools.specs.Texts.{StopsWithin, TakesFront}
-use Rattle.nj_tools.specs.Inside.Blocks.{IsUnderway}
 use Rattle.nj_tools.specs.Inside.ObjectTexts.{and_member, and_token, held_text, no_members_yet}
-use Rattle.nj_tools.proofs.BlockLemmas.{IsUnderway-more, StopsWithin-more, StopsWithin-whole}
-use Rattle.nj_tools.proofs.BlockLemmas.{TakesFront-whole}
 use Rattle.nj_tools.proofs.HeldLemmas.{find-none, find-there, next-passes, while-all, while-begins}
 use Rattle.nj_tools.proofs.HeldLemmas.{while-ends}
 use Rattle.nj_tools.proofs.ObjectLemmas.{object-is}
@@ -167,44 +157,35 @@ module _ (entries : List ReadStatement) where
   count-numbers : length (edge_numbers entries) ≡ length (edges_read entries)
   count-numbers = length-range_with_len 0 (length (edges_read entries))
 
-  -- the lines of the first edges were written, and JSON can contain them
-  pub record HasLines (old new : SinkState) (before unjoined : List ℕ) (i : ℕ) : Type 0 where
-    pub passed : find (λ edge. not (strings_are_utf8 (edge_object entries edge)))
-        (take i (edge_numbers entries)) ≡ None
-    pub underway : IsUnderway old new (before ++ flat_map line_of (take i (edge_numbers entries))) unjoined
+  -- the lines of the first edges
+  abbrev pub lines_of : ℕ → List ℕ
+  lines_of i = flat_map line_of (take i (edge_numbers entries))
 
-  pub lines-begin : (s : SinkState) (before : List ℕ) → IsUnderway s s (before ++ []) before
-      → HasLines s s before before 0
-  lines-begin s before nothing = record { passed = refl; underway = nothing }
+  -- JSON can contain the first edges
+  abbrev pub AreWritable : ℕ → Type 0
+  AreWritable i =
+      find (λ edge. not (strings_are_utf8 (edge_object entries edge))) (take i (edge_numbers entries)) ≡ None
 
-  module _ (old new : SinkState) (before unjoined : List ℕ) (i : ℕ)
-      (so_far : HasLines old new before unjoined i) where
-    -- the lines of the first edges begin those of all
-    begins : (n : ℕ) → find (λ edge. not (strings_are_utf8 (edge_object entries edge)))
-        (take n (edge_numbers entries)) ≡ None
-        → IsPrefix (before ++ flat_map line_of (take n (edge_numbers entries))) (before ++ edge_lines entries)
-    begins n passed =
-        let parts = while-begins writable numbers n passed in (
-          flat_map line_of parts.0,
-          ap (λ t. before ++ t)
-              (ap (flat_map line_of) parts.1 ∙ flat_map-append line_of (take n numbers) parts.0)
-              ∙ sym (append_assoc before (flat_map line_of (take n numbers)) (flat_map line_of parts.0)),
-        )
+  -- their lines begin those of all
+  pub lines-front : (i : ℕ) → AreWritable i → IsPrefix (lines_of i) (edge_lines entries)
+  lines-front i passed =
+      let parts = while-begins writable numbers i passed in (
+        flat_map line_of parts.0,
+        ap (flat_map line_of) parts.1 ∙ flat_map-append line_of
+            (take i numbers) parts.0,
+      )
 
-    pub lines-front : TakesFront old new (before ++ edge_lines entries)
-    lines-front = TakesFront-whole old new _ unjoined _ (begins i so_far.passed) so_far.underway
-
+  module _ (i : ℕ) (passed : AreWritable i) where
     -- all edges were looked at
     module _ (all : i ≡ length (edges_read entries)) where
       past : length (edge_numbers entries) ≤ i
       past = omega (arith, all, count-numbers)
 
-      pub lines-all : IsUnderway old new (before ++ edge_lines entries) unjoined
-      lines-all = subst (λ ns. IsUnderway old new (before ++ flat_map line_of ns) unjoined)
-          (sym (while-all writable numbers i so_far.passed past)) so_far.underway
+      pub lines-all : lines_of i ≡ edge_lines entries
+      lines-all = ap (flat_map line_of) (sym (while-all writable numbers i passed past))
 
       pub none-unwritable : None ≡ unwritable_edge entries
-      none-unwritable = sym (find-none writable numbers i so_far.passed past)
+      none-unwritable = sym (find-none writable numbers i passed past)
 
     -- the next edge
     module _ (below : i < length (edges_read entries)) where
@@ -212,8 +193,8 @@ module _ (entries : List ReadStatement) where
       within = omega (arith, below, count-numbers)
 
       here : get_or (edge_numbers entries) i 0 ≡ i
-      here = let zero_first : 0 + i ≡ i = omega arith
-          in get_or-range_with_len 0 (length (edges_read entries)) i 0 below ∙ zero_first
+      here = let zero_first : 0 + i ≡ i = omega arith in
+          get_or-range_with_len 0 (length (edges_read entries)) i 0 below ∙ zero_first
 
       -- it is the first that JSON cannot contain
       module _ (none : None ≡ option_map print (held_text (edge_object entries i))) where
@@ -221,12 +202,11 @@ module _ (entries : List ReadStatement) where
         fails = ap (λ edge. strings_are_utf8 (edge_object entries edge)) here
             ∙ no-text (edge_object entries i) none
 
-        pub lines-before : IsUnderway old new (before ++ edge_lines entries) unjoined
-        lines-before = subst (λ ns. IsUnderway old new (before ++ flat_map line_of ns) unjoined)
-            (sym (while-ends writable numbers i so_far.passed 0 within fails)) so_far.underway
+        pub lines-before : lines_of i ≡ edge_lines entries
+        lines-before = ap (flat_map line_of) (sym (while-ends writable numbers i passed 0 within fails))
 
         pub is-unwritable : Some i ≡ unwritable_edge entries
-        is-unwritable = sym (find-there writable numbers i so_far.passed 0 within fails ∙ ap Some here)
+        is-unwritable = sym (find-there writable numbers i passed 0 within fails ∙ ap Some here)
 
       -- it has a line
       module _ (text : List ℕ) (some : Some text ≡ option_map print (held_text (edge_object entries i))) where
@@ -234,59 +214,20 @@ module _ (entries : List ReadStatement) where
         passes = ap (λ edge. strings_are_utf8 (edge_object entries edge)) here
             ∙ (text-is (edge_object entries i) text some).0
 
-        passed-next : find (λ edge. not (strings_are_utf8 (edge_object entries edge)))
-            (take (i + 1) (edge_numbers entries)) ≡ None
-        passed-next = next-passes writable numbers i so_far.passed 0 within passes
+        pub passed-next : AreWritable (i + 1)
+        passed-next = next-passes writable numbers i passed 0 within passes
 
-        lines-next : flat_map line_of (take (i + 1) (edge_numbers entries))
-            ≡ flat_map line_of (take i (edge_numbers entries)) ++ line text
-        lines-next =
+        pub lines-next : lines_of i ++ line (text ++ []) ≡ lines_of (i + 1)
+        lines-next = sym (
             ap (flat_map line_of) (take_more numbers i 0 within)
             ∙ flat_map-append line_of (take i numbers) (get_or numbers i 0 ∷ [])
-            ∙ ap (λ t. flat_map line_of (take i numbers) ++ t)
-            (append-nil (line_of (get_or numbers i 0)) ∙ ap line_of here
-            ∙ ap line (sym (text-is (edge_object entries i) text some).1))
+            ∙ ap (λ t. lines_of i ++ t)
+            (append-nil (line_of (get_or numbers i 0)) ∙ ap line_of here ∙ ap line
+            (sym (append-nil text ∙ (text-is (edge_object entries i) text some).1)))
+            )
 
-        whole-next : (before ++ flat_map line_of (take i (edge_numbers entries))) ++ line text
-            ≡ before ++ flat_map line_of (take (i + 1) (edge_numbers entries))
-        whole-next = append_assoc before (flat_map line_of (take i numbers)) (line text)
-            ∙ ap (λ t. before ++ t) (sym lines-next)
-
-        alone : line ([] ++ text ++ []) ≡ line text
-        alone = ap line (append-nil text)
-
-        pub line-written : (later : SinkState) (after : List ℕ)
-            → IsUnderway new later (unjoined ++ line ([] ++ text ++ [])) after
-            → HasLines old later before after (i + 1)
-        line-written later after written = record {
-          passed = passed-next;
-          underway = subst (λ t. IsUnderway old later t after) whole-next
-              (IsUnderway-more old new later _ unjoined (line text) after so_far.underway
-              (subst (λ t. IsUnderway new later (unjoined ++ t) after) alone written));
-        }
-
-        pub stops-at_line : (later : SinkState) (fault : ToolFault)
-            → StopsWithin new later (unjoined ++ line ([] ++ text ++ [])) fault
-            → StopsWithin old later (before ++ edge_lines entries) fault
-        stops-at_line later fault stops =
-            StopsWithin-whole old later _ _ fault (begins (i + 1) passed-next)
-            (subst (λ t. StopsWithin old later t fault) whole-next
-            (StopsWithin-more old new later _ unjoined (line text) fault so_far.underway
-            (subst (λ t. StopsWithin new later (unjoined ++ t) fault) alone stops)))
-
--- ---- the whole text
-
-stops-in_lines : (old new : SinkState) (text : List ℕ) (unheld : Option ℕ) (fault : ToolFault)
-    → StopsWithin old new text fault → WritesCompdb old new text unheld (Err fault)
-stops-in_lines old new text unheld Write stops = stops
-stops-in_lines old new text unheld OutOfMemory stops = stops
-stops-in_lines old new text unheld (TextNotUtf8 edge) stops = absurd stops
-
--- the fault that is answered
-pub lines-stop : (old new : SinkState) (text : List ℕ) (unheld : Option ℕ) (fault : ToolFault)
-    (result : Result Unit ToolFault)
-    → IsErrAnd result (λ e. e ≡ fault) → StopsWithin old new text fault
-    → WritesCompdb old new text unheld result
-lines-stop old new text unheld fault result err stops =
-    let (e, is, same) = err_from_is_err_and result err
-    in rw (is, same) (stops-in_lines old new text unheld fault stops)
+        -- with its line they begin those of all
+        pub line-front : IsPrefix (lines_of i ++ line (text ++ [])) (edge_lines entries)
+        line-front =
+            let (more, is) = lines-front (i + 1) passed-next in
+            (more, is ∙ ap (λ t. t ++ more) (sym lines-next))

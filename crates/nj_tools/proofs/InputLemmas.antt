@@ -4,21 +4,15 @@ use Rattle.std.proofs.Common.{◌≡◌, ℕ, ◌+◌, ◌<◌, Bool, true, fals
 use Rattle.std.proofs.Common.{get_or, take, drop, All, bytes_eq, Result, Ok, Err, refl, sym, ap, subst, ◌∙◌}
 use Rattle.std.proofs.Common.{append_assoc, append-nil, take-append-drop}
 use Rattle.std.specs.List.{flat_map, IsDistinct}
-use Rattle.std.specs.Result.{IsErrAnd}
 use Rattle.std.proofs.lemmas.List.{take_more}
 use Rattle.std.proofs.lemmas.List.Concat.{flat_map-append}
 use Rattle.nj_scope.specs.Readings.{IsPrefix}
 use Rattle.nj_names.specs.declared.files.FileNo.{FileNo}
 use Rattle.nj_names.specs.Files.{path_at, AreFiles}
-use Rattle.nj_tools.specs.declared.tool_fault.ToolFault.{ToolFault}
-use Rattle.nj_tools.specs.Inside.Blocks.{IsUnderway, PutsText}
 use Rattle.nj_tools.specs.Inside.Collections.{is_collected, with_file, with_files, new_file, new_files, AreOf}
 use Rattle.nj_edges.specs.Repeats.{each_once}
-use Rattle.nj_tools.specs.Sinks.{SinkState}
-use Rattle.nj_tools.specs.Texts.{StopsWithin}
-use Rattle.nj_tools.proofs.BlockLemmas.{StopsWithin-whole, puts-then, puts-stop, puts-with}
 use Rattle.nj_statements.proofs.OnceLemmas.{once-front}
-use Rattle.nj_tools.proofs.ItemLemmas.{flat_map-map}
+use Rattle.std.proofs.lemmas.List.Folds.{flat_map-map}
 use Rattle.nj_tools.proofs.ListingLemmas.{AreOf-row}
 
 -- ---- new files
@@ -69,7 +63,7 @@ module _ (files : List FileNo) (i : ℕ) (d : FileNo) (below : i < length files)
       (append-nil (new_file (with_files earlier (take i files)) (get_or files i d)))
 
   module _ (text_of : FileNo → List ℕ) where
-    text-next : flat_map text_of (new_files earlier (take i files))
+    pub text-next : flat_map text_of (new_files earlier (take i files))
         ++ flat_map text_of (new_file (with_files earlier (take i files)) (get_or files i d))
         ≡ flat_map text_of (new_files earlier (take (i + 1) files))
     text-next =
@@ -77,46 +71,19 @@ module _ (files : List FileNo) (i : ℕ) (d : FileNo) (below : i < length files)
         (new_file (with_files earlier (take i files)) (get_or files i d)))
         ∙ ap (flat_map text_of) (sym new-next)
 
-    text-all : flat_map text_of (new_files earlier (take (i + 1) files))
-        ++ flat_map text_of (new_files (with_files earlier (take (i + 1) files)) (drop (i + 1) files))
-        ≡ flat_map text_of (new_files earlier files)
-    text-all =
-        sym (flat_map-append text_of (new_files earlier (take (i + 1) files))
-        (new_files (with_files earlier (take (i + 1) files)) (drop (i + 1) files)))
-        ∙ ap (flat_map text_of) (sym (new_files-append (take (i + 1) files) (drop (i + 1) files) earlier)
-        ∙ ap (new_files earlier) (take-append-drop (i + 1) files))
-
-    pub file-puts : (old between new : SinkState) (before unjoined after : List ℕ)
-        → IsUnderway old between (before ++ flat_map text_of (new_files earlier (take i files))) unjoined
-        → IsUnderway between new (unjoined ++ flat_map text_of
-        (new_file (with_files earlier (take i files)) (get_or files i d))) after
-        → IsUnderway old new (before ++ flat_map text_of (new_files earlier (take (i + 1) files))) after
-    file-puts old between new before unjoined after first second =
-        subst (λ t. IsUnderway old new (before ++ t) after) text-next
-        (puts-then {X = Unit} old between new before unjoined after
-        (flat_map text_of (new_files earlier (take i files)))
-        (flat_map text_of (new_file (with_files earlier (take i files)) (get_or files i d))) (Ok tt) first
-        second)
-
-    -- a stop within it is one within all of them
-    pub file-stops : {R : Type 0} (old between new : SinkState) (before unjoined after : List ℕ)
-        (fault : ToolFault) (result : Result R ToolFault)
-        → IsErrAnd result (λ e. e ≡ fault)
-        → IsUnderway old between (before ++ flat_map text_of (new_files earlier (take i files))) unjoined
-        → StopsWithin between new (unjoined ++ flat_map text_of
-        (new_file (with_files earlier (take i files)) (get_or files i d))) fault
-        → PutsText old new before after (flat_map text_of (new_files earlier files)) result
-    file-stops old between new before unjoined after fault result err first stops =
-        puts-with old new before after (flat_map text_of (new_files earlier files)) fault result err
-        (subst (λ t. StopsWithin old new (before ++ t) fault) text-all
-        (puts-stop old new before (flat_map text_of (new_files earlier (take (i + 1) files)))
-        (flat_map text_of (new_files (with_files earlier (take (i + 1) files)) (drop (i + 1) files)))
-        fault
-        (subst (λ t. StopsWithin old new (before ++ t) fault) text-next
-        (puts-then {X = Unit} old between new before unjoined []
-        (flat_map text_of (new_files earlier (take i files)))
-        (flat_map text_of (new_file (with_files earlier (take i files)) (get_or files i d))) (Err fault) first
-        stops))))
+    -- it begins the text of all
+    pub text-front : IsPrefix (flat_map text_of (new_files earlier (take i files))
+        ++ flat_map text_of (new_file (with_files earlier (take i files)) (get_or files i d)))
+        (flat_map text_of (new_files earlier files))
+    text-front =
+        let first = new_files earlier (take (i + 1) files) in
+        let rest = new_files (with_files earlier (take (i + 1) files)) (drop (i + 1) files) in (
+          flat_map text_of rest,
+          ap (flat_map text_of)
+              (ap (new_files earlier) (sym (take-append-drop (i + 1) files))
+              ∙ new_files-append (take (i + 1) files) (drop (i + 1) files) earlier)
+              ∙ flat_map-append text_of first rest ∙ ap (λ t. t ++ flat_map text_of rest) (sym text-next),
+        )
 
 -- ---- the edges, one after another
 
@@ -130,28 +97,20 @@ module _ (print : List ℕ → List ℕ) (paths : List (List ℕ)) where
   strings-are files listed are = sym (flat_map-map print (path_at paths) files)
       ∙ ap (flat_map print) are.paths_are
 
-  row-text : (row files : List FileNo) → flat_map file_text files ++ flat_map file_text (new_files files row)
+  -- the files of one more edge
+  pub row-text : (row files : List FileNo)
+      → flat_map file_text files ++ flat_map file_text (new_files files row)
       ≡ flat_map file_text (with_files files row)
   row-text row files = sym (flat_map-append file_text files (new_files files row))
       ∙ ap (flat_map file_text) (sym (with_files-new row files))
-
-  -- the files of one more edge
-  pub row-puts : (row files : List FileNo) (old between new : SinkState) (before unjoined after : List ℕ)
-      → IsUnderway old between (before ++ flat_map file_text files) unjoined
-      → IsUnderway between new (unjoined ++ flat_map file_text (new_files files row)) after
-      → IsUnderway old new (before ++ flat_map file_text (with_files files row)) after
-  row-puts row files old between new before unjoined after first second =
-      subst (λ t. IsUnderway old new (before ++ t) after) (row-text row files)
-      (puts-then {X = Unit} old between new before unjoined after (flat_map file_text files)
-      (flat_map file_text (new_files files row)) (Ok tt) first second)
 
   module _ (distinct : IsDistinct bytes_eq paths) (inputs : ℕ → List (List ℕ)) (edges : List ℕ) (e : ℕ)
       (row files : List FileNo)
       (row_are : AreFiles paths row (inputs e)) (known : All (λ file. file.0 < length paths) row)
       (are : AreOf paths files (flat_map inputs edges)) where
-    -- they are a front of all
-    row-front : (all left : List ℕ) → all ≡ edges ++ e ∷ left
-        → IsPrefix (flat_map file_text (with_files files row))
+    -- they begin the text of all
+    pub row-front : (all left : List ℕ) → all ≡ edges ++ e ∷ left
+        → IsPrefix (flat_map file_text files ++ flat_map file_text (new_files files row))
         (flat_map print (each_once bytes_eq (flat_map inputs all)))
     row-front all left is =
         let now = flat_map inputs (edges ++ e ∷ []) in
@@ -166,40 +125,14 @@ module _ (print : List ℕ → List ℕ) (paths : List (List ℕ)) where
           flat_map print front.0,
           ap (λ ps. flat_map print (each_once bytes_eq ps)) whole ∙ ap (flat_map print) front.1
               ∙ flat_map-append print (each_once bytes_eq now) front.0
-              ∙ ap (λ t. t ++ flat_map print front.0) (sym so_far),
+              ∙ ap (λ t. t ++ flat_map print front.0) (sym (row-text row files ∙ so_far)),
         )
-
-    -- a stop within its files is one within the files of all edges
-    pub row-stops : {R : Type 0} (all left : List ℕ) → all ≡ edges ++ e ∷ left
-        → (old between new : SinkState) (before unjoined after : List ℕ) (fault : ToolFault)
-        (result : Result R ToolFault)
-        → IsErrAnd result (λ e. e ≡ fault) → IsUnderway old between (before ++ flat_map file_text files)
-        unjoined
-        → StopsWithin between new (unjoined ++ flat_map file_text (new_files files row)) fault
-        → PutsText old new before after (flat_map print (each_once bytes_eq (flat_map inputs all))) result
-    row-stops all left is old between new before unjoined after fault result err first stops =
-        let front = row-front all left is in
-        puts-with old new before after (flat_map print (each_once bytes_eq (flat_map inputs all))) fault
-        result err
-        (StopsWithin-whole old new (before ++ flat_map file_text (with_files files row))
-        (before ++ flat_map print (each_once bytes_eq (flat_map inputs all))) fault (
-          front.0,
-          ap (λ t. before ++ t) front.1
-              ∙ sym (append_assoc before (flat_map file_text (with_files files row)) front.0),
-        )
-        (subst (λ t. StopsWithin old new (before ++ t) fault) (row-text row files)
-        (puts-then {X = Unit} old between new before unjoined [] (flat_map file_text files)
-        (flat_map file_text (new_files files row)) (Err fault) first stops)))
 
   -- the files of all edges
-  pub rows-put : (inputs : ℕ → List (List ℕ)) (all edges left : List ℕ) (files : List FileNo)
+  pub rows-are : (inputs : ℕ → List (List ℕ)) (all edges left : List ℕ) (files : List FileNo)
       → all ≡ edges ++ left → left ≡ [] → AreOf paths files (flat_map inputs edges)
-      → (old new : SinkState) (before after : List ℕ)
-      → IsUnderway old new (before ++ flat_map file_text files) after
-      → IsUnderway old new (before ++ flat_map print (each_once bytes_eq (flat_map inputs all))) after
-  rows-put inputs all edges left files is none are old new before after put =
-      subst (λ t. IsUnderway old new (before ++ t) after)
-      (strings-are files (flat_map inputs edges) are
+      → flat_map file_text files ≡ flat_map print (each_once bytes_eq (flat_map inputs all))
+  rows-are inputs all edges left files is none are =
+      strings-are files (flat_map inputs edges) are
       ∙ ap (λ es. flat_map print (each_once bytes_eq (flat_map inputs es)))
-      (sym (is ∙ ap (λ es. edges ++ es) none ∙ append-nil edges)))
-      put
+      (sym (is ∙ ap (λ es. edges ++ es) none ∙ append-nil edges))

@@ -1,10 +1,8 @@
-pub mod BlockLemmas
+pub mod OutputLemmas
 pub mod CollectedLemmas
 pub mod CommandLemmas
-pub mod KindLemmas
 pub mod InputLemmas
 pub mod InputRows
-pub mod ItemLemmas
 pub mod JsonLemmas
 pub mod LawLemmas
 pub mod ListingLemmas
@@ -18,7 +16,6 @@ pub mod OwnLemmas
 pub mod QueryLemmas
 pub mod QueryRows
 pub mod QuoteLemmas
-pub mod SequenceLemmas
 pub mod SinkLemmas
 pub mod SortedLemmas
 pub mod TreeLaws

@@ -24,7 +24,7 @@ use Rattle.nj_tools.specs.Listings.{sorted, needed_inputs, printed, terminated, 
 use Rattle.nj_tools.specs.Listings.{made_line}
 use Rattle.nj_edges.specs.Repeats.{each_once}
 use Rattle.nj_tools.proofs.CollectedLemmas.{AreOf-files}
-use Rattle.nj_tools.proofs.ItemLemmas.{flat_map-map}
+use Rattle.std.proofs.lemmas.List.Folds.{flat_map-map}
 
 -- ---- the files of one more edge
 
@@ -72,6 +72,10 @@ module _ {X : Type 0} (paths : List (List ℕ)) (distinct : IsDistinct bytes_eq 
 
 -- ---- the edge of a number as it is stated
 
+-- the written outputs of an edge
+abbrev pub made_of : List ReadStatement → EdgeModel → List ℕ
+made_of entries e = flat_map (λ path. made_line path (rule_name_of entries e)) (outputs_of e.paths)
+
 module _ (g : GraphModel) (entries : List ReadStatement) (is : IsGraphOf g entries) where
   pub edge-count : length (edges_of g) ≡ length (edges_read entries)
   edge-count = ap length is.built.paths ∙ length-map (edges_read entries) (λ e. e.paths)
@@ -101,14 +105,12 @@ module _ (g : GraphModel) (entries : List ReadStatement) (is : IsGraphOf g entri
     pub made-stated : (row : List FileNo) (rule : List ℕ)
         → AreFiles (files_of g) row (outputs_of (edge_at (edges_of g) n)) → rule ≡ rule_name_at entries n
         → flat_map (λ path. made_line path rule) (map (path_at (files_of g)) row)
-        ≡ flat_map (λ path. made_line path (rule_name_of entries (get_or (edges_read entries) n stated)))
-        (outputs_of (get_or (edges_read entries) n stated).paths)
+        ≡ made_of entries (get_or (edges_read entries) n stated)
     made-stated row rule are h =
         ap (λ r. flat_map (λ path. made_line path r) (map (path_at (files_of g)) row)) (rule-stated rule h)
         ∙ ap (flat_map (λ path. made_line path (rule_name_of entries stated)))
         (paths-are (files_of g) row _ are ∙ ap outputs_of paths-stated)
-        ∙ ap (λ (e : EdgeModel). flat_map (λ path. made_line path (rule_name_of entries e))
-        (outputs_of e.paths)) (sym stated-is)
+        ∙ ap (made_of entries) (sym stated-is)
 
     more : (rule : List ℕ) (b : Bool) → b ≡ bytes_eq (rule_name_at entries n) rule
         → filter (λ e. bytes_eq (rule_name_of entries e) rule) (take (n + 1) (edges_read entries))
@@ -206,7 +208,6 @@ no_maker h o maker none is tells = sym (none-is o none tells) ∙ sym (is_none-m
 -- ---- the output of `targets all`
 
 pub outputs-are : (entries : List ReadStatement)
-    → outputs_text entries ≡ flat_map (λ e. flat_map (λ path. made_line path (rule_name_of entries e))
-    (outputs_of e.paths)) (edges_read entries)
+    → flat_map (made_of entries) (edges_read entries) ≡ outputs_text entries
 unfolding outputs_text
 outputs-are entries = refl

@@ -1,7 +1,7 @@
 -- How `query` writes files and edges one after another.
-use Rattle.std.proofs.Common.{◌≡◌, ℕ, suc, ◌==◌, true, false, Option, Some, None, unwrap_or, List, [], ◌∷◌}
-use Rattle.std.proofs.Common.{◌++◌, length, map, refl, sym, ap, ◌∙◌, append-nil, append_assoc, true≢false}
-use Rattle.std.proofs.Common.{arith}
+use Rattle.std.proofs.Common.{◌≡◌, ℕ, suc, ◌==◌, true, false, Option, Some, None, option_map, unwrap_or, List}
+use Rattle.std.proofs.Common.{[], ◌∷◌, ◌++◌, length, map, refl, sym, ap, ◌∙◌, append-nil, append_assoc}
+use Rattle.std.proofs.Common.{true≢false, arith}
 use Rattle.std.specs.Prelude.{codes, slice_get}
 use Rattle.std.specs.List.{flat_map}
 use Rattle.std.proofs.lemmas.Grind.{common_steps}
@@ -22,23 +22,25 @@ use Rattle.nj_tools.specs.Inside.QueriesHeld.{validations_section, validated_sec
 -- ---- files and edges
 
 -- the line of a file
-abbrev pub file_line : (files : List (List ℕ)) → FileNo → List ℕ
-file_line files file = line (codes "    " ++ path_at files file)
+abbrev pub file_line : (files : List (List ℕ)) → (beginning : List ℕ) → FileNo → List ℕ
+file_line files beginning file = line (beginning ++ path_at files file)
 
-pub file_line-is : (files : List (List ℕ)) (file : FileNo) (path : List ℕ)
+pub file_line-is : (files : List (List ℕ)) (beginning : List ℕ) (file : FileNo) (path : List ℕ)
     → slice_get files file.0 ≡ Some path
-    → line (codes "    " ++ (path ++ [])) ≡ file_line files file
-file_line-is files file path is =
-    ap (λ p. line (codes "    " ++ p)) (append-nil path)
-    ∙ sym (ap (λ o. line (codes "    " ++ unwrap_or o [])) is)
+    → line ((beginning ++ path) ++ []) ≡ file_line files beginning file
+file_line-is files beginning file path is =
+    ap line (append-nil (beginning ++ path)) ∙ sym (ap (λ o. line (beginning ++ unwrap_or o [])) is)
 
-pub file_lines-are : (files : List (List ℕ)) (numbers : List FileNo)
-    → flat_map (file_line files) numbers ≡ lines_after (codes "    ") (map (path_at files) numbers)
-file_lines-are files numbers = sym (flat_map-map (λ path. line (codes "    " ++ path)) (path_at files)
-    numbers)
+pub file_lines-are : (files : List (List ℕ)) (beginning : List ℕ) (numbers : List FileNo)
+    → flat_map (file_line files beginning) numbers ≡ lines_after beginning (map (path_at files) numbers)
+file_lines-are files beginning numbers =
+    sym (flat_map-map (λ path. line (beginning ++ path)) (path_at files) numbers)
 
 abbrev pub number_of : EdgeNo → ℕ
 number_of edge = edge.0
+
+pub title-is : (title : List ℕ) → line ((title ++ []) ++ []) ≡ line title
+title-is title = ap line (append-nil (title ++ []) ∙ append-nil title)
 
 -- the lines of the outputs of an edge
 abbrev pub output_lines : List EdgePaths → EdgeNo → List ℕ
@@ -109,45 +111,37 @@ pub maker-none : (entries : List ReadStatement) (edges : List EdgePaths) → mak
 unfolding maker_text
 maker-none entries edges = refl
 
-pub maker-parts : (entries : List ReadStatement) (edges : List EdgePaths) (edge : ℕ) (name : List ℕ)
-    (validations : List (List ℕ))
-    → name ≡ rule_name_at entries edge → validations ≡ (edge_at edges edge).validations
-    → line (codes "  input: " ++ name) ++ (inputs_by_kind (edge_at edges edge)
-    ++ validations_section validations) ≡ maker_text entries edges (Some edge)
+-- the parts of the edge that makes a file
+pub maker-is : (entries : List ReadStatement) (edges : List EdgePaths) (maker : Option EdgeNo) (edge : EdgeNo)
+    → maker ≡ Some edge
+    → let e = edge_at edges edge.0 in
+    (line (codes "  input: " ++ rule_name_at entries edge.0) ++ inputs_by_kind e)
+    ++ validations_section e.validations
+    ≡ maker_text entries edges (option_map number_of maker)
 unfolding maker_text validations_section
-maker-parts entries edges edge name validations named are =
-    let inputs = inputs_by_kind (edge_at edges edge) in
-    ap (λ n. line (codes "  input: " ++ n) ++ (inputs ++ validations_section validations)) named
-    ∙ ap (λ paths. line (codes "  input: " ++ rule_name_at entries edge)
-    ++ (inputs ++ validations_section paths)) are
-    ∙ sym (append_assoc (line (codes "  input: " ++ rule_name_at entries edge)) inputs
-    (validations_section (edge_at edges edge).validations))
+maker-is entries edges maker edge is = sym (ap (λ m. maker_text entries edges (option_map number_of m)) is)
 
 -- the outputs of the users of a file
 abbrev pub users_part : List EdgePaths → (users : List ℕ) → List ℕ
 users_part edges users = line (codes "  outputs:") ++ lines_after (codes "    ") (outputs_of_all edges users)
 
-pub file-parts : (entries : List ReadStatement) (g : GraphModel) (file : FileNo) (path : List ℕ)
-    (maker : Option ℕ) (users validation_users : List ℕ)
-    → slice_get (files_of g) file.0 ≡ Some path → maker ≡ maker_of (edges_of g) (path_at (files_of g) file)
-    → users ≡ users_of (edges_of g) (path_at (files_of g) file)
-    → validation_users ≡ validation_users_of (edges_of g) (path_at (files_of g) file)
-    → line (path ++ codes ":") ++ (maker_text entries (edges_of g) maker
-    ++ (users_part (edges_of g) users ++ validated_section (edges_of g) validation_users))
-    ≡ file_text entries g file
-unfolding query_in section validated_section
-file-parts entries g file path maker users validation_users is maker_is users_are validation_users_are =
-    let edges = edges_of g in
+pub path-is : (files : List (List ℕ)) (file : FileNo) (path : List ℕ) → slice_get files file.0 ≡ Some path
+    → path ≡ path_at files file
+path-is files file path is = sym (ap (λ o. unwrap_or o []) is)
+
+-- the parts of the text for a file
+pub file-is : (entries : List ReadStatement) (g : GraphModel) (file : FileNo)
+    → let edges = edges_of g in
     let at = path_at (files_of g) file in
-    let same : path ≡ at = sym (ap (λ o. unwrap_or o []) is) in
-    let head = line (at ++ codes ":") in
-    let made = maker_text entries edges (maker_of edges at) in
-    let used = users_part edges (users_of edges at) in
-    let validated = validated_section edges (validation_users_of edges at) in
-    ap (λ p. line (p ++ codes ":") ++ (maker_text entries edges maker
-    ++ (users_part edges users ++ validated_section edges validation_users))) same
-    ∙ ap (λ m. head ++ (maker_text entries edges m
-    ++ (users_part edges users ++ validated_section edges validation_users))) maker_is
-    ∙ ap (λ us. head ++ (made ++ (users_part edges us ++ validated_section edges validation_users))) users_are
-    ∙ ap (λ us. head ++ (made ++ (used ++ validated_section edges us))) validation_users_are
-    ∙ sym (append_assoc (head ++ made) used validated ∙ append_assoc head made (used ++ validated))
+    ((line (at ++ codes ":") ++ maker_text entries edges (maker_of edges at)) ++ users_part edges
+    (users_of edges at))
+    ++ validated_section edges (validation_users_of edges at) ≡ file_text entries g file
+unfolding query_in section validated_section
+file-is entries g file = refl
+
+-- the inputs by kind
+pub kinds-are : (e : EdgePaths)
+    → (lines_after (codes "    ") e.explicit_inputs ++ lines_after (codes "    | ") e.implicit_inputs)
+    ++ lines_after (codes "    || ") e.order_only_inputs ≡ inputs_by_kind e
+unfolding inputs_by_kind
+kinds-are e = refl

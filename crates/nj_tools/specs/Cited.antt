@@ -3,7 +3,7 @@ pub use Rattle.nj_tools.specs.Compdb.{is_chosen, has_object, compilation_of, obj
 pub use Rattle.nj_tools.specs.Compdb.{WritesCompdb, json_string}
 pub use Rattle.nj_scope.specs.ReadingList.{ReadStatement}
 pub use Rattle.nj_graph.specs.Graph.{edges_of, files_of, IsGraphOf, main_rules, main_rule_at}
-pub use Rattle.nj_tools.specs.Inside.Blocks.{PutsText, PutsBlock}
+pub use Rattle.nj_tools.specs.Inside.Outputs.{IsSame, PutsText}
 pub use Rattle.nj_needs.specs.Order.{made_by}
 pub use Rattle.nj_needs.specs.PageWalks.{written, StopsAt}
 pub use Rattle.nj_needs.specs.Walks.{number_of}
@@ -14,7 +14,7 @@ pub use Rattle.nj_tools.specs.Inside.Seen.{AreSeen, new_commands}
 pub use Rattle.nj_tools.specs.Texts.{WritesText}
 pub use Rattle.nj_names.specs.Files.{AreFiles, path_at}
 pub use Rattle.nj_statements.specs.EdgeList.{edges_read}
-pub use Rattle.nj_tools.specs.Inside.CompdbHeld.{command_text, first_path, held_compilation, object_of_strings, held_string}
+pub use Rattle.nj_tools.specs.Inside.CompdbHeld.{command_text, first_path, held_compilation, list_text, object_of_strings, held_string}
 pub use Rattle.std.specs.List.{fold}
 pub use Rattle.json.specs.Print.{print}
 pub use Rattle.nj_edges.specs.Edges.{edge_at, maker_of}
@@ -36,10 +36,9 @@ pub use Rattle.std.specs.Fmt.{decimal}
 pub use Rattle.json.specs.Json.{array, boolean, number, string}
 pub use Rattle.json.specs.Token.{begin_array, begin_object, end_array, end_object, key}
 pub use Rattle.nj_tools.specs.JsonObjects.{strings}
-pub use Rattle.nj_edges.specs.declared.edges.Kind.{Kind}
-pub use Rattle.nj_tools.specs.Lines.{lines_after, line, lines}
+pub use Rattle.nj_tools.specs.Lines.{line, lines_after, lines}
 pub use Rattle.nj_tools.specs.Queries.{query_text, query_in, maker_text, inputs_by_kind, outputs_of_all}
-pub use Rattle.nj_tools.specs.Inside.QueriesHeld.{sign_of, validations_section, validated_section}
+pub use Rattle.nj_tools.specs.Inside.QueriesHeld.{validations_section, validated_section}
 pub use Rattle.nj_tools.specs.RuleLists.{rule_line, rules_text}
 pub use Rattle.nj_tools.specs.Inside.QuotesHeld.{quote_strings, precedes_plain}
 pub use Rattle.nj_tools.specs.Inside.Trees.{rows_of, AreKnown, rows_after}

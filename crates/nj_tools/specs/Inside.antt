@@ -1,5 +1,6 @@
 -- How the code meets the definitions beside this directory. No contract of a public call needs these.
 pub mod Blocks
+pub mod Outputs
 pub mod Collections
 pub mod Commands
 pub mod CompdbHeld

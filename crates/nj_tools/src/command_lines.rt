@@ -1,15 +1,14 @@
 //! The commands of edges, a line each.
 
-ghost use Rattle.std.specs.Prelude.{◌≡◌, ℕ, ◌<◌, ◌++◌, List, [], ◌∷◌, length, All, IfOk, IfSome, OnOk};
-ghost use Rattle.nj_tools.specs.Cited.{ReadStatement, edges_of, files_of, IsGraphOf, PutsText, made_by, written, StopsAt, number_of, command_lines, own_commands, single, own_makers, command_line, AreSeen, new_commands, WritesText};
+ghost use Rattle.std.specs.Prelude.{◌≡◌, ℕ, ◌<◌, ◌++◌, List, [], ◌∷◌, length, All, IfOk, IfSome};
+ghost use Rattle.nj_tools.specs.Cited.{ReadStatement, edges_of, files_of, IsGraphOf, IsSame, PutsText, made_by, written, StopsAt, number_of, command_lines, own_commands, single, own_makers, command_line, AreSeen, new_commands, WritesText};
 
-use crate::output_block::write_block;
+use crate::output::Output;
 use crate::sinks::Sink;
 use crate::tool_fault::ToolFault;
-use crate::whole_text::write_whole;
 use nj_graph::{EdgeNo, FileNo, Graph};
 use nj_needs::{Mark, Needs};
-use std::alloc::{AllocError, Global};
+use std::alloc::Global;
 
 /// Writes the commands of the edges that are left to a walk over this graph, a line each; at most
 /// `take` of them if that is given. Returns the mark at which the walk can be resumed if more are
@@ -34,11 +33,12 @@ pub fn write_commands<S: Sink>(
     ensures mark { IfOk result (λ mark. StopsAt needs.old take mark) }
 {
     let mut text = Vec::new(alloc);
+    let mut output = Output::new(out, &mut text);
     let mut room = take;
     'commands: while let Some(edge) = needs.next_on_page(&mut room) {
-        write_command(graph, edge, &mut text, out)?;
+        write_command(graph, edge, &mut output)?;
     }
-    write_whole(out, &text)?;
+    output.flush()?;
     Ok(needs.mark_after_page(alloc, room)?)
 }
 
@@ -59,15 +59,15 @@ pub fn write_single_commands<S: Sink>(
         → WritesText (S.state out.old) (S.state out.new)
         (command_lines entries (own_commands graph.now.built.graph targets.now)) result }
 {
-    let mut text = Vec::new(alloc);
     let mut seen = vec![in alloc; false; graph.edge_count()]?;
+    let mut text = Vec::new(alloc);
+    let mut output = Output::new(out, &mut text);
     'targets: for target in targets {
         if let Some(edge) = new_maker(graph, *target, &mut seen) {
-            write_command(graph, edge, &mut text, out)?;
+            write_command(graph, edge, &mut output)?;
         }
     }
-    write_whole(out, &text)?;
-    Ok(())
+    output.flush()
 }
 
 // The edge that makes a file, if it is not phony and was not seen before. It is marked as seen.
@@ -93,30 +93,17 @@ fn new_maker(graph: &Graph, file: FileNo, seen: &mut [bool]) -> Option<EdgeNo>
     Some(edge)
 }
 
-// Appends the command of an edge to the pending text, and writes that if it fills a block.
+// Writes the command of an edge as a line.
 fn write_command<S: Sink>(
     graph: &Graph,
     edge: EdgeNo,
-    text: &mut Vec<u8>,
-    out: &mut S,
+    out: &mut Output<'_, S>,
 ) -> Result<(), ToolFault>
     requires { edge.0 < length (edges_of graph.now) }
-    ensures { (entries : List ReadStatement) → IsGraphOf graph.now entries
-        → PutsText (S.state out.old) (S.state out.new) text.old.items text.new.items
-        (command_line entries edge.0) result }
+    ensures same { IsSame out.old out.new }
+    ensures text { (entries : List ReadStatement) → IsGraphOf graph.now entries
+        → PutsText S.state out.old out.new (command_line entries edge.0) result }
 {
-    append_command(graph, edge, text)?;
-    write_block(out, text)?;
-    Ok(())
-}
-
-// Appends the command of an edge and a line end.
-fn append_command(graph: &Graph, edge: EdgeNo, text: &mut Vec<u8>) -> Result<(), AllocError>
-    requires { edge.0 < length (edges_of graph.now) }
-    ensures { (entries : List ReadStatement) → IsGraphOf graph.now entries
-        → OnOk result (text.new.items ≡ text.old.items ++ command_line entries edge.0) }
-{
-    graph.append_variable(text, edge, b"command")?;
-    text.push(b'\n')?;
-    Ok(())
+    graph.append_variable(out.pending, edge, b"command")?;
+    out.ended(b"", b'\n')
 }

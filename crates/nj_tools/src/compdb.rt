@@ -1,14 +1,13 @@
 //! Compilation databases.
 
 ghost use Rattle.std.specs.Prelude.{◌≡◌, ◌<◌, ◌++◌, ℕ, List, All, Some, length, map, option_map, slice_get, string_bytes, IfErr, IfOk, IfSome, OnOk};
-ghost use Rattle.nj_tools.specs.Cited.{ReadStatement, AreFiles, edges_read, edges_of, files_of, IsGraphOf, PutsText, has_object, compilation_of, objects_text, held_before, compdb_text, unheld_edge, NamesEdge, WritesCompdb, command_text, first_path, held_compilation, object_of_strings};
+ghost use Rattle.nj_tools.specs.Cited.{ReadStatement, AreFiles, edges_read, edges_of, files_of, IsGraphOf, IsSame, PutsText, has_object, compilation_of, objects_text, held_before, compdb_text, unheld_edge, NamesEdge, WritesCompdb, command_text, first_path, held_compilation, list_text, object_of_strings};
 
 use crate::chosen_rules::ChosenRules;
 use crate::json_strings::{held_string, json_string};
-use crate::output_block::write_block;
+use crate::output::Output;
 use crate::sinks::Sink;
 use crate::tool_fault::ToolFault;
-use crate::whole_text::write_whole;
 use nj_graph::{EdgeNo, FileNo, Graph};
 use std::alloc::{AllocError, Global};
 use std::marker::Model;
@@ -39,16 +38,43 @@ pub fn write_compdb<S: Sink>(
 {
     let chosen = ChosenRules::new(alloc, rules)?;
     let directory = json_string(alloc, directory)?;
-    let mut text = Vec::from_slice(alloc, b"[")?;
-    match write_objects(alloc, graph, &chosen, &directory, expand, &mut text, out)? {
-        Some(edge) => {
-            write_whole(out, &text)?;
-            Err(ToolFault::TextNotUtf8(edge))
-        }
+    let mut text = Vec::new(alloc);
+    let mut output = Output::new(out, &mut text);
+    let unheld = write_list(alloc, graph, &chosen, &directory, expand, &mut output)?;
+    output.flush()?;
+    match unheld {
+        Some(edge) => Err(ToolFault::TextNotUtf8(edge)),
+        None => Ok(()),
+    }
+}
+
+// Writes the list. Returns the first edge that JSON cannot contain, before which it stops; `None`
+// if there is none.
+fn write_list<S: Sink>(
+    alloc: Global,
+    graph: &Graph,
+    chosen: &ChosenRules<'_>,
+    directory: &[u8],
+    expand: bool,
+    out: &mut Output<'_, S>,
+) -> Result<Option<EdgeNo>, ToolFault>
+    ensures same { IsSame out.old out.new }
+    ensures text { (entries : List ReadStatement) → IsGraphOf graph.now entries
+        → PutsText S.state out.old out.new
+        (list_text entries directory.now chosen.now expand) result }
+    ensures unheld { (entries : List ReadStatement) → IsGraphOf graph.now entries
+        → IfOk result (λ edge. option_map (λ edge. edge.0) edge
+        ≡ unheld_edge entries chosen.now expand) }
+    ensures known { IfOk result (λ edge.
+        IfSome edge (λ edge. edge.0 < length (edges_of graph.now))) }
+    ensures faults { IfErr result (NamesEdge (length (edges_of graph.now))) }
+{
+    out.text(b"[")?;
+    match write_objects(alloc, graph, chosen, directory, expand, out)? {
+        Some(edge) => Ok(Some(edge)),
         None => {
-            text.extend_from_slice(b"\n]\n")?;
-            write_whole(out, &text)?;
-            Ok(())
+            out.text(b"\n]\n")?;
+            Ok(None)
         }
     }
 }
@@ -61,11 +87,11 @@ fn write_objects<S: Sink>(
     chosen: &ChosenRules<'_>,
     directory: &[u8],
     expand: bool,
-    text: &mut Vec<u8>,
-    out: &mut S,
+    out: &mut Output<'_, S>,
 ) -> Result<Option<EdgeNo>, ToolFault>
+    ensures same { IsSame out.old out.new }
     ensures text { (entries : List ReadStatement) → IsGraphOf graph.now entries
-        → PutsText (S.state out.old) (S.state out.new) text.old.items text.new.items
+        → PutsText S.state out.old out.new
         (objects_text directory.now (held_before entries chosen.now expand)) result }
     ensures unheld { (entries : List ReadStatement) → IsGraphOf graph.now entries
         → IfOk result (λ edge. option_map (λ edge. edge.0) edge
@@ -81,7 +107,7 @@ fn write_objects<S: Sink>(
             let Some(strings) = strings_of(alloc, graph, edge, expand)? else {
                 return Ok(Some(edge));
             };
-            write_object(out, text, separator, directory, &strings)?;
+            write_object(out, separator, directory, &strings)?;
             separator = b",\n";
         }
     }
@@ -181,18 +207,17 @@ fn first_path<'g>(graph: &'g Graph, files: &[FileNo]) -> &'g [u8]
 
 // Writes an object after the one before.
 fn write_object<S: Sink>(
-    out: &mut S,
-    text: &mut Vec<u8>,
+    out: &mut Output<'_, S>,
     separator: &[u8],
     directory: &[u8],
     strings: &Strings,
 ) -> Result<(), ToolFault>
-    ensures { PutsText (S.state out.old) (S.state out.new) text.old.items text.new.items
+    ensures same { IsSame out.old out.new }
+    ensures text { PutsText S.state out.old out.new
         (separator.now ++ object_of_strings directory.now strings.now) result }
 {
-    append_object(text, separator, directory, strings)?;
-    write_block(out, text)?;
-    Ok(())
+    append_object(out.pending, separator, directory, strings)?;
+    out.write_block()
 }
 
 // Appends an object after the one before.

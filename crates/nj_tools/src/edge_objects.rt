@@ -1,13 +1,12 @@
 //! The edges of a graph as objects of JSON.
 
 ghost use Rattle.std.specs.Prelude.{◌≡◌, ◌<◌, List, IfErr, IfOk, IfSome, OnOk, length, option_map};
-ghost use Rattle.nj_tools.specs.Cited.{fold, print, ReadStatement, edge_at, edges_of, IsGraphOf, NamesEdge, WritesCompdb, edge_lines, edge_object, file_members, head_members, unwritable_edge, value_member, value_members, PutsText, and_member, held_text};
+ghost use Rattle.nj_tools.specs.Cited.{fold, print, ReadStatement, edge_at, edges_of, IsGraphOf, NamesEdge, WritesCompdb, edge_lines, edge_object, file_members, head_members, unwritable_edge, value_member, value_members, IsSame, PutsText, and_member, held_text};
 
 use crate::object_text::ObjectText;
-use crate::sink_lines::write_line;
+use crate::output::Output;
 use crate::sinks::Sink;
 use crate::tool_fault::ToolFault;
-use crate::whole_text::write_whole;
 use nj_graph::{EdgeNo, Graph};
 use std::alloc::{AllocError, Global};
 
@@ -32,8 +31,9 @@ pub fn write_edge_objects<S: Sink>(
     ensures known { IfErr result (NamesEdge (length (edges_of graph.now))) }
 {
     let mut text = Vec::new(alloc);
-    let unwritable = write_lines(alloc, graph, &mut text, out)?;
-    write_whole(out, &text)?;
+    let mut output = Output::new(out, &mut text);
+    let unwritable = write_lines(alloc, graph, &mut output)?;
+    output.flush()?;
     match unwritable {
         Some(edge) => Err(ToolFault::TextNotUtf8(edge)),
         None => Ok(()),
@@ -45,11 +45,11 @@ pub fn write_edge_objects<S: Sink>(
 fn write_lines<S: Sink>(
     alloc: Global,
     graph: &Graph,
-    text: &mut Vec<u8>,
-    out: &mut S,
+    out: &mut Output<'_, S>,
 ) -> Result<Option<EdgeNo>, ToolFault>
+    ensures same { IsSame out.old out.new }
     ensures text { (entries : List ReadStatement) → IsGraphOf graph.now entries
-        → PutsText (S.state out.old) (S.state out.new) text.old.items text.new.items
+        → PutsText S.state out.old out.new
         (edge_lines entries) result }
     ensures unwritable { (entries : List ReadStatement) → IsGraphOf graph.now entries
         → IfOk result (λ edge. option_map (λ edge. edge.0) edge ≡ unwritable_edge entries) }
@@ -62,7 +62,7 @@ fn write_lines<S: Sink>(
         let Some(object) = object_of(alloc, graph, edge)? else {
             return Ok(Some(edge));
         };
-        write_line(out, text, b"", &object, b"")?;
+        out.line(b"", &object, b"")?;
     }
     Ok(None)
 }

@@ -1,7 +1,7 @@
 //! Any error of a client's work on a graph and with the output of tools.
 
-ghost use Rattle.std.specs.Prelude.{◌≡◌, Some};
 ghost use Rattle.nj_tools.specs.declared.error.Error.TheVariants.{OutOfMemory, Write};
+ghost use Rattle.std.specs.Prelude.{◌≡◌, Some};
 ghost use Rattle.nj_tools.specs.Cited.{error_of_text, TakesGraphFault, error_of_graph, error_of_mark, error_of_tool, error_text};
 
 use crate::sinks::SinkFault;

@@ -1,14 +1,13 @@
 //! The inputs of needed edges.
 
 ghost use Rattle.std.specs.Prelude.{◌≡◌, ℕ, ◌<◌, ◌++◌, List, All, [], ◌∷◌, length, map, flat_map, IfOk, OnOk, bytes_eq, if◌then◌else◌};
-ghost use Rattle.nj_tools.specs.Cited.{quoted, FileNo, path_at, edges_of, files_of, PutsText, AreOf, IsFlagged, with_file, with_files, new_file, new_files, each_once, sorted, needed_inputs, printed, terminated, inputs_text, WritesText};
+ghost use Rattle.nj_tools.specs.Cited.{quoted, FileNo, path_at, edges_of, files_of, IsSame, PutsText, AreOf, IsFlagged, with_file, with_files, new_file, new_files, each_once, sorted, needed_inputs, printed, terminated, inputs_text, WritesText};
 
 use crate::file_list::Collected;
-use crate::output_block::write_block;
+use crate::output::Output;
 use crate::sinks::Sink;
 use crate::sorted_paths::{sorted_paths, sorted_quotes};
 use crate::tool_fault::ToolFault;
-use crate::whole_text::write_whole;
 use nj_graph::{FileNo, Graph};
 use nj_needs::Needs;
 use nj_requests::InputsStyle;
@@ -36,9 +35,9 @@ pub fn write_inputs<S: Sink>(
         result }
 {
     let mut text = Vec::new(alloc);
-    write_arranged(alloc, graph, targets, style, &mut text, out)?;
-    write_whole(out, &text)?;
-    Ok(())
+    let mut output = Output::new(out, &mut text);
+    write_arranged(alloc, graph, targets, style, &mut output)?;
+    output.flush()
 }
 
 // Writes the inputs in the order of the style.
@@ -47,19 +46,19 @@ fn write_arranged<S: Sink>(
     graph: &Graph,
     targets: &[FileNo],
     style: InputsStyle,
-    text: &mut Vec<u8>,
-    out: &mut S,
+    out: &mut Output<'_, S>,
 ) -> Result<(), ToolFault>
     requires { All (λ file. file.0 < length (files_of graph.now)) targets.now }
-    ensures { PutsText (S.state out.old) (S.state out.new) text.old.items text.new.items
+    ensures same { IsSame out.old out.new }
+    ensures text { PutsText S.state out.old out.new
         (inputs_text style (edges_of graph.now) (map (path_at (files_of graph.now)) targets.now))
         result }
 {
     if style.dependency_order {
-        write_as_needed(alloc, graph, targets, style, text, out)
+        write_as_needed(alloc, graph, targets, style, out)
     } else {
         let files = needed_inputs(alloc, graph, targets)?;
-        write_sorted(alloc, graph, &files, style, text, out)
+        write_sorted(alloc, graph, &files, style, out)
     }
 }
 
@@ -71,18 +70,18 @@ fn write_as_needed<S: Sink>(
     graph: &Graph,
     targets: &[FileNo],
     style: InputsStyle,
-    text: &mut Vec<u8>,
-    out: &mut S,
+    out: &mut Output<'_, S>,
 ) -> Result<(), ToolFault>
     requires { All (λ file. file.0 < length (files_of graph.now)) targets.now }
-    ensures { PutsText (S.state out.old) (S.state out.new) text.old.items text.new.items
+    ensures same { IsSame out.old out.new }
+    ensures text { PutsText S.state out.old out.new
         (flat_map (λ path. terminated style (printed style path)) (each_once bytes_eq (needed_inputs
         (edges_of graph.now) (map (path_at (files_of graph.now)) targets.now)))) result }
 {
     let mut needs = Needs::new(alloc, graph.edge_graph(), targets)?;
     let mut written = vec![in alloc; false; graph.file_count()]?;
     'edges: while let Some(edge) = needs.next() {
-        write_new_files(graph, graph.inputs(edge), style, &mut written, text, out)?;
+        write_new_files(graph, graph.inputs(edge), style, &mut written, out)?;
     }
     Ok(())
 }
@@ -93,20 +92,20 @@ fn write_new_files<S: Sink>(
     files: &[FileNo],
     style: InputsStyle,
     written: &mut [bool],
-    text: &mut Vec<u8>,
-    out: &mut S,
+    out: &mut Output<'_, S>,
 ) -> Result<(), ToolFault>
     requires known { All (λ file. file.0 < length (files_of graph.now)) files.now }
     requires count { length written.old ≡ length (files_of graph.now) }
+    ensures same { IsSame out.old out.new }
     ensures flags { (earlier : List FileNo) → IsFlagged written.old earlier
         → OnOk result (IsFlagged written.new (with_files earlier files.now)) }
     ensures puts { (earlier : List FileNo) → IsFlagged written.old earlier
-        → PutsText (S.state out.old) (S.state out.new) text.old.items text.new.items
+        → PutsText S.state out.old out.new
         (flat_map (λ file. terminated style (printed style (path_at (files_of graph.now) file)))
         (new_files earlier files.now)) result }
 {
     'files: for file in files {
-        write_new_file(graph, *file, style, written, text, out)?;
+        write_new_file(graph, *file, style, written, out)?;
     }
     Ok(())
 }
@@ -117,15 +116,15 @@ fn write_new_file<S: Sink>(
     file: FileNo,
     style: InputsStyle,
     written: &mut [bool],
-    text: &mut Vec<u8>,
-    out: &mut S,
+    out: &mut Output<'_, S>,
 ) -> Result<(), ToolFault>
     requires known { file.0 < length (files_of graph.now) }
     requires count { length written.old ≡ length (files_of graph.now) }
+    ensures same { IsSame out.old out.new }
     ensures flags { (earlier : List FileNo) → IsFlagged written.old earlier
         → IsFlagged written.new (with_file earlier file) }
     ensures puts { (earlier : List FileNo) → IsFlagged written.old earlier
-        → PutsText (S.state out.old) (S.state out.new) text.old.items text.new.items
+        → PutsText S.state out.old out.new
         (flat_map (λ file. terminated style (printed style (path_at (files_of graph.now) file)))
         (new_file earlier file)) result }
 {
@@ -133,36 +132,24 @@ fn write_new_file<S: Sink>(
         return Ok(());
     }
     written[file.0] = true;
-    write_path(graph.path(file), style, text, out)
+    write_path(graph.path(file), style, out)
 }
 
-// Appends a printed path with its terminator to the pending text, and writes that if it fills a
-// block.
+// Writes a printed path with its terminator.
 fn write_path<S: Sink>(
     path: &[u8],
     style: InputsStyle,
-    text: &mut Vec<u8>,
-    out: &mut S,
+    out: &mut Output<'_, S>,
 ) -> Result<(), ToolFault>
-    ensures { PutsText (S.state out.old) (S.state out.new) text.old.items text.new.items
+    ensures same { IsSame out.old out.new }
+    ensures text { PutsText S.state out.old out.new
         (terminated style (printed style path.now)) result }
 {
-    append_path(path, style, text)?;
-    write_block(out, text)?;
-    Ok(())
-}
-
-// Appends a printed path with its terminator.
-fn append_path(path: &[u8], style: InputsStyle, text: &mut Vec<u8>) -> Result<(), AllocError>
-    ensures { OnOk result
-        (text.new.items ≡ text.old.items ++ terminated style (printed style path.now)) }
-{
     if style.shell_escape {
-        quote_into(text, path)?;
-        text.push(terminator(style))?;
-        Ok(())
+        quote_into(out.pending, path)?;
+        out.ended(b"", terminator(style))
     } else {
-        append_terminated(path, style, text)
+        out.ended(path, terminator(style))
     }
 }
 
@@ -192,21 +179,21 @@ fn write_sorted<S: Sink>(
     graph: &Graph,
     files: &[FileNo],
     style: InputsStyle,
-    text: &mut Vec<u8>,
-    out: &mut S,
+    out: &mut Output<'_, S>,
 ) -> Result<(), ToolFault>
     requires { All (λ file. file.0 < length (files_of graph.now)) files.now }
-    ensures { PutsText (S.state out.old) (S.state out.new) text.old.items text.new.items
+    ensures same { IsSame out.old out.new }
+    ensures text { PutsText S.state out.old out.new
         (flat_map (terminated style)
         (sorted (map (printed style) (map (path_at (files_of graph.now)) files.now)))) result }
 {
     if style.shell_escape {
         let quotes = sorted_quotes(alloc, graph, files)?;
-        write_quotes(&quotes.quoted, style, text, out)?;
-        write_paths(&quotes.plain, style, text, out)
+        write_quotes(&quotes.quoted, style, out)?;
+        out.texts(&quotes.plain, terminator(style))
     } else {
         let paths = sorted_paths(alloc, graph, files)?;
-        write_paths(&paths, style, text, out)
+        out.texts(&paths, terminator(style))
     }
 }
 
@@ -214,55 +201,15 @@ fn write_sorted<S: Sink>(
 fn write_quotes<S: Sink>(
     quotes: &[Vec<u8>],
     style: InputsStyle,
-    text: &mut Vec<u8>,
-    out: &mut S,
+    out: &mut Output<'_, S>,
 ) -> Result<(), ToolFault>
-    ensures { PutsText (S.state out.old) (S.state out.new) text.old.items text.new.items
+    ensures same { IsSame out.old out.new }
+    ensures text { PutsText S.state out.old out.new
         (flat_map (terminated style) (map (λ quote. quote.items) quotes.now)) result }
 {
     'quotes: for quote in quotes {
-        write_terminated(quote, style, text, out)?;
+        out.ended(quote, terminator(style))?;
     }
-    Ok(())
-}
-
-// Writes paths verbatim, each with its terminator.
-fn write_paths<S: Sink>(
-    paths: &[&[u8]],
-    style: InputsStyle,
-    text: &mut Vec<u8>,
-    out: &mut S,
-) -> Result<(), ToolFault>
-    ensures { PutsText (S.state out.old) (S.state out.new) text.old.items text.new.items
-        (flat_map (terminated style) (map (λ path. path.now) paths.now)) result }
-{
-    'paths: for path in paths {
-        write_terminated(path, style, text, out)?;
-    }
-    Ok(())
-}
-
-// Appends a text with its terminator to the pending text, and writes that if it fills a block.
-fn write_terminated<S: Sink>(
-    bytes: &[u8],
-    style: InputsStyle,
-    text: &mut Vec<u8>,
-    out: &mut S,
-) -> Result<(), ToolFault>
-    ensures { PutsText (S.state out.old) (S.state out.new) text.old.items text.new.items
-        (terminated style bytes.now) result }
-{
-    append_terminated(bytes, style, text)?;
-    write_block(out, text)?;
-    Ok(())
-}
-
-// Appends a text with its terminator.
-fn append_terminated(bytes: &[u8], style: InputsStyle, text: &mut Vec<u8>) -> Result<(), AllocError>
-    ensures { OnOk result (text.new.items ≡ text.old.items ++ terminated style bytes.now) }
-{
-    text.extend_from_slice(bytes)?;
-    text.push(terminator(style))?;
     Ok(())
 }
 

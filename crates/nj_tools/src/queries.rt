@@ -1,13 +1,12 @@
 //! The files from which files are made, and those made from them.
 
-ghost use Rattle.std.specs.Prelude.{◌≡◌, ◌<◌, List, All, IfSome, length, map, option_map, codes};
-ghost use Rattle.nj_tools.specs.Cited.{ReadStatement, edge_at, path_at, Kind, edges_of, files_of, IsGraphOf, PutsText, lines_after, query_text, query_in, maker_text, inputs_by_kind, outputs_of_all, sign_of, validations_section, validated_section, WritesText};
+ghost use Rattle.std.specs.Prelude.{◌<◌, ◌++◌, List, All, IfSome, length, map, option_map, codes};
+ghost use Rattle.nj_tools.specs.Cited.{ReadStatement, edge_at, path_at, edges_of, files_of, IsGraphOf, IsSame, PutsText, line, lines_after, query_text, query_in, maker_text, inputs_by_kind, outputs_of_all, validations_section, validated_section, WritesText};
 
-use crate::sink_lines::write_line;
+use crate::output::Output;
 use crate::sinks::Sink;
 use crate::tool_fault::ToolFault;
-use crate::whole_text::write_whole;
-use nj_graph::{EdgeNo, FileNo, Graph, Kind};
+use nj_graph::{EdgeNo, FileNo, Graph};
 use std::alloc::Global;
 
 /// Writes for each of these files the edge that makes it, with its inputs, and the outputs made
@@ -29,97 +28,84 @@ pub fn write_query<S: Sink>(
         (query_text entries (map (path_at (files_of graph.now)) files.now)) result }
 {
     let mut text = Vec::new(alloc);
+    let mut output = Output::new(out, &mut text);
     'files: for file in files {
-        write_file(graph, *file, &mut text, out)?;
+        write_file(graph, *file, &mut output)?;
     }
-    write_whole(out, &text)?;
-    Ok(())
+    output.flush()
 }
 
 // Writes the edge that makes a file, with its inputs, and the outputs made from the file.
 fn write_file<S: Sink>(
     graph: &Graph,
     file: FileNo,
-    text: &mut Vec<u8>,
-    out: &mut S,
+    out: &mut Output<'_, S>,
 ) -> Result<(), ToolFault>
     requires { file.0 < length (files_of graph.now) }
-    ensures { (entries : List ReadStatement) → IsGraphOf graph.now entries
-        → PutsText (S.state out.old) (S.state out.new) text.old.items text.new.items
+    ensures same { IsSame out.old out.new }
+    ensures text { (entries : List ReadStatement) → IsGraphOf graph.now entries
+        → PutsText S.state out.old out.new
         (query_in entries (edges_of graph.now) (path_at (files_of graph.now) file)) result }
 {
-    write_line(out, text, b"", graph.path(file), b":")?;
-    write_maker(graph, graph.maker(file), text, out)?;
-    write_line(out, text, b"  outputs:", b"", b"")?;
-    write_outputs(graph, graph.users(file), text, out)?;
-    write_validated(graph, graph.validation_users(file), text, out)
+    out.line(b"", graph.path(file), b":")?;
+    write_maker(graph, graph.maker(file), out)?;
+    write_outputs(graph, b"  outputs:", graph.users(file), out)?;
+    write_validated(graph, graph.validation_users(file), out)
 }
 
 // Writes the rule, the inputs and the validations of the edge that makes a file, if there is one.
 fn write_maker<S: Sink>(
     graph: &Graph,
     maker: Option<EdgeNo>,
-    text: &mut Vec<u8>,
-    out: &mut S,
+    out: &mut Output<'_, S>,
 ) -> Result<(), ToolFault>
     requires { IfSome maker (λ edge. edge.0 < length (edges_of graph.now)) }
-    ensures { (entries : List ReadStatement) → IsGraphOf graph.now entries
-        → PutsText (S.state out.old) (S.state out.new) text.old.items text.new.items
+    ensures same { IsSame out.old out.new }
+    ensures text { (entries : List ReadStatement) → IsGraphOf graph.now entries
+        → PutsText S.state out.old out.new
         (maker_text entries (edges_of graph.now) (option_map (λ edge. edge.0) maker)) result }
 {
     let Some(edge) = maker else {
         return Ok(());
     };
-    write_line(out, text, b"  input: ", graph.rule_name(edge), b"")?;
-    write_by_kind(graph, edge, text, out)?;
-    write_validations(graph, graph.validations(edge), text, out)
+    out.line(b"  input: ", graph.rule_name(edge), b"")?;
+    write_by_kind(graph, edge, out)?;
+    write_validations(graph, graph.validations(edge), out)
 }
 
-// Writes the inputs of an edge, each with the sign of its kind.
+// Writes the inputs of an edge by kind.
 fn write_by_kind<S: Sink>(
     graph: &Graph,
     edge: EdgeNo,
-    text: &mut Vec<u8>,
-    out: &mut S,
+    out: &mut Output<'_, S>,
 ) -> Result<(), ToolFault>
     requires { edge.0 < length (edges_of graph.now) }
-    ensures { PutsText (S.state out.old) (S.state out.new) text.old.items text.new.items
+    ensures same { IsSame out.old out.new }
+    ensures text { PutsText S.state out.old out.new
         (inputs_by_kind (edge_at (edges_of graph.now) edge.0)) result }
 {
-    'inputs: for (index, input) in graph.inputs(edge).iter().enumerate() {
-        let sign = sign_of(graph.input_kind(edge, index));
-        write_line(out, text, sign, graph.path(*input), b"")?;
-    }
-    Ok(())
-}
-
-// The text before an input of a kind.
-fn sign_of(kind: Kind) -> &'static [u8]
-    ensures { result.now ≡ sign_of kind }
-{
-    match kind {
-        Kind::Explicit => b"    ",
-        Kind::Implicit => b"    | ",
-        Kind::OrderOnly => b"    || ",
-    }
+    let edges = graph.edge_graph();
+    write_paths(graph, b"    ", edges.explicit_input_files(edge), out)?;
+    write_paths(graph, b"    | ", edges.implicit_input_files(edge), out)?;
+    write_paths(graph, b"    || ", edges.order_only_input_files(edge), out)
 }
 
 // Writes validations under their title, if there are any.
 fn write_validations<S: Sink>(
     graph: &Graph,
     files: &[FileNo],
-    text: &mut Vec<u8>,
-    out: &mut S,
+    out: &mut Output<'_, S>,
 ) -> Result<(), ToolFault>
     requires { All (λ file. file.0 < length (files_of graph.now)) files.now }
-    ensures { PutsText (S.state out.old) (S.state out.new) text.old.items text.new.items
+    ensures same { IsSame out.old out.new }
+    ensures text { PutsText S.state out.old out.new
         (validations_section (map (path_at (files_of graph.now)) files.now)) result }
 {
     if files.is_empty() {
         return Ok(());
     }
-    write_line(out, text, b"  validations:", b"", b"")?;
-    write_paths(graph, files, text, out)
+    out.line(b"  validations:", b"", b"")?;
+    write_paths(graph, b"    ", files, out)
 }
 
 // Writes the outputs of the edges that name a file as a validation under their title, if there are
@@ -127,51 +113,52 @@ fn write_validations<S: Sink>(
 fn write_validated<S: Sink>(
     graph: &Graph,
     users: &[EdgeNo],
-    text: &mut Vec<u8>,
-    out: &mut S,
+    out: &mut Output<'_, S>,
 ) -> Result<(), ToolFault>
     requires { All (λ edge. edge.0 < length (edges_of graph.now)) users.now }
-    ensures { PutsText (S.state out.old) (S.state out.new) text.old.items text.new.items
+    ensures same { IsSame out.old out.new }
+    ensures text { PutsText S.state out.old out.new
         (validated_section (edges_of graph.now) (map (λ edge. edge.0) users.now)) result }
 {
     if users.is_empty() {
         return Ok(());
     }
-    write_line(out, text, b"  validation for:", b"", b"")?;
-    write_outputs(graph, users, text, out)
+    write_outputs(graph, b"  validation for:", users, out)
 }
 
-// Writes the outputs of edges.
+// Writes the outputs of edges under a title.
 fn write_outputs<S: Sink>(
     graph: &Graph,
+    title: &[u8],
     edges: &[EdgeNo],
-    text: &mut Vec<u8>,
-    out: &mut S,
+    out: &mut Output<'_, S>,
 ) -> Result<(), ToolFault>
     requires { All (λ edge. edge.0 < length (edges_of graph.now)) edges.now }
-    ensures { PutsText (S.state out.old) (S.state out.new) text.old.items text.new.items
-        (lines_after (codes "    ")
+    ensures same { IsSame out.old out.new }
+    ensures text { PutsText S.state out.old out.new (line title.now ++ lines_after (codes "    ")
         (outputs_of_all (edges_of graph.now) (map (λ edge. edge.0) edges.now))) result }
 {
+    out.line(title, b"", b"")?;
     'edges: for edge in edges {
-        write_paths(graph, graph.outputs(*edge), text, out)?;
+        write_paths(graph, b"    ", graph.outputs(*edge), out)?;
     }
     Ok(())
 }
 
-// Writes the paths of files.
+// Writes the paths of files, a line each, after this beginning.
 fn write_paths<S: Sink>(
     graph: &Graph,
+    beginning: &[u8],
     files: &[FileNo],
-    text: &mut Vec<u8>,
-    out: &mut S,
+    out: &mut Output<'_, S>,
 ) -> Result<(), ToolFault>
     requires { All (λ file. file.0 < length (files_of graph.now)) files.now }
-    ensures { PutsText (S.state out.old) (S.state out.new) text.old.items text.new.items
-        (lines_after (codes "    ") (map (path_at (files_of graph.now)) files.now)) result }
+    ensures same { IsSame out.old out.new }
+    ensures text { PutsText S.state out.old out.new
+        (lines_after beginning.now (map (path_at (files_of graph.now)) files.now)) result }
 {
     'files: for file in files {
-        write_line(out, text, b"    ", graph.path(*file), b"")?;
+        out.line(beginning, graph.path(*file), b"")?;
     }
     Ok(())
 }

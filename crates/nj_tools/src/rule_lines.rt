@@ -1,12 +1,11 @@
 //! The rules of the main file.
 
 ghost use Rattle.std.specs.Prelude.{◌≡◌, ◌<◌, ◌++◌, List, length, OnOk};
-ghost use Rattle.nj_tools.specs.Cited.{ReadStatement, IsGraphOf, main_rules, main_rule_at, PutsText, rule_line, rules_text, WritesText};
+ghost use Rattle.nj_tools.specs.Cited.{ReadStatement, IsGraphOf, main_rules, main_rule_at, IsSame, PutsText, rule_line, rules_text, WritesText};
 
-use crate::sink_lines::write_line;
+use crate::output::Output;
 use crate::sinks::Sink;
 use crate::tool_fault::ToolFault;
-use crate::whole_text::write_whole;
 use nj_graph::Graph;
 use std::alloc::Global;
 
@@ -28,11 +27,11 @@ pub fn write_rules<S: Sink>(
         → WritesText (S.state out.old) (S.state out.new) (rules_text entries descriptions) result }
 {
     let mut text = Vec::new(alloc);
+    let mut output = Output::new(out, &mut text);
     'rules: for index in 0..graph.main_rule_count() {
-        write_rule(alloc, graph, index, descriptions, &mut text, out)?;
+        write_rule(alloc, graph, index, descriptions, &mut output)?;
     }
-    write_whole(out, &text)?;
-    Ok(())
+    output.flush()
 }
 
 // Writes the name of a rule, and its description if it is requested and there is one.
@@ -41,18 +40,18 @@ fn write_rule<S: Sink>(
     graph: &Graph,
     index: usize,
     descriptions: bool,
-    text: &mut Vec<u8>,
-    out: &mut S,
+    out: &mut Output<'_, S>,
 ) -> Result<(), ToolFault>
     requires { index < length (main_rules graph.now) }
-    ensures { PutsText (S.state out.old) (S.state out.new) text.old.items text.new.items
+    ensures same { IsSame out.old out.new }
+    ensures text { PutsText S.state out.old out.new
         (rule_line descriptions (main_rule_at graph.now index)) result }
 {
     let name = graph.main_rule(index);
     if descriptions && graph.has_description(index) {
         let description = graph.description_text(alloc, index)?;
-        write_line(out, text, name, b": ", &description)
+        out.line(name, b": ", &description)
     } else {
-        write_line(out, text, name, b"", b"")
+        out.line(name, b"", b"")
     }
 }

@@ -1,15 +1,14 @@
 //! Lists of targets.
 
 ghost use Rattle.std.specs.Prelude.{◌≡◌, ◌<◌, List, All, length, map, filter, flat_map, is_none, IfOk, OnOk};
-ghost use Rattle.nj_tools.specs.Cited.{ReadStatement, maker_of, path_at, edges_of, files_of, IsGraphOf, PutsText, AreOf, with_files, lines, sorted, made_line, outputs_of_rule, sources_in, outputs_text, targets_text, WritesText};
+ghost use Rattle.nj_tools.specs.Cited.{ReadStatement, maker_of, path_at, edges_of, files_of, IsGraphOf, IsSame, PutsText, AreOf, with_files, lines, sorted, made_line, outputs_of_rule, sources_in, outputs_text, targets_text, WritesText};
 
 use crate::file_list::Collected;
-use crate::sink_lines::write_line;
+use crate::output::Output;
 use crate::sinks::Sink;
 use crate::sorted_paths::sorted_paths;
 use crate::tool_fault::ToolFault;
 use crate::trees::write_trees;
-use crate::whole_text::write_whole;
 use nj_graph::{EdgeNo, FileNo, Graph};
 use nj_requests::TargetsView;
 use std::alloc::{AllocError, Global};
@@ -30,9 +29,9 @@ pub fn write_targets<S: Sink>(
         → WritesText (S.state out.old) (S.state out.new) (targets_text entries view.now) result }
 {
     let mut text = Vec::new(alloc);
-    write_view(alloc, graph, view, &mut text, out)?;
-    write_whole(out, &text)?;
-    Ok(())
+    let mut output = Output::new(out, &mut text);
+    write_view(alloc, graph, view, &mut output)?;
+    output.flush()
 }
 
 // Writes the list.
@@ -40,24 +39,24 @@ fn write_view<S: Sink>(
     alloc: Global,
     graph: &Graph,
     view: &TargetsView,
-    text: &mut Vec<u8>,
-    out: &mut S,
+    out: &mut Output<'_, S>,
 ) -> Result<(), ToolFault>
-    ensures { (entries : List ReadStatement) → IsGraphOf graph.now entries
-        → PutsText (S.state out.old) (S.state out.new) text.old.items text.new.items
+    ensures same { IsSame out.old out.new }
+    ensures text { (entries : List ReadStatement) → IsGraphOf graph.now entries
+        → PutsText S.state out.old out.new
         (targets_text entries view.now) result }
 {
     match view {
         TargetsView::OfRule(rule) => {
             let files = outputs_of_rule(alloc, graph, rule.as_bytes())?;
-            write_sorted(alloc, graph, &files, text, out)
+            write_sorted(alloc, graph, &files, out)
         }
         TargetsView::Sources => {
             let files = sources(alloc, graph)?;
-            write_sorted(alloc, graph, &files, text, out)
+            write_sorted(alloc, graph, &files, out)
         }
-        TargetsView::Depth(depth) => write_trees(alloc, graph, *depth, text, out),
-        TargetsView::All => write_all(graph, text, out),
+        TargetsView::Depth(depth) => write_trees(alloc, graph, *depth, out),
+        TargetsView::All => write_all(graph, out),
     }
 }
 
@@ -123,37 +122,27 @@ fn write_sorted<S: Sink>(
     alloc: Global,
     graph: &Graph,
     files: &[FileNo],
-    text: &mut Vec<u8>,
-    out: &mut S,
+    out: &mut Output<'_, S>,
 ) -> Result<(), ToolFault>
     requires { All (λ file. file.0 < length (files_of graph.now)) files.now }
-    ensures { PutsText (S.state out.old) (S.state out.new) text.old.items text.new.items
+    ensures same { IsSame out.old out.new }
+    ensures text { PutsText S.state out.old out.new
         (lines (sorted (map (path_at (files_of graph.now)) files.now))) result }
 {
     let paths = sorted_paths(alloc, graph, files)?;
-    write_paths(&paths, text, out)
-}
-
-// Writes paths, a line each.
-fn write_paths<S: Sink>(paths: &[&[u8]], text: &mut Vec<u8>, out: &mut S) -> Result<(), ToolFault>
-    ensures { PutsText (S.state out.old) (S.state out.new) text.old.items text.new.items
-        (lines (map (λ path. path.now) paths.now)) result }
-{
-    'paths: for path in paths {
-        write_line(out, text, b"", path, b"")?;
-    }
-    Ok(())
+    out.texts(&paths, b'\n')
 }
 
 // Writes all outputs with the rules that make them.
-fn write_all<S: Sink>(graph: &Graph, text: &mut Vec<u8>, out: &mut S) -> Result<(), ToolFault>
-    ensures { (entries : List ReadStatement) → IsGraphOf graph.now entries
-        → PutsText (S.state out.old) (S.state out.new) text.old.items text.new.items
+fn write_all<S: Sink>(graph: &Graph, out: &mut Output<'_, S>) -> Result<(), ToolFault>
+    ensures same { IsSame out.old out.new }
+    ensures text { (entries : List ReadStatement) → IsGraphOf graph.now entries
+        → PutsText S.state out.old out.new
         (outputs_text entries) result }
 {
     'edges: for number in 0..graph.edge_count() {
         let edge = EdgeNo(number);
-        write_made(graph, graph.outputs(edge), graph.rule_name(edge), text, out)?;
+        write_made(graph, graph.outputs(edge), graph.rule_name(edge), out)?;
     }
     Ok(())
 }
@@ -163,16 +152,16 @@ fn write_made<S: Sink>(
     graph: &Graph,
     files: &[FileNo],
     rule: &[u8],
-    text: &mut Vec<u8>,
-    out: &mut S,
+    out: &mut Output<'_, S>,
 ) -> Result<(), ToolFault>
     requires { All (λ file. file.0 < length (files_of graph.now)) files.now }
-    ensures { PutsText (S.state out.old) (S.state out.new) text.old.items text.new.items
+    ensures same { IsSame out.old out.new }
+    ensures text { PutsText S.state out.old out.new
         (flat_map (λ path. made_line path rule.now)
         (map (path_at (files_of graph.now)) files.now)) result }
 {
     'files: for file in files {
-        write_line(out, text, graph.path(*file), b": ", rule)?;
+        out.line(graph.path(*file), b": ", rule)?;
     }
     Ok(())
 }

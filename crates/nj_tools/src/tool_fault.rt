@@ -1,7 +1,7 @@
 //! Why a tool stopped.
 
-ghost use Rattle.std.specs.Prelude.{◌≡◌, Some};
 ghost use Rattle.nj_tools.specs.declared.tool_fault.ToolFault.TheVariants.{Write, OutOfMemory};
+ghost use Rattle.std.specs.Prelude.{◌≡◌, Some};
 ghost use Rattle.nj_tools.specs.Cited.{fault_text};
 
 use crate::sinks::SinkFault;

@@ -1,9 +1,9 @@
 //! Trees of targets' inputs.
 
 ghost use Rattle.std.specs.Prelude.{◌≡◌, ◌<◌, ◌+◌, ◌++◌, List, [], ◌∷◌, All, length, map, OnOk};
-ghost use Rattle.nj_tools.specs.Cited.{ReadStatement, maker_of, path_at, edges_of, files_of, IsGraphOf, PutsText, file_line, indent, inputs_of_maker, levels_of, trees_text, rows_of, AreKnown, rows_after};
+ghost use Rattle.nj_tools.specs.Cited.{ReadStatement, maker_of, path_at, edges_of, files_of, IsGraphOf, IsSame, PutsText, file_line, indent, inputs_of_maker, levels_of, trees_text, rows_of, AreKnown, rows_after};
 
-use crate::sink_lines::write_line;
+use crate::output::Output;
 use crate::sinks::Sink;
 use crate::tool_fault::ToolFault;
 use nj_graph::{FileNo, Graph};
@@ -15,11 +15,11 @@ pub(crate) fn write_trees<S: Sink>(
     alloc: Global,
     graph: &Graph,
     depth: u32,
-    text: &mut Vec<u8>,
-    out: &mut S,
+    out: &mut Output<'_, S>,
 ) -> Result<(), ToolFault>
-    ensures { (entries : List ReadStatement) → IsGraphOf graph.now entries
-        → PutsText (S.state out.old) (S.state out.new) text.old.items text.new.items
+    ensures same { IsSame out.old out.new }
+    ensures text { (entries : List ReadStatement) → IsGraphOf graph.now entries
+        → PutsText S.state out.old out.new
         (trees_text entries depth) result }
 {
     let below = levels_below(graph, depth);
@@ -30,7 +30,7 @@ pub(crate) fn write_trees<S: Sink>(
         let [file, others @ ..] = row else {
             continue;
         };
-        write_at_depth(graph, rows.len(), *file, text, out)?;
+        write_at_depth(graph, rows.len(), *file, out)?;
         push_rows(graph, below, *file, others, &mut rows)?;
     }
     Ok(())
@@ -89,20 +89,20 @@ fn write_at_depth<S: Sink>(
     graph: &Graph,
     depth: usize,
     file: FileNo,
-    text: &mut Vec<u8>,
-    out: &mut S,
+    out: &mut Output<'_, S>,
 ) -> Result<(), ToolFault>
     requires { file.0 < length (files_of graph.now) }
-    ensures { (entries : List ReadStatement) → IsGraphOf graph.now entries
-        → PutsText (S.state out.old) (S.state out.new) text.old.items text.new.items
+    ensures same { IsSame out.old out.new }
+    ensures text { (entries : List ReadStatement) → IsGraphOf graph.now entries
+        → PutsText S.state out.old out.new
         (indent depth ++ file_line entries
         (maker_of (edges_of graph.now) (path_at (files_of graph.now) file))
         (path_at (files_of graph.now) file)) result }
 {
-    append_indent(text, depth)?;
+    append_indent(out.pending, depth)?;
     match graph.maker(file) {
-        Some(edge) => write_line(out, text, graph.path(file), b": ", graph.rule_name(edge)),
-        None => write_line(out, text, graph.path(file), b"", b""),
+        Some(edge) => out.line(graph.path(file), b": ", graph.rule_name(edge)),
+        None => out.line(graph.path(file), b"", b""),
     }
 }
 

@@ -5,7 +5,7 @@ use Rattle.nj_scope.specs.ReadingList.{ReadStatement}
 use Rattle.nj_graph.specs.Graph.{late_text_of}
 use Rattle.nj_graph.specs.ResponseFiles.{command_with_rsp_of}
 use Rattle.nj_tools.specs.Lines.{line}
-use Rattle.nj_tools.specs.Compdb.{Compilation, is_text, json_string}
+use Rattle.nj_tools.specs.Compdb.{Compilation, held_before, is_text, json_string, objects_text, unheld_edge}
 
 -- the command of an edge, with the contents of its response file in place of the name if `expand` is set
 abbrev pub command_text : List ReadStatement → (expand : Bool) → (edge : ℕ) → List ℕ
@@ -17,6 +17,11 @@ first_path paths = unwrap_or (slice_get paths 0) []
 -- the end of the list, by the first edge that JSON cannot contain
 abbrev pub end_text : (unheld : Option ℕ) → List ℕ
 end_text unheld = if is_some unheld then [] else codes "\n]\n"
+
+-- the list; `directory` is a string in JSON already
+abbrev pub list_text : List ReadStatement → (directory : List ℕ) → (rules : List (List ℕ)) → (expand : Bool) → List ℕ
+list_text entries directory rules expand =
+    codes "[" ++ objects_text directory (held_before entries rules expand) ++ end_text (unheld_edge entries rules expand)
 
 -- a string in JSON, if JSON can contain it
 abbrev pub held_string : (text : List ℕ) → Option (List ℕ)

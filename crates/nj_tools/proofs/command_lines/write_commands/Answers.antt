@@ -1,11 +1,10 @@
-use Rattle.std.proofs.Common.{[], ◌∷◌, ◌++◌, subst}
+use Rattle.std.proofs.Common.{[], ◌∷◌, ◌++◌, sym, subst, rules}
+use Rattle.std.proofs.lemmas.Result.{err_from_is_err_and}
 use Rattle.nj_scope.specs.Readings.{IsPrefix}
 use Rattle.nj_needs.specs.PageWalks.{written}
-use Rattle.nj_tools.specs.declared.tool_fault.ToolFault.TheVariants.{Write, OutOfMemory}
 use Rattle.nj_tools.specs.CommandStrings.{command_lines}
-use Rattle.nj_tools.specs.Inside.Commands.{command_line}
-use Rattle.nj_tools.proofs.BlockLemmas.{IsUnderway-more, FailsWithin-unjoined, FailsWithin-whole}
-use Rattle.nj_tools.proofs.BlockLemmas.{Takes-unjoined, stops-at_line, stops-with}
+use Rattle.nj_tools.proofs.OutputLemmas.{adds-next, sink-fails, sink-takes, stops-front, stops-next}
+use Rattle.nj_tools.proofs.OutputLemmas.{text-stopped}
 use Rattle.nj_tools.proofs.CommandLemmas.{lines-last, lines-front}
 use Rattle.nj_tools.proofs.command_lines.write_commands.Goals as goal
 
@@ -16,9 +15,8 @@ returns-in_err-write_command-clause-writes g c entries graph =
     let page = c.in-Some.ensures.goes_on c.args.needs.now c.args.take i.edges i.page in
     let front = subst (λ t. IsPrefix t (command_lines entries (written c.args.take c.args.needs.now.left)))
     (lines-last entries i.edges e) (lines-front entries (i.edges ++ e ∷ []) _ _ page.written) in
-    stops-at_line _ _ _ _ c.commands.text.items (command_line entries e) _ c.in_err-write_command.field-0.0
-    c.from_residual.result c.from_residual.ensures.1
-    front (i.underway entries graph) (c.in_err-write_command.ensures entries graph)
+    text-stopped c.args.out.now _ c.from_residual.result (search rules) c.from_residual.ensures.1
+    (stops-next _ front (i.text entries graph) (c.in_err-write_command.ensures.text entries graph))
 
 pub commands-preserved : goal.commands-preserved
 commands-preserved g c =
@@ -27,34 +25,40 @@ commands-preserved g c =
     record {
       edges = i.edges ++ e ∷ [];
       page = c.in-Some.ensures.goes_on c.args.needs.now c.args.take i.edges i.page;
-      underway = λ entries graph. rw (lines-last entries i.edges e)
-          (IsUnderway-more _ _ _ _ _ _ _ (i.underway entries graph)
-          (c.in_ok-write_command.ensures entries graph));
+      same = search rules;
+      text = λ entries graph. adds-next _ (sym (lines-last entries i.edges e)) (i.text entries graph)
+          (c.in_ok-write_command.ensures.text entries graph);
     }
 
-pub returns-in_err-write_whole-clause-writes : goal.returns-in_err-write_whole-clause-writes
-returns-in_err-write_whole-clause-writes g c entries graph =
+pub returns-in_err-flush-clause-writes : goal.returns-in_err-flush-clause-writes
+returns-in_err-flush-clause-writes g c entries graph =
     let i = c.commands.invariant in
-    stops-with _ _ _ Write c.from_residual-in_err-write_whole.result
-    c.from_residual-in_err-write_whole.ensures.1
-    (FailsWithin-whole _ _ _ _ (lines-front entries i.edges _ _ i.page.written)
-    (FailsWithin-unjoined _ _ _ _ _ _ (i.underway entries graph) (c.in_err-write_whole.ensures)
-    c.deref.ensures.value))
+    let (e, was, what) = err_from_is_err_and c.from_residual-in_err-flush.result
+    c.from_residual-in_err-flush.ensures.1 in
+    rw (was, what) (stops-front _ _ _ _ c.in_err-flush.field-0.0
+    (lines-front entries i.edges _ _ i.page.written)
+    (sink-fails c.args.out.now _ _ c.in_err-flush.field-0.0 (search rules) (i.text entries graph)
+    c.in_err-flush.ensures.writes))
 
 pub returns-in_err-mark_after_page-clause-writes : goal.returns-in_err-mark_after_page-clause-writes
 returns-in_err-mark_after_page-clause-writes g c entries graph =
     let i = c.commands.invariant in
-    stops-with _ _ _ OutOfMemory c.from_residual-in_err-mark_after_page.result
-    c.from_residual-in_err-mark_after_page.ensures.1 (
+    let (e, was, what) = err_from_is_err_and c.from_residual-in_err-mark_after_page.result
+    c.from_residual-in_err-mark_after_page.ensures.1 in
+    rw (was, what) (
       command_lines entries i.edges,
       lines-front entries i.edges _ _ i.page.written,
-      Takes-unjoined _ _ _ _ _ _ (i.underway entries graph) (c.in_ok-write_whole.ensures)
-          c.deref.ensures.value,
+      sink-takes c.args.out.now _ _ (search rules) (i.text entries graph) c.in_ok-flush.ensures.writes,
     )
 
 pub returns-clause-writes : goal.returns-clause-writes
 returns-clause-writes g c entries graph =
     let i = c.commands.invariant in
     let all = (c.in_default.ensures.goes_on c.args.needs.now c.args.take i.edges i.page).1 in
-    rw all (Takes-unjoined _ _ _ _ _ _ (i.underway entries graph) (c.in_ok-write_whole.ensures)
-    c.deref.ensures.value)
+    rw all (sink-takes c.args.out.now _ _ (search rules) (i.text entries graph) c.in_ok-flush.ensures.writes)
+
+pub returns-clause-mark : goal.returns-clause-mark
+returns-clause-mark g c =
+    let i = c.commands.invariant in
+    let (page, all) = c.in_default.ensures.goes_on c.args.needs.now c.args.take i.edges i.page in
+    c.in_ok-mark_after_page.ensures c.args.needs.now c.args.take i.edges page all

@@ -1,7 +1,7 @@
 use Rattle.std.proofs.Common.{List, take}
 use Rattle.nj_scope.specs.ReadingList.{ReadStatement}
 use Rattle.nj_graph.specs.Graph.{IsGraphOf}
-use Rattle.nj_tools.specs.Inside.Blocks.{IsUnderway}
+use Rattle.nj_tools.specs.Inside.Outputs.{Adds, IsSame}
 use Rattle.nj_tools.specs.CommandStrings.{command_lines, own_commands}
 use Rattle.nj_tools.specs.Inside.Collections.{own_makers}
 use Rattle.nj_tools.specs.Inside.Seen.{AreSeen}
@@ -11,7 +11,8 @@ abbrev pub invariant-targets : goal.invariant-targets
 invariant-targets g l = record {
   seen : AreSeen l.graph.built.graph l.seen.items
       (own_makers l.graph.built.graph (take l.target-index l.targets));
-  underway : (entries : List ReadStatement) → IsGraphOf l.graph entries
-      → IsUnderway (g.S.Sink.state l.fn.out) (g.S.Sink.state l.out)
-      (command_lines entries (own_commands l.graph.built.graph (take l.target-index l.targets))) l.text.items;
+  same : IsSame l.initial.output l.output;
+  text : (entries : List ReadStatement) → IsGraphOf l.graph entries
+      → Adds g.S.Sink.state l.initial.output l.output
+      (command_lines entries (own_commands l.graph.built.graph (take l.target-index l.targets)));
 }

@@ -10,10 +10,9 @@ use Rattle.nj_needs.specs.Walks.{commands_of}
 use Rattle.nj_requests.specs.declared.style.InputsStyle.{InputsStyle}
 use Rattle.nj_tools.specs.Inside.Collections.{IsFlagged, with_files}
 use Rattle.nj_tools.specs.Listings.{each_once, needed_inputs, printed, terminated}
-use Rattle.nj_tools.specs.declared.tool_fault.ToolFault.TheVariants.{OutOfMemory}
-use Rattle.nj_tools.proofs.BlockLemmas.{puts-no_memory, puts-nothing, puts-with}
+use Rattle.nj_tools.proofs.OutputLemmas.{adds-is, adds-next, adds-nothing, stops-here, stops-next, stops-with}
 use Rattle.nj_tools.proofs.CollectedLemmas.{AreOf-none}
-use Rattle.nj_tools.proofs.InputLemmas.{row-puts, row-stops, rows-put}
+use Rattle.nj_tools.proofs.InputLemmas.{row-front, row-text, rows-are}
 use Rattle.nj_tools.proofs.ListingLemmas.{AreOf-row}
 use Rattle.nj_tools.proofs.input_lists.write_as_needed.Goals as goal
 
@@ -30,34 +29,29 @@ edges-init g c = record {
   files = [];
   flags = grind (arith, common_steps);
   are = AreOf-none (files_of c.args.graph.now);
-  underway = puts-nothing _ _;
+  same = search rules;
+  text = adds-nothing _;
 }
 
-pub returns-in_err-written : goal.returns-in_err-written
-returns-in_err-written g c =
-    let sink = g.S.Sink.state c.args.out.now in
-    let before = c.args.text.now.items in
-    let paths = map (path_at (files_of c.args.graph.now)) c.args.targets.now in
-    let text = flat_map (print c.args.style)
-    (each_once bytes_eq (needed_inputs (edges_of c.args.graph.now) paths)) in
-    puts-with sink sink before before text OutOfMemory c.from_residual-in_err-written.result
-    c.from_residual-in_err-written.ensures.1 (puts-no_memory sink before text)
+pub returns-in_err-written-clause-text : goal.returns-in_err-written-clause-text
+returns-in_err-written-clause-text g c =
+    stops-with c.from_residual-in_err-written.result c.from_residual-in_err-written.ensures.1
+    (stops-here _ (_, refl) (adds-nothing c.args.out.now))
 
-pub returns-in_err-write_new_files : goal.returns-in_err-write_new_files
-returns-in_err-write_new_files g c =
+pub returns-in_err-write_new_files-clause-text : goal.returns-in_err-write_new_files-clause-text
+returns-in_err-write_new_files-clause-text g c =
     let i = c.edges.invariant in
     let edges = edges_of c.args.graph.now in
     let flagged : IsFlagged c.deref_mut.result.now i.files = rw c.deref_mut.ensures.value i.flags in
-    row-stops (print c.args.style) (files_of c.args.graph.now)
+    stops-with c.from_residual-in_err-write_new_files.result c.from_residual-in_err-write_new_files.ensures.1
+    (stops-next _ (row-front (print c.args.style) (files_of c.args.graph.now)
     (rw c.deref.ensures at c.file_count.ensures.each_path_once) (λ n. inputs_of (edge_at edges n))
     i.edges c.in-Some.edge.0 c.inputs.result.now i.files
     (rw c.deref-in-Some.ensures at c.inputs.ensures.files)
     (rw c.deref-in-Some.ensures at c.inputs.ensures.known) i.are
     (commands_of c.args.graph.now.built.graph c.args.targets.now) c.next.new.self.left
-    (i.all ∙ ap (λ es. i.edges ++ es) c.in-Some.ensures.next.first)
-    _ _ _ _ c.edges.text.items _ c.in_err-write_new_files.field-0.0
-    c.from_residual-in_err-write_new_files.result c.from_residual-in_err-write_new_files.ensures.1
-    i.underway (c.in_err-write_new_files.ensures.puts i.files flagged)
+    (i.all ∙ ap (λ es. i.edges ++ es) c.in-Some.ensures.next.first))
+    i.text (c.in_err-write_new_files.ensures.puts i.files flagged))
 
 pub edges-preserved : goal.edges-preserved
 edges-preserved g c =
@@ -83,14 +77,15 @@ edges-preserved g c =
           (λ n. inputs_of (edge_at edges n)) i.edges e row i.files (with_files i.files row)
           (rw c.deref-in-Some.ensures at c.inputs.ensures.files)
           (rw c.deref-in-Some.ensures at c.inputs.ensures.known) i.are refl;
-      underway = row-puts (print c.args.style) paths row i.files _ _ _ _ c.edges.text.items _ i.underway
+      same = search rules;
+      text = adds-next _ (row-text (print c.args.style) paths row i.files) i.text
           (c.in_ok-write_new_files.ensures.puts i.files flagged);
     }
 
-pub returns : goal.returns
-returns g c =
+pub returns-clause-text : goal.returns-clause-text
+returns-clause-text g c =
     let i = c.edges.invariant in
     let edges = edges_of c.args.graph.now in
-    rows-put (print c.args.style) (files_of c.args.graph.now) (λ n. inputs_of (edge_at edges n))
+    adds-is _ (rows-are (print c.args.style) (files_of c.args.graph.now) (λ n. inputs_of (edge_at edges n))
     (commands_of c.args.graph.now.built.graph c.args.targets.now) i.edges c.edges.needs.left i.files i.all
-    c.in_default.ensures.next.none i.are _ _ _ _ i.underway
+    c.in_default.ensures.next.none i.are) i.text

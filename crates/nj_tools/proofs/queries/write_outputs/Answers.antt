@@ -1,45 +1,62 @@
-use Rattle.std.proofs.Common.{get_or, ap, arith}
+use Rattle.std.proofs.Common.{◌++◌, [], get_or, map, ap, sym, rules, arith}
 use Rattle.std.specs.Prelude.{codes}
 use Rattle.nj_edges.specs.Edges.{edge_at, outputs_of}
 use Rattle.nj_statements.proofs.LateLemmas.{paths-are}
 use Rattle.nj_graph.specs.Graph.{edges_of, files_of}
-use Rattle.nj_tools.specs.Lines.{lines_after}
-use Rattle.nj_tools.proofs.BlockLemmas.{puts-with}
-use Rattle.nj_tools.proofs.SequenceLemmas.{puts-item, stops-item, puts-items}
-use Rattle.nj_tools.proofs.QueryLemmas.{output_lines, output_lines-are}
+use Rattle.nj_tools.specs.Lines.{line, lines_after}
+use Rattle.nj_tools.specs.Queries.{outputs_of_all}
+use Rattle.nj_tools.proofs.OutputLemmas.{adds-is, adds-next, adds-nothing, front-after, items-are}
+use Rattle.nj_tools.proofs.OutputLemmas.{items-front, items-next, next-after, stops-before, stops-next}
+use Rattle.nj_tools.proofs.OutputLemmas.{stops-with}
+use Rattle.nj_tools.proofs.QueryLemmas.{number_of, output_lines, output_lines-are, title-is}
 use Rattle.nj_tools.proofs.queries.write_outputs.Goals as goal
 
-pub returns-in_err-write_paths : goal.returns-in_err-write_paths
-returns-in_err-write_paths g c =
+pub returns-in_err-line-clause-text : goal.returns-in_err-line-clause-text
+returns-in_err-line-clause-text g c =
+    let rest = lines_after (codes "    ") (outputs_of_all (edges_of c.args.graph.now)
+    (map number_of c.args.edges.now)) in
+    stops-with c.from_residual.result c.from_residual.ensures.1
+    (stops-before _ (rest, ap (λ t. t ++ rest) (sym (title-is c.args.title.now))) c.in_err-line.ensures.text)
+
+pub edges-init : goal.edges-init
+edges-init g c = record {
+  same = search rules;
+  text = adds-next _ (ap (λ t. t ++ []) (title-is c.args.title.now)) c.in_ok-line.ensures.text
+      (adds-nothing _);
+}
+
+pub returns-in_err-write_paths-clause-text : goal.returns-in_err-write_paths-clause-text
+returns-in_err-write_paths-clause-text g c =
     let edges = edges_of c.args.graph.now in
-    let numbers = c.args.edges.now in
     let i = c.edges.edge-index in
-    let edge = get_or numbers i (record { 0 = 0 }) in
-    let fault = c.in_err-write_paths.field-0.0 in
+    let edge = get_or c.args.edges.now i (record { 0 = 0 }) in
     let paths = paths-are (files_of c.args.graph.now) c.outputs.result.now (outputs_of (edge_at edges edge.0))
     (rw c.deref.ensures at c.outputs.ensures.files) in
-    puts-with _ _ c.args.text.now.items c.write_paths.new.text.items _ fault c.from_residual.result
-    c.from_residual.ensures.1
-    (stops-item (output_lines edges) numbers i (record { 0 = 0 }) _ _ _ c.args.text.now.items
-    c.edges.text.items _ _ fault (omega arith)
-    (ap (lines_after (codes "    ")) paths) (output_lines-are edges numbers) c.edges.invariant
-    c.in_err-write_paths.ensures)
+    stops-with c.from_residual-in_err-write_paths.result c.from_residual-in_err-write_paths.ensures.1
+    (stops-next _ (front-after (line c.args.title.now) _ _
+    (items-front (output_lines edges) c.args.edges.now i (record { 0 = 0 }) (omega arith) _
+    (ap (lines_after (codes "    ")) paths) _ (output_lines-are edges c.args.edges.now)))
+    c.edges.invariant.text c.in_err-write_paths.ensures.text)
 
 pub edges-preserved : goal.edges-preserved
 edges-preserved g c =
     let edges = edges_of c.args.graph.now in
-    let numbers = c.args.edges.now in
     let i = c.edges.edge-index in
-    let edge = get_or numbers i (record { 0 = 0 }) in
+    let edge = get_or c.args.edges.now i (record { 0 = 0 }) in
     let paths = paths-are (files_of c.args.graph.now) c.outputs.result.now (outputs_of (edge_at edges edge.0))
     (rw c.deref.ensures at c.outputs.ensures.files) in
-    puts-item (output_lines edges) numbers i (record { 0 = 0 }) _ _ _ c.args.text.now.items c.edges.text.items
-    c.write_paths.new.text.items _ (omega arith)
-    (ap (lines_after (codes "    ")) paths) c.edges.invariant c.in_ok-write_paths.ensures
+    record {
+      same = search rules;
+      text = adds-next _ (next-after (line c.args.title.now) _ _
+          (items-next (output_lines edges) c.args.edges.now i (record { 0 = 0 }) (omega arith) _
+          (ap (lines_after (codes "    ")) paths)))
+          c.edges.invariant.text c.in_ok-write_paths.ensures.text;
+    }
 
-pub returns : goal.returns
-returns g c =
+pub returns-clause-text : goal.returns-clause-text
+returns-clause-text g c =
     let edges = edges_of c.args.graph.now in
-    let numbers = c.args.edges.now in
-    puts-items (output_lines edges) numbers c.edges.edge-index _ _ c.args.text.now.items c.edges.text.items _
-    (omega arith) (output_lines-are edges numbers) c.edges.invariant
+    adds-is _ (ap (λ t. line c.args.title.now ++ t)
+    (items-are (output_lines edges) c.args.edges.now c.edges.edge-index (omega arith) _
+    (output_lines-are edges c.args.edges.now)))
+    c.edges.invariant.text

@@ -1,17 +1,14 @@
 use Rattle.std.proofs.Common.{◌≡◌, ◌<◌, ◌+◌, ◌-◌, ◌++◌, [], ◌∷◌, length, map, take, drop, slice_index_or, sym}
-use Rattle.std.proofs.Common.{ap, subst, ◌∙◌, arith, append_assoc, rules}
+use Rattle.std.proofs.Common.{ap, subst, ◌∙◌, arith, append_assoc, refl, rules}
 use Rattle.std.proofs.lemmas.List.Elements.{All-drop, All-take}
 use Rattle.nj_edges.specs.Edges.{maker_of}
 use Rattle.nj_names.specs.Files.{path_at}
 use Rattle.nj_names.specs.declared.files.FileNo.{FileNo}
 use Rattle.nj_graph.specs.Graph.{edges_of, files_of}
 use Rattle.nj_graph.proofs.Stated.{graph-edges}
-use Rattle.nj_tools.specs.declared.tool_fault.ToolFault.TheVariants.{OutOfMemory}
-use Rattle.nj_tools.specs.Inside.Blocks.{IsUnderway}
 use Rattle.nj_tools.specs.Listings.{file_line, indent, trees_text}
 use Rattle.nj_tools.specs.Inside.Trees.{AreKnown, rows_after, rows_of, rows_text}
-use Rattle.nj_tools.proofs.BlockLemmas.{IsUnderway-more, StopsWithin-more, StopsWithin-whole}
-use Rattle.nj_tools.proofs.BlockLemmas.{TakesFront-whole, puts-nothing, puts-with}
+use Rattle.nj_tools.proofs.OutputLemmas.{adds-is, adds-next, adds-nothing, stops-here, stops-next, stops-with}
 use Rattle.nj_tools.proofs.TreeLemmas.{empty-is, few-after, first-rows, known-one, known-popped, row-is}
 use Rattle.nj_tools.proofs.TreeLemmas.{smaller-after, smaller-empty, written-all, written-empty, written-turn}
 use Rattle.nj_tools.proofs.trees.write_trees.Goals as goal
@@ -23,9 +20,10 @@ files-init g c =
     c.in_ok-push.ensures.items ∙ ap (λ rows. rows ++ c.roots.result ∷ []) c.new-rows.ensures.items in
     let count : length c.push.new.self.items ≡ 1 = ap length is in
     record {
+      same = search rules;
       written = λ entries graph. (
         [],
-        puts-nothing _ _,
+        adds-nothing _,
         first-rows entries (edges_of c.args.graph.now) files (c.levels_below-below.result + 1) c.args.depth
             c.push.new.self.items c.roots.result
             (graph-edges graph) c.levels_below-below.ensures is (rw c.deref.ensures at c.roots.ensures.files),
@@ -49,6 +47,7 @@ files-preserved g c =
     let (known_rest, known_row) = known-popped files c.files.rows.items rest c.in-Some.row
     c.in-Some.ensures.items c.files.invariant.known in
     record {
+      same = search rules;
       written = λ entries graph.
           let text = indent c.len.result ++ file_line entries (maker_of edges (path_at files file))
           (path_at files file) in
@@ -58,12 +57,7 @@ files-preserved g c =
           (graph-edges graph) depth below c.in-Some.ensures.items
           (row-is c.in-Some.row.now c.in-len1-up.len_at_least) whole in (
             done ++ text,
-            subst (λ t. IsUnderway (g.S.Sink.state c.args.out.now) (g.S.Sink.state c.write_at_depth.new.out) t
-                c.write_at_depth.new.text.items) (append_assoc c.args.text.now.items done text)
-                (IsUnderway-more (g.S.Sink.state c.args.out.now) (g.S.Sink.state c.files.out)
-                (g.S.Sink.state c.write_at_depth.new.out) (c.args.text.now.items ++ done)
-                c.files.text.items text c.write_at_depth.new.text.items underway
-                (c.in_ok-write_at_depth.ensures entries graph)),
+            adds-next _ refl underway (c.in_ok-write_at_depth.ensures.text entries graph),
             turned ∙ ap (λ rows. (done ++ text) ++ rows_text entries levels 0 rows)
                 (sym c.in_ok-push_rows.ensures.rows),
           );
@@ -92,6 +86,7 @@ files-preserved-in_default-row g c =
     let none = empty-is c.in-Some.row.now c.in_default-row.len_below in
     let count : length c.files.rows.items ≡ length c.pop.new.self.items + 1 = search rules in
     record {
+      same = search rules;
       written = λ entries graph.
           let (done, underway, whole) = c.files.invariant.written entries graph in (
             done,
@@ -111,8 +106,8 @@ files-smaller-in_default-row g c =
     c.files.rows.items c.pop.new.self.items c.in-Some.row
     c.in-Some.ensures.items (empty-is c.in-Some.row.now c.in_default-row.len_below)
 
-pub returns-in_err-write_at_depth : goal.returns-in_err-write_at_depth
-returns-in_err-write_at_depth g c entries graph =
+pub returns-in_err-write_at_depth-clause-text : goal.returns-in_err-write_at_depth-clause-text
+returns-in_err-write_at_depth-clause-text g c entries graph =
     let files = files_of c.args.graph.now in
     let edges = edges_of c.args.graph.now in
     let levels = c.levels_below-below.result + 1 in
@@ -130,23 +125,11 @@ returns-in_err-write_at_depth g c entries graph =
     file others (trees_text entries c.args.depth) done
     (graph-edges graph) depth (omega (arith, count, c.files.invariant.levels)) c.in-Some.ensures.items
     (row-is c.in-Some.row.now c.in-len1-up.len_at_least) whole in
-    puts-with (g.S.Sink.state c.args.out.now) (g.S.Sink.state c.write_at_depth.new.out) c.args.text.now.items
-    c.write_at_depth.new.text.items (trees_text entries c.args.depth) c.in_err-write_at_depth.field-0.0
-    c.from_residual-in_err-write_at_depth.result c.from_residual-in_err-write_at_depth.ensures.1
-    (StopsWithin-whole (g.S.Sink.state c.args.out.now) (g.S.Sink.state c.write_at_depth.new.out)
-    ((c.args.text.now.items ++ done) ++ text) (c.args.text.now.items ++ trees_text entries c.args.depth)
-    c.in_err-write_at_depth.field-0.0 (
-      left,
-      ap (λ t. c.args.text.now.items ++ t) turned
-          ∙ sym (append_assoc c.args.text.now.items (done ++ text) left)
-          ∙ ap (λ t. t ++ left) (sym (append_assoc c.args.text.now.items done text)),
-    )
-    (StopsWithin-more (g.S.Sink.state c.args.out.now) (g.S.Sink.state c.files.out)
-    (g.S.Sink.state c.write_at_depth.new.out) (c.args.text.now.items ++ done) c.files.text.items text
-    c.in_err-write_at_depth.field-0.0 underway (c.in_err-write_at_depth.ensures entries graph)))
+    stops-with c.from_residual-in_err-write_at_depth.result c.from_residual-in_err-write_at_depth.ensures.1
+    (stops-next _ (left, turned) underway (c.in_err-write_at_depth.ensures.text entries graph))
 
-pub returns-in_err-push_rows : goal.returns-in_err-push_rows
-returns-in_err-push_rows g c entries graph =
+pub returns-in_err-push_rows-clause-text : goal.returns-in_err-push_rows-clause-text
+returns-in_err-push_rows-clause-text g c entries graph =
     let files = files_of c.args.graph.now in
     let edges = edges_of c.args.graph.now in
     let levels = c.levels_below-below.result + 1 in
@@ -164,27 +147,14 @@ returns-in_err-push_rows g c entries graph =
     file others (trees_text entries c.args.depth) done
     (graph-edges graph) depth (omega (arith, count, c.files.invariant.levels)) c.in-Some.ensures.items
     (row-is c.in-Some.row.now c.in-len1-up.len_at_least) whole in
-    puts-with (g.S.Sink.state c.args.out.now) (g.S.Sink.state c.write_at_depth.new.out) c.args.text.now.items
-    c.write_at_depth.new.text.items (trees_text entries c.args.depth) OutOfMemory
-    c.from_residual-in_err-push_rows.result c.from_residual-in_err-push_rows.ensures.1
-    (TakesFront-whole (g.S.Sink.state c.args.out.now) (g.S.Sink.state c.write_at_depth.new.out)
-    ((c.args.text.now.items ++ done) ++ text) c.write_at_depth.new.text.items
-    (c.args.text.now.items ++ trees_text entries c.args.depth) (
-      left,
-      ap (λ t. c.args.text.now.items ++ t) turned
-          ∙ sym (append_assoc c.args.text.now.items (done ++ text) left)
-          ∙ ap (λ t. t ++ left) (sym (append_assoc c.args.text.now.items done text)),
-    )
-    (IsUnderway-more (g.S.Sink.state c.args.out.now) (g.S.Sink.state c.files.out)
-    (g.S.Sink.state c.write_at_depth.new.out) (c.args.text.now.items ++ done) c.files.text.items text
-    c.write_at_depth.new.text.items underway (c.in_ok-write_at_depth.ensures entries graph)))
+    stops-with c.from_residual-in_err-push_rows.result c.from_residual-in_err-push_rows.ensures.1
+    (stops-here _ (left, turned)
+    (adds-next _ refl underway (c.in_ok-write_at_depth.ensures.text entries graph)))
 
-pub returns : goal.returns
-returns g c entries graph =
+pub returns-clause-text : goal.returns-clause-text
+returns-clause-text g c entries graph =
     let none : length c.files.rows.items ≡ 0 = search rules in
     let (done, underway, whole) = c.files.invariant.written entries graph in
-    subst (λ t. IsUnderway (g.S.Sink.state c.args.out.now) (g.S.Sink.state c.files.out)
-    (c.args.text.now.items ++ t) c.files.text.items)
-    (written-all entries (files_of c.args.graph.now) (c.levels_below-below.result + 1) c.files.rows.items
-    (trees_text entries c.args.depth) done (empty-is c.files.rows.items (omega (arith, none))) whole)
-    underway
+    adds-is _ (written-all entries (files_of c.args.graph.now) (c.levels_below-below.result + 1)
+    c.files.rows.items (trees_text entries c.args.depth) done
+    (empty-is c.files.rows.items (omega (arith, none))) whole) underway

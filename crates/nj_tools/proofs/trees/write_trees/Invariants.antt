@@ -1,15 +1,16 @@
 use Rattle.std.proofs.Common.{◌≡◌, ◌≤◌, ◌+◌, ◌*◌, ◌++◌, ℕ, List, length}
 use Rattle.nj_scope.specs.ReadingList.{ReadStatement}
 use Rattle.nj_graph.specs.Graph.{edges_of, files_of, IsGraphOf}
-use Rattle.nj_tools.specs.Inside.Blocks.{IsUnderway}
+use Rattle.nj_tools.specs.Inside.Outputs.{Adds, IsSame}
 use Rattle.nj_tools.specs.Listings.{trees_text}
 use Rattle.nj_tools.specs.Inside.Trees.{rows_text, rows_lines, rows_of, AreKnown}
 use Rattle.nj_tools.proofs.trees.write_trees.Given as goal
 
 abbrev pub invariant-files : goal.invariant-files
 invariant-files g l = record {
-  written : (entries : List ReadStatement) → IsGraphOf l.graph entries → (done : List ℕ)
-      × IsUnderway (g.S.Sink.state l.fn.out) (g.S.Sink.state l.out) (l.fn.text.items ++ done) l.text.items
+  same : IsSame l.fn.out l.out;
+  written : (entries : List ReadStatement) → IsGraphOf l.graph entries
+      → (done : List ℕ) × Adds g.S.Sink.state l.fn.out l.out done
       × (trees_text entries l.depth ≡ done ++ rows_text entries (l.below + 1) 0
       (rows_of (files_of l.graph) l.rows.items));
   known : AreKnown (files_of l.graph) l.rows.items;

@@ -1,0 +1,26 @@
+-- A sink, and the text that it is to take next.
+use Rattle.std.specs.Prelude.{◌≡◌, ℕ, List, ◌++◌, Result, Ok, Err}
+use Rattle.nj_tools.specs.Sinks.{SinkState}
+use Rattle.nj_tools.specs.Texts.{StopsWithin}
+use Rattle.nj_tools.specs.Inside.Blocks.{IsUnderway}
+use Rattle.nj_tools.specs.declared.output.Output.{Output}
+use Rattle.nj_tools.specs.declared.tool_fault.ToolFault.{ToolFault}
+
+-- it is over the same sink and the same buffer
+pub record IsSame {S : Type 0} (old new : Output S) : Type 0 where
+  pub sink : new.sink.ghost_name ≡ old.sink.ghost_name
+  pub pending : new.pending.ghost_name ≡ old.pending.ghost_name
+
+module _ {S : Type 0} (state : S → SinkState) where
+  -- a text was added to what was pending, the sink took a prefix of that, and the rest is pending
+  pub record Adds (old new : Output S) (text : List ℕ) : Type 0 where
+    pub underway : IsUnderway (state old.sink.now) (state new.sink.now) (old.pending.now.items ++ text) new.pending.now.items
+
+  -- this fault stopped it within
+  pub record Stops (old new : Output S) (text : List ℕ) (fault : ToolFault) : Type 0 where
+    pub within : StopsWithin (state old.sink.now) (state new.sink.now) (old.pending.now.items ++ text) fault
+
+  -- a text was added, or this fault stopped it within
+  abbrev pub PutsText : {X : Type 0} → (old new : Output S) → (text : List ℕ) → Result X ToolFault → Type 0
+  PutsText old new text (Ok done) = Adds old new text
+  PutsText old new text (Err fault) = Stops old new text fault
