@@ -1,7 +1,7 @@
 -- The values of variables for an edge of the graph of statements.
-use Rattle.std.proofs.Common.{◌≡◌, ℕ, zero, suc, ◌<◌, ◌∷◌, Bool, Option, Some, option_map, unwrap_or, List}
-use Rattle.std.proofs.Common.{[], map, length, get_or, slice_get, slice_index_or, bytes_eq, sym, ap, subst}
-use Rattle.std.proofs.Common.{◌∙◌, arith, true≢false, is_some}
+use Rattle.std.proofs.Common.{◌≡◌, ℕ, zero, suc, ◌<◌, ◌∷◌, Bool, true, false, if◌then◌else◌, codes, Option}
+use Rattle.std.proofs.Common.{Some, option_map, unwrap_or, List, [], map, length, get_or, slice_get}
+use Rattle.std.proofs.Common.{slice_index_or, bytes_eq, sym, ap, subst, ◌∙◌, arith, true≢false, is_some}
 use Rattle.nj_statements.specs.Inside.EdgeSteps.{lines_of_rule}
 use Rattle.std.specs.List.{AllByRecursion}
 use Rattle.std.proofs.lemmas.List.{length-map}
@@ -17,7 +17,7 @@ use Rattle.nj_statements.specs.EdgeList.{EdgeModel, edges_read, names_of_edge, b
 use Rattle.nj_statements.specs.Built.{EdgeDetail, detail_at, detail_of}
 use Rattle.nj_statements.proofs.LateLemmas.{paths-are, same-everywhere}
 use Rattle.nj_graph.specs.Graph.{GraphModel, edges_of, files_of, IsOpenScope, HasRule, IsGraphOf}
-use Rattle.nj_graph.specs.Graph.{late_text_of}
+use Rattle.nj_graph.specs.Graph.{is_dyndep_restat, late_text_of}
 use Rattle.nj_graph.proofs.EdgeRules.{edges-open}
 
 -- ---- elements of lists
@@ -97,6 +97,13 @@ module _ (g : GraphModel) (entries : List ReadStatement) (is : IsGraphOf g entri
   block-is = same-everywhere (λ name. bound_in g.built.blocks n name) edge.block
       (λ name. is.built.blocks n name ∙ ap (λ o. block_of_edge o name) there.1)
 
+  -- the value of a variable, which a dyndep file gives or does not
+  abbrev by_dyndep : (asked : List ℕ) → Bool → List ℕ
+  by_dyndep asked gives =
+      if gives then codes "1" else
+      unwrap_or (option_map (λ e. asked_text (names_of_edge entries e) asked)
+      (slice_get (edges_read entries) n)) []
+
   -- the names of the edge are the names of its statement
   pub names-same : (files : List (List ℕ)) (ins outs : List FileNo) (blocks : BlocksModel) (rule : RuleModel)
       (scope : ℕ)
@@ -130,7 +137,14 @@ module _ (g : GraphModel) (entries : List ReadStatement) (is : IsGraphOf g entri
           rule (ap (λ (d : EdgeDetail). slice_get g.declarations.rules d.rule) detail-is ∙ has.rule_is)
 
   pub text-same : (asked : List ℕ) (names : LateNames) → names ≡ names_of_edge entries edge
+      → is_dyndep_restat entries n asked ≡ false
       → asked_text names asked ≡ late_text_of entries n asked
-  text-same asked names same = ap (λ x. asked_text x asked) same
+  text-same asked names same other =
+      ap (λ x. asked_text x asked) same
       ∙ sym (ap (λ (o : Option EdgeModel). unwrap_or
       (option_map (λ e. asked_text (names_of_edge entries e) asked) o) []) there.1)
+      ∙ sym (ap (by_dyndep asked) other)
+
+  pub text-by-dyndep : (asked : List ℕ) → is_dyndep_restat entries n asked ≡ true
+      → codes "1" ≡ late_text_of entries n asked
+  text-by-dyndep asked is_so = sym (ap (by_dyndep asked) is_so)

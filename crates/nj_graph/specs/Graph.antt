@@ -1,5 +1,5 @@
 -- The graph of a run, and the rules that it lists.
-use Rattle.std.specs.Prelude.{◌≡◌, ◌↔◌, ℕ, ◌<◌, Bool, if◌then◌else◌, Option, Some, option_map, unwrap_or, is_some, List, [], ◌∷◌, map, length, slice_get, slice_index_or}
+use Rattle.std.specs.Prelude.{◌≡◌, ◌↔◌, ℕ, ◌<◌, Bool, ◌&&◌, if◌then◌else◌, Option, Some, option_map, unwrap_or, is_some, List, [], ◌∷◌, map, length, slice_get, slice_index_or}
 use Rattle.std.specs.Prelude.{codes, bytes_eq}
 use Rattle.std.specs.List.{AllByRecursion, Contains, IsDistinct}
 use Rattle.std.specs.List.Sorted.{IsStrictlySortedBy}
@@ -15,7 +15,7 @@ use Rattle.nj_cycles.specs.Cycles.{IsAcyclic}
 use Rattle.nj_edges.specs.Edges.{EdgePaths}
 use Rattle.nj_edges.specs.Needs.{makers_of_inputs}
 use Rattle.nj_edge_env.specs.LateStrings.{asked_text}
-use Rattle.nj_statements.specs.EdgeList.{EdgeModel, edges_read, names_of_edge}
+use Rattle.nj_statements.specs.EdgeList.{EdgeModel, edges_read, names_of_edge, restats_read, restat_at}
 use Rattle.nj_statements.specs.Built.{BuiltModel, IsBuiltOf, EdgeDetail, detail_at, detail_of}
 use Rattle.nj_graph.specs.Origins.{OriginsModel, origins_read, main_of}
 
@@ -56,9 +56,14 @@ pub record IsGraphOf (g : GraphModel) (entries : List ReadStatement) : Type 0 wh
 
 -- ---- late strings
 
+-- A dyndep file that binds `restat` for an edge gives it the value 1, whatever the edge's statement and rule bind to it.
+abbrev pub is_dyndep_restat : List ReadStatement → (number : ℕ) → (asked : List ℕ) → Bool
+is_dyndep_restat entries number asked = bytes_eq asked (codes "restat") && restat_at (restats_read entries) number
+
 -- The value of a variable for the edge of a number where its rule is used, after all statements; past the last edge it is empty.
 abbrev pub late_text_of : List ReadStatement → (number : ℕ) → (asked : List ℕ) → List ℕ
 late_text_of entries number asked =
+    if is_dyndep_restat entries number asked then codes "1" else
     unwrap_or (option_map (λ e. asked_text (names_of_edge entries e) asked) (slice_get (edges_read entries) number)) []
 
 -- ---- the rule of an edge
@@ -81,9 +86,11 @@ rule_name_at entries number = unwrap_or (option_map (rule_name_of entries) (slic
 abbrev pub detail_stated : List ReadStatement → (number : ℕ) → EdgeDetail
 detail_stated entries number = detail_at (map detail_of (edges_read entries)) number
 
+-- the number of the rule of an edge
 abbrev pub rule_number_at : List ReadStatement → (number : ℕ) → ℕ
 rule_number_at entries number = (detail_stated entries number).rule
 
+-- the number of the scope of an edge
 abbrev pub scope_number_at : List ReadStatement → (number : ℕ) → ℕ
 scope_number_at entries number = (detail_stated entries number).scope
 
@@ -94,6 +101,7 @@ unfoldable pub insert_by : {X : Type 0} → (comes_before : X → X → Bool) �
 insert_by comes_before x [] = x ∷ []
 insert_by comes_before x (y ∷ ys) = if comes_before y x then y ∷ insert_by comes_before x ys else x ∷ y ∷ ys
 
+-- a list, sorted; elements of which neither comes before the other keep their order
 unfoldable pub sorted_by : {X : Type 0} → (comes_before : X → X → Bool) → List X → List X
 sorted_by comes_before [] = []
 sorted_by comes_before (x ∷ xs) = insert_by comes_before x (sorted_by comes_before xs)
@@ -107,6 +115,7 @@ is_before name other = is_lt (slice_cmp nat_cmp name other)
 unfoldable pub main_rules_of : List RuleModel → List RuleModel
 main_rules_of rules = sorted_by (λ r s. is_before r.name s.name) (rules_in rules 0)
 
+-- the rules of the main file's scope
 abbrev pub main_rules : GraphModel → List RuleModel
 main_rules g = main_rules_of g.declarations.rules
 
@@ -120,6 +129,7 @@ main_rule_at g index = slice_index_or (main_rules g) index phony_rule
 abbrev pub description : RuleModel → Option (List PartModel)
 description r = given r.lines (codes "description")
 
+-- a rule has a description
 abbrev pub has_description : RuleModel → Bool
 has_description r = is_some (description r)
 

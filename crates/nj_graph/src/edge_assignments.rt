@@ -1,6 +1,6 @@
 //! The assignments of edges: pools and dyndep files.
 
-ghost use Rattle.std.specs.Prelude.{◌≡◌, List, ◌<◌, length, option_copied};
+ghost use Rattle.std.specs.Prelude.{◌≡◌, List, Some, ◌<◌, length, option_copied, option_map, slice_get};
 ghost use Rattle.nj_graph.specs.Cited.{ReadStatement, assigned_at, assigned_read, edges_of, IsGraphOf};
 
 use crate::graph::Graph;
@@ -27,5 +27,22 @@ impl Graph {
             → option_copied result ≡ (assigned_at (assigned_read entries) edge.0).dyndep }
     {
         self.built.dyndep(edge)
+    }
+
+    /// How many edges are pending on dyndep files: those to which these were not joined.
+    pub fn pending_count(&self) -> usize
+        ensures { result ≡ length self.now.built.pending }
+    {
+        self.built.pending_count()
+    }
+
+    /// The edge at this index of the pending ones, by number.
+    pub fn pending_edge(&self, index: usize) -> EdgeNo
+        requires { index < length self.now.built.pending }
+        ensures edge { option_map (λ p. p.edge) (slice_get self.now.built.pending index)
+            ≡ Some result.0 }
+        ensures known { result.0 < length (edges_of self.now) }
+    {
+        self.built.pending_edge(index)
     }
 }

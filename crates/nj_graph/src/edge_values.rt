@@ -1,7 +1,7 @@
 //! The values of rules' variables when an edge uses them.
 
 ghost use Rattle.std.specs.Prelude.{◌≡◌, ◌<◌, ◌++◌, List, Some, length, slice_get, codes, IfOk, OnOk, OnErr};
-ghost use Rattle.nj_graph.specs.Cited.{detail_at, ReadStatement, edges_of, IsGraphOf, late_text_of, command_with_rsp_of};
+ghost use Rattle.nj_graph.specs.Cited.{detail_at, ReadStatement, edges_of, is_dyndep_restat, IsGraphOf, late_text_of, command_with_rsp_of};
 
 use crate::graph::Graph;
 use crate::response_files::with_content;
@@ -13,8 +13,9 @@ use std::alloc::{AllocError, Global};
 impl Graph {
     /// Appends the value of a variable for an edge, where its rule is used after all statements
     /// ("Rule variables" in the Ninja manual): the paths of the edge, else the value of its block,
-    /// else the value of its rule, else the last one of its file. A loop over edges can reuse one
-    /// buffer.
+    /// else the value of its rule, else the last one of its file. `restat` is `1` where a dyndep
+    /// file that was joined binds it for the edge ("Dynamic Dependencies" in the manual). A loop
+    /// over edges can reuse one buffer.
     ///
     /// # Errors
     ///
@@ -31,6 +32,9 @@ impl Graph {
             ≡ out.old.items ++ late_text_of entries edge.0 name.now) }
         ensures refused { OnErr result (out.new.items ≡ out.old.items) }
     {
+        if self.is_dyndep_restat(edge, name) {
+            return out.extend_from_slice(b"1");
+        }
         let edges = self.edge_graph();
         let late = LateEdge {
             files: edges.files(),
@@ -43,6 +47,15 @@ impl Graph {
             scope: self.built.scope(edge),
         };
         late.append_late_text(out, name)
+    }
+
+    // Whether this is `restat`, and a dyndep file binds it for an edge.
+    fn is_dyndep_restat(&self, edge: EdgeNo, name: &[u8]) -> bool
+        requires { edge.0 < length (edges_of self.now) }
+        ensures { (entries : List ReadStatement) → IsGraphOf self.now entries
+            → result ≡ is_dyndep_restat entries edge.0 name.now }
+    {
+        name == b"restat".as_slice() && self.built.has_dyndep_restat(edge)
     }
 
     // The rule of an edge: the one that was in force before its statement.

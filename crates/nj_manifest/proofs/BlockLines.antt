@@ -105,8 +105,8 @@ begun-kind allowed limit BlankLine l ls e h g = by_end (l.is_last && is_empty l.
         (cond t (reply start.End (Between (l ∷ ls))) (reply start.Blank (Between (lines_after l ls))))
     by_end true e = (ap no_lines (same-end l ls e), tt)
     by_end false e = (refl, tt)
-begun-kind allowed limit IndentedLine l ls e h g = let w = indented-weight l e
-    in (l, ls, refl, refl, omega arith)
+begun-kind allowed limit IndentedLine l ls e h g = let w = indented-weight l e in
+    (l, ls, refl, refl, omega arith)
 begun-kind allowed limit PlainLine l ls e h g = (refl, e)
 
 -- a comment gives nothing
@@ -246,7 +246,8 @@ pub block-turn : (allowed : Keys) (front : List LineModel) (before s middle : St
     → line_next allowed middle ≡ Ok (line, after)
     → StillReads allowed (front ++ line ∷ []) before after
 block-turn allowed front (Between ls) s middle line after still h e =
-    let b = start-begins allowed still.0 (Ok (start.Indented, middle)) (ap start_line_of (sym still.1) ∙ h) in (
+    let b = start-begins allowed still.0 (Ok (start.Indented, middle)) (ap start_line_of (sym still.1) ∙ h)
+    in (
       lines_after b.0 b.1,
       line-after allowed b.0 b.1 middle line after b.2 e,
       after-turn allowed front b.0 b.1 middle line after (block allowed still.0) (block allowed ls) b.2 b.3

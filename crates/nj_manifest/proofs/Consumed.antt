@@ -210,8 +210,8 @@ cut-lines position zero spot (b ∷ bs) =
     let one = unit-lines (ending_of found.0)
     (record { spot = spot; bytes = b ∷ take found.1 bs; means = found.0 }) (lines_of others) in
     omega arith
-cut-lines position (suc skip) spot (b ∷ bs) = let more = cut-lines position skip (spot_after b spot) bs
-    in omega arith
+cut-lines position (suc skip) spot (b ∷ bs) = let more = cut-lines position skip (spot_after b spot) bs in
+    omega arith
 
 -- A text has no more lines with units than bytes.
 pub text_has_bytes : (text : List ℕ) → ahead (text_lines text) ≤ length text

@@ -1,6 +1,6 @@
 -- The calls of a parser of dyndep files, by the lines that they read.
-use Rattle.std.proofs.Common.{◌≡◌, true, false, Some, option_map, Result, Ok, Err, List, refl, sym, ap, subst}
-use Rattle.std.proofs.Common.{◌∙◌}
+use Rattle.std.proofs.Common.{◌≡◌, Bool, true, false, Option, Some, option_map, Result, Ok, Err, List, refl}
+use Rattle.std.proofs.Common.{sym, ap, subst, ◌∙◌}
 use Rattle.nj_text.specs.declared.spot.Spot.{Spot}
 use Rattle.nj_text.specs.Lines.{Line, lines_after}
 use Rattle.nj_text.specs.Calls.{State, Between, Inside, Failed, spot_of}
@@ -10,12 +10,12 @@ use Rattle.nj_manifest.specs.declared.entries.Entry.{Entry}
 use Rattle.nj_manifest.specs.Faults.{Placed}
 use Rattle.nj_manifest.specs.LineSteps.{◌>>=◌}
 use Rattle.nj_manifest.specs.Statements.{lines_from}
-use Rattle.nj_manifest.specs.Openings.{opening}
+use Rattle.nj_manifest.specs.Openings.{Parse, opening}
 use Rattle.nj_manifest.specs.Parsers.{Fails}
 use Rattle.nj_manifest.specs.Inside.ParserContracts.{LeadsTo, IsBetweenStatements, ParsesAt, FindsOpening}
 use Rattle.nj_manifest.specs.Inside.ParserContracts.{entry_here}
-use Rattle.nj_manifest.specs.Dyndeps.{version_line, version_from, version_next, entry_line, restat_block}
-use Rattle.nj_manifest.specs.Dyndeps.{entry_from, next_entry}
+use Rattle.nj_manifest.specs.Dyndeps.{EntryModel, version_line, version_from, version_next, entry_line}
+use Rattle.nj_manifest.specs.Dyndeps.{restat_block, entry_from, next_entry}
 use Rattle.nj_manifest.specs.DyndepParsers.{entry_model}
 use Rattle.nj_manifest.specs.Inside.ParserContracts.{ReadsVersion}
 use Rattle.nj_manifest.proofs.Heres.{fails-on}
@@ -70,9 +70,12 @@ pub entry-is : (ls : List Line) → next_entry ls ≡ (opening ls >>= entry_from
 unfolding next_entry
 entry-is ls = refl
 
-at-is : (l : Line) (ls : List Line) → entry_here l ls
-    ≡ (entry_line (Inside l ls) >>= λ entry. restat_block entry.1 >>=
-    λ end. Ok (Some entry.0, lines_from end))
+-- the entry with its block
+abbrev with_block : EntryModel × State → Parse (Option EntryModel)
+with_block entry = restat_block entry.1 >>=
+    λ block. Ok (Some (record entry.0 { restat = block.0 }), lines_from block.1)
+
+at-is : (l : Line) (ls : List Line) → entry_here l ls ≡ (entry_line (Inside l ls) >>= with_block)
 at-is l ls = refl
 
 pub entry-no_line : (before after : State) (f : ParseFault) → Fails f (entry_line before)
@@ -83,24 +86,28 @@ entry-no_line (Inside l ls) after f h =
     subst (Fails f) (sym (at-is l ls)) (fails-on f (entry_line (Inside l ls)) _ h)
 
 pub entry-no_block : (before middle after : State) (e : Entry) (f : ParseFault)
-    → entry_line before ≡ Ok (entry_model e, middle) → Fails f (restat_block middle)
-    → ParsesAt (option_map entry_model) before after entry_here (Err f)
+    → entry_line before ≡ Ok (entry_model e, middle)
+    → Fails f (restat_block middle) → ParsesAt (option_map entry_model) before after entry_here (Err f)
 entry-no_block (Between ls) middle after e f h p = tt
 entry-no_block (Failed g) middle after e f h p = tt
 entry-no_block (Inside l ls) middle after e f h p =
-    let whole = at-is l ls ∙ ap (λ r. r >>= λ entry. restat_block entry.1 >>=
-    λ end. Ok (Some entry.0, lines_from end)) h in
-    subst (Fails f) (sym whole) (fails-on f (restat_block middle)
-    (λ end. Ok (Some (entry_model e), lines_from end)) p)
+    let whole = at-is l ls ∙ ap (λ r. r >>= with_block) h in
+    subst (Fails f) (sym whole)
+    (fails-on f (restat_block middle) (λ block. Ok
+    (Some (record (entry_model e) { restat = block.0 }), lines_from block.1)) p)
 
-pub entry-read : (before middle after : State) (e : Entry) → entry_line before ≡ Ok (entry_model e, middle)
-    → restat_block middle ≡ Ok after → ParsesAt (option_map entry_model) before after entry_here (Ok (Some e))
-entry-read (Between ls) middle after e h p = tt
-entry-read (Failed g) middle after e h p = tt
-entry-read (Inside l ls) middle after e h p =
-    let whole = at-is l ls ∙ ap (λ r. r >>= λ entry. restat_block entry.1 >>=
-    λ end. Ok (Some entry.0, lines_from end)) h in
+pub entry-read : (before middle after : State) (e : Entry) (restat : Bool)
+    → entry_line before ≡ Ok (entry_model e, middle)
+    → restat_block middle ≡ Ok (restat, after)
+    → ParsesAt (option_map entry_model) before after entry_here (Ok (Some (record e { restat = restat })))
+entry-read (Between ls) middle after e restat h p = tt
+entry-read (Failed g) middle after e restat h p = tt
+entry-read (Inside l ls) middle after e restat h p =
+    let whole = at-is l ls ∙ ap (λ r. r >>= with_block) h in
     let ends = entry-ends l ls (entry_model e, middle) h in (
-      whole ∙ ap (λ r. r >>= λ end. Ok (Some (entry_model e), lines_from end)) p,
-      block-ends (lines_after l ls) after (ap restat_block (sym ends) ∙ p),
+      whole ∙ ap (λ r. r >>= λ block. Ok (
+        Some (record (entry_model e) { restat = block.0 }),
+        lines_from block.1,
+      )) p,
+      block-ends (lines_after l ls) (restat, after) (ap restat_block (sym ends) ∙ p),
     )

@@ -16,15 +16,15 @@ use Rattle.nj_manifest.specs.declared.block_lines.Keys.TheVariants as keys
 use Rattle.nj_manifest.specs.declared.cause.Wanted.{Wanted}
 use Rattle.nj_manifest.specs.declared.cause.Wanted.TheVariants as wanted
 use Rattle.nj_manifest.specs.Faults.{Fault, Placed, bad_unit}
-use Rattle.nj_manifest.specs.LineSteps.{Step, ◌>>=◌, called, name_next, expect_sign, section_next}
+use Rattle.nj_manifest.specs.LineSteps.{Step, called, name_next, expect_sign, section_next}
 use Rattle.nj_manifest.specs.Statements.{equals_value, block}
 use Rattle.nj_manifest.specs.Dyndeps.{is_same_spot, version_line, word_of_form, no_path_by, no_path}
-use Rattle.nj_manifest.specs.Dyndeps.{no_section, output_next, added_inputs, EntryModel, entry_line}
+use Rattle.nj_manifest.specs.Dyndeps.{no_section, output_next, added_inputs, EntryModel, entry_line, has_text}
 use Rattle.nj_manifest.specs.Dyndeps.{if_indented, restat_block}
 use Rattle.nj_manifest.specs.Inside.ParserContracts.{IsBetweenStatements}
 use Rattle.nj_manifest.specs.Openings.{without_spaces}
 use Rattle.nj_manifest.proofs.Choices.{unless_missing}
-use Rattle.nj_manifest.proofs.EntryBlocks.{first_output, output-steps, restat_line, line_too_many}
+use Rattle.nj_manifest.proofs.EntryBlocks.{first_output, output-steps, restat_line, line_too_many, first_line}
 use Rattle.nj_manifest.proofs.EntryBlocks.{block-lines}
 use Rattle.nj_manifest.proofs.FormsKeys.{unless_missing-ok}
 use Rattle.nj_manifest.proofs.BlockLines.{lines_weight, Begins, start-begins}
@@ -130,14 +130,15 @@ module _ (l : Line) (ls : List Line) where
       let colon = bind-ok (expect_sign sign.Colon wanted.Colon outs.0.1) _ y outs.2 in
       let rule = bind-ok (word_of_form (codes "dyndep") wanted.CommandName colon.0) _ y colon.2 in
       let ins = bind-ok (added_inputs rule.0)
-      (λ ins. Ok (record { out = out.0.0; outs = outs.0.0; ins = ins.0 }, ins.1)) y rule.2 in
+      (λ ins. Ok (record { out = out.0.0; outs = outs.0.0; ins = ins.0; restat = false }, ins.1)) y rule.2
+      in
       let at_out = output_next-inside build.0 out.0
       (word_of_form-inside (codes "build") wanted.Statement s build.0 o build.1) out.1 in
       let at_outs = section-inside sign.Pipe l ls out.0.1 outs.0 pipe_in_line at_out outs.1 in
       let at_colon = colon-inside wanted.Colon l ls outs.0.1 colon.0 at_outs colon.1 in
       let at_rule = word_of_form-inside (codes "dyndep") wanted.CommandName colon.0 rule.0 at_colon rule.1 in
-      sym (after-is (record { out = out.0.0; outs = outs.0.0; ins = ins.0.0 }) ins.0.1 y ins.2)
-      ∙ added_inputs-inside rule.0 ins.0 at_rule ins.1
+      sym (after-is (record { out = out.0.0; outs = outs.0.0; ins = ins.0.0; restat = false }) ins.0.1 y
+      ins.2) ∙ added_inputs-inside rule.0 ins.0 at_rule ins.1
 
   version_line-inside : (s s' : State) → On l ls s → version_line s ≡ Ok s' → framing.Ended l ls s'
   unfolding version_line
@@ -149,12 +150,14 @@ module _ (l : Line) (ls : List Line) where
       sym (oks k.1) ∙ equals_value-inside l ls name.0.1 value.0
       (name-inside wanted.Statement l ls s name.0 o name.1) read.1
 
-  pub restat_line-inside : (s s' : State) → On l ls s → restat_line s ≡ Ok s' → framing.Ended l ls s'
+  pub restat_line-inside : (s : State) (y : Bool × State) → On l ls s → restat_line s ≡ Ok y
+      → framing.Ended l ls y.1
   unfolding restat_line
-  restat_line-inside s s' o h =
-      let key = bind-ok (word_of_form (codes "restat") wanted.VariableName s) _ s' h in
-      let value = bind-ok (equals_value key.0) (λ value. Ok value.1) s' key.2 in
-      sym (oks value.2) ∙ equals_value-inside l ls key.0 value.0
+  restat_line-inside s y o h =
+      let key = bind-ok (word_of_form (codes "restat") wanted.VariableName s) _ y h in
+      let value = bind-ok (equals_value key.0) (λ value. Ok (has_text value.0, value.1)) y key.2 in
+      sym (after-is (has_text value.0.0) value.0.1 y value.2)
+      ∙ equals_value-inside l ls key.0 value.0
       (word_of_form-inside (codes "restat") wanted.VariableName s key.0 o key.1) value.1
 
 -- ---- whole lines
@@ -174,37 +177,42 @@ called-ok (Ok y) x s h = ap Ok (oks h)
 called-ok (Err f) x s h = no_ok h
 
 -- where a line was begun, or was not
-settled : (ls : List Line) (x : LineStart) (m s : State) (k : State → Result State Fault)
-    → called (start_line_of (Between ls)) ≡ Ok (x, m) → if_indented x m k ≡ Ok s
-    → ((l : Line) (others : List Line) → m ≡ Inside (without_spaces l) others → k m ≡ Ok s
-    → IsBetweenStatements s) → IsBetweenStatements s
-settled ls x m s k h g indented = by_start x
-    (start-begins keys.All ls (Ok (x, m)) (called-ok (start_line_of (Between ls)) x m h)) g
+settled : (bound : Bool) (ls : List Line) (x : LineStart) (m : State) (y : Bool × State)
+    (k : State → Step Bool)
+    → called (start_line_of (Between ls)) ≡ Ok (x, m) → if_indented bound x m k ≡ Ok y
+    → ((l : Line) (others : List Line) → m ≡ Inside (without_spaces l) others → k m ≡ Ok y
+    → IsBetweenStatements y.1)
+    → IsBetweenStatements y.1
+settled bound ls x m y k h g indented =
+    by_start x (start-begins keys.All ls (Ok (x, m)) (called-ok (start_line_of (Between ls)) x m h)) g
   where
     by_start : (x : LineStart) → Begins keys.All (lines_weight ls) (block keys.All ls) (Ok (x, m))
-        → if_indented x m k ≡ Ok s → IsBetweenStatements s
+        → if_indented bound x m k ≡ Ok y → IsBetweenStatements y.1
     by_start start.Indented b g = indented b.0 b.1 b.2 g
     by_start start.Middle b g = absurd b
-    by_start start.End b g = subst IsBetweenStatements (oks g) b.1
-    by_start start.Blank b g = subst IsBetweenStatements (oks g) b.1
-    by_start start.Plain b g = subst IsBetweenStatements (oks g) b.1
+    by_start start.End b g = subst IsBetweenStatements (after-is bound m y g) b.1
+    by_start start.Blank b g = subst IsBetweenStatements (after-is bound m y g) b.1
+    by_start start.Plain b g = subst IsBetweenStatements (after-is bound m y g) b.1
 
-pub too_many-fails : {P : Type 0} (m s : State) → line_too_many m ≡ Ok s → P
-too_many-fails m s h = no_ok (bind-ok (name_next wanted.VariableName m) _ s h).2
+pub too_many-fails : {P : Type 0} (m : State) (y : Bool × State) → line_too_many m ≡ Ok y → P
+too_many-fails m y h = no_ok (bind-ok (name_next wanted.VariableName m) _ y h).2
 
-pub block-ends : (ls : List Line) (s : State) → restat_block (Between ls) ≡ Ok s → IsBetweenStatements s
-block-ends ls s h =
-    let first = bind-ok (called (start_line_of (Between ls))) _ s (sym (block-lines (Between ls)) ∙ h) in
-    settled ls first.0.0 first.0.1 s _ first.1 first.2 (λ l others is g. in_block l others first.0.1 is g)
+pub block-ends : (ls : List Line) (y : Bool × State) → restat_block (Between ls) ≡ Ok y
+    → IsBetweenStatements y.1
+block-ends ls y h =
+    let first = bind-ok (called (start_line_of (Between ls))) _ y (sym (block-lines (Between ls)) ∙ h) in
+    settled false ls first.0.0 first.0.1 y first_line first.1 first.2
+    (λ l others is g. after_line l others first.0.1 is g)
   where
-    in_block : (l : Line) (others : List Line) (m : State) → m ≡ Inside (without_spaces l) others
-        → (restat_line m >>= λ restat. called (start_line_of restat) >>=
-        λ second. if_indented second.0 second.1 line_too_many) ≡ Ok s → IsBetweenStatements s
-    in_block l others m is g =
-        let restat = bind-ok (restat_line m) _ s g in
-        let second = bind-ok (called (start_line_of restat.0)) _ s restat.2 in
-        let end : restat.0 ≡ Between (lines_after (without_spaces l) others) =
+    after_line : (l : Line) (others : List Line) (m : State) → m ≡ Inside (without_spaces l) others
+        → first_line m ≡ Ok y
+        → IsBetweenStatements y.1
+    after_line l others m is g =
+        let restat = bind-ok (restat_line m) _ y g in
+        let second = bind-ok (called (start_line_of restat.0.1)) _ y restat.2 in
+        let end : restat.0.1 ≡ Between (lines_after (without_spaces l) others) =
         restat_line-inside (without_spaces l) others m restat.0 ((without_spaces l).units, is) restat.1 in
         let begun = ap (λ (t : State). called (start_line_of t)) (sym end) ∙ second.1 in
-        settled (lines_after (without_spaces l) others) second.0.0 second.0.1 s line_too_many begun second.2
-        (λ l others is g. too_many-fails second.0.1 s g)
+        settled restat.0.0 (lines_after (without_spaces l) others) second.0.0 second.0.1 y line_too_many begun
+        second.2
+        (λ l others is g. too_many-fails second.0.1 y g)

@@ -212,7 +212,8 @@ entry-form l ls us entry s h =
     let colon = bind-ok (expect_sign sign.Colon wanted.Colon outs.0.1) _ (entry, s) outs.2 in
     let rule = bind-ok (word_of_form (codes "dyndep") wanted.CommandName colon.0) _ (entry, s) colon.2 in
     let ins = bind-ok (added_inputs rule.0)
-    (λ ins. Ok (record { out = out.0.0; outs = outs.0.0; ins = ins.0 }, ins.1)) (entry, s) rule.2 in
+    (λ ins. Ok (record { out = out.0.0; outs = outs.0.0; ins = ins.0; restat = false }, ins.1)) (entry, s)
+    rule.2 in
     entry_from build.0 out.0 outs.0 colon.0 rule.0 ins.0 build.1 out.1 outs.1 colon.1 rule.1 ins.1 (oks ins.2)
   where
     entry_from : (build : State) (out : WordModel × State) (outs : List WordModel × State)
@@ -221,8 +222,10 @@ entry-form l ls us entry s h =
         → output_next build ≡ Ok out → section_next sign.Pipe out.1 ≡ Ok outs
         → expect_sign sign.Colon wanted.Colon outs.1 ≡ Ok colon
         → word_of_form (codes "dyndep") wanted.CommandName colon ≡ Ok rule → added_inputs rule ≡ Ok ins
-        → ◌≡◌ {A = EntryModel × State} (record { out = out.0; outs = outs.0; ins = ins.0 }, ins.1) (entry, s)
-        → EntryForm us entry × (s ≡ Between (lines_after l ls))
+        → ◌≡◌ {A = EntryModel × State} (
+          record { out = out.0; outs = outs.0; ins = ins.0; restat = false },
+          ins.1,
+        ) (entry, s) → EntryForm us entry × (s ≡ Between (lines_after l ls))
     entry_from build out outs colon rule ins a b c d e f g =
         let one = word_of_form-form (codes "build") wanted.Statement l ls us (within l ls us) build refl a in
         let two = output-form l ls one.0 build out one.2 b in
@@ -230,7 +233,7 @@ entry-form l ls us entry s h =
         let four = colon_after-form l ls three.0 outs.1 colon three.2 d in
         let five = word_of_form-form (codes "dyndep") wanted.CommandName l ls four.0 colon rule four.2 e in
         let six = inputs-form l ls five.0 rule ins five.2 f in
-        let form : EntryForm us (record { out = out.0; outs = outs.0; ins = ins.0 }) =
+        let form : EntryForm us (record { out = out.0; outs = outs.0; ins = ins.0; restat = false }) =
         record {
           after_build = one.0;
           after_out = two.0;
@@ -246,6 +249,7 @@ entry-form l ls us entry s h =
           rule = five.1;
           ins = six.1;
           end = six.2;
+          no_block = refl;
         } in (
           subst (λ (r : EntryModel × State). EntryForm us r.0) g form,
           sym (ap (λ (r : EntryModel × State). r.1) g) ∙ six.3,
@@ -273,7 +277,8 @@ entry-read l ls us entry f =
       no_section-read sign.Pipe2 l ls f.after_ins end.no_fault end.is_pipe2,
       no_section-read sign.PipeAt l ls f.after_ins end.no_fault end.is_pipe_at,
       end_after-read wanted.Newline l ls f.after_ins f.end,
-    ) refl
+    ) (ap (λ (restat : Bool). Ok (record entry { restat = restat }, Between (lines_after l ls)))
+    (sym f.no_block))
 
 pub entries_are : EntriesAreTheForms
 entries_are l ls entry s = (

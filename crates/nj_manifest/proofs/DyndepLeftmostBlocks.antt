@@ -22,10 +22,11 @@ use Rattle.nj_manifest.specs.LineSteps.{Step, ◌>>=◌, called, NameModel, name
 use Rattle.nj_manifest.specs.Statements.{equals_value}
 use Rattle.nj_manifest.specs.Leftmost.{continues, element, written, are_plain, NamesThePlaceOf, met_before}
 use Rattle.nj_manifest.specs.Leftmost.{offers}
-use Rattle.nj_manifest.specs.Dyndeps.{word_of_form, if_indented, restat_block}
+use Rattle.nj_manifest.specs.Dyndeps.{word_of_form, restat_block}
 use Rattle.nj_manifest.specs.Grammar.{AreBlanks}
 use Rattle.nj_manifest.specs.DyndepLeftmost.{NamesPlaceInEntry}
-use Rattle.nj_manifest.proofs.EntryBlocks.{restat_line, line_too_many, first_line, block-lines}
+use Rattle.nj_manifest.proofs.EntryBlocks.{end_of, restat_end, too_many_end, end_if_indented, first_end}
+use Rattle.nj_manifest.proofs.EntryBlocks.{block-end}
 use Rattle.nj_manifest.proofs.Framing.{after-is}
 use Rattle.nj_manifest.proofs.LeftmostRuns.{skip, gap_of, gap_passes, gap_cut}
 use Rattle.nj_manifest.proofs.LeftmostFronts.{front, front-append, element-front}
@@ -89,11 +90,11 @@ real_offers OutOfMemory bytes h = refl
 
 -- the reading of an indented line, if the lines begin with one
 abbrev pub in_lines : (State → Result State Fault) → List Line → Result State Fault
-in_lines k ls = called (start_line_of (Between ls)) >>= λ first. if_indented first.0 first.1 k
+in_lines k ls = called (start_line_of (Between ls)) >>= λ first. end_if_indented first.0 first.1 k
 
 module _ (k : State → Result State Fault) where
   abbrev of_reply : Reply LineStart → Result State Fault
-  of_reply r = called r >>= λ first. if_indented first.0 first.1 k
+  of_reply r = called r >>= λ first. end_if_indented first.0 first.1 k
 
   in_kind : (l : Line) (ms : List Line) (kind : Kind) → kind_of l ≡ kind → is_comment kind ≡ false
       → in_lines k (l ∷ ms) ≡ of_reply (begun_by kind l ms)
@@ -240,8 +241,8 @@ lines_stuck k (l ∷ ls) fault here h = by_kind (kind_of l) refl (lines_stuck k 
   where
     by_last : (t : Bool) → l.is_last ≡ t → kind_of l ≡ CommentLine
         → (in_lines k ls ≡ Err fault → LinesStuck k ls fault) → LinesStuck k (l ∷ ls) fault
-    by_last true last e rest = let r = in_last_comment k l ls e last
-        in no_fault (in_lines k (l ∷ ls)) r.0 fault r.1 h
+    by_last true last e rest = let r = in_last_comment k l ls e last in
+        no_fault (in_lines k (l ∷ ls)) r.0 fault r.1 h
     by_last false last e rest = lines_after_one k k l ls fault (λ ms. in_more k l ms e last)
         (rest (sym (in_more k l ls e last) ∙ h))
 
@@ -264,14 +265,14 @@ all_pass p (u ∷ us) a = and_from _ _ a.0 (all_pass p us a.1)
 many_here : (l : Line) (ls : List Line) (fault : Fault) → kind_of l ≡ IndentedLine
     → NamesPlaceInEntry fault (with_units (skip (after_spaces l.units)) l)
     → ((x : List TextUnit) (d : Line) (ms : List Line) → element x ≡ element (skip (after_spaces l.units))
-    → line_too_many (at (gap_of (after_spaces l.units) ++ x) d ms) ≡ Err (met_before (with_units x d) fault))
-    → LinesStuck line_too_many (l ∷ ls) fault
+    → too_many_end (at (gap_of (after_spaces l.units) ++ x) d ms) ≡ Err (met_before (with_units x d) fault))
+    → LinesStuck too_many_end (l ∷ ls) fault
 many_here l ls fault h place refuses =
     let sp = spaces_of l.units in
     let gap = gap_of (after_spaces l.units) in
     let left = skip (after_spaces l.units) in
     let cut = gap_cut (after_spaces l.units) in
-    let ends = blank_there line_too_many sp (spaces_pass l.units) in
+    let ends = blank_there too_many_end sp (spaces_pass l.units) in
     record {
       before = [];
       begun = sp ++ gap;
@@ -283,42 +284,42 @@ many_here l ls fault h place refuses =
       refuses = λ m ms same.
           let seen = front-append gap m.units left (element-front m.units left same) ∙ ap front (sym cut) in
           let x = gap ++ m.units in
-          ap (λ (y : List TextUnit). in_lines line_too_many (with_units y m ∷ ms))
+          ap (λ (y : List TextUnit). in_lines too_many_end (with_units y m ∷ ms))
           (append_assoc sp gap m.units)
-          ∙ (in_indented line_too_many (with_units (sp ++ x) m) ms (kind_replaced l.units x seen ∙ h)
-          ∙ (ap (λ (y : List TextUnit). line_too_many (at y m ms))
+          ∙ (in_indented too_many_end (with_units (sp ++ x) m) ms (kind_replaced l.units x seen ∙ h)
+          ∙ (ap (λ (y : List TextUnit). too_many_end (at y m ms))
           (unspaced sp x (spaces_pass l.units) (no_space_same l.units x seen)) ∙ refuses m.units m ms same));
       on = with_end sp gap refl (all_pass is_space_unit sp (spaces_pass l.units))
           (all_pass is_blank gap (gap_passes (after_spaces l.units))) ends.0 ends.1;
     }
 
 many_reads : (s t : State) (name : NameModel) → name_next wanted.VariableName s ≡ Ok (name, t)
-    → line_too_many s ≡ Err (Placed name.spot cause.DyndepShape)
+    → too_many_end s ≡ Err (Placed name.spot cause.DyndepShape)
 many_reads s t name h = ap (λ (r : Step NameModel). r >>= λ key. Err (Placed key.0.spot cause.DyndepShape)) h
 
-many_fails : (s : State) (f : Fault) → name_next wanted.VariableName s ≡ Err f → line_too_many s ≡ Err f
+many_fails : (s : State) (f : Fault) → name_next wanted.VariableName s ≡ Err f → too_many_end s ≡ Err f
 many_fails s f h = ap (λ (r : Step NameModel). r >>= λ key. Err (Placed key.0.spot cause.DyndepShape)) h
 
 many_stuck : (l : Line) (ls : List Line) (fault : Fault) → kind_of l ≡ IndentedLine
-    → line_too_many (at (after_spaces l.units) l ls) ≡ Err fault → LinesStuck line_too_many (l ∷ ls) fault
+    → too_many_end (at (after_spaces l.units) l ls) ≡ Err fault → LinesStuck too_many_end (l ∷ ls) fault
 many_stuck l ls fault h failed = by_name (name_seen wanted.VariableName starts us l)
   where
     us : List TextUnit
     us = after_spaces l.units
 
-    by_name : NameSeen wanted.VariableName starts us l → LinesStuck line_too_many (l ∷ ls) fault
+    by_name : NameSeen wanted.VariableName starts us l → LinesStuck too_many_end (l ∷ ls) fault
     by_name (names.there n) =
         let a = n.again (skip us) l ls refl in
         let is = many_reads (at us l ls) a.0 n.passes.value
         (ap (λ (y : List TextUnit). name_next wanted.VariableName (at y l ls)) (gap_cut us) ∙ a.1) in
-        as_fault line_too_many (l ∷ ls) fault (Placed n.passes.value.spot cause.DyndepShape)
+        as_fault too_many_end (l ∷ ls) fault (Placed n.passes.value.spot cause.DyndepShape)
         (errs (sym is ∙ failed)) (many_here l ls (Placed n.passes.value.spot cause.DyndepShape) h n.spot
         (λ x d ms same.
         let b = n.again x d ms same in
         (many_reads (at (gap_of us ++ x) d ms) b.0 n.passes.value b.1)))
     by_name (names.missing f of n) =
         let is = many_fails (at us l ls) f (n.fails ls) in
-        as_fault line_too_many (l ∷ ls) fault f (errs (sym is ∙ failed))
+        as_fault too_many_end (l ∷ ls) fault f (errs (sym is ∙ failed))
         (many_here l ls f h (place_of_name f n.place)
         (λ x d ms same. many_fails (at (gap_of us ++ x) d ms) (met_before (with_units x d) f)
         (n.refuses x d ms same)))
@@ -336,8 +337,8 @@ after_key s = equals_value s >>= λ v. Ok (true, v.1)
 abbrev restat_marked : State → Step Bool
 restat_marked s = name_next wanted.VariableName s >>= this_word (codes "restat") after_key
 
-restat-reported : (s : State) → reported (restat_marked s) ≡ led_on (restat_line s)
-unfolding restat_line
+restat-reported : (s : State) → reported (restat_marked s) ≡ led_on (restat_end s)
+unfolding restat_end
 restat-reported s =
     word-reported (codes "restat") wanted.VariableName s after_key (λ key. led_on (ended key))
     (λ key. reported-bind (equals_value key) (λ v. Ok (true, v.1)) (λ v. Ok (true, v.1)) (kept-value key)
@@ -350,7 +351,7 @@ restat-reported s =
 -- the property of an indented line, by the units after its spaces
 abbrev Spaced : (spaces : List TextUnit) → Claim Bool
 Spaced sp x e ms r = (kind_units (sp ++ x) ≡ IndentedLine) × (after_spaces (sp ++ x) ≡ x)
-    × (led_on (restat_line (at x e ms)) ≡ reported r)
+    × (led_on (restat_end (at x e ms)) ≡ reported r)
 
 -- `restat=x`
 ends_restat : ReadTo (λ ms. name_next wanted.VariableName (at (text (codes "restat=x")) (written []) ms) >>=
@@ -384,35 +385,35 @@ restat_outcome l h = restat_turn l (after_spaces l.units)
 
 -- ---- the block
 
-pub block_is : (ls : List Line) → restat_block (Between ls) ≡ in_lines first_line ls
-block_is ls = block-lines (Between ls)
+pub block_is : (ls : List Line) → end_of (restat_block (Between ls)) ≡ in_lines first_end ls
+block_is ls = block-end (Between ls)
 
-first_fails : (s : State) (f : Fault) → led_on (restat_line s) ≡ Err f → first_line s ≡ Err f
-first_fails s f h = by_line (restat_line s) h
+first_fails : (s : State) (f : Fault) → led_on (restat_end s) ≡ Err f → first_end s ≡ Err f
+first_fails s f h = by_line (restat_end s) h
   where
     by_line : (r : Result State Fault) → led_on r ≡ Err f
         → (r >>= λ restat. called (start_line_of restat) >>=
-        λ second. if_indented second.0 second.1 line_too_many) ≡ Err f
+        λ second. end_if_indented second.0 second.1 too_many_end) ≡ Err f
     by_line (Ok t) g = absurd cc
     by_line (Err e) g = ap Err (errs g)
 
-first_reads : (s : State) (v : Bool) (ls : List Line) → led_on (restat_line s) ≡ Ok (v, Between ls)
-    → first_line s ≡ in_lines line_too_many ls
-first_reads s v ls h = by_line (restat_line s) h
+first_reads : (s : State) (v : Bool) (ls : List Line) → led_on (restat_end s) ≡ Ok (v, Between ls)
+    → first_end s ≡ in_lines too_many_end ls
+first_reads s v ls h = by_line (restat_end s) h
   where
     remainder : (t : State) → ◌≡◌ {A = Step Bool} (Ok (true, t)) (Ok (v, Between ls)) → t ≡ Between ls
     remainder t g = after-is true t (v, Between ls) g
 
     by_line : (r : Result State Fault) → led_on r ≡ Ok (v, Between ls)
         → (r >>= λ restat. called (start_line_of restat) >>=
-        λ second. if_indented second.0 second.1 line_too_many) ≡ in_lines line_too_many ls
+        λ second. end_if_indented second.0 second.1 too_many_end) ≡ in_lines too_many_end ls
     by_line (Ok t) g = ap (λ (u : State). called (start_line_of u) >>=
-        λ second. if_indented second.0 second.1 line_too_many) (remainder t g)
+        λ second. end_if_indented second.0 second.1 too_many_end) (remainder t g)
     by_line (Err e) g = absurd cc
 
 -- the fault is in the line
 stuck_here : (l : Line) (ls : List Line) (f : Fault) → kind_of l ≡ IndentedLine
-    → Stuck (Spaced (spaces_of l.units)) (after_spaces l.units) l f → LinesStuck first_line (l ∷ ls) (real f)
+    → Stuck (Spaced (spaces_of l.units)) (after_spaces l.units) l f → LinesStuck first_end (l ∷ ls) (real f)
 stuck_here l ls f h s =
     let sp = spaces_of l.units in
     let r = s.some [] in
@@ -428,45 +429,45 @@ stuck_here l ls f h s =
       place = real_place f (with_units s.left l) s.place;
       refuses = λ m ms same.
           let n = s.refuses m.units m ms same in
-          ap (λ (y : List TextUnit). in_lines first_line (with_units y m ∷ ms))
+          ap (λ (y : List TextUnit). in_lines first_end (with_units y m ∷ ms))
           (append_assoc sp s.begun m.units)
-          ∙ (in_indented first_line (with_units (sp ++ (s.begun ++ m.units)) m) ms n.0
-          ∙ (ap (λ (y : List TextUnit). first_line (at y m ms)) n.1
+          ∙ (in_indented first_end (with_units (sp ++ (s.begun ++ m.units)) m) ms n.0
+          ∙ (ap (λ (y : List TextUnit). first_end (at y m ms)) n.1
           ∙ (first_fails (at (s.begun ++ m.units) m ms) (real (met_before m f)) n.2
           ∙ ap Err (real_before f m))));
       on = with_text s.bytes s.plain (real_offers f s.bytes s.offered) (Between [])
-          (ap (λ (y : List TextUnit). in_lines first_line (with_units y (written []) ∷ []))
+          (ap (λ (y : List TextUnit). in_lines first_end (with_units y (written []) ∷ []))
           (append_assoc sp s.begun (text s.bytes))
-          ∙ (in_indented first_line (with_units (sp ++ x) (written [])) [] r.0
-          ∙ (ap (λ (y : List TextUnit). first_line (at y (written []) [])) r.1
+          ∙ (in_indented first_end (with_units (sp ++ x) (written [])) [] r.0
+          ∙ (ap (λ (y : List TextUnit). first_end (at y (written []) [])) r.1
           ∙ first_reads (at x (written []) []) s.value [] r.2)));
     }
 
 first_stuck : (l : Line) (ls : List Line) (fault : Fault) → kind_of l ≡ IndentedLine
-    → first_line (at (after_spaces l.units) l ls) ≡ Err fault → LinesStuck first_line (l ∷ ls) fault
+    → first_end (at (after_spaces l.units) l ls) ≡ Err fault → LinesStuck first_end (l ∷ ls) fault
 first_stuck l ls fault h failed = by_line (restat_outcome l h)
   where
     by_last : (t : Bool) → l.is_last ≡ t → ((ms : List Line)
-        → in_lines first_line (l ∷ ms) ≡ in_lines line_too_many (lines_after l ms))
-        → in_lines line_too_many (cond t (with_units [] l ∷ ls) ls) ≡ Err fault
-        → LinesStuck first_line (l ∷ ls) fault
-    by_last true last reads g = let r = in_blank line_too_many (with_units [] l) ls refl
-        in no_fault (in_lines line_too_many (with_units [] l ∷ ls)) r.0 fault r.1 g
+        → in_lines first_end (l ∷ ms) ≡ in_lines too_many_end (lines_after l ms))
+        → in_lines too_many_end (cond t (with_units [] l ∷ ls) ls) ≡ Err fault
+        → LinesStuck first_end (l ∷ ls) fault
+    by_last true last reads g = let r = in_blank too_many_end (with_units [] l) ls refl in
+        no_fault (in_lines too_many_end (with_units [] l ∷ ls)) r.0 fault r.1 g
     by_last false last reads g =
-        lines_after_one line_too_many first_line l ls fault
-        (λ ms. reads ms ∙ ap (λ (t : Bool). in_lines line_too_many (cond t (with_units [] l ∷ ms) ms))
-        last) (lines_stuck line_too_many ls fault (λ m ms e r. many_stuck m ms fault e r) g)
+        lines_after_one too_many_end first_end l ls fault
+        (λ ms. reads ms ∙ ap (λ (t : Bool). in_lines too_many_end (cond t (with_units [] l ∷ ms) ms))
+        last) (lines_stuck too_many_end ls fault (λ m ms e r. many_stuck m ms fault e r) g)
 
     by_line : Outcome (Spaced (spaces_of l.units)) (after_spaces l.units) l
-        → LinesStuck first_line (l ∷ ls) fault
-    by_line (stuck f s) = as_fault first_line (l ∷ ls) fault (real f)
+        → LinesStuck first_end (l ∷ ls) fault
+    by_line (stuck f s) = as_fault first_end (l ∷ ls) fault (real f)
         (errs (sym (first_fails (at (after_spaces l.units) l ls) (real f) (s.fails ls).2) ∙ failed))
         (stuck_here l ls f h s)
     by_line (through v so) =
-        let reads = λ (ms : List Line). in_indented first_line l ms h
+        let reads = λ (ms : List Line). in_indented first_end l ms h
         ∙ first_reads (at (after_spaces l.units) l ms) v (lines_after l ms) (so ms).2 in
-        by_last l.is_last refl reads (sym (reads ls) ∙ (in_indented first_line l ls h ∙ failed))
+        by_last l.is_last refl reads (sym (reads ls) ∙ (in_indented first_end l ls h ∙ failed))
 
-pub block_stuck : (ls : List Line) (fault : Fault) → in_lines first_line ls ≡ Err fault
-    → LinesStuck first_line ls fault
-block_stuck ls fault h = lines_stuck first_line ls fault (λ l ms e r. first_stuck l ms fault e r) h
+pub block_stuck : (ls : List Line) (fault : Fault) → in_lines first_end ls ≡ Err fault
+    → LinesStuck first_end ls fault
+block_stuck ls fault h = lines_stuck first_end ls fault (λ l ms e r. first_stuck l ms fault e r) h

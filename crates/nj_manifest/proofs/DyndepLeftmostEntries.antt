@@ -1,6 +1,6 @@
 -- The first fault of the next entry of some lines.
-use Rattle.std.proofs.Common.{◌≡◌, Bool, true, false, cond, inl, inr, ◌⊎◌, Option, Some, None, Result, Ok}
-use Rattle.std.proofs.Common.{Err, List, [], ◌∷◌, ◌++◌, map, refl, sym, ap, subst, ◌∙◌, codes}
+use Rattle.std.proofs.Common.{◌≡◌, Bool, true, false, cond, inl, inr, ◌⊎◌, Option, Some, None, Ok, Err, List}
+use Rattle.std.proofs.Common.{[], ◌∷◌, ◌++◌, map, refl, sym, ap, subst, ◌∙◌, codes}
 use Rattle.std.specs.List.{list_all}
 use Rattle.std.proofs.lemmas.Bool.{and_parts}
 use Rattle.nj_text.specs.declared.spot.Spot.{Spot}
@@ -20,6 +20,7 @@ use Rattle.nj_manifest.specs.DyndepLeftmost.{are_apart, NamesPlaceInEntry, SomeE
 use Rattle.nj_manifest.specs.DyndepLeftmost.{EntryComesLeftmost, DyndepFaultsAreLeftmost}
 use Rattle.nj_manifest.specs.Inside.ParserContracts.{entry_here}
 use Rattle.nj_manifest.proofs.Choices.{ended}
+use Rattle.nj_manifest.proofs.DyndepEnds.{oks}
 use Rattle.nj_manifest.proofs.LeftmostFronts.{element-front}
 use Rattle.nj_manifest.proofs.LeftmostSteps.{text, Stuck, Outcome, stuck, through}
 use Rattle.nj_manifest.proofs.LeftmostKinds.{spaces_of, after_spaces, spaces_cut, spaces_pass, kind_spaced}
@@ -29,7 +30,7 @@ use Rattle.nj_manifest.proofs.DyndepLeftmostLines.{EntryPlain, entry_outcome}
 use Rattle.nj_manifest.proofs.DyndepLeftmostBlocks.{real_place, real_before, real_offers, in_lines, in_blank}
 use Rattle.nj_manifest.proofs.DyndepLeftmostBlocks.{block_is, BlockContinues, with_text, with_end, LinesStuck}
 use Rattle.nj_manifest.proofs.DyndepLeftmostBlocks.{errs, no_fault, block_stuck}
-use Rattle.nj_manifest.proofs.EntryBlocks.{first_line}
+use Rattle.nj_manifest.proofs.EntryBlocks.{end_of, first_end}
 
 -- ---- the next entry, by the kind of its first line
 
@@ -48,7 +49,8 @@ nothing_next = refl
 
 -- the entry after its line
 abbrev entry_then : EntryModel × State → Parse (Option EntryModel)
-entry_then entry = restat_block entry.1 >>= λ end. Ok (Some entry.0, lines_from end)
+entry_then entry = restat_block entry.1 >>=
+    λ block. Ok (Some (record entry.0 { restat = block.0 }), lines_from block.1)
 
 at_is : (l : Line) (ls : List Line) → entry_here l ls ≡ (entry_line (Inside l ls) >>= entry_then)
 at_is l ls = refl
@@ -62,29 +64,43 @@ plain_bad : (l : Line) (ms : List Line) (f : Fault) → kind_of l ≡ PlainLine 
 plain_bad l ms f h r = plain_is l ms h ∙ ap (λ (y : Step EntryModel). y >>= entry_then) r
 
 abbrev block_then : EntryModel → List Line → Parse (Option EntryModel)
-block_then entry ls = in_lines first_line ls >>= λ end. Ok (Some entry, lines_from end)
+block_then entry ls = entry_then (entry, Between ls)
 
 plain_read : (l : Line) (ms : List Line) (v : EntryModel) (ls : List Line) → kind_of l ≡ PlainLine
     → entry_line (Inside l ms) ≡ Ok (v, Between ls) → next_entry (l ∷ ms) ≡ block_then v ls
-plain_read l ms v ls h r = plain_is l ms h
-    ∙ (ap (λ (y : Step EntryModel). y >>= entry_then) r
-    ∙ ap (λ (y : Result State Fault). y >>= λ end. Ok (Some v, lines_from end)) (block_is ls))
+plain_read l ms v ls h r = plain_is l ms h ∙ ap (λ (y : Step EntryModel). y >>= entry_then) r
 
-block_read : (v : EntryModel) (ls : List Line) (end : State) → in_lines first_line ls ≡ Ok end
-    → block_then v ls ≡ Ok (Some v, lines_from end)
-block_read v ls end h = ap (λ (y : Result State Fault). y >>= λ end. Ok (Some v, lines_from end)) h
+-- by a reading of the block
+abbrev by_block_read : EntryModel → Step Bool → Parse (Option EntryModel)
+by_block_read v r = r >>= λ block. Ok (Some (record v { restat = block.0 }), lines_from block.1)
 
-block_bad : (v : EntryModel) (ls : List Line) (f : Fault) → in_lines first_line ls ≡ Err f
+block_read : (v : EntryModel) (ls : List Line) (end : State) → in_lines first_end ls ≡ Ok end
+    → (w : EntryModel) × (block_then v ls ≡ Ok (Some w, lines_from end))
+block_read v ls end h = by_block (restat_block (Between ls)) (block_is ls ∙ h)
+  where
+    by_block : (r : Step Bool) → end_of r ≡ Ok end
+        → (w : EntryModel) × (by_block_read v r ≡ Ok (Some w, lines_from end))
+    by_block (Ok y) g = (
+      record v { restat = y.0 },
+      ap (λ (s : State). Ok (Some (record v { restat = y.0 }), lines_from s))
+          (oks g),
+    )
+    by_block (Err f) g = absurd cc
+
+block_bad : (v : EntryModel) (ls : List Line) (f : Fault) → in_lines first_end ls ≡ Err f
     → block_then v ls ≡ Err f
-block_bad v ls f h = ap (λ (y : Result State Fault). y >>= λ end. Ok (Some v, lines_from end)) h
+block_bad v ls f h = by_block (restat_block (Between ls)) (block_is ls ∙ h)
+  where
+    by_block : (r : Step Bool) → end_of r ≡ Err f → by_block_read v r ≡ Err f
+    by_block (Ok y) g = absurd cc
+    by_block (Err e) g = ap Err (errs g)
 
 block_fault : (v : EntryModel) (ls : List Line) (f : Fault) → block_then v ls ≡ Err f
-    → in_lines first_line ls ≡ Err f
-block_fault v ls f h = by_block (in_lines first_line ls) h
+    → in_lines first_end ls ≡ Err f
+block_fault v ls f h = sym (block_is ls) ∙ by_block (restat_block (Between ls)) h
   where
-    by_block : (r : Result State Fault) → ◌≡◌ {A = Parse (Option EntryModel)}
-        (r >>= λ end. Ok (Some v, lines_from end)) (Err f) → r ≡ Err f
-    by_block (Ok end) g = absurd cc
+    by_block : (r : Step Bool) → by_block_read v r ≡ Err f → end_of r ≡ Err f
+    by_block (Ok y) g = absurd cc
     by_block (Err e) g = ap Err (errs g)
 
 as_fault : (ls : List Line) (f g : Fault) → g ≡ f → EntryComesLeftmost ls g → EntryComesLeftmost ls f
@@ -97,6 +113,7 @@ stuck_first : (l : Line) (ls : List Line) (f : Fault) → Stuck EntryPlain l.uni
 stuck_first l ls f s =
     let r = s.some [] in
     let read = plain_read (with_units (s.begun ++ text s.bytes) (written [])) [] s.value [] r.0 (r.1 tt) in
+    let end = block_read s.value [] (Between []) refl in
     record {
       before = [];
       begun = s.begun;
@@ -111,9 +128,10 @@ stuck_first l ls f s =
         offered =
             real_offers f s.bytes s.offered;
         plain_lines = refl;
-        entry = s.value;
+        entry = end.0;
         rest = [];
-        reads = read;
+        reads =
+            read ∙ end.1;
       });
       refuses = λ m ms same apart.
           let n = s.refuses m.units m ms same in
@@ -124,37 +142,37 @@ stuck_first l ls f s =
 -- ---- the fault is in the block
 
 goes_in_block : (l : Line) (v : EntryModel) (before : List Line) (begun : List TextUnit) (fault : Fault)
-    → ((ms : List Line) → next_entry (l ∷ ms) ≡ block_then v ms)
-    → BlockContinues first_line before begun fault
+    → ((ms : List Line) → next_entry (l ∷ ms) ≡ block_then v ms) → BlockContinues first_end before begun fault
     → SomeEntry (l ∷ before) begun fault ⊎ LineTooMany (l ∷ before) begun
 goes_in_block l v before begun fault reads (with_text bytes plain offered end some) =
     let xs = continues before begun (written bytes) [] in
+    let read = block_read v xs end some in
     inl (record {
       bytes = bytes;
       lines = [];
       plain_bytes = plain;
       offered = offered;
       plain_lines = refl;
-      entry = v;
+      entry = read.0;
       rest = lines_from end;
-      reads = reads xs ∙ block_read v xs end some;
+      reads = reads xs ∙ read.1;
     })
 goes_in_block l v before begun fault reads (with_end spaces gap cut of_spaces of_blanks end some) =
     let xs = continues before spaces (written []) [] in
+    let read = block_read v xs end some in
     inr (record {
       spaces = spaces;
       gap = gap;
       cut = cut;
       of_spaces = of_spaces;
       of_blanks = of_blanks;
-      entry =
-          v;
+      entry = read.0;
       rest = lines_from end;
-      reads = reads xs ∙ block_read v xs end some;
+      reads = reads xs ∙ read.1;
     })
 
 stuck_in_block : (l : Line) (ls : List Line) (fault : Fault) (v : EntryModel)
-    → ((ms : List Line) → next_entry (l ∷ ms) ≡ block_then v ms) → LinesStuck first_line ls fault
+    → ((ms : List Line) → next_entry (l ∷ ms) ≡ block_then v ms) → LinesStuck first_end ls fault
     → EntryComesLeftmost (l ∷ ls) fault
 stuck_in_block l ls fault v reads s = record {
   before = l ∷ s.before;
@@ -175,10 +193,10 @@ plain_leftmost l ls fault apart k h = by_line (entry_outcome l k)
   where
     by_last : (v : EntryModel) (t : Bool) → l.is_last ≡ t
         → ((ms : List Line) → next_entry (l ∷ ms) ≡ block_then v (lines_after l ms))
-        → in_lines first_line (cond t (with_units [] l ∷ ls) ls) ≡ Err fault
+        → in_lines first_end (cond t (with_units [] l ∷ ls) ls) ≡ Err fault
         → EntryComesLeftmost (l ∷ ls) fault
-    by_last v true last reads b = let r = in_blank first_line (with_units [] l) ls refl
-        in no_fault (in_lines first_line (with_units [] l ∷ ls)) r.0 fault r.1 b
+    by_last v true last reads b = let r = in_blank first_end (with_units [] l) ls refl in
+        no_fault (in_lines first_end (with_units [] l ∷ ls)) r.0 fault r.1 b
     by_last v false last reads b = stuck_in_block l ls fault v
         (λ ms. reads ms ∙ ap (λ (t : Bool). block_then v (cond t (with_units [] l ∷ ms) ms)) last)
         (block_stuck ls fault b)

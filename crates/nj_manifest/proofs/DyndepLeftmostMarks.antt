@@ -262,7 +262,7 @@ output-reported {B = B} s f g h = by_word (called (path_word_of s)) (kept-called
 -- ---- the line
 
 abbrev pub entry_of : WordModel → (outs ins : List WordModel) → EntryModel
-entry_of out outs ins = record { out = out; outs = outs; ins = ins }
+entry_of out outs ins = record { out = out; outs = outs; ins = ins; restat = false }
 
 abbrev pub at_end : EntryModel → State → Step EntryModel
 at_end entry s = ending entry (expect_sign sign.LineEnd wanted.Newline s)

@@ -1,6 +1,7 @@
 -- The next entry: the readings of lines, and the forms.
-use Rattle.std.proofs.Common.{◌≡◌, Bool, true, false, cond, Option, Some, None, Result, Ok, Err, ◌⊎◌, inl}
-use Rattle.std.proofs.Common.{inr, List, [], ◌∷◌, refl, sym, ap, subst, ◌∙◌, codes}
+use Rattle.std.proofs.Common.{◌≡◌, Bool, true, false, ◌||◌, cond, Option, Some, None, Result, Ok, Err, ◌⊎◌}
+use Rattle.std.proofs.Common.{inl, inr, List, [], ◌∷◌, refl, sym, ap, subst, ◌∙◌, codes}
+use Rattle.std.specs.List.{list_any}
 use Rattle.std.specs.Str.{bytes_eq}
 use Rattle.std.proofs.lemmas.Slice.Eq.{bytes_eq-Decides}
 use Rattle.nj_text.specs.declared.line_start.LineStart.{LineStart}
@@ -12,11 +13,11 @@ use Rattle.nj_text.specs.Calls.{State, Between, Inside, start_line_of, without_c
 use Rattle.nj_manifest.specs.declared.block_lines.Keys.TheVariants as keys
 use Rattle.nj_manifest.specs.declared.cause.Wanted.TheVariants as wanted
 use Rattle.nj_manifest.specs.Faults.{Fault}
-use Rattle.nj_manifest.specs.LineSteps.{◌>>=◌, called, NameModel, name_next}
+use Rattle.nj_manifest.specs.LineSteps.{Step, ◌>>=◌, called, NameModel, name_next}
 use Rattle.nj_manifest.specs.Statements.{LineModel, lines_from, equals_value, line_next, block_by, block}
 use Rattle.nj_manifest.specs.Openings.{Parse, opening_by, opening, or_last, without_spaces}
-use Rattle.nj_manifest.specs.Dyndeps.{EntryModel, entry_line, word_of_form, if_indented, restat_block}
-use Rattle.nj_manifest.specs.Dyndeps.{entry_from, next_entry}
+use Rattle.nj_manifest.specs.Dyndeps.{EntryModel, entry_line, word_of_form, has_text, if_indented}
+use Rattle.nj_manifest.specs.Dyndeps.{restat_block, entry_from, next_entry}
 use Rattle.nj_manifest.specs.DyndepForms.{RestatForm, NextEntryForm, NextEntriesAreTheForms}
 use Rattle.nj_manifest.specs.Inside.ParserContracts.{entry_here}
 use Rattle.nj_manifest.proofs.Choices.{no_lines, ended}
@@ -27,6 +28,10 @@ use Rattle.nj_manifest.proofs.FormsKeys.{unless_missing-ok}
 use Rattle.nj_manifest.proofs.FormsBlocks.{block-form, block-read}
 use Rattle.nj_manifest.proofs.DyndepEnds.{oks, called-ok, restat_line-inside, too_many-fails}
 use Rattle.nj_manifest.proofs.DyndepEntries.{entries_are}
+
+or-false : (b : Bool) → (b || false) ≡ b
+or-false true = refl
+or-false false = refl
 
 no_err : {A P : Type 0} {x : A} {f : Fault} → ◌≡◌ {A = Result A Fault} (Ok x) (Err f) → P
 no_err e = absurd cc
@@ -40,24 +45,27 @@ unfolding line_next
 line_of m name value a b = rw (a, b) refl
 
 -- `restat = VALUE` is a line of a block that has this key.
-restat-line : (m t : State) → restat_line m ≡ Ok t
-    → (line : LineModel) × (line.name ≡ codes "restat") × (line_next keys.All m ≡ Ok (line, t))
+restat-line : (m : State) (y : Bool × State) → restat_line m ≡ Ok y
+    → (line : LineModel) × (line.name ≡ codes "restat") × (line_next keys.All m ≡ Ok (line, y.1))
+    × (has_text line.value ≡ y.0)
 unfolding restat_line word_of_form
-restat-line m t h =
-    let key = bind-ok (word_of_form (codes "restat") wanted.VariableName m) _ t h in
-    let value = bind-ok (equals_value key.0) (λ value. Ok value.1) t key.2 in
+restat-line m y h =
+    let key = bind-ok (word_of_form (codes "restat") wanted.VariableName m) _ y h in
+    let value = bind-ok (equals_value key.0) (λ value. Ok (has_text value.0, value.1)) y key.2 in
     let name = bind-ok (name_next wanted.VariableName m) _ key.0 key.1 in
     let k = unless_missing-ok (bytes_eq name.0.0.name (codes "restat")) _ (Ok name.0.1) key.0 name.2 in
     let line : LineModel = record { spot = name.0.0.spot; name = name.0.0.name; value = value.0.0 } in
-    let read : equals_value name.0.1 ≡ Ok value.0 = ap equals_value (oks k.1) ∙ value.1 in (
+    let read : equals_value name.0.1 ≡ Ok value.0 = ap equals_value (oks k.1) ∙ value.1 in
+    let same = oks value.2 in (
       line,
       (bytes_eq-Decides name.0.0.name (codes "restat")).0 k.0,
-      line_of m name.0 value.0 name.1 read
-          ∙ ap (λ (s : State). Ok (line, s)) (oks value.2),
+      line_of m name.0 value.0 name.1 read ∙ ap (λ (r : Bool × State). Ok (line, r.1)) same,
+      ap (λ (r : Bool × State). r.0) same,
     )
 
 line-restat : (m t : State) (line : LineModel) → line_next keys.All m ≡ Ok (line, t)
-    → line.name ≡ codes "restat" → restat_line m ≡ Ok t
+    → line.name ≡ codes "restat"
+    → restat_line m ≡ Ok (has_text line.value, t)
 unfolding restat_line word_of_form line_next
 line-restat m t line h n =
     let name = bind-ok (name_next wanted.VariableName m) _ (line, t) h in
@@ -67,7 +75,7 @@ line-restat m t line h n =
     let same = oks value.2 in
     let named : name.0.0.name ≡ codes "restat" = ap (λ (r : LineModel × State). r.0.name) same ∙ n in
     rw (name.1, (bytes_eq-Decides name.0.0.name (codes "restat")).1 named, value.1)
-    (ap (λ (r : LineModel × State). Ok r.1) same)
+    (ap (λ (r : LineModel × State). Ok (has_text r.0.value, r.1)) same)
 
 -- ---- a block
 
@@ -85,79 +93,84 @@ one_line ls l others m t line more is reads read rest =
     reads ∙ rw (ap (line_next keys.All) (sym is) ∙ read, sym (block-after keys.All l others) ∙ rest) refl
 
 no_block : (ls : List Line) (m : State) → block keys.All ls ≡ no_lines (lines_from m)
-    → RestatForm ls (lines_from m)
-no_block ls m e = record {
-  lines = [];
-  block = block-form keys.All ls [] (lines_from m) e;
-  one_at_most =
-      inl refl;
-}
+    → RestatForm ls false (lines_from m)
+no_block ls m e =
+    record {
+      lines = [];
+      block = block-form keys.All ls [] (lines_from m) e;
+      one_at_most = inl refl;
+      value =
+          refl;
+    }
 
-restat-form : (ls : List Line) (s : State) → restat_block (Between ls) ≡ Ok s → RestatForm ls (lines_from s)
+-- the form of what was read
+abbrev IsForm : List Line → Bool × State → Type 0
+IsForm ls y = RestatForm ls y.0 (lines_from y.1)
+
+restat-form : (ls : List Line) (s : Bool × State) → restat_block (Between ls) ≡ Ok s → IsForm ls s
 restat-form ls s h =
     let first = bind-ok (called (start_line_of (Between ls))) _ s (sym (block-lines (Between ls)) ∙ h) in
     by_start first.0.0 first.0.1 (begins ls first.0.0 first.0.1 first.1) first.2
   where
-    by_second : (l : Line) (others : List Line) (m t : State) (line : LineModel)
+    by_second : (l : Line) (others : List Line) (m : State) (t : Bool × State) (line : LineModel)
         → m ≡ Inside (without_spaces l) others
         → block keys.All ls ≡ block_by keys.All IndentedLine l others (block keys.All others)
-        → line_next keys.All m ≡ Ok (line, t) → line.name ≡ codes "restat"
-        → (y : LineStart) (n : State) → Begins keys.All (lines_weight (lines_after l others))
-        (block keys.All (lines_after l others)) (Ok (y, n)) → if_indented y n line_too_many ≡ Ok s
-        → RestatForm ls (lines_from s)
-    by_second l others m t line is reads read key y n b g = by_kind y b g
+        → line_next keys.All m ≡ Ok (line, t.1) → line.name ≡ codes "restat" → has_text line.value ≡ t.0
+        → (y : LineStart) (n : State)
+        → Begins keys.All (lines_weight (lines_after l others)) (block keys.All (lines_after l others))
+        (Ok (y, n))
+        → if_indented t.0 y n line_too_many ≡ Ok s → IsForm ls s
+    by_second l others m t line is reads read key value y n b g = by_kind y b g
       where
-        ended_there : block keys.All (lines_after l others) ≡ no_lines (lines_from n) → n ≡ s
-            → RestatForm ls (lines_from s)
+        ended_there : block keys.All (lines_after l others) ≡ no_lines (lines_from n) → (t.0, n) ≡ s
+            → IsForm ls s
         ended_there e same =
-            subst (λ (u : State). RestatForm ls (lines_from u)) same
+            subst (IsForm ls) same
             (record {
               lines = line ∷ [];
-              block =
-                  block-form keys.All ls (line ∷ []) (lines_from n)
-                  (one_line ls l others m t line ([], lines_from n) is reads read e);
-              one_at_most =
-                  inr (line, refl, key);
+              block = block-form keys.All ls (line ∷ []) (lines_from n)
+                  (one_line ls l others m t.1 line ([], lines_from n) is reads read e);
+              one_at_most = inr (line, refl, key);
+              value = or-false (has_text line.value) ∙ value;
             })
 
-        by_kind : (y : LineStart) → Begins keys.All (lines_weight (lines_after l others))
-            (block keys.All (lines_after l others)) (Ok (y, n)) → if_indented y n line_too_many ≡ Ok s
-            → RestatForm ls (lines_from s)
+        by_kind : (y : LineStart)
+            → Begins keys.All (lines_weight (lines_after l others)) (block keys.All (lines_after l others))
+            (Ok (y, n))
+            → if_indented t.0 y n line_too_many ≡ Ok s → IsForm ls s
         by_kind start.Indented b g = too_many-fails n s g
         by_kind start.Middle b g = absurd b
         by_kind start.End b g = ended_there b.0 (oks g)
         by_kind start.Blank b g = ended_there b.0 (oks g)
         by_kind start.Plain b g = ended_there b.0 (oks g)
 
-    in_block : (l : Line) (others : List Line) (m : State) → m ≡ Inside (without_spaces l) others
+    after_line : (l : Line) (others : List Line) (m : State) → m ≡ Inside (without_spaces l) others
         → block keys.All ls ≡ block_by keys.All IndentedLine l others (block keys.All others)
-        → first_line m ≡ Ok s → RestatForm ls (lines_from s)
-    in_block l others m is reads g =
+        → first_line m ≡ Ok s → IsForm ls s
+    after_line l others m is reads g =
         let restat = bind-ok (restat_line m) _ s g in
-        let second = bind-ok (called (start_line_of restat.0)) _ s restat.2 in
-        let end : restat.0 ≡ Between (lines_after l others) =
+        let second = bind-ok (called (start_line_of restat.0.1)) _ s restat.2 in
+        let end : restat.0.1 ≡ Between (lines_after l others) =
         restat_line-inside (without_spaces l) others m restat.0 ((without_spaces l).units, is) restat.1 in
         let line = restat-line m restat.0 restat.1 in
         let begun = ap (λ (t : State). called (start_line_of t)) (sym end) ∙ second.1 in
-        by_second l others m restat.0 line.0 is reads line.2 line.1 second.0.0 second.0.1
+        by_second l others m restat.0 line.0 is reads line.2 line.1 line.3 second.0.0 second.0.1
         (begins (lines_after l others) second.0.0 second.0.1 begun) second.2
 
     by_start : (x : LineStart) (m : State) → Begins keys.All (lines_weight ls) (block keys.All ls) (Ok (x, m))
-        → if_indented x m first_line ≡ Ok s → RestatForm ls (lines_from s)
-    by_start start.Indented m b g = in_block b.0 b.1 m b.2 b.3 g
+        → if_indented false x m first_line ≡ Ok s → IsForm ls s
+    by_start start.Indented m b g = after_line b.0 b.1 m b.2 b.3 g
     by_start start.Middle m b g = absurd b
-    by_start start.End m b g = subst (λ (u : State). RestatForm ls (lines_from u)) (oks g) (no_block ls m b.0)
-    by_start start.Blank m b g = subst (λ (u : State). RestatForm ls (lines_from u)) (oks g)
-        (no_block ls m b.0)
-    by_start start.Plain m b g = subst (λ (u : State). RestatForm ls (lines_from u)) (oks g)
-        (no_block ls m b.0)
+    by_start start.End m b g = subst (IsForm ls) (oks g) (no_block ls m b.0)
+    by_start start.Blank m b g = subst (IsForm ls) (oks g) (no_block ls m b.0)
+    by_start start.Plain m b g = subst (IsForm ls) (oks g) (no_block ls m b.0)
 
 -- the start of a line where a block has no line
 record Quiet (ls rest : List Line) : Type 0 where
   pub begun : LineStart
   pub after : State
   pub starts : called (start_line_of (Between ls)) ≡ Ok (begun, after)
-  pub stays : (k : State → Result State Fault) → if_indented begun after k ≡ Ok after
+  pub stays : (bound : Bool) (k : State → Step Bool) → if_indented bound begun after k ≡ Ok (bound, after)
   pub left : lines_from after ≡ rest
 
 -- where it has one
@@ -209,11 +222,23 @@ quiet ls rest h = by_reply (start_line_of (Between ls)) refl
         no_more there.0 there.1 there.5
     by_reply (Ok (start.Middle, m)) e b = absurd b
     by_reply (Ok (start.End, m)) e b = record
-        { begun = start.End; after = m; starts = ap called e; stays = λ k. refl; left = left_of m b.0 }
-    by_reply (Ok (start.Blank, m)) e b = record
-        { begun = start.Blank; after = m; starts = ap called e; stays = λ k. refl; left = left_of m b.0 }
-    by_reply (Ok (start.Plain, m)) e b = record
-        { begun = start.Plain; after = m; starts = ap called e; stays = λ k. refl; left = left_of m b.0 }
+        { begun = start.End; after = m; starts = ap called e; stays = λ bound k. refl; left = left_of m b.0 }
+    by_reply (Ok (start.Blank, m)) e b = record {
+      begun = start.Blank;
+      after = m;
+      starts = ap called e;
+      stays = λ bound k. refl;
+      left =
+          left_of m b.0;
+    }
+    by_reply (Ok (start.Plain, m)) e b = record {
+      begun = start.Plain;
+      after = m;
+      starts = ap called e;
+      stays = λ bound k. refl;
+      left =
+          left_of m b.0;
+    }
 
 spoken : (ls rest : List Line) (line : LineModel) → block keys.All ls ≡ Ok (line ∷ [], rest)
     → Spoken ls rest line
@@ -250,31 +275,41 @@ spoken ls rest line h = by_reply (start_line_of (Between ls)) refl
     by_reply (Ok (start.Blank, m)) e b = empty m b.0
     by_reply (Ok (start.Plain, m)) e b = empty m b.0
 
-restat-read : (ls rest : List Line) → RestatForm ls rest
-    → (s : State) × (restat_block (Between ls) ≡ Ok s) × (lines_from s ≡ rest)
-restat-read ls rest f = by_lines f.one_at_most
+-- what a block with some lines binds
+abbrev bound_by : List LineModel → Bool
+bound_by lines = list_any (λ line. has_text line.value) lines
+
+restat-read : (ls : List Line) (restat : Bool) (rest : List Line) → RestatForm ls restat rest
+    → (s : State) × (restat_block (Between ls) ≡ Ok (restat, s)) × (lines_from s ≡ rest)
+restat-read ls restat rest f = by_lines f.one_at_most
   where
     by_lines : (f.lines ≡ []) ⊎ ((line : LineModel) × (f.lines ≡ line ∷ []) × (line.name ≡ codes "restat"))
-        → (s : State) × (restat_block (Between ls) ≡ Ok s) × (lines_from s ≡ rest)
+        → (s : State) × (restat_block (Between ls) ≡ Ok (restat, s)) × (lines_from s ≡ rest)
     by_lines (inl e) =
-        let q = quiet ls rest (block-read f.block ∙ ap (λ (xs : List LineModel). Ok (xs, rest)) e) in (
+        let q = quiet ls rest (block-read f.block ∙ ap (λ (xs : List LineModel). Ok (xs, rest)) e) in
+        let value : false ≡ restat = ap bound_by (sym e) ∙ f.value in (
           q.after,
-          block-lines (Between ls) ∙ (ap (λ r. r >>= λ first. if_indented first.0 first.1 first_line)
-              q.starts ∙ q.stays first_line),
+          block-lines (Between ls) ∙ (ap (λ r. r >>= λ first. if_indented false first.0 first.1 first_line)
+              q.starts
+              ∙ (q.stays false first_line ∙ ap (λ (b : Bool). Ok (b, q.after)) value)),
           q.left,
         )
     by_lines (inr g) =
         let p = spoken ls rest g.0 (block-read f.block ∙ ap (λ (xs : List LineModel). Ok (xs, rest)) g.1) in
         let q = quiet (lines_after p.first p.others) rest p.none in
-        let restat = line-restat p.after p.end g.0 p.reads g.2 in
+        let line = line-restat p.after p.end g.0 p.reads g.2 in
         let end : p.end ≡ Between (lines_after p.first p.others) =
         line-inside keys.All (without_spaces p.first) p.others g.0 p.end
         (ap (line_next keys.All) (sym p.is) ∙ p.reads) in
         let second : called (start_line_of p.end) ≡ Ok (q.begun, q.after) =
-        ap (λ (t : State). called (start_line_of t)) end ∙ q.starts in (
+        ap (λ (t : State). called (start_line_of t)) end ∙ q.starts in
+        let value : has_text g.0.value ≡ restat =
+        sym (or-false (has_text g.0.value)) ∙ (ap bound_by (sym g.1) ∙ f.value) in (
           q.after,
-          block-lines (Between ls) ∙ (ap (λ r. r >>= λ first. if_indented first.0 first.1 first_line)
-              p.starts ∙ rw (restat, second) (q.stays line_too_many)),
+          block-lines (Between ls) ∙ (ap (λ r. r >>= λ first. if_indented false first.0 first.1 first_line)
+              p.starts
+              ∙ (rw (line, second) (q.stays (has_text g.0.value) line_too_many)
+              ∙ ap (λ (b : Bool). Ok (b, q.after)) value)),
           q.left,
         )
 
@@ -289,9 +324,12 @@ next_is : (ls : List Line) → next_entry ls ≡ (opening ls >>= entry_from)
 unfolding next_entry
 next_is ls = refl
 
-at_is : (l : Line) (ls : List Line) → entry_here l ls
-    ≡ (entry_line (Inside l ls) >>= λ entry. restat_block entry.1 >>=
-    λ end. Ok (Some entry.0, lines_from end))
+-- the entry with its block
+abbrev with_block : EntryModel × State → Parse (Option EntryModel)
+with_block entry = restat_block entry.1 >>=
+    λ block. Ok (Some (record entry.0 { restat = block.0 }), lines_from block.1)
+
+at_is : (l : Line) (ls : List Line) → entry_here l ls ≡ (entry_line (Inside l ls) >>= with_block)
 at_is l ls = refl
 
 nothing_next : next_entry [] ≡ Ok (None, [])
@@ -308,11 +346,12 @@ at_form : (l : Line) (ls : List Line) (found : Option EntryModel) (rest : List L
     → entry_here l ls ≡ Ok (found, rest) → NextEntryForm (l ∷ ls) found rest
 at_form l ls found rest k h =
     let entry = bind-ok (entry_line (Inside l ls)) _ (found, rest) (sym (at_is l ls) ∙ h) in
-    let end = bind-ok (restat_block entry.0.1) (λ end. Ok (Some entry.0.0, lines_from end)) (found, rest)
-    entry.2 in
+    let one = λ (restat : Bool). record entry.0.0 { restat = restat } in
+    let end = bind-ok (restat_block entry.0.1) (λ block. Ok (Some (one block.0), lines_from block.1))
+    (found, rest) entry.2 in
     let form = (entries_are l ls entry.0.0 entry.0.1).0 entry.1 in
     let block = restat-form (lines_after l ls) end.0 (ap restat_block (sym form.1) ∙ end.1) in
-    as_found (l ∷ ls) rest (Some entry.0.0) found (lines_from end.0) end.2
+    as_found (l ∷ ls) rest (Some (one end.0.0)) found (lines_from end.0.1) end.2
     (NextEntryForm.statement k form.0 block)
 
 next_form : (ls : List Line) (found : Option EntryModel) (rest : List Line) → next_entry ls ≡ Ok (found, rest)
@@ -348,11 +387,12 @@ next_form (l ∷ ls) found rest h = by_kind (kind_of l) refl (λ e. next_form ls
 
 next_read : {ls rest : List Line} {found : Option EntryModel} → NextEntryForm ls found rest
     → next_entry ls ≡ Ok (found, rest)
-next_read (NextEntryForm.statement {l = l} {ls = ls} {rest = rest} {entry = entry} k f b) =
+next_read (NextEntryForm.statement {l = l} {ls = ls} {rest = rest} {entry = entry} {restat = restat} k f b) =
     let read = (entries_are l ls entry (Between (lines_after l ls))).1 (f, refl) in
-    let block = restat-read (lines_after l ls) rest b in
-    next_by_kind l ls PlainLine k ∙ (at_is l ls
-    ∙ rw (read, block.1) (ap (λ (r : List Line). Ok (Some entry, r)) block.2))
+    let block = restat-read (lines_after l ls) restat rest b in
+    next_by_kind l ls PlainLine k
+    ∙ (at_is l ls ∙ rw (read, block.1) (ap
+    (λ (r : List Line). Ok (Some (record entry { restat = restat }), r)) block.2))
 next_read (NextEntryForm.blank {l = l} {ls = ls} k e others) =
     next_by_kind l ls BlankLine k ∙ (ap (λ (t : Bool). cond t (ended (lines_after l ls)) (opening ls) >>=
     entry_from) e ∙ (sym (next_is ls) ∙ next_read others))

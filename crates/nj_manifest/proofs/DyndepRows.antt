@@ -1,5 +1,6 @@
 -- Worked rows of dyndep files, computed on the definitions.
-use Rattle.std.proofs.Common.{◌≡◌, ℕ, Option, Some, None, Result, Ok, Err, List, [], ◌∷◌, refl}
+use Rattle.std.proofs.Common.{◌≡◌, ℕ, Bool, true, false, Option, Some, None, Result, Ok, Err, List, [], ◌∷◌}
+use Rattle.std.proofs.Common.{refl}
 use Rattle.std.specs.Prelude.{⊤, codes}
 use Rattle.nj_text.specs.Units.{cut}
 use Rattle.nj_text.specs.Lines.{text_lines}
@@ -48,7 +49,11 @@ abbrev word : (line column : ℕ) → List ℕ → WordModel
 word line column bytes = record { spot = at line column; parts = Text bytes ∷ [] }
 
 abbrev entry : WordModel → (outs ins : List WordModel) → Result (Option EntryModel) Fault
-entry out outs ins = Ok (Some (record { out = out; outs = outs; ins = ins }))
+entry out outs ins = Ok (Some (record { out = out; outs = outs; ins = ins; restat = false }))
+
+-- an entry without additions, and whether it binds `restat`
+abbrev binding : WordModel → (restat : Bool) → Result (Option EntryModel) Fault
+binding out restat = Ok (Some (record { out = out; outs = []; ins = []; restat = restat }))
 
 -- ---- entries
 
@@ -69,9 +74,26 @@ empty_sections : entry_in (codes "build o | : dyndep |") ≡ entry (word 1 7 (co
 unfolding on_dyndeps
 empty_sections = refl
 
-restat_is_read : entry_in (codes "build o: dyndep\n# c\n  restat = 1") ≡ entry (word 1 7 (codes "o")) [] []
+restat_is_bound : entry_in (codes "build o: dyndep\n# c\n  restat = 1") ≡ binding (word 1 7 (codes "o")) true
 unfolding on_dyndeps
-restat_is_read = refl
+restat_is_bound = refl
+
+any_text_binds_restat : entry_in (codes "build o: dyndep\n  restat = 0") ≡ binding (word 1 7 (codes "o")) true
+unfolding on_dyndeps
+any_text_binds_restat = refl
+
+text_beside_a_reference : entry_in (codes "build o: dyndep\n  restat = ${x}y")
+    ≡ binding (word 1 7 (codes "o")) true
+unfolding on_dyndeps
+text_beside_a_reference = refl
+
+empty_restat : entry_in (codes "build o: dyndep\n  restat =") ≡ binding (word 1 7 (codes "o")) false
+unfolding on_dyndeps
+empty_restat = refl
+
+reference_is_empty : entry_in (codes "build o: dyndep\n  restat = $x") ≡ binding (word 1 7 (codes "o")) false
+unfolding on_dyndeps
+reference_is_empty = refl
 
 reference_is_a_part : entry_in (codes "build $x: dyndep")
     ≡ entry (record { spot = at 1 7; parts = Name (codes "x") ∷ [] }) [] []

@@ -28,8 +28,8 @@ Before a b = (a.line < b.line) ⊎ ((a.line ≡ b.line) × (a.column < b.column)
 before-apart : (a b : Spot) → Before a b → is_same_spot b a ≡ false
 before-apart a b (inl h) = and_left (b.line == a.line) (b.column == a.column)
     (ne_eqb b.line a.line (omega (arith, h)))
-before-apart a b (inr h) = let less = h.1
-    in and_right (b.line == a.line) (b.column == a.column) (ne_eqb b.column a.column (omega (arith, less)))
+before-apart a b (inr h) = let less = h.1 in
+    and_right (b.line == a.line) (b.column == a.column) (ne_eqb b.column a.column (omega (arith, less)))
 
 before-next : (c : ℕ) (a b : Spot) → Before a b → Before a (spot_after c b)
 before-next c a b h = by_feed (is_line_feed c) h
@@ -87,8 +87,8 @@ lines-all p (u ∷ us) h = by_end (ending_of u.means) (lines_of us) (lines-all p
     by_end : (e : Option Bool) (ls : List Line) → list_all (λ (l : Line). list_all p l.units) ls ≡ true
         → list_all (λ (l : Line). list_all p l.units) (lines_before e u ls) ≡ true
     by_end None [] g = refl
-    by_end None (l ∷ ls) g = let parts = and_parts (list_all p l.units) _ g
-        in and_from _ _ (and_from _ _ (and_parts _ _ h).0 parts.0) parts.1
+    by_end None (l ∷ ls) g = let parts = and_parts (list_all p l.units) _ g in
+        and_from _ _ (and_from _ _ (and_parts _ _ h).0 parts.0) parts.1
     by_end (Some last) ls g = g
 
 lines-apart : (us : List TextUnit) → are_apart us ≡ true → AreApart (lines_of us)
@@ -100,8 +100,8 @@ lines-apart (u ∷ us) h = by_end (ending_of u.means) (lines_of us) (lines-apart
         → list_all (λ (l : Line). list_all (elsewhere u.spot) l.units) ls ≡ true
         → AreApart (lines_before e u ls)
     by_end None [] g f = refl
-    by_end None (l ∷ ls) g f = let parts = and_parts (are_apart l.units) _ g
-        in and_from _ _ (and_from _ _ (and_parts (list_all (elsewhere u.spot) l.units) _ f).0 parts.0) parts.1
+    by_end None (l ∷ ls) g f = let parts = and_parts (are_apart l.units) _ g in
+        and_from _ _ (and_from _ _ (and_parts (list_all (elsewhere u.spot) l.units) _ f).0 parts.0) parts.1
     by_end (Some last) ls g f = g
 
 text-apart : (text : List ℕ) → AreApart (text_lines text)

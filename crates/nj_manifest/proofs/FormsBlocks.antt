@@ -93,8 +93,14 @@ line-form allowed l ls us line s h =
     let same = gives-it (record { spot = key.0.0.spot; name = key.0.0.name; value = value.0.0 }) value.0.1
     line s value.2 in (
       subst (LineIs allowed l us) same.0 (
-        record
-            { after_name = name.0; after_sign = read.0; of_name = name.1; equals = read.1; of_value = read.2 },
+        record {
+          after_name = name.0;
+          after_sign = read.0;
+          of_name = name.1;
+          equals = read.1;
+          of_value =
+              read.2;
+        },
         ok.0,
       ),
       sym same.1 ∙ read.3,

@@ -285,8 +285,8 @@ pub record Stops (us : List TextUnit) (pipe pipe2 pipe_at : Bool) : Type 0 where
   pub is_pipe_at : is_sign sign.PipeAt (skip us) ≡ pipe_at
 
 pub end_stops : (us : List TextUnit) → AreBlanks us → Stops us false false false
-end_stops us h = let e = blanks_end us h
-    in record {
+end_stops us h = let e = blanks_end us h in
+    record {
       no_fault = rw e refl;
       no_word = rw e refl;
       is_pipe = rw e refl;
@@ -445,8 +445,8 @@ sign-form want l ls us s n h = by_case (sign-cases want l ls us (true, s) h)
   where
     by_case : IsThere want l ls (skip us) (true, s) ⊎ IsNotThere want l ls (skip us) (true, s)
         → (rest : List TextUnit) × SignForm want us rest × (s ≡ within l ls rest)
-    by_case (inl there) = let f = form_of_sign want l ls us (skip us) n refl there.0
-        in (f.0, f.1, there.2 ∙ f.2)
+    by_case (inl there) = let f = form_of_sign want l ls us (skip us) n refl there.0 in
+        (f.0, f.1, there.2 ∙ f.2)
     by_case (inr not_there) = absurd (false≢true (sym not_there.1))
 
 -- A sign that is not read leaves the lexer after the blanks.

@@ -75,7 +75,8 @@ key_starts keys.All = refl
 
 module _ (allowed : Keys) (us : List TextUnit) (e : Line) (n : NamePasses wanted.VariableName starts us e)
   where
-    unknown_reads : (x : List TextUnit) (d : Line) (ms : List Line) → allows allowed n.passes.value.name ≡ false
+    unknown_reads : (x : List TextUnit) (d : Line) (ms : List Line)
+        → allows allowed n.passes.value.name ≡ false
         → (s : State) → name_next wanted.VariableName (at x d ms) ≡ Ok (n.passes.value, s)
         → line_next allowed (at x d ms) ≡ Err
         (Placed n.passes.value.spot (cause.UnknownKey n.passes.value.name))

@@ -10,7 +10,7 @@ pub use Rattle.nj_manifest.specs.Contents.{line_model, lines_model, words_model,
 pub use Rattle.std.specs.Str.Lossy.{utf8_lossy}
 pub use Rattle.nj_manifest.specs.Faults.{named_by, syntax_text, wanted_text, fault_text, place_of, shown_fault, syntax_cause}
 pub use Rattle.nj_manifest.specs.Expansion.{expanded, no_values}
-pub use Rattle.nj_manifest.specs.Dyndeps.{version_line, word_of_form, no_path, no_section, output_next, added_inputs, entry_line}
+pub use Rattle.nj_manifest.specs.Dyndeps.{version_line, word_of_form, no_path, no_section, output_next, added_inputs, entry_line, has_text}
 pub use Rattle.nj_manifest.specs.Dyndeps.{restat_block}
 pub use Rattle.nj_manifest.specs.DyndepParsers.{entry_model}
 pub use Rattle.nj_manifest.specs.Grammar.{RuleHead, PoolHead}

@@ -10,8 +10,9 @@ use Rattle.nj_manifest.specs.Contents.{words_model}
 use Rattle.nj_manifest.specs.Dyndeps.{EntryModel, DyndepLeft, Entries, Refusing, entry_of}
 use Rattle.nj_manifest.specs.Openings.{Parse}
 
+-- an entry
 abbrev pub entry_model : Entry → EntryModel
-entry_model e = record { out = word_model e.out; outs = words_model e.outs.items; ins = words_model e.ins.items }
+entry_model e = record { out = word_model e.out; outs = words_model e.outs.items; ins = words_model e.ins.items; restat = e.restat }
 
 -- the result of a parser if this is read from the rest
 abbrev pub ReturnsEntry : Parse (Option EntryModel) → (after : DyndepLeft) → Result (Option Entry) ParseFault → Type 0
@@ -19,6 +20,7 @@ ReturnsEntry expected after (Ok found) =
     (rest : List lines.Line) × (expected ≡ Ok (option_map entry_model found, rest)) × (after ≡ Entries rest)
 ReturnsEntry expected after (Err f) = Fails f expected × (after ≡ Refusing (fault_text f))
 
+-- the call returns this fault again
 abbrev pub RefusesAgain : Fault → Result (Option Entry) ParseFault → Type 0
 RefusesAgain fault (Ok found) = ⊥
 RefusesAgain fault (Err f) = fault_text f ≡ fault

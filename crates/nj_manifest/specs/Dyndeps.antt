@@ -11,7 +11,7 @@ use Rattle.nj_text.specs.Numbers.{version_pair_of}
 use Rattle.nj_text.specs.Lines.{Line}
 use Rattle.nj_text.specs.Words.{WordModel}
 use Rattle.nj_text.specs.Calls.{State, Reply, Inside, start_line_of, skip_blanks_of, sign_of, path_word_of, spot_of}
-use Rattle.nj_text.specs.Calls.{fault_spot, first_line_spot}
+use Rattle.nj_text.specs.Calls.{fault_spot, first_line_spot, is_empty}
 use Rattle.nj_manifest.specs.declared.cause.SyntaxCause.TheVariants as cause
 use Rattle.nj_manifest.specs.declared.cause.Wanted.{Wanted}
 use Rattle.nj_manifest.specs.declared.cause.Wanted.TheVariants as wanted
@@ -34,6 +34,7 @@ version_line s = do
   value ← if bytes_eq name.0.name (codes "ninja_dyndep_version") then equals_value name.1 else Err (Placed name.0.spot cause.DyndepVersion)
   if is_first_version (version_pair_of (expanded no_values value.0.parts)) then Ok value.1 else Err (Placed name.0.spot cause.DyndepVersion)
 
+-- the version on the first line that counts, and the lines after it; a text without such a line has none
 abbrev pub version_from : Option Line × List Line → Result (List Line) Fault
 version_from (Some l, ls) = version_line (Inside l ls) >>= λ end. Ok (lines_from end)
 version_from (None, ls) = Err (Placed (first_line_spot ls) cause.DyndepVersion)
@@ -44,11 +45,13 @@ version_next ls = opening ls >>= version_from
 
 -- ---- an entry
 
--- the output that names a build statement, and the additional outputs and inputs of that statement
+-- the output that names a build statement, the additional outputs and inputs of that statement, and whether the entry's block
+-- gives `restat` a value that is not empty
 pub record EntryModel : Type 0 where
   pub out : WordModel
   pub outs : List WordModel
   pub ins : List WordModel
+  pub restat : Bool
 
 -- this identifier; any other departs from the form
 unfoldable pub word_of_form : (word : List ℕ) → Wanted → State → Result State Fault
@@ -56,9 +59,11 @@ word_of_form word wanted s = do
   name ← name_next wanted s
   if bytes_eq name.0.name word then Ok name.1 else Err (Placed name.0.spot cause.DyndepShape)
 
+-- two places are the same
 abbrev pub is_same_spot : Spot → Spot → Bool
 is_same_spot a b = a.line == b.line && a.column == b.column
 
+-- what reading a path here says about whether one is here
 abbrev pub no_path_by : Spot → Reply (Option WordModel) → Result State Fault
 no_path_by spot (Ok (None, after)) = Ok after
 no_path_by spot (Ok (Some word, after)) = Err (Placed spot cause.DyndepShape)
@@ -92,7 +97,7 @@ added_inputs s = do
   validations ← no_section sign.PipeAt order_only
   whole_line (Ok (ins.0, validations))
 
--- `build OUTPUT | OUTPUTS: dyndep | INPUTS`
+-- `build OUTPUT | OUTPUTS: dyndep | INPUTS`, before the block
 unfoldable pub entry_line : State → Step EntryModel
 entry_line s = do
   build ← word_of_form (codes "build") wanted.Statement s
@@ -101,28 +106,34 @@ entry_line s = do
   colon ← expect_sign sign.Colon wanted.Colon outs.1
   rule ← word_of_form (codes "dyndep") wanted.CommandName colon
   ins ← added_inputs rule
-  Ok (record { out = out.0; outs = outs.0; ins = ins.0 }, ins.1)
+  Ok (record { out = out.0; outs = outs.0; ins = ins.0; restat = false }, ins.1)
 
-abbrev pub if_indented : LineStart → State → (indented : State → Result State Fault) → Result State Fault
-if_indented start.Indented s indented = indented s
-if_indented other s indented = Ok s
+-- a value that is not empty, where each reference in it is
+abbrev pub has_text : WordModel → Bool
+has_text value = not (is_empty (expanded no_values value.parts))
 
--- the reading of the next line of a block; where the block ends, it is the end
-abbrev pub in_block : State → (line : State → Result State Fault) → Result State Fault
-in_block s line = called (start_line_of s) >>= λ first. if_indented first.0 first.1 line
+-- what follows if the line is indented; else the block has ended
+abbrev pub if_indented : (bound : Bool) → LineStart → State → (indented : State → Step Bool) → Step Bool
+if_indented bound start.Indented s indented = indented s
+if_indented bound other s indented = Ok (bound, s)
 
--- the block: `restat = VALUE` at most; a second line departs from the form at its key
-unfoldable pub restat_block : State → Result State Fault
-restat_block s = in_block s (λ line. do
+-- the reading of the next line of a block; where the block ends, what it has bound so far
+abbrev pub in_block : (bound : Bool) → State → (line : State → Step Bool) → Step Bool
+in_block bound s line = called (start_line_of s) >>= λ first. if_indented bound first.0 first.1 line
+
+-- The block, `restat = VALUE` at most: whether it has a value that is not empty. A second line departs from the form at its key.
+unfoldable pub restat_block : State → Step Bool
+restat_block s = in_block false s (λ line. do
   key ← word_of_form (codes "restat") wanted.VariableName line
   value ← equals_value key
-  in_block value.1 (λ extra. name_next wanted.VariableName extra >>= λ name. Err (Placed name.0.spot cause.DyndepShape)))
+  in_block (has_text value.0) value.1 (λ extra. name_next wanted.VariableName extra >>= λ name. Err (Placed name.0.spot cause.DyndepShape)))
 
+-- the entry on the first line that counts, and the lines after it; at the end of the text there is none
 abbrev pub entry_from : Option Line × List Line → Parse (Option EntryModel)
 entry_from (Some l, ls) = do
   entry ← entry_line (Inside l ls)
-  end ← restat_block entry.1
-  Ok (Some entry.0, lines_from end)
+  block ← restat_block entry.1
+  Ok (Some (record entry.0 { restat = block.0 }), lines_from block.1)
 entry_from (None, ls) = Ok (None, ls)
 
 -- the next entry of the lines, if there is one, and the lines after it

@@ -30,8 +30,8 @@ fn entry_at<'a>(alloc: Global, lexer: &mut Lexer<'a>) -> Result<Option<Entry<'a>
     ensures { ParsesAt (option_map entry_model) lexer.old lexer.new entry_here result }
 {
     let entry = entry_line(alloc, lexer)?;
-    restat_block(alloc, lexer)?;
-    Ok(Some(entry))
+    let restat = restat_block(alloc, lexer)?;
+    Ok(Some(Entry { restat, ..entry }))
 }
 
 /// The next entry, from the start of a line on.

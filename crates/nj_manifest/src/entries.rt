@@ -1,7 +1,7 @@
 //! The lines of a dyndep file.
 
 ghost use Rattle.std.specs.Prelude.{◌≡◌, IfOk, map};
-ghost use Rattle.nj_manifest.specs.Cited.{word_model, part_model, words_model, expanded, no_values, TakesStep, LeadsTo, version_line, word_of_form, no_path, no_section, output_next, added_inputs, entry_line, restat_block, entry_model};
+ghost use Rattle.nj_manifest.specs.Cited.{word_model, part_model, words_model, expanded, no_values, TakesStep, LeadsTo, version_line, word_of_form, no_path, no_section, output_next, added_inputs, entry_line, has_text, restat_block, entry_model};
 
 use crate::block_lines::equals_value;
 use crate::cause::Wanted;
@@ -19,6 +19,8 @@ pub struct Entry<'a> {
     pub outs: Vec<Word<'a>>,
     /// The additional inputs of that statement.
     pub ins: Vec<Word<'a>>,
+    /// Whether its block gives `restat` a value that is not empty.
+    pub restat: bool,
 }
 
 /// The bytes of a value in which each reference is empty.
@@ -33,6 +35,14 @@ fn value_bytes(alloc: Global, parts: &[Part]) -> Result<Vec<u8>, AllocError>
         }
     }
     Ok(bytes)
+}
+
+/// Whether a value is not empty where each reference in it is.
+fn has_text(alloc: Global, value: &Word) -> Result<bool, AllocError>
+    ensures { IfOk result (λ has. has ≡ has_text (word_model value.now)) }
+{
+    let bytes = value_bytes(alloc, value.parts.as_slice())?;
+    Ok(!bytes.as_slice().is_empty())
 }
 
 /// `ninja_dyndep_version = 1`
@@ -133,7 +143,7 @@ fn added_inputs<'a>(alloc: Global, lexer: &mut Lexer<'a>) -> Result<Vec<Word<'a>
     Ok(ins)
 }
 
-/// `build OUT | OUTS: dyndep | INS`
+/// `build OUT | OUTS: dyndep | INS`, before the block.
 #[tactic(auto, unfolding(crate::specs::Dyndeps::entry_line))]
 pub fn entry_line<'a>(alloc: Global, lexer: &mut Lexer<'a>) -> Result<Entry<'a>, ParseFault<'a>>
     ensures { TakesStep entry_model result lexer.new (entry_line lexer.old) }
@@ -144,25 +154,31 @@ pub fn entry_line<'a>(alloc: Global, lexer: &mut Lexer<'a>) -> Result<Entry<'a>,
     expect_sign(lexer, Sign::Colon, Wanted::Colon)?;
     word_of_form(lexer, b"dyndep", Wanted::CommandName)?;
     let ins = added_inputs(alloc, lexer)?;
-    Ok(Entry { out, outs, ins })
+    Ok(Entry {
+        out,
+        outs,
+        ins,
+        restat: false,
+    })
 }
 
-/// The block: `restat = VALUE` at most.
+/// The block, `restat = VALUE` at most: whether it has a value that is not empty.
 #[tactic(auto, unfolding(crate::specs::Dyndeps::restat_block))]
-pub fn restat_block<'a>(alloc: Global, lexer: &mut Lexer<'a>) -> Result<(), ParseFault<'a>>
-    ensures { LeadsTo result lexer.new (restat_block lexer.old) }
+pub fn restat_block<'a>(alloc: Global, lexer: &mut Lexer<'a>) -> Result<bool, ParseFault<'a>>
+    ensures { TakesStep (λ restat. restat) result lexer.new (restat_block lexer.old) }
 {
     match lexer.start_line()? {
         LineStart::Indented => {}
-        _ => return Ok(()),
+        _ => return Ok(false),
     }
     word_of_form(lexer, b"restat", Wanted::VariableName)?;
-    let _value = equals_value(alloc, lexer)?;
+    let value = equals_value(alloc, lexer)?;
+    let restat = has_text(alloc, &value)?;
     match lexer.start_line()? {
         LineStart::Indented => {
             let key = name_next(lexer, Wanted::VariableName)?;
             Err(ParseFault::DyndepShape(key.spot))
         }
-        _ => Ok(()),
+        _ => Ok(restat),
     }
 }

@@ -208,8 +208,8 @@ keys_are_numbered lines key value h = by (last_of lines key) refl h
         → option_map (λ (l : RuleLineModel). l.value) o ≡ Some value
         → (n : ℕ) × (n < key_count lines) × (key_at lines n ≡ key)
     by None is e = absurd (true≢false (sym (ap is_some e)))
-    by (Some m) is e = let r = numbered lines key m is
-        in (r.0, slice_get_within (last_lines lines) r.0 m r.1, key_of_line lines r.0 m r.1 ∙ r.2)
+    by (Some m) is e = let r = numbered lines key m is in
+        (r.0, slice_get_within (last_lines lines) r.0 m r.1, key_of_line lines r.0 m r.1 ∙ r.2)
 
 pub numbers_differ : (lines : List RuleLineModel) → NumbersDiffer lines
 numbers_differ lines i j below under same =
@@ -500,9 +500,8 @@ module _ (lines : List RuleLine) (last ds : List ℕ) (i : ℕ) (line : RuleLine
   its_key = of ∙ ap (λ (l : RuleLine). l.key.items) (sym at)
 
   later : AreIndexes (map line_held lines) last (last_lines (drop ((i - 1) + 1) (map line_held lines)))
-  later = let next : i ≡ (i - 1) + 1 = omega arith
-      in subst (λ n. AreIndexes (map line_held lines) last (last_lines (drop n (map line_held lines)))) next
-      are
+  later = let next : i ≡ (i - 1) + 1 = omega arith in
+      subst (λ n. AreIndexes (map line_held lines) last (last_lines (drop n (map line_held lines)))) next are
 
   pub turn_taken : (pushed : List ℕ) → is_some o ≡ false
       → IfNone o ((n : ℕ) → n < length ds → ¬ HasKeyAt lines (slice_index ds n) key)

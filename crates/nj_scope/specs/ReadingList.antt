@@ -9,10 +9,12 @@ use Rattle.nj_scope.specs.Rules.{line_kept, phony, phony_rule}
 use Rattle.nj_manifest.specs.Statements.{StatementModel, BindingModel, RuleModel, PoolModel, IncludeModel, SubninjaModel}
 use Rattle.nj_scope.specs.Scopes.{first_given, Bounds, value_in, expanded}
 
--- The discoveries for a build statement ("Dynamic Dependencies" and "Deps" in the manual): outputs and inputs, by their clean paths.
+-- The discoveries for a build statement ("Dynamic Dependencies" and "Deps" in the manual): outputs and inputs, by their clean paths,
+-- and whether a dyndep file binds `restat`.
 pub record Discovered : Type 0 where
   pub outputs : List (List ℕ)
   pub inputs : List (List ℕ)
+  pub restat : Bool
 
 -- A statement that was read: where it is, and its contents.
 pub record ReadStatement : Type 0 where
@@ -73,6 +75,7 @@ gathered given (e ∷ before) = let others = gathered given before in option_map
 
 -- ---- rules
 
+-- the rule that a statement declares, if any
 abbrev pub rule_given : ReadStatement → (before : List ReadStatement) → StatementModel → Option kept.RuleModel
 rule_given e before (RuleModel name lines) = Some (record { scope = e.scope; name = name.name; lines = map line_kept lines })
 rule_given e before item = None
@@ -81,6 +84,7 @@ rule_given e before item = None
 abbrev pub rules_read : List ReadStatement → List kept.RuleModel
 rules_read entries = phony_rule ∷ gathered rule_given entries
 
+-- the statement declares a rule of this name
 abbrev pub declares : StatementModel → (name : List ℕ) → Bool
 declares (RuleModel declared lines) name = bytes_eq name declared.name
 declares item name = false
@@ -102,6 +106,7 @@ rule_in_force entries scope name = if bytes_eq name phony then Some 0 else first
 
 -- ---- pools
 
+-- the name of the pool that a statement declares, if any
 abbrev pub pool_given : ReadStatement → (before : List ReadStatement) → StatementModel → Option (List ℕ)
 pool_given e before (PoolModel name lines) = Some name.name
 pool_given e before item = None

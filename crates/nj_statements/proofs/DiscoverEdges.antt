@@ -31,7 +31,7 @@ use Rattle.nj_statements.specs.EdgeList.{block_names_at, on_line, line_values, r
 use Rattle.nj_statements.specs.EdgeList.{edge_paths, with_discovered, edge_of_build, edges_read}
 use Rattle.nj_statements.specs.EdgeList.{paths_of_edges, block_of_edge, block_at}
 use Rattle.nj_statements.specs.EdgeList.{file_given, name_given, dyndep_of, pending_at, pending_read}
-use Rattle.nj_statements.specs.EdgeList.{assigned_of, assigned_read}
+use Rattle.nj_statements.specs.EdgeList.{assigned_of, assigned_read, binds_restat, restats_read}
 use Rattle.nj_statements.specs.Joining.{no_values, and_found, also_discovered, discover, discovered_by}
 use Rattle.nj_statements.specs.Joining.{edge_meant, pending_on, meaning_fault}
 use Rattle.nj_statements.specs.BuildFaults.{empty_path, outputs_fault}
@@ -551,6 +551,93 @@ assigned-discover edge found [] = refl
 assigned-discover edge found (e ∷ before) =
     assigned-item edge found e before e.item (assigned-discover edge found before)
 
+-- ---- `restat`
+
+also-binds : (d : Option Discovered) (found : Discovered)
+    → binds_restat (Some (and_found d found)) ≡ (binds_restat d || found.restat)
+also-binds None found = refl
+also-binds (Some earlier) found = refl
+
+restats-count-item : (e : ReadStatement) (before : List ReadStatement) (item : StatementModel)
+    → length (restats_read before) ≡ length (edges_read before)
+    → length (restats_read (record e { item = item } ∷ before))
+    ≡ length (edges_read (record e { item = item } ∷ before))
+unfolding edges_read restats_read
+restats-count-item e before (BuildModel outputs rule inputs lines) rest =
+    length-append (restats_read before) (binds_restat e.discovered ∷ [])
+    ∙ ap (λ n. n + 1) rest
+    ∙ sym (length-append (edges_read before) (edge_of_build e before outputs rule inputs lines ∷ []))
+restats-count-item e before (BindingModel bound word) rest = rest
+restats-count-item e before (RuleModel name lines) rest = rest
+restats-count-item e before (PoolModel name lines) rest = rest
+restats-count-item e before (DefaultModel words) rest = rest
+restats-count-item e before (IncludeModel word) rest = rest
+restats-count-item e before (SubninjaModel word) rest = rest
+
+-- there is one for each edge
+restats-count : (entries : List ReadStatement) → length (restats_read entries) ≡ length (edges_read entries)
+unfolding edges_read restats_read
+restats-count [] = refl
+restats-count (e ∷ before) = restats-count-item e before e.item (restats-count before)
+
+module _ (edge : ℕ) (found : Discovered) where
+  abbrev also : Bool → Bool
+  also had = had || found.restat
+
+  restats-build : (e : ReadStatement) (before : List ReadStatement) (outputs : OutputsModel)
+      (rule : NameModel)
+      (inputs : InputsModel) (lines : List LineModel)
+      → restats_read (discover edge found before) ≡ changed_at also edge (restats_read before)
+      → restats_read (discover edge found (record e { item = BuildModel outputs rule inputs lines } ∷ before))
+      ≡ changed_at also edge (restats_read (record e { item = BuildModel outputs rule inputs lines } ∷
+      before))
+  unfolding edges_read restats_read discover
+  restats-build e before outputs rule inputs lines rest = by (eqb_tells (length (edges_read before)) edge)
+    where
+      build : ReadStatement
+      build = record e { item = BuildModel outputs rule inputs lines }
+
+      own : Bool
+      own = binds_restat e.discovered
+
+      after : Bool → List ReadStatement
+      after b = if b then record (also_discovered found build) { was_joined = true } ∷ before else build ∷
+          discover edge found before
+
+      by : ((length (edges_read before) == edge) ≡ true × (length (edges_read before) ≡ edge))
+          ⊎ ((length (edges_read before) == edge) ≡ false × (length (edges_read before) ≢ edge))
+          → restats_read (after (length (edges_read before) == edge))
+          ≡ changed_at also edge (restats_read before ++ own ∷ [])
+      by (inl (same, is)) =
+          ap (λ b. restats_read (after b)) same
+          ∙ ap (λ r. restats_read before ++ r ∷ []) (also-binds e.discovered found)
+          ∙ sym (changed-last also (restats_read before) own edge (restats-count before ∙ is))
+      by (inr (other, apart)) =
+          ap (λ b. restats_read (after b)) other
+          ∙ ap (λ rs. rs ++ own ∷ []) rest
+          ∙ sym (changed-front also (restats_read before) own edge
+          (λ is. apart (sym (restats-count before) ∙ is)))
+
+  restats-item : (e : ReadStatement) (before : List ReadStatement) (item : StatementModel)
+      → restats_read (discover edge found before) ≡ changed_at also edge (restats_read before)
+      → restats_read (discover edge found (record e { item = item } ∷ before))
+      ≡ changed_at also edge (restats_read (record e { item = item } ∷ before))
+  unfolding edges_read restats_read discover
+  restats-item e before (BuildModel outputs rule inputs lines) rest =
+      restats-build e before outputs rule inputs lines rest
+  restats-item e before (BindingModel bound word) rest = rest
+  restats-item e before (RuleModel name lines) rest = rest
+  restats-item e before (PoolModel name lines) rest = rest
+  restats-item e before (DefaultModel words) rest = rest
+  restats-item e before (IncludeModel word) rest = rest
+  restats-item e before (SubninjaModel word) rest = rest
+
+  pub restats-discover : (entries : List ReadStatement)
+      → restats_read (discover edge found entries) ≡ changed_at also edge (restats_read entries)
+  unfolding edges_read restats_read discover changed_at
+  restats-discover [] = refl
+  restats-discover (e ∷ before) = restats-item e before e.item (restats-discover before)
+
 pub others_are_pending : OthersArePendingAsBefore
 others_are_pending entries edge found = pending-discover edge found entries
 
@@ -710,5 +797,7 @@ entries_add file stated joined entry none = by (edge_meant stated entry) refl pe
             (is_pending-from_pending file joined edge waited);
         pending = ap (λ m. pending_read (discover_for m (discovered_by entry) joined)) is
             ∙ pending-discover edge (discovered_by entry) joined;
+        restats = ap (λ m. restats_read (discover_for m (discovered_by entry) joined)) is
+            ∙ restats-discover edge (discovered_by entry) joined;
       },
     )

@@ -162,8 +162,8 @@ module _ (file : List ℕ) (stated joined : List ReadStatement) (entry : EntryMo
       some-is = sym found.1.meant ∙ means
 
   pub within-before : edge < length before
-  within-before = let count = length-map (edges_read joined) (λ (e : EdgeModel). e.paths)
-      in omega (
+  within-before = let count = length-map (edges_read joined) (λ (e : EdgeModel). e.paths) in
+      omega (
         arith,
         count,
         unjoined-below edge (length (edges_read joined)) (pending_read joined)

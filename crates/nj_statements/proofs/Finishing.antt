@@ -5,6 +5,7 @@ use Rattle.std.proofs.Common.{subst, ◌∙◌, true≢false, suc, zero, arith}
 use Rattle.nj_scope.proofs.Gathering.{with_given}
 use Rattle.std.specs.List.{AllByRecursion}
 use Rattle.std.proofs.lemmas.List.{length-append, length-map}
+use Rattle.std.proofs.lemmas.Simd.{map-map}
 use Rattle.std.proofs.lemmas.Option.{slice_get_within, slice_get-get_or}
 use Rattle.nj_names.specs.declared.files.FileNo.{FileNo}
 use Rattle.nj_cycles.specs.Cycles.{IsAcyclic, IsLeastOnCycle}
@@ -25,7 +26,8 @@ use Rattle.nj_statements.specs.declared.building.DyndepEdge.{DyndepEdge}
 use Rattle.nj_statements.specs.EdgeList.{EdgeModel, Pending, edge_of_build, edges_read, paths_of_edges}
 use Rattle.nj_statements.specs.EdgeList.{defaults_read, dyndep_of, pending_at, with_pending, pending_read}
 use Rattle.nj_statements.specs.EdgeList.{assigned_read, edge_given}
-use Rattle.nj_statements.specs.Answers.{BuildingModel, HasEdges, IsDetail, AreDetails, AreAssigned}
+use Rattle.nj_statements.specs.Answers.{BuildingModel, DetailModel, HasEdges, IsDetail, AreDetails}
+use Rattle.nj_statements.specs.Answers.{AreAssigned}
 use Rattle.nj_statements.specs.Inside.Details.{text_at, spot_of}
 use Rattle.nj_statements.specs.Inside.EdgeSteps.{detail_model}
 use Rattle.nj_statements.specs.Built.{BuiltModel, ComesTo, defaults_in_force, IsCycleFault, detail_of}
@@ -274,6 +276,8 @@ module _ (held : BuildingModel) (entries : List ReadStatement) (has : HasEdges h
             ∙ pending-named held.table.files held.dyndeps (pending_read entries) has.dyndeps.edges_are
             has.dyndeps.files_are;
         assigned = assigned-named held.names ds (assigned_read entries) all-assigned;
+        restats = sym (map-map (λ (d : DetailModel). d.restat) detail_model ds)
+            ∙ ap (map (λ (d : DetailModel). d.restat)) details_are ∙ has.restats;
       },
       subst (λ n. IsAcyclic (makers_of_inputs (paths_of_edges (edges_read entries))) n)
           (length-map (edges_read entries) (λ (e : EdgeModel). e.paths))

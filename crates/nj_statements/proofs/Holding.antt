@@ -30,7 +30,7 @@ use Rattle.nj_faults.specs.Faults.{IsFault}
 use Rattle.nj_statements.specs.EdgeList.{Values, Block, EdgeModel, Pending, build_block, path_given}
 use Rattle.nj_statements.specs.EdgeList.{paths_given, edge_of_build, edges_read, defaults_read, dyndep_of}
 use Rattle.nj_statements.specs.EdgeList.{pending_at, pending_read, block_at, block_names_at, names_bound}
-use Rattle.nj_statements.specs.EdgeList.{block_of_edge, assigned_of, assigned_read}
+use Rattle.nj_statements.specs.EdgeList.{block_of_edge, assigned_of, assigned_read, restats_read}
 use Rattle.nj_statements.specs.declared.building.DyndepEdge.{DyndepEdge}
 use Rattle.nj_statements.specs.Answers.{BuildingModel, ArePending, HasEdges, DetailModel, IsDetail}
 use Rattle.nj_statements.specs.Answers.{AreDetails, IsAssigned, AreAssigned, ReadsStatement, HasReferences}
@@ -43,7 +43,7 @@ pub has-none : (held : BuildingModel) → held.table ≡ record { files = []; ed
     → ((edge : ℕ) (name : List ℕ) → bound_in held.blocks edge name ≡ None)
     → ((edge : ℕ) → names_in held.blocks edge ≡ []) → held.details ≡ [] → held.defaults ≡ []
     → held.dyndeps ≡ [] → held.references ≡ [] → HasEdges held []
-unfolding edges_read defaults_read pending_read assigned_read
+unfolding edges_read defaults_read pending_read assigned_read restats_read
 has-none held table blocks block_names details defaults dyndeps references = record {
   edges = ap (λ t. t.edges) table;
   none_open = ap (λ t. t.«open») table;
@@ -51,6 +51,7 @@ has-none held table blocks block_names details defaults dyndeps references = rec
   block_names = block_names;
   details = subst (λ ds. AreDetails held.names ds []) (sym details) tt;
   assigned = subst (λ ds. AreAssigned held.names ds []) (sym details) tt;
+  restats = ap (map (λ (d : DetailModel). d.restat)) details;
   defaults = subst (λ ds. AreFiles held.table.files ds []) (sym defaults) refl;
   dyndeps = subst (λ ds. ArePending held.table.files ds []) (sym dyndeps)
       (record { edges_are = refl; files_are = refl });
@@ -135,7 +136,7 @@ pub has-default : (old new : BuildingModel) (e : ReadStatement) (before : List R
     (paths_given (value_after before (scope_of e)) words)
     → new.dyndeps ≡ old.dyndeps → new.references ≡ old.references
     → HasEdges new (record e { item = DefaultModel words } ∷ before)
-unfolding edges_read defaults_read pending_read assigned_read
+unfolding edges_read defaults_read pending_read assigned_read restats_read
 has-default old new e before words has table blocks names details adds dyndeps references = record {
   edges = ap (λ t. t.edges) table ∙ has.edges;
   none_open = ap (λ t. t.«open») table ∙ has.none_open;
@@ -145,6 +146,7 @@ has-default old new e before words has table blocks names details adds dyndeps r
       (subst (λ ds. AreDetails old.names ds (edges_read before)) (sym details) has.details);
   assigned = subst (λ ns. AreAssigned ns new.details (assigned_read before)) (sym names)
       (subst (λ ds. AreAssigned old.names ds (assigned_read before)) (sym details) has.assigned);
+  restats = ap (map (λ (d : DetailModel). d.restat)) details ∙ has.restats;
   defaults = subst (λ t. AreFiles t.files new.defaults
       (defaults_read before ++ paths_given (value_after before (scope_of e)) words)) (sym table)
       (subst (λ ns. AreFiles old.table.files ns
@@ -304,7 +306,7 @@ pub has-build : (old new : BuildingModel) (e : ReadStatement) (before : List Rea
     → IsPrefix old.names new.names → new.details ≡ old.details ++ d ∷ []
     → IsDetail new.names d (edge_of_build (fresh e) before outputs rule inputs lines)
     → IsAssigned new.names d (assigned_of before (edge_of_build (fresh e) before outputs rule inputs lines))
-    → new.defaults ≡ old.defaults
+    → d.restat ≡ false → new.defaults ≡ old.defaults
     → new.dyndeps ≡ with_dyndep (length old.details) dyndep old.dyndeps
     → IsFileGiven new.table.files dyndep (dyndep_of before
     (edge_of_build (fresh e) before outputs rule inputs lines))
@@ -315,15 +317,16 @@ pub has-build : (old new : BuildingModel) (e : ReadStatement) (before : List Rea
       discovered =
           None;
     } ∷ before)
-unfolding edges_read defaults_read pending_read assigned_read
+unfolding edges_read defaults_read pending_read assigned_read restats_read
 has-build old new e before outputs rule inputs lines d dyndep has adds blocks own_names other_names names
-    details is assigned defaults dyndeps meant references = record {
+    details is assigned restat defaults dyndeps meant references = record {
       edges = adds.edges ∙ ap (λ es. es ++ edge.paths ∷ []) has.edges
           ∙ sym (map-append (λ (x : EdgeModel). x.paths) (edges_read before) (edge ∷ []));
       none_open = adds.none_open;
       blocks = λ n name.
           blocks n name
-          ∙ ap (λ count. if n == count then option_or (edge.block name) (bound_in old.blocks n name) else bound_in
+          ∙ ap (λ count. if n == count then option_or (edge.block name) (bound_in old.blocks n name) else
+          bound_in
           old.blocks n name) (details-count old.names old.details (edges_read before) has.details)
           ∙ ap (λ o. if n == length (edges_read before) then option_or (edge.block name) o else o)
           (has.blocks n name)
@@ -338,6 +341,10 @@ has-build old new e before outputs rule inputs lines d dyndep has adds blocks ow
       assigned = subst (λ ds. AreAssigned new.names ds (assigned_read before ++ assigned_of before edge ∷ []))
           (sym details) (assigned-more old.names new.names old.details (assigned_read before) d
           (assigned_of before edge) names has.assigned assigned);
+      restats =
+          ap (map (λ (x : DetailModel). x.restat)) details
+          ∙ map-append (λ (x : DetailModel). x.restat) old.details (d ∷ [])
+          ∙ ap (λ rs. rs ++ d.restat ∷ []) has.restats ∙ ap (λ r. restats_read before ++ r ∷ []) restat;
       defaults = subst (λ ns. AreFiles new.table.files ns (defaults_read before)) (sym defaults)
           (files-longer old.table.files new.table.files old.defaults (defaults_read before) adds.files
           has.defaults);
@@ -408,7 +415,7 @@ names_files item = false
 
 has-item : (held : BuildingModel) (e : ReadStatement) (before : List ReadStatement) (item : StatementModel)
     → names_files item ≡ false → HasEdges held before → HasEdges held (record e { item = item } ∷ before)
-unfolding edges_read defaults_read pending_read assigned_read
+unfolding edges_read defaults_read pending_read assigned_read restats_read
 has-item held e before (BindingModel bound word) other has =
     record {
       edges = has.edges;
@@ -417,8 +424,10 @@ has-item held e before (BindingModel bound word) other has =
       block_names = has.block_names;
       details = has.details;
       assigned = has.assigned;
+      restats = has.restats;
       defaults = has.defaults;
-      dyndeps = has.dyndeps;
+      dyndeps =
+          has.dyndeps;
       references = has.references;
     }
 has-item held e before (RuleModel declared lines) other has =
@@ -429,6 +438,7 @@ has-item held e before (RuleModel declared lines) other has =
       block_names = has.block_names;
       details = has.details;
       assigned = has.assigned;
+      restats = has.restats;
       defaults = has.defaults;
       dyndeps = has.dyndeps;
       references = references-longer held.references (rules_read before)
@@ -442,8 +452,10 @@ has-item held e before (PoolModel declared lines) other has =
       block_names = has.block_names;
       details = has.details;
       assigned = has.assigned;
+      restats = has.restats;
       defaults = has.defaults;
-      dyndeps = has.dyndeps;
+      dyndeps =
+          has.dyndeps;
       references = has.references;
     }
 has-item held e before (BuildModel outputs rule inputs lines) other has = absurd (true≢false other)
@@ -456,8 +468,10 @@ has-item held e before (IncludeModel word) other has =
       block_names = has.block_names;
       details = has.details;
       assigned = has.assigned;
+      restats = has.restats;
       defaults = has.defaults;
-      dyndeps = has.dyndeps;
+      dyndeps =
+          has.dyndeps;
       references = has.references;
     }
 has-item held e before (SubninjaModel word) other has =
@@ -468,8 +482,10 @@ has-item held e before (SubninjaModel word) other has =
       block_names = has.block_names;
       details = has.details;
       assigned = has.assigned;
+      restats = has.restats;
       defaults = has.defaults;
-      dyndeps = has.dyndeps;
+      dyndeps =
+          has.dyndeps;
       references = has.references;
     }
 

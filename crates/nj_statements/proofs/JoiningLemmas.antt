@@ -1,7 +1,7 @@
 -- The state while dyndep files are joined is that of the statements.
-use Rattle.std.proofs.Common.{◌≡◌, ◌⊎◌, inl, inr, ℕ, zero, suc, ◌+◌, ◌-◌, ◌<◌, ◌≤◌, ◌==◌, Bool, true, false}
-use Rattle.std.proofs.Common.{not, if◌then◌else◌, true≢false, ◌≢◌, List, [], ◌∷◌, length, get_or, set, map}
-use Rattle.std.proofs.Common.{slice_get, Option, Some, None, Result, Ok, Err, IsErrAnd, option_map}
+use Rattle.std.proofs.Common.{◌≡◌, ◌⊎◌, inl, inr, ℕ, zero, suc, ◌+◌, ◌-◌, ◌<◌, ◌≤◌, ◌==◌, ◌||◌, Bool, true}
+use Rattle.std.proofs.Common.{false, not, if◌then◌else◌, true≢false, ◌≢◌, List, [], ◌∷◌, length, get_or, set}
+use Rattle.std.proofs.Common.{map, slice_get, Option, Some, None, Result, Ok, Err, IsErrAnd, option_map}
 use Rattle.std.proofs.Common.{option_and_then, IfSome, is_some, unwrap_or, find, bytes_eq, refl, sym, ap}
 use Rattle.std.proofs.Common.{subst, ◌∙◌, arith}
 use Rattle.nj_scope.specs.Scopes.{first_given}
@@ -33,22 +33,23 @@ use Rattle.nj_statements.specs.EdgeList.{Pending, EdgeModel, path_given, edges_r
 use Rattle.nj_statements.specs.EdgeList.{pending_read}
 use Rattle.nj_statements.specs.BuildFaults.{empty_path, outputs_fault}
 use Rattle.nj_statements.specs.Built.{EdgeDetail, detail_at, detail_of}
-use Rattle.nj_statements.specs.Inside.BuiltHeld.{detail_named, pending_named}
+use Rattle.nj_statements.specs.Inside.BuiltHeld.{detail_named, assigned_named, pending_named}
 use Rattle.nj_statements.specs.Joining.{no_values, discover, discovered_by, edge_meant, with_entry}
 use Rattle.nj_statements.specs.Joining.{pending_on, meaning_fault, entry_fault, no_statement, lacking_fault}
 use Rattle.nj_statements.specs.JoiningHeld.{unless_joined, still_pending, pending_from, left_pending_from}
 use Rattle.nj_statements.specs.JoiningHeld.{KeepsEdges, JoiningModel, HasJoined, JoinsEntry, JoinsNothing}
-use Rattle.nj_statements.specs.Inside.JoiningSteps.{is_bound_to, count_pending, fault_of_pending, file_named}
-use Rattle.nj_statements.specs.Inside.JoiningSteps.{if_bound, maker_fault, edge_bound, IsMeant, joining_of}
-use Rattle.nj_statements.specs.Inside.JoiningSteps.{JoiningIsHeld, discover_for}
+use Rattle.nj_statements.specs.Inside.Details.{IsNumbered}
+use Rattle.nj_statements.specs.Inside.JoiningSteps.{also_restat, is_bound_to, count_pending, fault_of_pending}
+use Rattle.nj_statements.specs.Inside.JoiningSteps.{file_named, if_bound, maker_fault, edge_bound, IsMeant}
+use Rattle.nj_statements.specs.Inside.JoiningSteps.{joining_of, JoiningIsHeld, discover_for}
 use Rattle.nj_statements.proofs.Lists.{get-longer}
 use Rattle.nj_statements.proofs.PendingLemmas.{is_path, find-first, find-none, none-first, first-passes}
 use Rattle.nj_statements.proofs.PendingLemmas.{still-at, still-length, still-map, still-changed, unjoined-at}
 use Rattle.nj_statements.proofs.PendingLemmas.{without-one, count-removed, count-less}
 use Rattle.nj_statements.proofs.DiscoverLemmas.{defaults_read-discover}
-use Rattle.nj_statements.proofs.DiscoverEdges.{details-discover, assigned-discover, block_at-discover}
-use Rattle.nj_statements.proofs.DiscoverEdges.{block_names_at-discover, pending-discover, paths-discover}
-use Rattle.nj_statements.proofs.DiscoverEdges.{is_pending-from_pending}
+use Rattle.nj_statements.proofs.DiscoverEdges.{details-discover, assigned-discover, map-changed}
+use Rattle.nj_statements.proofs.DiscoverEdges.{restats-discover, block_at-discover, block_names_at-discover}
+use Rattle.nj_statements.proofs.DiscoverEdges.{pending-discover, paths-discover, is_pending-from_pending}
 
 -- ---- results
 
@@ -67,8 +68,8 @@ AreKnown count bound = AllByRecursion (λ file. IfSome file (λ f. f.0 < count))
 
 pub path-there : (files : List (List ℕ)) (f : FileNo) → f.0 < length files
     → slice_get files f.0 ≡ Some (path_at files f)
-path-there files f below = let at = slice_get-get_or files f.0 [] below
-    in at ∙ sym (ap (λ o. Some (unwrap_or o [])) at)
+path-there files f below = let at = slice_get-get_or files f.0 [] below in
+    at ∙ sym (ap (λ o. Some (unwrap_or o [])) at)
 
 known-at : (count : ℕ) (bound : List (Option FileNo)) → AreKnown count bound → (n : ℕ)
     → IfSome (get_or bound n None) (λ f. f.0 < count)
@@ -221,6 +222,67 @@ meant-binds bound file edge (Some m) h = by (is_bound_to (get_or bound m None) f
     by true binds h = (h, ap (λ n. is_bound_to (get_or bound n None) file) (sym (same_Some m edge h)) ∙ binds)
     by false binds h = absurd (true≢false (sym (ap is_some h)))
 
+-- ---- details that change in a part that nothing reads
+
+map-same-at : {A B : Type 0} (g : A → B) (f : A → A) → ((a : A) → g (f a) ≡ g a) → (n : ℕ) (xs : List A)
+    → map g (changed_at f n xs) ≡ map g xs
+unfolding changed_at
+map-same-at g f same n [] = refl
+map-same-at g f same zero (x ∷ xs) = ap (λ y. y ∷ map g xs) (same x)
+map-same-at g f same (suc n) (x ∷ xs) = ap (λ ys. g x ∷ ys) (map-same-at g f same n xs)
+
+-- a changed item is set
+pub set-changed : {A : Type 0} (f : A → A) (n : ℕ) (xs : List A) (d : A) → n < length xs
+    → set xs n (f (get_or xs n d)) ≡ changed_at f n xs
+unfolding changed_at
+set-changed f n [] d below = absurd (omega (arith, below))
+set-changed f zero (x ∷ xs) d below = refl
+set-changed f (suc n) (x ∷ xs) d below = ap (λ ys. x ∷ ys) (set-changed f n xs d (omega (arith, below)))
+
+all-same-at : {A : Type 0} (P : A → Type 0) (f : A → A) → ((a : A) → P a → P (f a)) → (n : ℕ) (xs : List A)
+    → AllByRecursion P xs → AllByRecursion P (changed_at f n xs)
+unfolding changed_at
+all-same-at P f kept n [] all = tt
+all-same-at P f kept zero (x ∷ xs) (here, all) = (kept x here, all)
+all-same-at P f kept (suc n) (x ∷ xs) (here, all) = (here, all-same-at P f kept n xs all)
+
+-- the fields hold whatever a dyndep file binds
+pub noted-held : (table : JoinTable) (names : List (List ℕ)) (details : List Detail) (defaults : List FileNo)
+    (firsts : List DyndepEdge) (bound : List (Option FileNo)) (unjoined : List ℕ)
+    → JoiningIsHeld table names details defaults firsts bound unjoined
+    → (restat : Bool) (edge : ℕ) (noted : List Detail)
+    → noted ≡ changed_at (also_restat restat) edge details
+    → JoiningIsHeld table names noted defaults firsts bound unjoined
+noted-held table names details defaults firsts bound unjoined held restat edge noted is =
+    subst (λ ds. JoiningIsHeld table names ds defaults firsts bound unjoined) (sym is) (record {
+      each_path_once = held.each_path_once;
+      as_many_joined = held.as_many_joined;
+      as_many_was = held.as_many_was;
+      as_many_details = length-changed (also_restat restat) edge details ∙ held.as_many_details;
+      as_many_bound = held.as_many_bound;
+      unchanged = held.unchanged;
+      names_known = all-same-at (λ (d : Detail). d.file < length names) (also_restat restat)
+          (λ d known. known) edge details held.names_known;
+      assigned_known =
+          all-same-at (λ (d : Detail). IsNumbered names d.pool × IsNumbered names d.dyndep)
+          (also_restat restat) (λ d known. known)
+          edge details held.assigned_known;
+      defaults_known = held.defaults_known;
+      dyndep_files_known = held.dyndep_files_known;
+      dyndep_edges_known = held.dyndep_edges_known;
+      bound_known = held.bound_known;
+      pending_known = held.pending_known;
+      enough_pending = held.enough_pending;
+    })
+
+-- the details without what a dyndep file binds
+pub noted-details : (names : List (List ℕ)) (details noted : List Detail) (restat : Bool) (edge : ℕ)
+    → noted ≡ changed_at (also_restat restat) edge details
+    → map (detail_named names) noted ≡ map (detail_named names) details
+noted-details names details noted restat edge is =
+    ap (map (detail_named names)) is ∙ map-same-at (detail_named names) (also_restat restat) (λ d. refl) edge
+    details
+
 -- ---- the fields
 
 module _ (table : JoinTable) (blocks : BlocksModel) (names : List (List ℕ)) (details : List Detail)
@@ -293,6 +355,7 @@ module _ (table : JoinTable) (blocks : BlocksModel) (names : List (List ℕ)) (d
               same-firsts;
           bound = same-bound;
           assigned = refl;
+          restats = refl;
         })
 
   -- ---- with one
@@ -618,16 +681,28 @@ module _ (table : JoinTable) (blocks : BlocksModel) (names : List (List ℕ)) (d
             inputs =
                 (discovered_by entry).inputs;
           } → last ≡ with_joined after edge
-          → HasJoined (joining_of last blocks names details defaults firsts bound) stated
+          → (noted : List Detail) → noted ≡ changed_at (also_restat entry.restat) edge details
+          → HasJoined (joining_of last blocks names noted defaults firsts bound) stated
           (with_entry stated joined entry)
-      joined-has entry edge meant after last keeps opens is =
-          subst (λ (t : JoinTable). HasJoined (joining_of t blocks names details defaults firsts bound) stated
+      joined-has entry edge meant after last keeps opens is noted noted_are =
+          subst (λ (t : JoinTable). HasJoined (joining_of t blocks names noted defaults firsts bound) stated
           (with_entry stated joined entry)) (sym is)
-          (subst (λ es. HasJoined (joining_of (with_joined after edge) blocks names details defaults firsts
-          bound) stated es) (sym (ap (λ m. discover_for m found joined) means)) has-after)
+          (subst (λ es. HasJoined (joining_of (with_joined after edge) blocks names noted defaults firsts
+          bound) stated es)
+          (sym (ap (λ m. discover_for m found joined) means))
+          (subst (λ ds. HasJoined (joining_of (with_joined after edge) blocks names ds defaults firsts bound)
+          stated (discover edge found joined))
+          (sym noted_are) has-after))
         where
           found : Discovered
           found = discovered_by entry
+
+          also : Detail → Detail
+          also = also_restat entry.restat
+
+          same-details : map (detail_named names) (changed_at also edge details)
+              ≡ map (detail_named names) details
+          same-details = map-same-at (detail_named names) also (λ d. refl) edge details
 
           of : (maker_of table.stated (path_given no_values entry.out) ≡ Some edge)
               × (is_bound_to (get_or bound edge None) file ≡ true)
@@ -661,8 +736,9 @@ module _ (table : JoinTable) (blocks : BlocksModel) (names : List (List ℕ)) (d
               ∙ ap (λ was. left_pending_from 0 (map (file_named after.files) bound)
               (changed_at (λ w. true) edge was)) (sym keeps.was_joined)
 
-          has-after : HasJoined (joining_of (with_joined after edge) blocks names details defaults firsts
-              bound) stated (discover edge found joined)
+          has-after : HasJoined (joining_of (with_joined after edge) blocks names
+              (changed_at also edge details) defaults firsts bound) stated
+              (discover edge found joined)
           has-after = record {
             stated_paths = keeps.stated ∙ has.stated_paths;
             joined_paths =
@@ -671,8 +747,8 @@ module _ (table : JoinTable) (blocks : BlocksModel) (names : List (List ℕ)) (d
                 edge) (keeps.joined ∙ has.joined_paths)
                 ∙ sym (paths-discover edge found joined (is_pending-from_pending name joined edge waited));
             none_open = refl;
-            stated_details = has.stated_details;
-            details = has.details ∙ sym (details-discover edge found joined);
+            stated_details = same-details ∙ has.stated_details;
+            details = same-details ∙ has.details ∙ sym (details-discover edge found joined);
             blocks = λ number name. has.blocks number name
                 ∙ sym (block_at-discover edge found joined number name);
             block_names = λ number. has.block_names number
@@ -682,7 +758,14 @@ module _ (table : JoinTable) (blocks : BlocksModel) (names : List (List ℕ)) (d
             dyndep_files = same-firsts after keeps ∙ has.dyndep_files;
             bound = has.bound ∙ ap (pending_from 0) (sym (same-bound after keeps));
             unjoined = unjoined-after;
-            assigned = has.assigned ∙ sym (assigned-discover edge found joined);
+            assigned =
+                map-same-at (assigned_named names) also (λ d. refl) edge details
+                ∙ has.assigned ∙ sym (assigned-discover edge found joined);
+            restats =
+                map-changed (λ (d : Detail). d.restat) also (λ had. had || entry.restat) (λ d. refl) edge
+                details
+                ∙ ap (changed_at (λ had. had || entry.restat) edge) has.restats
+                ∙ sym (restats-discover edge found joined);
           }
 
 -- the fields after an entry, whose files were collected

@@ -14,8 +14,9 @@ use Rattle.nj_faults.specs.declared.fault.Cause.{Cause}
 use Rattle.nj_faults.specs.declared.fault.Cause.TheVariants.{EmptyPath, TwoMakers, DyndepExtra, DyndepTwice}
 use Rattle.nj_faults.specs.declared.fault.Cause.TheVariants.{DyndepNoStatement}
 use Rattle.nj_faults.specs.Faults.{fault_at}
-use Rattle.nj_statements.specs.EdgeList.{Pending, edges_read, paths_of_edges, pending_read}
+use Rattle.nj_statements.specs.EdgeList.{Pending, edges_read, paths_of_edges, pending_read, restats_read}
 use Rattle.nj_statements.specs.Joining.{discover, with_entry, entry_fault, lacking_fault, dyndep_files}
+use Rattle.nj_statements.specs.Logged.{with_inputs_named}
 
 -- ---- the main file
 
@@ -64,7 +65,7 @@ row-files = refl
 
 -- `build OUT | OUTS: dyndep | INS`
 abbrev entry : (out : List ℕ) → (outs ins : List WordModel) → EntryModel
-entry out outs ins = record { out = word 7 out; outs = outs; ins = ins }
+entry out outs ins = record { out = word 7 out; outs = outs; ins = ins; restat = false }
 
 -- `build o | o2: dyndep | extra`
 abbrev of_o : EntryModel
@@ -112,6 +113,25 @@ pub row-unjoined : pending_read joined ≡ pending 1 (codes "ee") ∷ pending 2 
 unfolding clean_path_of without_leftmost_pair edges_read bounds pending_read discover
 row-unjoined = refl
 
+-- `build q: dyndep` with `restat = 1` in its block
+abbrev restat_of_q : EntryModel
+restat_of_q = record (entry (codes "q") [] []) { restat = true }
+
+-- no edge has it before, and then its edge alone
+pub row-no_restat : restats_read joined ≡ false ∷ false ∷ false ∷ []
+unfolding clean_path_of without_leftmost_pair edges_read bounds discover restats_read
+row-no_restat = refl
+
+pub row-restat : restats_read (with_entry stated joined restat_of_q) ≡ false ∷ false ∷ true ∷ []
+unfolding clean_path_of without_leftmost_pair edges_read bounds discover restats_read
+row-restat = refl
+
+-- inputs that a deps log names do not change it
+pub row-restat_logged : restats_read (with_inputs_named (λ edge. codes "h" ∷ [])
+    (with_entry stated joined restat_of_q)) ≡ false ∷ false ∷ true ∷ []
+unfolding clean_path_of without_leftmost_pair edges_read bounds discover restats_read with_inputs_named
+row-restat_logged = refl
+
 -- `build ./m: dyndep`: an implicit output names the statement too, by its clean path
 pub row-implicit : wrong_with (entry (codes "./m") [] []) ≡ None
 unfolding clean_path_of without_leftmost_pair edges_read bounds pending_read discover
@@ -119,7 +139,7 @@ row-implicit = refl
 
 -- `build $e: dyndep`: a dyndep file binds no name
 pub row-empty_path : wrong_with (record
-    { out = record { spot = at 2 7; parts = Name (codes "e") ∷ [] }; outs = []; ins = [] })
+    { out = record { spot = at 2 7; parts = Name (codes "e") ∷ [] }; outs = []; ins = []; restat = false })
     ≡ wrong 7 EmptyPath
 unfolding clean_path_of without_leftmost_pair edges_read bounds pending_read discover
 row-empty_path = refl

@@ -98,7 +98,8 @@ named before t path keeps clean = record {
   read = record {
     edges = keeps.read.edges;
     files =
-        prefix-trans before.files t.files (with_name t.files path) keeps.read.files (named-prefix t.files path);
+        prefix-trans before.files t.files (with_name t.files path) keeps.read.files
+        (named-prefix t.files path);
   };
   clean = λ all. named-clean t.files path (keeps.clean all) clean;
 }

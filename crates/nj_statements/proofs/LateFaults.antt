@@ -51,10 +51,12 @@ module _ (file : List ℕ) (spot : Spot) (declared : List (List ℕ)) (meant tex
 
     -- no pool is named, or this one
     pub name-empty : (length meant == 0) ≡ true → name_given text ≡ None
-    name-empty h = ap name_given (sym gives) ∙ ap (λ b. if b then None else Some meant) (nothing-meant meant h)
+    name-empty h = ap name_given (sym gives)
+        ∙ ap (λ b. if b then None else Some meant) (nothing-meant meant h)
 
     pub name-some : (length meant == 0) ≡ false → name_given text ≡ Some meant
-    name-some h = ap name_given (sym gives) ∙ ap (λ b. if b then None else Some meant) (something-meant meant h)
+    name-some h = ap name_given (sym gives)
+        ∙ ap (λ b. if b then None else Some meant) (something-meant meant h)
 
 -- ---- the dyndep file
 

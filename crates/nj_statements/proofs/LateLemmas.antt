@@ -59,8 +59,8 @@ is-phony entries scope name number rule is there =
     ∙ phony-there entries))))
   where
     named : rule.name ≡ name
-    named = let (r, at, its, _) = in_force entries scope name number is
-        in ap (λ (x : RuleModel). x.name) (some_same (sym there ∙ at)) ∙ its
+    named = let (r, at, its, _) = in_force entries scope name number is in
+        ap (λ (x : RuleModel). x.name) (some_same (sym there ∙ at)) ∙ its
 
 -- an edge that loses its own outputs is still phony or not
 pub kept-phony : (s : EdgePaths) → (edge_paths s).is_phony ≡ s.is_phony

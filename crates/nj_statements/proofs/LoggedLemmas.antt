@@ -1,6 +1,7 @@
 -- Inputs named for build statements: which edges they change, and that nothing else changes.
-use Rattle.std.proofs.Common.{◌≡◌, ℕ, suc, ◌+◌, List, [], ◌∷◌, ◌++◌, length, map, Option, slice_index_or}
-use Rattle.std.proofs.Common.{refl, sym, ap, ◌∙◌, subst, arith, append-nil}
+use Rattle.std.proofs.Common.{◌≡◌, ℕ, suc, ◌+◌, ◌||◌, Bool, true, false, List, [], ◌∷◌, ◌++◌, length, map}
+use Rattle.std.proofs.Common.{Option, Some, None, slice_index_or, refl, sym, ap, ◌∙◌, subst, arith}
+use Rattle.std.proofs.Common.{append-nil}
 use Rattle.std.specs.Prelude.{codes}
 use Rattle.std.specs.List.{AllByRecursion, AllZip}
 use Rattle.std.proofs.lemmas.List.{length-map, map-append}
@@ -16,7 +17,7 @@ use Rattle.nj_edges.specs.MoreInputs.{with_inputs_added}
 use Rattle.nj_edge_env.specs.LateStrings.{LateNames, asked_text}
 use Rattle.nj_statements.specs.EdgeList.{EdgeModel, edge_of_build, edges_read, paths_of_edges}
 use Rattle.nj_statements.specs.EdgeList.{file_given, name_given, dyndep_of, pending_at, pending_read}
-use Rattle.nj_statements.specs.EdgeList.{assigned_of, assigned_read}
+use Rattle.nj_statements.specs.EdgeList.{assigned_of, assigned_read, binds_restat, restats_read}
 use Rattle.nj_statements.specs.Built.{BuiltModel, IsBuiltOf, detail_of}
 use Rattle.nj_statements.specs.Logged.{NamedInputsAreAdded, and_inputs, inputs_named, with_inputs_named}
 use Rattle.nj_statements.proofs.DiscoverEdges.{SameEdge, all-same, block-same, count-same, edge-also}
@@ -67,7 +68,8 @@ edge-more [] e before outputs rule inputs lines =
     own : EdgeModel
     own = edge_of_build e before outputs rule inputs lines
 edge-more (path ∷ paths) e before outputs rule inputs lines =
-    edge-also (record { outputs = []; inputs = path ∷ paths }) e before outputs rule inputs lines
+    edge-also (record { outputs = []; inputs = path ∷ paths; restat = false }) e before outputs rule inputs
+    lines
 
 added-last : (named : ℕ → List (List ℕ)) (n : ℕ) (edges : List EdgePaths) (e : EdgePaths)
     → with_inputs_added named n (edges ++ e ∷ [])
@@ -154,6 +156,17 @@ module _ (named : ℕ → List (List ℕ)) (e : ReadStatement) (before : List Re
       ∙ ap (λ f. pending_read before ++ pending_at count e.was_joined f) dyndep-build
 
 -- ---- all statements
+
+-- inputs bind nothing
+more-binds : (d : Option Discovered) (paths : List (List ℕ))
+    → binds_restat (and_inputs d paths) ≡ binds_restat d
+more-binds d [] = refl
+more-binds None (path ∷ paths) = refl
+more-binds (Some earlier) (path ∷ paths) = or-false earlier.restat
+  where
+    or-false : (b : Bool) → (b || false) ≡ b
+    or-false true = refl
+    or-false false = refl
 
 module _ (named : ℕ → List (List ℕ)) where
   -- one more statement, by its kind
@@ -247,6 +260,27 @@ module _ (named : ℕ → List (List ℕ)) where
   assigned-named [] = refl
   assigned-named (e ∷ before) = assigned-item e before e.item (assigned-named before)
 
+  restats-item : (e : ReadStatement) (before : List ReadStatement) (item : StatementModel)
+      → restats_read (with_inputs_named named before) ≡ restats_read before
+      → restats_read (with_inputs_named named (record e { item = item } ∷ before))
+      ≡ restats_read (record e { item = item } ∷ before)
+  unfolding edges_read restats_read with_inputs_named
+  restats-item e before (BuildModel outputs rule inputs lines) rest =
+      ap (λ rs. rs ++ binds_restat (and_inputs e.discovered (named (length (edges_read before)))) ∷ []) rest
+      ∙ ap (λ r. restats_read before ++ r ∷ []) (more-binds e.discovered (named (length (edges_read before))))
+  restats-item e before (BindingModel bound word) rest = rest
+  restats-item e before (RuleModel name lines) rest = rest
+  restats-item e before (PoolModel name lines) rest = rest
+  restats-item e before (DefaultModel words) rest = rest
+  restats-item e before (IncludeModel word) rest = rest
+  restats-item e before (SubninjaModel word) rest = rest
+
+  pub restats-named : (entries : List ReadStatement)
+      → restats_read (with_inputs_named named entries) ≡ restats_read entries
+  unfolding restats_read with_inputs_named
+  restats-named [] = refl
+  restats-named (e ∷ before) = restats-item e before e.item (restats-named before)
+
   -- A property of each edge, whatever its implicit files are, stays true.
   pub all_edges-named : (P : EdgeModel → Type 0)
       → ((e : EdgeModel) (outs ins : List (List ℕ)) → P e
@@ -280,6 +314,7 @@ module _ (named : ℕ → List (List ℕ)) where
             (as_read-named named entries));
         pending = is.pending ∙ sym (pending-named entries);
         assigned = is.assigned ∙ sym (assigned-named entries);
+        restats = is.restats ∙ sym (restats-named entries);
       })
 
 pub named_inputs : NamedInputsAreAdded

@@ -6,7 +6,7 @@ use Rattle.std.proofs.Common.{None, option_map, IfSome, is_some, unwrap_or, refl
 use Rattle.std.specs.List.{AllByRecursion, IsDistinct, filter}
 use Rattle.std.specs.Prelude.{bytes_eq, find}
 use Rattle.std.proofs.lemmas.List.{append-nil, append_assoc, set_at, map-set, length-set, length_push}
-use Rattle.std.proofs.lemmas.List.{take_more, drop_more, get_or-set_same, get_or-set_other}
+use Rattle.std.proofs.lemmas.List.{take_all, take_more, drop_more, get_or-set_same, get_or-set_other}
 use Rattle.std.proofs.lemmas.List.Elements.{filter-append}
 use Rattle.std.proofs.lemmas.Bool.{cases_lt}
 use Rattle.std.proofs.lemmas.Bool.Decides.{eqb_tells}
@@ -22,7 +22,7 @@ use Rattle.nj_statements.specs.Inside.BuiltHeld.{pending_named}
 use Rattle.nj_statements.specs.Joining.{dyndep_files, pending_on}
 use Rattle.nj_statements.specs.JoiningHeld.{unless_joined, still_pending, pending_of, pending_from}
 use Rattle.nj_statements.specs.Inside.JoiningSteps.{is_bound_to, one_if, count_pending, count_bound, bind_all}
-use Rattle.nj_statements.specs.Inside.JoiningSteps.{first_edges, file_named}
+use Rattle.nj_statements.specs.Inside.JoiningSteps.{first_edges, numbered_of, numbered_from, file_named}
 
 -- ---- edges that are still pending
 
@@ -221,6 +221,89 @@ pending-more k (Some f ∷ ws) w =
     (pending-more (k + 1) ws w ∙ ap (λ n. pending_from (k + 1) ws ++ pending_of n w)
     (let e : k + 1 + length ws ≡ k + suc (length ws) = omega arith in e))
 
+-- ---- the same edges by the numbers of their files
+
+pub numbered-more : (k : ℕ) (ws : List (Option FileNo)) (w : Option FileNo)
+    → numbered_from k (ws ++ w ∷ []) ≡ numbered_from k ws ++ numbered_of (k + length ws) w
+numbered-more k [] None = refl
+numbered-more k [] (Some f) = ap (λ n. record { edge = n; file = f } ∷ [])
+    (let e : k ≡ k + 0 = omega arith in e)
+numbered-more k (None ∷ ws) w =
+    numbered-more (k + 1) ws w
+    ∙ ap (λ n. numbered_from (k + 1) ws ++ numbered_of n w)
+    (let e : k + 1 + length ws ≡ k + suc (length ws) = omega arith in e)
+numbered-more k (Some f ∷ ws) w =
+    ap (λ ds. record { edge = k; file = f } ∷ ds) (
+    numbered-more (k + 1) ws w
+    ∙ ap (λ n. numbered_from (k + 1) ws ++ numbered_of n w)
+    (let e : k + 1 + length ws ≡ k + suc (length ws) = omega arith in e)
+    )
+
+pub none-is : {A : Type 0} (o : Option A) → ((x : A) → o ≡ Some x → ⊥) → o ≡ None
+none-is None apart = refl
+none-is (Some x) apart = absurd (apart x refl)
+
+-- one more of those that are still pending
+pub numbered-turn : (bound : List (Option FileNo)) (was : List Bool) (n : ℕ) → n < length bound
+    → numbered_from 0 (take (n + 1) (still_pending bound was))
+    ≡ numbered_from 0 (take n (still_pending bound was))
+    ++ numbered_of n (unless_joined (get_or bound n None) (get_or was n false))
+numbered-turn bound was n below =
+    ap (numbered_from 0) (take_more left n None within) ∙ numbered-more 0 (take n left) (get_or left n None)
+    ∙ ap (λ k. numbered_from 0 (take n left) ++ numbered_of k (get_or left n None)) count
+    ∙ ap (λ w. numbered_from 0 (take n left) ++ numbered_of n w) (still-at bound was n)
+  where
+    left : List (Option FileNo)
+    left = still_pending bound was
+
+    within : n < length left
+    within = subst (λ m. n < m) (sym (still-length bound was)) below
+
+    taken : (ws : List (Option FileNo)) (k : ℕ) → k < length ws → length (take k ws) ≡ k
+    taken [] k less = absurd (omega (arith, less))
+    taken (w ∷ ws) zero less = refl
+    taken (w ∷ ws) (suc k) less = ap suc (taken ws k (omega (arith, less)))
+
+    count : 0 + length (take n left) ≡ n
+    count = let is = taken left n within in omega (arith, is)
+
+pub numbered-all : (bound : List (Option FileNo)) (was : List Bool) (n : ℕ) → length bound ≤ n
+    → take n (still_pending bound was) ≡ still_pending bound was
+numbered-all bound was n past = take_all n (still_pending bound was)
+    (subst (λ m. m ≤ n) (sym (still-length bound was)) past)
+
+pub numbered-named : (files : List (List ℕ)) (k : ℕ) (ws : List (Option FileNo))
+    → map (pending_named files) (numbered_from k ws) ≡ pending_from k (map (file_named files) ws)
+numbered-named files k [] = refl
+numbered-named files k (None ∷ ws) = numbered-named files (k + 1) ws
+numbered-named files k (Some f ∷ ws) =
+    ap (λ ps. record { edge = k; file = path_at files f } ∷ ps) (numbered-named files (k + 1) ws)
+
+pub numbered-files : (most k : ℕ) (ws : List (Option FileNo))
+    → AllByRecursion (λ w. IfSome w (λ f. f.0 < most)) ws
+    → AllByRecursion (λ (d : DyndepEdge). d.file.0 < most) (numbered_from k ws)
+numbered-files most k [] all = tt
+numbered-files most k (None ∷ ws) all = numbered-files most (k + 1) ws all.1
+numbered-files most k (Some f ∷ ws) all = (all.0, numbered-files most (k + 1) ws all.1)
+
+pub numbered-edges : (most k : ℕ) (ws : List (Option FileNo)) → k + length ws ≤ most
+    → AllByRecursion (λ (d : DyndepEdge). d.edge < most) (numbered_from k ws)
+numbered-edges most k [] within = tt
+numbered-edges most k (None ∷ ws) within = numbered-edges most (k + 1) ws (omega (arith, within))
+numbered-edges most k (Some f ∷ ws) within =
+    (omega (arith, within), numbered-edges most (k + 1) ws (omega (arith, within)))
+
+unless-known : (P : FileNo → Type 0) (w : Option FileNo) (was : Bool) → IfSome w P
+    → IfSome (unless_joined w was) P
+unless-known P w true known = tt
+unless-known P w false known = known
+
+pub still-known : (P : FileNo → Type 0) (bound : List (Option FileNo)) (was : List Bool)
+    → AllByRecursion (λ w. IfSome w P) bound → AllByRecursion (λ w. IfSome w P) (still_pending bound was)
+still-known P [] was all = tt
+still-known P (b ∷ bound) [] all = all
+still-known P (b ∷ bound) (j ∷ was) all = (unless-known P b j all.0, still-known P bound was all.1)
+
 -- ---- counts
 
 pub count-removed : (file : FileNo) (ws : List (Option FileNo)) (n : ℕ)
@@ -368,8 +451,8 @@ counts-next ds i n w ws below is inside now counts file =
         let count = counts file in
         let here : n ≡ file.0 = is ∙ e in
         ap (λ m. get_or (set ws n (w + 1)) m 0) (sym here) ∙ get_or-set_same ws n (w + 1) 0 inside
-        ∙ (let now' : w ≡ get_or ws file.0 0 = now ∙ ap (λ m. get_or ws m 0) here
-        in omega (arith, one, count, now'))
+        ∙ (let now' : w ≡ get_or ws file.0 0 = now ∙ ap (λ m. get_or ws m 0) here in
+        omega (arith, one, count, now'))
     by (inr (other, apart)) =
         let one = ap one_if other in
         let count = counts file in
@@ -413,8 +496,8 @@ firsts-named files once (d ∷ ds) (here, known) =
     (firsts-named files once ds known))
   where
     there : (f : FileNo) → f.0 < length files → slice_get files f.0 ≡ Some (path_at files f)
-    there f below = let at = slice_get-get_or files f.0 [] below
-        in at ∙ sym (ap (λ o. Some (unwrap_or o [])) at)
+    there f below = let at = slice_get-get_or files f.0 [] below in
+        at ∙ sym (ap (λ o. Some (unwrap_or o [])) at)
 
     same-test : (f : FileNo) → f.0 < length files
         → (f.0 == d.file.0) ≡ bytes_eq (path_at files f) (path_at files d.file)

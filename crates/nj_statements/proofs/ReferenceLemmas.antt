@@ -16,8 +16,8 @@ references-none rules number keys is = absurd (true≢false (ap is_some (sym is)
 -- the rules that are declared later change nothing
 pub references-longer : (kept : List (Option (List ReferringKeyModel))) (rules more : List RuleModel)
     → HasReferences kept rules → HasReferences kept (rules ++ more)
-references-longer kept rules more held number keys is = let (rule, there, tells) = held number keys is
-    in (rule, get-longer rules more number rule there, tells)
+references-longer kept rules more held number keys is = let (rule, there, tells) = held number keys is in
+    (rule, get-longer rules more number rule there, tells)
 
 pub references-same : (kept others : List (Option (List ReferringKeyModel))) (rules : List RuleModel)
     → SameReferences kept others → HasReferences kept rules → HasReferences others rules

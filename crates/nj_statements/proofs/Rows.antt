@@ -303,8 +303,11 @@ row-pending_empty = refl
 
 -- `build a: phony || dd` with `dyndep = dd`, joined to an output `x` and an input `y`
 abbrev joined_a : ReadStatement
-joined_a = record (entry (build_with_dd (codes "a") phony (line (codes "dyndep") (codes "dd") ∷ [])))
-    { was_joined = true; discovered = Some (record { outputs = codes "x" ∷ []; inputs = codes "y" ∷ [] }) }
+joined_a = record (entry (build_with_dd (codes "a") phony (line (codes "dyndep") (codes "dd") ∷ []))) {
+  was_joined = true;
+  discovered = Some
+      (record { outputs = codes "x" ∷ []; inputs = codes "y" ∷ []; restat = false });
+}
 
 -- it is not pending, and `build b: phony || dd` with `dyndep = dd` is
 pub row-pending_joined : pending_read (entry
@@ -329,6 +332,7 @@ row-discovered = refl
 -- `build a: phony a` with an input that was discovered: it still loses `a`
 pub row-discovered_own : map (λ (e : EdgePaths). inputs_of e)
     (map (λ e. e.paths) (edges_read (record (entry (BuildModel (to (a ∷ [])) phony (from (a ∷ [])) []))
-    { discovered = Some (record { outputs = []; inputs = codes "y" ∷ [] }) } ∷ []))) ≡ (codes "y" ∷ []) ∷ []
+    { discovered = Some (record { outputs = []; inputs = codes "y" ∷ []; restat = false }) } ∷ [])))
+    ≡ (codes "y" ∷ []) ∷ []
 unfolding clean_path_of without_leftmost_pair edges_read bounds
 row-discovered_own = refl

@@ -1,7 +1,7 @@
--- The fields before anything is joined, and after all of it.
+-- The fields before anything is joined, and after it.
 use Rattle.std.proofs.Common.{Bool, true, ◌≡◌, ℕ, zero, suc, true≢false, is_some, option_map, ◌+◌, ◌<◌, ◌≤◌}
 use Rattle.std.proofs.Common.{false, List, [], ◌∷◌, ◌++◌, length, get_or, replicate, map, slice_get, Option}
-use Rattle.std.proofs.Common.{Some, None, bytes_eq, refl, sym, ap, subst, ◌∙◌, arith}
+use Rattle.std.proofs.Common.{Some, None, IfSome, bytes_eq, refl, sym, ap, subst, ◌∙◌, arith}
 use Rattle.std.specs.List.{AllByRecursion, IsDistinct}
 use Rattle.std.proofs.lemmas.List.{length-map, length-append, length-replicate}
 use Rattle.std.proofs.lemmas.Option.{same_Some, slice_get-map}
@@ -10,6 +10,7 @@ use Rattle.nj_manifest.specs.Statements.{DefaultModel, IncludeModel, SubninjaMod
 use Rattle.nj_scope.specs.ReadingList.{ReadStatement}
 use Rattle.nj_edge_env.specs.Blocks.{BlocksModel}
 use Rattle.nj_names.specs.declared.files.FileNo.{FileNo}
+use Rattle.nj_names.specs.Files.{path_at}
 use Rattle.nj_edges.specs.EdgeGraphs.{EdgeGraph}
 use Rattle.nj_cycles.specs.Cycles.{IsAcyclic, IsLeastOnCycle}
 use Rattle.nj_edges.specs.declared.graph.Finished.TheVariants.{Graph}
@@ -29,12 +30,13 @@ use Rattle.nj_statements.specs.Built.{EdgeDetail, IsBuiltOf, IsCycleFault, detai
 use Rattle.nj_statements.specs.Inside.Details.{text_at, spot_of}
 use Rattle.nj_statements.specs.Inside.BuiltHeld.{BuiltIsHeld, built_of, detail_named, pending_named}
 use Rattle.nj_statements.specs.Joining.{dyndep_files}
-use Rattle.nj_statements.specs.JoiningHeld.{pending_of, pending_from, HasJoined}
+use Rattle.nj_statements.specs.JoiningHeld.{pending_of, pending_from, still_pending, HasJoined}
 use Rattle.nj_statements.specs.Inside.JoiningSteps.{count_pending, count_bound, bind_all, first_edges}
-use Rattle.nj_statements.specs.Inside.JoiningSteps.{file_named, joining_of, JoiningIsHeld}
-use Rattle.nj_statements.proofs.PendingLemmas.{still-all, pending-more, firsts-all, firsts-named}
-use Rattle.nj_statements.proofs.PendingLemmas.{bind-unjoined, bind-length, bind-known, none-known, count-bind}
-use Rattle.nj_statements.proofs.PendingLemmas.{count-none}
+use Rattle.nj_statements.specs.Inside.JoiningSteps.{numbered_from, file_named, joining_of, JoiningIsHeld}
+use Rattle.nj_statements.proofs.PendingLemmas.{still-all, still-map, still-length, still-known}
+use Rattle.nj_statements.proofs.PendingLemmas.{numbered-named, numbered-files, numbered-edges, pending-more}
+use Rattle.nj_statements.proofs.PendingLemmas.{firsts-all, firsts-named, bind-unjoined, bind-length}
+use Rattle.nj_statements.proofs.PendingLemmas.{bind-known, none-known, count-bind, count-none}
 
 -- ---- the files on which edges are pending
 
@@ -169,6 +171,7 @@ module _ (graph : EdgeGraph) (blocks : BlocksModel) (names : List (List ℕ)) (d
           ∙ ap dyndep_files is.pending;
       bound = (awaited stated).1.are ∙ ap (pending_from 0) (sym named);
       assigned = is.assigned;
+      restats = is.restats;
       unjoined = (awaited stated).1.are ∙ ap (pending_from 0)
           (sym named ∙ sym (still-all (map (file_named graph.files)
           (bind_all dyndeps (replicate (length graph.edges) None))) graph.edges));
@@ -183,7 +186,69 @@ module _ (graph : EdgeGraph) (blocks : BlocksModel) (names : List (List ℕ)) (d
         (subst (λ bs. HasJoined (joining_of (join_of graph) blocks names details defaults
         (first_edges dyndeps) bs) stated stated) (sym bound_are) has))
 
--- ---- all is joined
+-- ---- after joining
+
+-- the numbers of the edges that are still pending, and of the files on which they are
+pub left-known : (table : JoinTable) (names : List (List ℕ)) (details : List Detail) (defaults : List FileNo)
+    (firsts : List DyndepEdge) (bound : List (Option FileNo)) (unjoined : List ℕ)
+    → JoiningIsHeld table names details defaults firsts bound unjoined → (dyndeps : List DyndepEdge)
+    → dyndeps ≡ numbered_from 0 (still_pending bound table.was_joined)
+    → AllByRecursion (λ (d : DyndepEdge). d.file.0 < length table.files) dyndeps
+    × AllByRecursion (λ (d : DyndepEdge). d.edge < length table.joined) dyndeps
+left-known table names details defaults firsts bound unjoined held dyndeps are = (
+  subst (AllByRecursion (λ (d : DyndepEdge). d.file.0 < length table.files)) (sym are)
+      (numbered-files (length table.files) 0 left
+      (still-known (λ f. f.0 < length table.files) bound table.was_joined
+      (known bound held.bound_known))),
+  subst (AllByRecursion (λ (d : DyndepEdge). d.edge < length table.joined)) (sym are)
+      (numbered-edges (length table.joined) 0 left (omega (arith, many))),
+)
+  where
+    left : List (Option FileNo)
+    left = still_pending bound table.was_joined
+
+    many : length left ≡ length table.joined
+    many = still-length bound table.was_joined ∙ held.as_many_bound ∙ sym held.as_many_joined
+
+    more : (b : Option FileNo) → IfSome b (λ f. f.0 < length unjoined)
+        → IfSome b (λ f. f.0 < length table.files)
+    more None h = tt
+    more (Some f) h = let most = held.pending_known in omega (arith, h, most)
+
+    known : (bs : List (Option FileNo)) → AllByRecursion (λ b. IfSome b (λ f. f.0 < length unjoined)) bs
+        → AllByRecursion (λ b. IfSome b (λ f. f.0 < length table.files)) bs
+    known [] all = tt
+    known (b ∷ bs) all = (more b all.0, known bs all.1)
+
+pub finish-held : (table : JoinTable) (names : List (List ℕ)) (details : List Detail) (defaults : List FileNo)
+    (firsts : List DyndepEdge) (bound : List (Option FileNo)) (unjoined : List ℕ)
+    → JoiningIsHeld table names details defaults firsts bound unjoined
+    → (g : EdgeGraph) → g ≡ record { files = table.files; edges = table.joined } → (dyndeps : List DyndepEdge)
+    → dyndeps ≡ numbered_from 0 (still_pending bound table.was_joined)
+    → BuiltIsHeld g names details defaults dyndeps
+finish-held table names details defaults firsts bound unjoined held g is dyndeps are =
+    let known = left-known table names details defaults firsts bound unjoined held dyndeps are in
+    subst (λ (v : EdgeGraph). BuiltIsHeld v names details defaults dyndeps) (sym is) (record {
+      as_many = held.as_many_details ∙ sym held.as_many_joined;
+      names_known = held.names_known;
+      assigned_known = held.assigned_known;
+      defaults_known = held.defaults_known;
+      dyndep_files_known = known.0;
+      dyndep_edges_known = known.1;
+    })
+
+-- a detail names a known file
+pub detail-known : (names : List (List ℕ)) (details : List Detail) (n : ℕ) (d : Detail) → n < length details
+    → d ≡ get_or details n d
+    → AllByRecursion (λ d. d.file < length names) details → d.file < length names
+detail-known names details n d below is all =
+    subst (λ (x : Detail). x.file < length names) (sym is) (at details n below all)
+  where
+    at : (ds : List Detail) (k : ℕ) → k < length ds → AllByRecursion (λ d. d.file < length names) ds
+        → (get_or ds k d).file < length names
+    at [] k less known = absurd (omega (arith, less))
+    at (x ∷ ds) zero less known = known.0
+    at (x ∷ ds) (suc k) less known = at ds k (omega (arith, less)) known.1
 
 module _ (table : JoinTable) (blocks : BlocksModel) (names : List (List ℕ)) (details : List Detail)
     (defaults : List FileNo) (firsts : List DyndepEdge) (bound : List (Option FileNo))
@@ -192,19 +257,30 @@ module _ (table : JoinTable) (blocks : BlocksModel) (names : List (List ℕ)) (d
   edge-count : length table.joined ≡ length (edges_read joined)
   edge-count = ap length has.joined_paths ∙ length-map (edges_read joined) (λ (e : EdgeModel). e.paths)
 
-  pub joined-built : pending_read joined ≡ [] → (g : EdgeGraph)
-      → FinishesAs table.files table.joined (Graph g) → (dyndeps : List DyndepEdge) → dyndeps ≡ []
+  -- the edges that are still pending
+  left-pending : (files : List (List ℕ)) → files ≡ table.files → (dyndeps : List DyndepEdge)
+      → dyndeps ≡ numbered_from 0 (still_pending bound table.was_joined)
+      → map (pending_named files) dyndeps ≡ pending_read joined
+  left-pending files same dyndeps are =
+      ap (λ fs. map (pending_named fs) dyndeps) same ∙ ap (map (pending_named table.files)) are
+      ∙ numbered-named table.files 0 (still_pending bound table.was_joined)
+      ∙ ap (pending_from 0) (still-map (path_at table.files) bound table.was_joined) ∙ sym has.unjoined
+
+  pub joined-built : (g : EdgeGraph) → FinishesAs table.files table.joined (Graph g)
+      → (dyndeps : List DyndepEdge)
+      → dyndeps ≡ numbered_from 0 (still_pending bound table.was_joined)
       → IsBuiltOf (built_of g blocks names details defaults dyndeps) joined
       × IsAcyclic (makers_of_inputs (paths_of_edges (edges_read joined))) (length (edges_read joined))
-  joined-built none g finishes dyndeps empty = (
+  joined-built g finishes dyndeps are = (
     record {
       paths = ap (λ (v : EdgeGraph). v.edges) finishes.0 ∙ has.joined_paths;
       details = has.details;
       blocks = has.blocks;
       block_names = has.block_names;
       defaults = ap (λ (v : EdgeGraph). paths_at v.files defaults) finishes.0 ∙ has.defaults;
-      pending = ap (map (pending_named g.files)) empty ∙ sym none;
+      pending = left-pending g.files (ap (λ (v : EdgeGraph). v.files) finishes.0) dyndeps are;
       assigned = has.assigned;
+      restats = has.restats;
     },
     subst (λ n. IsAcyclic (makers_of_inputs (paths_of_edges (edges_read joined))) n)
         (length-map (edges_read joined) (λ (e : EdgeModel). e.paths))

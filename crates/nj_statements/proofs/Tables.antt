@@ -41,13 +41,13 @@ grows-input before t new path false grows is =
     subst (Grows 0 before) (sym is) (record { outputs_are = grows.outputs_are; inputs = longer })
   where
     longer : length before.«open».inputs ≤ length (t.«open».inputs ++ path ∷ [])
-    longer = let one = length-append t.«open».inputs (path ∷ []) in let all = grows.inputs
-        in omega (arith, one, all)
+    longer = let one = length-append t.«open».inputs (path ∷ []) in let all = grows.inputs in
+        omega (arith, one, all)
 grows-input before t new path true grows is = by (is_among t.«open».outputs path) is
   where
     longer : length before.«open».inputs ≤ length (t.«open».inputs ++ path ∷ [])
-    longer = let one = length-append t.«open».inputs (path ∷ []) in let all = grows.inputs
-        in omega (arith, one, all)
+    longer = let one = length-append t.«open».inputs (path ∷ []) in let all = grows.inputs in
+        omega (arith, one, all)
 
     by : (b : Bool) → new ≡ (if b then t else with_input t path) → Grows 0 before new
     by true h = subst (Grows 0 before) (sym h) grows

@@ -1,5 +1,5 @@
 -- The results of reading a statement, and how they are represented.
-use Rattle.std.specs.Prelude.{false, ◌≡◌, ℕ, Option, Some, None, Result, Ok, Err}
+use Rattle.std.specs.Prelude.{Bool, false, ◌≡◌, ℕ, Option, Some, None, Result, Ok, Err}
 use Rattle.std.specs.Prelude.{List, [], ◌∷◌, ◌<◌, map, length, slice_get, slice_index_or}
 use Rattle.nj_text.specs.declared.spot.Spot.{Spot}
 use Rattle.nj_manifest.specs.Statements.{StatementModel}
@@ -15,7 +15,7 @@ use Rattle.nj_faults.specs.declared.fault.PlaceRef.{PlaceRef}
 use Rattle.nj_faults.specs.Faults.{IsFault}
 use Rattle.nj_edge_env.specs.ReferencesHeld.{ReferringKeyModel, TellsCycles}
 use Rattle.nj_statements.specs.declared.building.DyndepEdge.{DyndepEdge}
-use Rattle.nj_statements.specs.EdgeList.{EdgeModel, Pending, AssignedModel, edges_read, paths_of_edges, defaults_read, pending_read, block_at, block_names_at, assigned_read}
+use Rattle.nj_statements.specs.EdgeList.{EdgeModel, Pending, AssignedModel, edges_read, paths_of_edges, defaults_read, pending_read, block_at, block_names_at, assigned_read, restats_read}
 
 -- ---- faults
 
@@ -51,7 +51,10 @@ pub record DetailModel : Type 0 where
   -- the numbers of its pool and of the path of its dyndep file
   pub pool : ℕ
   pub dyndep : ℕ
+  -- whether its dyndep file binds `restat`
+  pub restat : Bool
 
+-- what reading has come to: edges, what is kept for each, and defaults
 pub record BuildingModel : Type 0 where
   pub table : EdgeTable
   pub blocks : BlocksModel
@@ -64,12 +67,14 @@ pub record BuildingModel : Type 0 where
   -- of each rule by number, which of its variables refer to which, where an edge has used it
   pub references : List (Option (List ReferringKeyModel))
 
+-- the detail is that of the edge
 pub record IsDetail (names : List (List ℕ)) (d : DetailModel) (e : EdgeModel) : Type 0 where
   pub file : slice_get names d.file ≡ Some e.file
   pub spot : d.spot ≡ e.spot
   pub scope : d.scope ≡ e.scope
   pub rule : d.rule ≡ e.rule
 
+-- each detail is that of its edge
 abbrev pub AreDetails : (names : List (List ℕ)) → List DetailModel → List EdgeModel → Type 0
 AreDetails names [] [] = Unit {0}
 AreDetails names (d ∷ details) (e ∷ edges) = IsDetail names d e × AreDetails names details edges
@@ -79,10 +84,12 @@ AreDetails names details edges = ⊥
 abbrev pub numbered : (strings : List (List ℕ)) → List (Option (List ℕ))
 numbered strings = None ∷ map Some strings
 
+-- the detail has the numbers of the edge's pool and dyndep file
 pub record IsAssigned (names : List (List ℕ)) (d : DetailModel) (a : AssignedModel) : Type 0 where
   pub pool : slice_get (numbered names) d.pool ≡ Some a.pool
   pub dyndep : slice_get (numbered names) d.dyndep ≡ Some a.dyndep
 
+-- each detail has the numbers of its edge's pool and dyndep file
 abbrev pub AreAssigned : (names : List (List ℕ)) → List DetailModel → List AssignedModel → Type 0
 AreAssigned names [] [] = Unit {0}
 AreAssigned names (d ∷ details) (a ∷ assigned) = IsAssigned names d a × AreAssigned names details assigned
@@ -101,6 +108,7 @@ pub record HasEdges (held : BuildingModel) (entries : List ReadStatement) : Type
   pub block_names : (number : ℕ) → names_in held.blocks number ≡ block_names_at (edges_read entries) number
   pub details : AreDetails held.names held.details (edges_read entries)
   pub assigned : AreAssigned held.names held.details (assigned_read entries)
+  pub restats : map (λ d. d.restat) held.details ≡ restats_read entries
   pub defaults : AreFiles held.table.files held.defaults (defaults_read entries)
   pub dyndeps : ArePending held.table.files held.dyndeps (pending_read entries)
   pub references : HasReferences held.references (rules_read entries)
@@ -119,6 +127,7 @@ pub record AddsNothing (before after : BuildingModel) : Type 0 where
 
 -- ---- a statement
 
+-- a statement at a place, to which no dyndep file was joined
 abbrev pub entry_at_place : PlaceRef → (scope : ℕ) → (around : List ℕ) → (depth : ℕ) → StatementModel → ReadStatement
 entry_at_place place scope around depth item = record {
   file = place.file.now;

@@ -1,5 +1,5 @@
 -- The result of a run's statements after the last one: its edges and defaults, or a dependency cycle.
-use Rattle.std.specs.Prelude.{◌≡◌, ◌⊎◌, ℕ, Some, Result, Ok, Err, List, [], ◌∷◌, map, length, slice_get, slice_index_or}
+use Rattle.std.specs.Prelude.{◌≡◌, ◌⊎◌, ℕ, Bool, Some, Result, Ok, Err, List, [], ◌∷◌, map, length, slice_get, slice_index_or}
 use Rattle.nj_text.specs.declared.spot.Spot.{Spot}
 use Rattle.nj_scope.specs.ReadingList.{ReadStatement}
 use Rattle.nj_edge_env.specs.Blocks.{BlocksModel, bound_in, names_in}
@@ -10,7 +10,7 @@ use Rattle.nj_edges.specs.Needs.{makers_of_inputs}
 use Rattle.nj_faults.specs.declared.fault.GraphFault.{GraphFault}
 use Rattle.nj_faults.specs.declared.fault.Cause.TheVariants.{Cycle}
 use Rattle.nj_faults.specs.Faults.{fault_at, no_memory}
-use Rattle.nj_statements.specs.EdgeList.{EdgeModel, Pending, AssignedModel, edges_read, paths_of_edges, defaults_read, pending_read, block_at, block_names_at, assigned_read}
+use Rattle.nj_statements.specs.EdgeList.{EdgeModel, Pending, AssignedModel, edges_read, paths_of_edges, defaults_read, pending_read, block_at, block_names_at, assigned_read, restats_read}
 
 -- An edge without its paths and its block: the file of its build statement, by the name under which it was opened, the place
 -- of its first byte there, the number of its scope, and the number of its rule.
@@ -20,6 +20,7 @@ pub record EdgeDetail : Type 0 where
   pub scope : ℕ
   pub rule : ℕ
 
+-- the edges of a whole run, and its defaults
 pub record BuiltModel : Type 0 where
   -- the files and the edges, by their paths
   pub graph : EdgeGraph
@@ -31,6 +32,8 @@ pub record BuiltModel : Type 0 where
   pub pending : List Pending
   -- the assignment of each edge
   pub assigned : List AssignedModel
+  -- for each edge, whether its dyndep file binds `restat`
+  pub restats : List Bool
 
 -- the detail of the edge of a number; past the last edge there is none
 abbrev pub detail_at : List EdgeDetail → (number : ℕ) → EdgeDetail
@@ -44,6 +47,7 @@ defaults_in_force (path ∷ paths) edges = path ∷ paths
 
 -- ---- by the statements
 
+-- the detail of an edge
 abbrev pub detail_of : EdgeModel → EdgeDetail
 detail_of e = record { file = e.file; spot = e.spot; scope = e.scope; rule = e.rule }
 
@@ -56,6 +60,7 @@ pub record IsBuiltOf (built : BuiltModel) (entries : List ReadStatement) : Type 
   pub defaults : built.defaults ≡ defaults_read entries
   pub pending : built.pending ≡ pending_read entries
   pub assigned : built.assigned ≡ assigned_read entries
+  pub restats : built.restats ≡ restats_read entries
 
 -- The fault of a dependency cycle: at the statement of the edge of the smallest number that lies on one itself, with the first
 -- output of that edge. An edge that only leads into a cycle does not lie on it.

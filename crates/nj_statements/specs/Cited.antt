@@ -8,7 +8,7 @@ pub use Rattle.nj_scope.specs.Declarations.{DeclaredBy}
 pub use Rattle.nj_scope.specs.ReadingList.{ReadStatement, rule_in_force, rules_read, pools, value_after}
 pub use Rattle.nj_edges.specs.EdgeTables.{no_files, EndWithin, edge_read}
 pub use Rattle.nj_statements.specs.EdgeList.{Values, paths_given, line_values, edge_of_build, edges_read, paths_of_edges, assigned_at}
-pub use Rattle.nj_statements.specs.EdgeList.{path_given, pending_read, file_given, name_given, edge_given, assigned_given, assigned_read}
+pub use Rattle.nj_statements.specs.EdgeList.{restat_at, path_given, file_given, name_given, edge_given, assigned_given, assigned_read}
 pub use Rattle.nj_statements.specs.EdgeList.{block_of, names_bound, stated_paths, loses_own, edge_paths}
 pub use Rattle.nj_statements.specs.BuildFaults.{paths_fault, late_fault, target_fault, build_fault, default_fault, empty_path}
 pub use Rattle.nj_statements.specs.BuildFaults.{outputs_fault, variable_cycle_fault, unknown_pool, dyndep_not_input, inputs_fault}
@@ -25,11 +25,12 @@ pub use Rattle.std.specs.List.{AllByRecursion, IsDistinct}
 pub use Rattle.nj_text.specs.Words.{word_model, part_model, Text}
 pub use Rattle.nj_manifest.specs.DyndepParsers.{entry_model}
 pub use Rattle.nj_edges.specs.Edges.{edge_at, first_output, first_edge, maker_of}
-pub use Rattle.nj_edges.specs.Joining.{join_of, none_added}
+pub use Rattle.nj_edges.specs.Joining.{changed_at, join_of, none_added}
 pub use Rattle.nj_statements.specs.Joining.{no_values, entry_fault, with_entry, lacking_fault}
-pub use Rattle.nj_statements.specs.JoiningHeld.{HasJoined, JoinsEntry, JoinsNothing, KeepsEdges, has_pending, still_pending}
-pub use Rattle.nj_statements.specs.Inside.JoiningSteps.{IsMeant, fault_of_pending, bind_all, first_edges, count_bound, is_bound_to}
-pub use Rattle.nj_statements.specs.Inside.JoiningSteps.{if_bound, maker_fault, edge_bound, with_added_outputs, with_added_inputs}
+pub use Rattle.nj_statements.specs.JoiningHeld.{HasJoined, JoinsEntry, JoinsNothing, KeepsEdges, has_pending, still_pending, unless_joined}
+pub use Rattle.nj_statements.specs.Inside.JoiningSteps.{IsMeant, also_restat, fault_of_pending, bind_all, first_edges, count_bound}
+pub use Rattle.nj_statements.specs.Inside.JoiningSteps.{numbered_from, is_bound_to, if_bound, maker_fault, edge_bound, with_added_outputs}
+pub use Rattle.nj_statements.specs.Inside.JoiningSteps.{with_added_inputs}
 pub use Rattle.nj_edge_env.specs.LateStrings.{LateNames, asked_text}
 pub use Rattle.nj_edge_env.specs.ReferencesHeld.{TellsCycles}
 pub use Rattle.nj_scope.specs.Laws.{IsInReadingOrder}

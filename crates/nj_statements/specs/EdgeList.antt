@@ -44,11 +44,13 @@ on_line values block name = unwrap_or (block name) (values name)
 abbrev pub path_given : Values → WordModel → List ℕ
 path_given values word = clean_path_of (expanded values word.parts)
 
+-- the paths that words give
 abbrev pub paths_given : Values → List WordModel → List (List ℕ)
 paths_given values words = map (path_given values) words
 
 -- ---- edges
 
+-- an edge
 pub record EdgeModel : Type 0 where
   -- the file of the build statement, by the name under which it was opened, and the place of its first byte there
   pub file : List ℕ
@@ -80,18 +82,23 @@ stated_paths values outputs inputs is_phony = record {
 abbrev pub loses_own : EdgePaths → Bool
 loses_own e = e.is_phony && length e.explicit_outputs == 1 && length e.implicit_outputs == 0 && length e.implicit_inputs == 0
 
+-- these paths without the edge's own outputs
 abbrev pub of_others : EdgePaths → List (List ℕ) → List (List ℕ)
 of_others e paths = filter (λ path. not (is_among (outputs_of e) path)) paths
 
+-- the edge without its own outputs among its inputs
 abbrev pub without_own : EdgePaths → EdgePaths
 without_own e = record e { explicit_inputs = of_others e e.explicit_inputs; order_only_inputs = of_others e e.order_only_inputs }
 
+-- the files of an edge once it has lost its own outputs as inputs
 abbrev pub edge_paths : EdgePaths → EdgePaths
 edge_paths e = if loses_own e then without_own e else e
 
+-- the number of the rule that a name has in force; an unknown name has 0
 abbrev pub rule_number : ReadStatement → (before : List ReadStatement) → NameModel → ℕ
 rule_number e before rule = unwrap_or (rule_in_force before (scope_of e) rule.name) 0
 
+-- the block of a build statement
 abbrev pub build_block : ReadStatement → (before : List ReadStatement) → List LineModel → Block
 build_block e before lines = block_of (value_after before (scope_of e)) lines
 
@@ -106,6 +113,11 @@ with_discovered (Some found) e = record e {
   implicit_outputs = e.implicit_outputs ++ found.outputs;
   implicit_inputs = e.implicit_inputs ++ found.inputs;
 }
+
+-- whether a dyndep file binds `restat`
+abbrev pub binds_restat : Option Discovered → Bool
+binds_restat None = false
+binds_restat (Some found) = found.restat
 
 -- The edge of a build statement, by the statements before it, the last read first. It loses its own outputs as
 -- inputs before discovered files are added.
@@ -123,6 +135,7 @@ edge_of_build e before outputs rule inputs lines = record {
       (edge_paths (stated_paths (line_values e before lines) outputs inputs (rule_number e before rule == 0)));
 }
 
+-- the edge that a statement gives; only a build statement gives one
 abbrev pub edge_given : ReadStatement → (before : List ReadStatement) → StatementModel → Option EdgeModel
 edge_given e before (BuildModel outputs rule inputs lines) = Some (edge_of_build e before outputs rule inputs lines)
 edge_given e before item = None
@@ -136,6 +149,7 @@ abbrev pub block_of_edge : Option EdgeModel → Block
 block_of_edge None = no_block
 block_of_edge (Some e) = e.block
 
+-- the block of the edge of a number
 abbrev pub block_at : List EdgeModel → (number : ℕ) → Block
 block_at edges number = block_of_edge (slice_get edges number)
 
@@ -143,11 +157,13 @@ block_at edges number = block_of_edge (slice_get edges number)
 abbrev pub block_names_at : List EdgeModel → (number : ℕ) → List (List ℕ)
 block_names_at edges number = slice_index_or (map (λ e. e.block_names) edges) number []
 
+-- the files of each edge
 abbrev pub paths_of_edges : List EdgeModel → List EdgePaths
 paths_of_edges edges = map (λ e. e.paths) edges
 
 -- ---- defaults
 
+-- these paths with those of one more statement, if it is a `default` statement
 abbrev pub with_defaults : ReadStatement → (before : List ReadStatement) → StatementModel → List (List ℕ) → List (List ℕ)
 with_defaults e before (DefaultModel words) paths = paths ++ paths_given (value_after before (scope_of e)) words
 with_defaults e before item paths = paths
@@ -192,6 +208,7 @@ pending_at edge true file = []
 pending_at edge false (Some file) = record { edge = edge; file = file } ∷ []
 pending_at edge false None = []
 
+-- these pending edges with that of one more statement, if its edge is pending
 abbrev pub with_pending : ReadStatement → (before : List ReadStatement) → StatementModel → List Pending → List Pending
 with_pending e before (BuildModel outputs rule inputs lines) others =
     others ++ pending_at (length (edges_read before)) e.was_joined (dyndep_of before (edge_of_build e before outputs rule inputs lines))
@@ -217,9 +234,11 @@ pub record AssignedModel : Type 0 where
   pub pool : Option (List ℕ)
   pub dyndep : Option (List ℕ)
 
+-- the assignment of an edge
 abbrev pub assigned_of : (before : List ReadStatement) → EdgeModel → AssignedModel
 assigned_of before edge = record { pool = pool_of before edge; dyndep = dyndep_of before edge }
 
+-- the assignment that a statement gives its edge
 abbrev pub assigned_given : ReadStatement → (before : List ReadStatement) → StatementModel → Option AssignedModel
 assigned_given e before item = option_map (assigned_of before) (edge_given e before item)
 
@@ -230,3 +249,17 @@ assigned_read entries = gathered assigned_given entries
 -- the assignment of the edge of a number; past the last edge it is empty
 abbrev pub assigned_at : List AssignedModel → (number : ℕ) → AssignedModel
 assigned_at assigned number = slice_index_or assigned number (record { pool = None; dyndep = None })
+
+-- ---- `restat`
+
+-- whether the dyndep file of a statement's edge binds `restat`
+abbrev pub restat_given : ReadStatement → (before : List ReadStatement) → StatementModel → Option Bool
+restat_given e before item = option_map (λ edge. binds_restat e.discovered) (edge_given e before item)
+
+-- for each edge, by number, whether its dyndep file binds `restat`
+unfoldable pub restats_read : List ReadStatement → List Bool
+restats_read entries = gathered restat_given entries
+
+-- the same of the edge of a number; past the last edge nothing is bound
+abbrev pub restat_at : List Bool → (number : ℕ) → Bool
+restat_at restats number = slice_index_or restats number false

@@ -1,5 +1,5 @@
 -- The additions of dyndep files' entries to build statements ("Dynamic Dependencies" in the manual).
-use Rattle.std.specs.Prelude.{ℕ, ◌==◌, Bool, true, false, ◌&&◌, not, if◌then◌else◌, Option, Some, None, option_map, option_and_then, unwrap_or, is_some, List, [], ◌∷◌, ◌++◌}
+use Rattle.std.specs.Prelude.{ℕ, ◌==◌, Bool, true, false, ◌&&◌, ◌||◌, not, if◌then◌else◌, Option, Some, None, option_map, option_and_then, unwrap_or, is_some, List, [], ◌∷◌, ◌++◌}
 use Rattle.nj_scope.specs.Scopes.{first_given}
 use Rattle.std.specs.Bool.{then_some}
 use Rattle.std.specs.Option.{option_or, option_map_or}
@@ -21,8 +21,13 @@ use Rattle.nj_statements.specs.BuildFaults.{empty_path, outputs_fault}
 -- discoveries, with those after them
 abbrev pub and_found : Option Discovered → Discovered → Discovered
 and_found None found = found
-and_found (Some earlier) found = record { outputs = earlier.outputs ++ found.outputs; inputs = earlier.inputs ++ found.inputs }
+and_found (Some earlier) found = record {
+  outputs = earlier.outputs ++ found.outputs;
+  inputs = earlier.inputs ++ found.inputs;
+  restat = earlier.restat || found.restat;
+}
 
+-- a statement with more discoveries
 abbrev pub also_discovered : Discovered → ReadStatement → ReadStatement
 also_discovered found e = record e { discovered = Some (and_found e.discovered found) }
 
@@ -34,9 +39,13 @@ discover edge found (e ∷ before) =
     then record (also_discovered found e) { was_joined = true } ∷ before
     else e ∷ discover edge found before
 
--- the additions of an entry to the outputs and the inputs of its build statement
+-- the additions of an entry to the outputs and the inputs of its build statement, and whether it binds `restat`
 abbrev pub discovered_by : EntryModel → Discovered
-discovered_by entry = record { outputs = paths_given no_values entry.outs; inputs = paths_given no_values entry.ins }
+discovered_by entry = record {
+  outputs = paths_given no_values entry.outs;
+  inputs = paths_given no_values entry.ins;
+  restat = entry.restat;
+}
 
 -- An entry means the build statement that has its output; an output that another entry discovered names none.
 abbrev pub edge_meant : (stated : List ReadStatement) → EntryModel → Option ℕ
@@ -72,6 +81,7 @@ entry_fault file stated joined entry =
 
 -- ---- the fault of a file
 
+-- the fault of an edge that its dyndep file does not mention
 abbrev pub no_statement : (file : List ℕ) → EdgeModel → GraphFault
 no_statement file e = fault_at e.file e.spot (DyndepNoStatement (unwrap_or (first_output e.paths) []) file)
 

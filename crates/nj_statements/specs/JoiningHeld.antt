@@ -7,13 +7,14 @@ use Rattle.nj_scope.specs.ReadingList.{ReadStatement}
 use Rattle.nj_edge_env.specs.Blocks.{BlocksModel, bound_in, names_in}
 use Rattle.nj_edges.specs.Joining.{JoinTable, none_added}
 use Rattle.nj_faults.specs.declared.fault.GraphFault.{GraphFault}
-use Rattle.nj_statements.specs.EdgeList.{Pending, AssignedModel, edges_read, paths_of_edges, defaults_read, pending_read, block_at, block_names_at, assigned_read}
+use Rattle.nj_statements.specs.EdgeList.{Pending, AssignedModel, edges_read, paths_of_edges, defaults_read, pending_read, block_at, block_names_at, assigned_read, restats_read}
 use Rattle.nj_statements.specs.Built.{EdgeDetail, detail_of}
 use Rattle.nj_statements.specs.Joining.{dyndep_files}
 use Rattle.nj_faults.specs.Faults.{IsFault}
 
 -- ---- the pending edges
 
+-- some edge is pending
 abbrev pub has_pending : List Pending → Bool
 has_pending [] = false
 has_pending (p ∷ others) = true
@@ -30,6 +31,7 @@ still_pending [] was_joined = []
 still_pending (b ∷ bound) [] = b ∷ bound
 still_pending (b ∷ bound) (was ∷ was_joined) = unless_joined b was ∷ still_pending bound was_joined
 
+-- an edge as pending on a file; on none, it is not pending
 abbrev pub pending_of : (edge : ℕ) → Option (List ℕ) → List Pending
 pending_of edge (Some file) = record { edge = edge; file = file } ∷ []
 pending_of edge None = []
@@ -39,6 +41,7 @@ abbrev pub pending_from : (number : ℕ) → (unjoined : List (Option (List ℕ)
 pending_from number [] = []
 pending_from number (w ∷ unjoined) = pending_of number w ++ pending_from (number + 1) unjoined
 
+-- the edges that are still pending, numbered from this number on
 abbrev pub left_pending_from : (number : ℕ) → (bound : List (Option (List ℕ))) → (was_joined : List Bool) → List Pending
 left_pending_from number bound was_joined = pending_from number (still_pending bound was_joined)
 
@@ -54,6 +57,7 @@ pub record KeepsEdges (before after : JoinTable) : Type 0 where
 
 -- ---- the fields
 
+-- the edges while dyndep files are joined to them
 pub record JoiningModel : Type 0 where
   pub table : JoinTable
   pub blocks : BlocksModel
@@ -66,6 +70,8 @@ pub record JoiningModel : Type 0 where
   pub bound : List (Option (List ℕ))
   -- the assignment of each edge
   pub assigned : List AssignedModel
+  -- for each edge, whether its dyndep file binds `restat`
+  pub restats : List Bool
 
 -- It has the edges and defaults of the joined statements, the edges of the statements as they were read, and which edges are pending.
 pub record HasJoined (held : JoiningModel) (stated joined : List ReadStatement) : Type 0 where
@@ -81,6 +87,7 @@ pub record HasJoined (held : JoiningModel) (stated joined : List ReadStatement) 
   pub bound : pending_read stated ≡ pending_from 0 held.bound
   pub unjoined : pending_read joined ≡ left_pending_from 0 held.bound held.table.was_joined
   pub assigned : held.assigned ≡ assigned_read joined
+  pub restats : held.restats ≡ restats_read joined
 
 -- Nothing is joined to an edge: the edges are unchanged, and so are the files on which they are pending. Files may be new, which
 -- keep the numbers of the others, and the additions of an entry may be collected in part.
@@ -92,6 +99,7 @@ pub record JoinsNothing (before after : JoiningModel) : Type 0 where
   pub dyndep_files : after.dyndep_files ≡ before.dyndep_files
   pub bound : after.bound ≡ before.bound
   pub assigned : after.assigned ≡ before.assigned
+  pub restats : after.restats ≡ before.restats
 
 -- the entry has no fault and is joined, or its fault is answered
 abbrev pub JoinsEntry : (after : JoiningModel) → Option GraphFault → (stated joined : List ReadStatement)

@@ -1,5 +1,5 @@
 -- Laws of joining dyndep files to the edges of a run.
-use Rattle.std.specs.Prelude.{◌≡◌, ℕ, ◌<◌, ◌==◌, Bool, true, false, not, Some, None, List, [], ◌∷◌, map, find, length, filter, bytes_eq}
+use Rattle.std.specs.Prelude.{◌≡◌, ℕ, ◌<◌, ◌==◌, Bool, true, false, ◌||◌, not, Some, None, List, [], ◌∷◌, map, find, length, filter, bytes_eq}
 use Rattle.std.specs.List.{AllByRecursion, IsDistinct, list_any, flat_map}
 use Rattle.nj_manifest.specs.Statements.{StatementModel, BuildModel}
 use Rattle.nj_manifest.specs.Dyndeps.{EntryModel}
@@ -7,7 +7,7 @@ use Rattle.nj_scope.specs.ReadingList.{Discovered, ReadStatement, value_after, r
 use Rattle.nj_edges.specs.Edges.{EdgePaths, outputs_of, maker_of, is_among}
 use Rattle.nj_edges.specs.Joining.{changed_at}
 use Rattle.nj_statements.specs.EdgeList.{EdgeModel, Pending, with_discovered, edges_read, paths_of_edges, defaults_read}
-use Rattle.nj_statements.specs.EdgeList.{names_of_edge, pending_read}
+use Rattle.nj_statements.specs.EdgeList.{names_of_edge, pending_read, restats_read}
 use Rattle.nj_statements.specs.BuildFaults.{build_fault}
 use Rattle.nj_statements.specs.Joining.{discover, discovered_by, edge_meant, with_entry, pending_on, entry_fault, dyndep_files}
 
@@ -30,12 +30,14 @@ abbrev pub OthersArePendingAsBefore : Type 0
 OthersArePendingAsBefore = (entries : List ReadStatement) (edge : ℕ) (found : Discovered)
     → pending_read (discover edge found entries) ≡ filter (λ p. not (p.edge == edge)) (pending_read entries)
 
--- The discoveries of an entry of a dyndep file are added to this edge, which waited for the file.
+-- The discoveries of an entry of a dyndep file are added to this edge, which waited for the file. From then on it has `restat` if the
+-- entry binds it, or an earlier one did.
 pub record AddsToItsEdge (file : List ℕ) (stated joined : List ReadStatement) (entry : EntryModel) (edge : ℕ) : Type 0 where
   pub meant : edge_meant stated entry ≡ Some edge
   pub waited : pending_on file (pending_read joined) (Some edge) ≡ true
   pub edges : edges_read (with_entry stated joined entry) ≡ changed_at (with_found (discovered_by entry)) edge (edges_read joined)
   pub pending : pending_read (with_entry stated joined entry) ≡ filter (λ p. not (p.edge == edge)) (pending_read joined)
+  pub restats : restats_read (with_entry stated joined entry) ≡ changed_at (λ had. had || entry.restat) edge (restats_read joined)
 
 -- An entry that has no fault means one pending edge, and adds to that one.
 abbrev pub EntriesAddToTheirEdges : Type 0
@@ -51,6 +53,7 @@ pub record MakesWhatItDiscovers (stated joined : List ReadStatement) (entry : En
   pub others : is_among (discovered_by entry).outputs path ≡ false
       → maker_of (paths_of_edges (edges_read (with_entry stated joined entry))) path ≡ maker_of (paths_of_edges (edges_read joined)) path
 
+-- an entry without a fault makes its edge the maker of the outputs that it discovers
 abbrev pub EdgesMakeWhatIsDiscovered : Type 0
 EdgesMakeWhatIsDiscovered = (file : List ℕ) (stated joined : List ReadStatement) (entry : EntryModel) (edge : ℕ) (path : List ℕ)
     → entry_fault file stated joined entry ≡ None → edge_meant stated entry ≡ Some edge
@@ -92,6 +95,7 @@ pub record GivesTheSame (entries others : List ReadStatement) : Type 0 where
   pub defaults : defaults_read others ≡ defaults_read entries
   pub names : (e : EdgeModel) → names_of_edge others e ≡ names_of_edge entries e
 
+-- discoveries change no name
 abbrev pub NamesStay : Type 0
 NamesStay = (entries : List ReadStatement) (edge : ℕ) (found : Discovered) → GivesTheSame entries (discover edge found entries)
 
@@ -105,6 +109,7 @@ pub record AreByNumber (entries : List ReadStatement) : Type 0 where
   pub within : AllByRecursion (λ p. p.edge < length (edges_read entries)) (pending_read entries)
   pub rising : AreRising (pending_read entries)
 
+-- pending edges come by number
 abbrev pub PendingEdgesRise : Type 0
 PendingEdgesRise = (entries : List ReadStatement) → AreByNumber entries
 
@@ -115,5 +120,6 @@ pub record ComeOnce (edges : List Pending) : Type 0 where
   pub first : (file : List ℕ) → find (λ p. bytes_eq p.file file) (dyndep_files edges) ≡ find (λ p. bytes_eq p.file file) edges
   pub rising : AreRising (dyndep_files edges)
 
+-- each dyndep file comes once, with its first edge
 abbrev pub DyndepFilesComeOnce : Type 0
 DyndepFilesComeOnce = (entries : List ReadStatement) → ComeOnce (pending_read entries)

@@ -1,5 +1,5 @@
 -- Inputs that deps logs name for build statements ("Deps" in the manual).
-use Rattle.std.specs.Prelude.{◌≡◌, ℕ, Option, Some, List, [], ◌∷◌, length}
+use Rattle.std.specs.Prelude.{◌≡◌, ℕ, false, Option, Some, List, [], ◌∷◌, length}
 use Rattle.nj_manifest.specs.Statements.{StatementModel, BuildModel}
 use Rattle.nj_scope.specs.ReadingList.{Discovered, ReadStatement}
 use Rattle.nj_edges.specs.MoreInputs.{with_inputs_added}
@@ -14,7 +14,7 @@ inputs_named named before item = []
 -- discoveries, with these inputs after them
 abbrev pub and_inputs : Option Discovered → List (List ℕ) → Option Discovered
 and_inputs found [] = found
-and_inputs found (path ∷ paths) = Some (and_found found (record { outputs = []; inputs = path ∷ paths }))
+and_inputs found (path ∷ paths) = Some (and_found found (record { outputs = []; inputs = path ∷ paths; restat = false }))
 
 -- the statements with the inputs that are named for the edges of build statements
 unfoldable pub with_inputs_named : (named : (edge : ℕ) → List (List ℕ)) → List ReadStatement → List ReadStatement
@@ -31,5 +31,6 @@ pub record AddsToEachEdge (named : (edge : ℕ) → List (List ℕ)) (entries : 
       ≡ with_inputs_added named 0 (paths_of_edges (edges_read entries))
   pub pending : pending_read (with_inputs_named named entries) ≡ pending_read entries
 
+-- named inputs are added to their edges, and nothing else changes
 abbrev pub NamedInputsAreAdded : Type 0
 NamedInputsAreAdded = (named : (edge : ℕ) → List (List ℕ)) (entries : List ReadStatement) → AddsToEachEdge named entries

@@ -1,5 +1,5 @@
 -- The records of a run's edges beside their files, while files are added to the edges.
-use Rattle.std.specs.Prelude.{◌≡◌, ℕ, ◌<◌, List, map, length}
+use Rattle.std.specs.Prelude.{◌≡◌, ℕ, ◌<◌, Bool, List, map, length}
 use Rattle.std.specs.List.{AllByRecursion}
 use Rattle.nj_edge_env.specs.Blocks.{BlocksModel}
 use Rattle.nj_names.specs.declared.files.FileNo.{FileNo}
@@ -9,6 +9,7 @@ use Rattle.nj_statements.specs.declared.building.DyndepEdge.{DyndepEdge}
 use Rattle.nj_statements.specs.EdgeList.{Pending, AssignedModel}
 use Rattle.nj_statements.specs.Built.{BuiltModel, EdgeDetail}
 
+-- the records of the edges, beside their files
 pub record RecordsModel : Type 0 where
   pub details : List EdgeDetail
   pub blocks : BlocksModel
@@ -17,7 +18,9 @@ pub record RecordsModel : Type 0 where
   -- the edges to which dyndep files are still to be joined
   pub pending : List DyndepEdge
   pub assigned : List AssignedModel
+  pub restats : List Bool
 
+-- a pending edge, with its dyndep file by path
 abbrev pub pending_in : (files : List (List ℕ)) → DyndepEdge → Pending
 pending_in files p = record { edge = p.edge; file = path_at files p.file }
 
@@ -30,6 +33,7 @@ with_graph graph r = record {
   defaults = map (path_at graph.files) r.defaults;
   pending = map (pending_in graph.files) r.pending;
   assigned = r.assigned;
+  restats = r.restats;
 }
 
 -- there are as many edges, and the numbers are those of files and edges

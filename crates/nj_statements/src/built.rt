@@ -1,7 +1,7 @@
 //! The edges and defaults of a run, after its last statement.
 
-ghost use Rattle.std.specs.Prelude.{◌≡◌, List, ◌<◌, Some, option_copied, length, All};
-ghost use Rattle.nj_statements.specs.Cited.{ReadStatement, AreFiles, IsFault, fault_at, assigned_at, HasEdges, ComesTo, defaults_in_force, detail_at, AreOfGraph, with_graph, text_at, spot_of};
+ghost use Rattle.std.specs.Prelude.{◌≡◌, List, ◌<◌, Some, option_copied, option_map, length, slice_get, All};
+ghost use Rattle.nj_statements.specs.Cited.{ReadStatement, AreFiles, IsFault, fault_at, assigned_at, restat_at, HasEdges, ComesTo, defaults_in_force, detail_at, AreOfGraph, with_graph, text_at, spot_of};
 
 use crate::building::{Building, DyndepEdge};
 use crate::edge_record::Detail;
@@ -237,6 +237,32 @@ impl Built {
         ensures { option_copied result ≡ (assigned_at self.now.assigned edge.0).dyndep }
     {
         string_at(&self.names, self.details[edge.0].dyndep)
+    }
+
+    /// Whether the dyndep file of an edge binds `restat` ("Dynamic Dependencies" in the Ninja
+    /// manual).
+    pub fn has_dyndep_restat(&self, edge: EdgeNo) -> bool
+        requires { edge.0 < length self.now.graph.edges }
+        ensures { result ≡ restat_at self.now.restats edge.0 }
+    {
+        self.details[edge.0].restat
+    }
+
+    /// How many edges are pending on dyndep files.
+    pub fn pending_count(&self) -> usize
+        ensures { result ≡ length self.now.pending }
+    {
+        self.dyndeps.as_slice().len()
+    }
+
+    /// The edge at this index of those that are pending on dyndep files, by number.
+    pub fn pending_edge(&self, index: usize) -> EdgeNo
+        requires { index < length self.now.pending }
+        ensures edge { option_map (λ p. p.edge) (slice_get self.now.pending index)
+            ≡ Some result.0 }
+        ensures known { result.0 < length self.now.graph.edges }
+    {
+        EdgeNo(self.dyndeps[index].edge)
     }
 
     /// The defaults in force: the files of the `default` lines in their order, or the roots where

@@ -1,7 +1,7 @@
 //! The additions of dyndep files to the edges of a run.
 
-ghost use Rattle.std.specs.Prelude.{◌≡◌, ◌<◌, ◌==◌, List, [], Some, None, option_map, unwrap_or, length, slice_get, replicate, slice_index_or, bytes_eq, IfOk, IfSome, OnOk, OnErr};
-ghost use Rattle.nj_statements.specs.Cited.{first_given, option_or, AllByRecursion, IsDistinct, word_model, words_model, entry_model, IsPrefix, ReadStatement, edge_at, first_output, first_edge, maker_of, path_at, join_of, none_added, IsFault, fault_at, path_given, paths_given, pending_read, empty_path, outputs_fault, ComesTo, IsBuiltOf, detail_at, no_values, entry_fault, with_entry, lacking_fault, Checks, HasJoined, JoinsEntry, JoinsNothing, KeepsEdges, has_pending, still_pending, IsMeant, fault_of_pending, bind_all, first_edges, count_bound, is_bound_to, if_bound, maker_fault, edge_bound, with_added_outputs, with_added_inputs};
+ghost use Rattle.std.specs.Prelude.{◌≡◌, ◌<◌, ◌==◌, List, [], Some, None, option_map, unwrap_or, length, slice_get, replicate, slice_index_or, false, bytes_eq, IfOk, IfSome, OnOk, OnErr};
+ghost use Rattle.nj_statements.specs.Cited.{first_given, option_or, AllByRecursion, IsDistinct, word_model, words_model, entry_model, IsPrefix, ReadStatement, edge_at, first_output, first_edge, maker_of, path_at, changed_at, join_of, none_added, IsFault, fault_at, path_given, paths_given, empty_path, outputs_fault, ComesTo, IsBuiltOf, detail_at, no_values, entry_fault, with_entry, lacking_fault, Checks, HasJoined, JoinsEntry, JoinsNothing, KeepsEdges, has_pending, still_pending, unless_joined, IsMeant, also_restat, fault_of_pending, bind_all, first_edges, count_bound, numbered_from, is_bound_to, if_bound, maker_fault, edge_bound, with_added_outputs, with_added_inputs};
 
 use crate::building::DyndepEdge;
 use crate::built::{Built, cycle_fault, place_of};
@@ -248,6 +248,7 @@ impl Joining {
         line.add_outputs(&mut self.capacity, &mut self.edges, entry.outs.as_slice())?;
         line.add_inputs(&mut self.capacity, &mut self.edges, entry.ins.as_slice())?;
         self.edges.end_join(edge);
+        note_restat(&mut self.details, edge, entry.restat);
         self.unjoined[file.0] -= 1;
         Ok(())
     }
@@ -290,7 +291,7 @@ impl Joining {
         Ok(place.fault(alloc, Cause::DyndepNoStatement(output, path)))
     }
 
-    /// The result of the edges with the files that were joined to them, once no edge is pending.
+    /// The result of the edges with the files that were joined to them; other edges stay pending.
     /// Takes time in proportion to the edges and their files.
     ///
     /// # Errors
@@ -299,7 +300,7 @@ impl Joining {
     pub fn finish(self, alloc: Global) -> Result<Built, GraphFault>
         requires { self.table.«open» ≡ none_added }
         ensures { (stated joined : List ReadStatement) → HasJoined self stated joined
-            → pending_read joined ≡ [] → ComesTo joined result }
+            → ComesTo joined result }
     {
         let Joining {
             edges,
@@ -307,8 +308,10 @@ impl Joining {
             names,
             details,
             defaults,
+            bound,
             ..
         } = self;
+        let dyndeps = unjoined_edges(alloc, &edges, &bound)?;
         match edges.finish(alloc)? {
             Finished::Graph(graph) => Ok(Built {
                 graph,
@@ -316,7 +319,7 @@ impl Joining {
                 names,
                 details,
                 defaults,
-                dyndeps: Vec::new(alloc),
+                dyndeps,
             }),
             Finished::Cycle(cycle) => {
                 let detail = details[cycle.edge.0];
@@ -325,6 +328,41 @@ impl Joining {
             }
         }
     }
+}
+
+// Notes whether an entry binds `restat` for an edge.
+fn note_restat(details: &mut Vec<Detail>, edge: EdgeNo, restat: bool)
+    requires { edge.0 < length details.old.items }
+    ensures { details.new.items ≡ changed_at (also_restat restat) edge.0 details.old.items }
+{
+    details[edge.0].restat |= restat;
+}
+
+// The edges that are still pending, by number, each with the dyndep file to which it is bound.
+fn unjoined_edges(
+    alloc: Global,
+    edges: &JoiningEdges,
+    bound: &[Option<FileNo>],
+) -> Result<Vec<DyndepEdge>, AllocError>
+    requires { length bound.now ≡ length edges.now.stated }
+    ensures { IfOk result (λ unjoined. unjoined.items
+        ≡ numbered_from 0 (still_pending bound.now edges.now.was_joined)) }
+{
+    let mut unjoined = Vec::new(alloc);
+    'edges: for (edge, file) in bound.iter().enumerate() {
+        if let Some(file) = unless_joined(edges, EdgeNo(edge), *file) {
+            unjoined.push(DyndepEdge { edge, file })?;
+        }
+    }
+    Ok(unjoined)
+}
+
+// The dyndep file to which an edge is bound, unless it was joined to it.
+fn unless_joined(edges: &JoiningEdges, edge: EdgeNo, bound: Option<FileNo>) -> Option<FileNo>
+    requires { edge.0 < length edges.now.stated }
+    ensures { result ≡ unless_joined bound (slice_index_or edges.now.was_joined edge.0 false) }
+{
+    if edges.is_joined(edge) { None } else { bound }
 }
 
 // The lowest-numbered edge that is pending on a dyndep file.

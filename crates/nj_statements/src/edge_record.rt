@@ -10,7 +10,8 @@ use nj_text::Spot;
 use std::alloc::AllocError;
 
 /// An edge without its paths and its block: the number of the file of its statement,
-/// its place there, the numbers of its scope and of its rule; and its assignment.
+/// its place there, the numbers of its scope and of its rule; its assignment; and whether its
+/// dyndep file binds `restat`.
 #[derive(Clone, Copy)]
 pub(crate) struct Detail {
     pub(crate) file: u32,
@@ -20,6 +21,7 @@ pub(crate) struct Detail {
     pub(crate) rule: u32,
     pub(crate) pool: u32,
     pub(crate) dyndep: u32,
+    pub(crate) restat: bool,
 }
 
 /// The assignment of an edge at its build statement ("Pools" and "Dynamic Dependencies" in the
@@ -52,6 +54,7 @@ impl Detail {
             rule: short_number(rule.0)?,
             pool: 0,
             dyndep: 0,
+            restat: false,
         })
     }
 

@@ -131,7 +131,11 @@ fn put_entry(alloc: Global, text: &mut Vec<u8>, entry: &Entry<'_>) -> Result<(),
     put_word(alloc, text, &entry.out)?;
     put_words(alloc, text, b" |", &entry.outs)?;
     text.extend_from_slice(b" :")?;
-    put_words(alloc, text, b" |", &entry.ins)
+    put_words(alloc, text, b" |", &entry.ins)?;
+    if entry.restat {
+        text.extend_from_slice(b" restat")?;
+    }
+    Ok(())
 }
 
 /// Appends words after their sign; nothing if there are none.

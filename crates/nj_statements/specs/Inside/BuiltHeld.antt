@@ -31,6 +31,7 @@ built_of graph blocks names details defaults dyndeps = record {
   defaults = paths_at graph.files defaults;
   pending = map (pending_named graph.files) dyndeps;
   assigned = map (assigned_named names) details;
+  restats = map (λ d. d.restat) details;
 }
 
 abbrev pub records_of : BlocksModel → (names : List (List ℕ)) → List Detail → (defaults : List FileNo) → List DyndepEdge → RecordsModel
@@ -40,6 +41,7 @@ records_of blocks names details defaults dyndeps = record {
   defaults = defaults;
   pending = dyndeps;
   assigned = map (assigned_named names) details;
+  restats = map (λ d. d.restat) details;
 }
 
 -- all numbers of strings are known

@@ -1,5 +1,5 @@
 -- How an edge is kept without its paths and its block. Nothing here has to be believed.
-use Rattle.std.specs.Prelude.{◌≡◌, ℕ, ◌<◌, Option, Some, None, unwrap_or, List, [], length, slice_get, slice_index_or}
+use Rattle.std.specs.Prelude.{◌≡◌, ℕ, ◌<◌, false, Option, Some, None, unwrap_or, List, [], length, slice_get, slice_index_or}
 use Rattle.nj_text.specs.declared.spot.Spot.{Spot}
 use Rattle.nj_statements.specs.declared.edge_record.Assigned.{Assigned}
 use Rattle.nj_statements.specs.declared.edge_record.Detail.{Detail}
@@ -13,12 +13,13 @@ text_at strings number = unwrap_or (slice_get strings number) []
 abbrev pub spot_of : Detail → Spot
 spot_of d = record { line = d.line; column = d.column }
 
--- the detail of an edge at this place
+-- the detail of an edge at this place, before a dyndep file is joined to it
 pub record IsDetailOf (file : ℕ) (spot : Spot) (scope rule : ℕ) (d : Detail) : Type 0 where
   pub file_is : d.file ≡ file
   pub spot_is : spot_of d ≡ spot
   pub scope_is : d.scope ≡ scope
   pub rule_is : d.rule ≡ rule
+  pub restat_is : d.restat ≡ false
 
 -- the text of a number that counts from 1; past the last one there is none
 abbrev pub numbered_at : (strings : List (List ℕ)) → (number : ℕ) → Option (List ℕ)

@@ -139,7 +139,7 @@ abbrev pub SameReferences : (kept others : List (Option (List ReferringKeyModel)
 SameReferences kept others = (number : ℕ) → slice_index_or kept number None ≡ slice_index_or others number None
 
 abbrev pub detail_model : Detail → DetailModel
-detail_model d = record { file = d.file; spot = spot_of d; scope = d.scope; rule = d.rule; pool = d.pool; dyndep = d.dyndep }
+detail_model d = record { file = d.file; spot = spot_of d; scope = d.scope; rule = d.rule; pool = d.pool; dyndep = d.dyndep; restat = d.restat }
 
 -- with the edge of this number, if it is bound to a dyndep file
 abbrev pub with_dyndep : (edge : ℕ) → Option FileNo → List DyndepEdge → List DyndepEdge

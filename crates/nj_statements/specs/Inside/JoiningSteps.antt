@@ -1,7 +1,7 @@
 -- How the code joins the discoveries of dyndep files, step by step.
-use Rattle.std.specs.Prelude.{◌≡◌, ℕ, ◌+◌, ◌<◌, ◌≤◌, ◌==◌, Bool, true, false, not, if◌then◌else◌, Option, Some, None, option_map, unwrap_or, IfSome}
+use Rattle.std.specs.Prelude.{◌≡◌, ℕ, ◌+◌, ◌<◌, ◌≤◌, ◌==◌, Bool, true, false, ◌||◌, not, if◌then◌else◌, Option, Some, None, option_map, unwrap_or, IfSome}
 use Rattle.std.specs.Bool.{then_some}
-use Rattle.std.specs.Prelude.{List, [], ◌∷◌, map, filter, length, set, slice_get, slice_index_or, bytes_eq}
+use Rattle.std.specs.Prelude.{List, [], ◌∷◌, ◌++◌, map, filter, length, set, slice_get, slice_index_or, bytes_eq}
 use Rattle.std.specs.List.{AllByRecursion, IsDistinct}
 use Rattle.nj_text.specs.Words.{WordModel}
 use Rattle.nj_edge_env.specs.Blocks.{BlocksModel}
@@ -54,6 +54,15 @@ abbrev pub first_edges : List DyndepEdge → List DyndepEdge
 first_edges [] = []
 first_edges (d ∷ others) = d ∷ filter (λ other. not (other.file.0 == d.file.0)) (first_edges others)
 
+-- the pending edges, numbered from this number on, by the files on which they are pending
+abbrev pub numbered_of : (edge : ℕ) → Option FileNo → List DyndepEdge
+numbered_of edge (Some file) = record { edge = edge; file = file } ∷ []
+numbered_of edge None = []
+
+abbrev pub numbered_from : (number : ℕ) → (unjoined : List (Option FileNo)) → List DyndepEdge
+numbered_from number [] = []
+numbered_from number (w ∷ unjoined) = numbered_of number w ++ numbered_from (number + 1) unjoined
+
 abbrev pub file_named : (files : List (List ℕ)) → Option FileNo → Option (List ℕ)
 file_named files file = option_map (path_at files) file
 
@@ -82,6 +91,10 @@ abbrev pub fault_of_pending : (path : List ℕ) → EdgeDetail → EdgePaths →
 fault_of_pending path detail e =
     fault_at detail.file detail.spot (DyndepNoStatement (unwrap_or (first_output e) []) path)
 
+-- the same edge, for which a dyndep file binds `restat` or does not
+abbrev pub also_restat : Bool → Detail → Detail
+also_restat restat d = record d { restat = d.restat || restat }
+
 abbrev pub with_added_outputs : JoinTable → (paths : List (List ℕ)) → JoinTable
 with_added_outputs t [] = t
 with_added_outputs t (path ∷ paths) = with_added_outputs (with_added_output t path) paths
@@ -100,6 +113,7 @@ joining_of table blocks names details defaults dyndep_files bound = record {
   dyndep_files = map (pending_named table.files) dyndep_files;
   bound = map (file_named table.files) bound;
   assigned = map (assigned_named names) details;
+  restats = map (λ d. d.restat) details;
 }
 
 -- For each edge there are a detail and its additions. All numbers are numbers of files and edges. For each file at most as many edges

@@ -43,4 +43,5 @@ returns-clause-appended c = λ entries is.
     (sym (scope ∙ ap (λ d. d.scope) (detail-is g entries is n c.requires)))
     (edge-open g entries is n c.requires).within)))
     (λ appended. appended ∙ ap (λ t. c.args.out.now.items ++ t)
-    (text-same g entries is n c.requires c.args.name.now _ same))
+    (text-same g entries is n c.requires c.args.name.now _ same
+    (sym (c.is_dyndep_restat.ensures entries is) ∙ c.if-is_dyndep_restat.false)))

@@ -197,6 +197,7 @@ returns-clause-reads c = λ entries around depth by within rule_is there has.
           (assigned-numbers new.names given detail refl refl _
           (subst (λ n. AreNumbersOf new.names given (assigned_by n)) (sym names_are)
           (c.in_ok-assigned.ensures.assigned values sees held.none_open)))
+          kept_as.restat_is
           refl
           (c.push_dyndep.ensures ∙ ap (with_dyndep edge c.in_ok-assigned.assigned.file)
           c.in_ok-reserve-2.ensures.items ∙ ap

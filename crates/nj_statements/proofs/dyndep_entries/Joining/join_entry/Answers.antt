@@ -16,6 +16,7 @@ use Rattle.nj_statements.proofs.AddedLemmas.{keeps-nothing, keeps-trans, outputs
 use Rattle.nj_statements.proofs.Holding.{on-err}
 use Rattle.nj_statements.proofs.JoiningLemmas.{joins-err, joins-nothing, still-held, same-firsts, fault-is}
 use Rattle.nj_statements.proofs.JoiningLemmas.{joined-has, entry-inside, entry-some, entry-held, entry-keeps}
+use Rattle.nj_statements.proofs.JoiningLemmas.{noted-held, noted-details}
 use Rattle.nj_statements.proofs.dyndep_entries.Joining.join_entry.Goals as goal
 
 -- ---- the output that names a statement
@@ -207,11 +208,13 @@ invariant_of-self-2 c =
     let keeps : KeepsEdges c.self.inside.edges c.add_inputs.new.edges =
     keeps-trans c.self.inside.edges c.add_outputs.new.edges c.add_inputs.new.edges
     c.in_ok-add_outputs.ensures.keeps c.in_ok-add_inputs.ensures.keeps in
-    entry-held c.self.inside.edges c.self.inside.blocks c.self.inside.names c.self.inside.details.items
-    c.self.inside.defaults.items c.self.inside.dyndep_files.items c.self.inside.bound.items
-    c.self.inside.unjoined.items c.self.invariant c.args.file (entry_model c.args.entry.now).out
-    c.in_ok-edge.edge.0 meant c.add_inputs.new.edges c.end_join.new.self c.index_mut.result.now keeps
-    c.end_join.ensures c.index_mut.ensures.value
+    let all = entry-held c.self.inside.edges c.self.inside.blocks c.self.inside.names
+    c.self.inside.details.items c.self.inside.defaults.items c.self.inside.dyndep_files.items
+    c.self.inside.bound.items c.self.inside.unjoined.items c.self.invariant c.args.file
+    (entry_model c.args.entry.now).out c.in_ok-edge.edge.0 meant c.add_inputs.new.edges
+    c.end_join.new.self c.index_mut.result.now keeps c.end_join.ensures c.index_mut.ensures.value in
+    noted-held _ _ c.self.inside.details.items _ _ _ _ all c.args.entry.now.restat c.in_ok-edge.edge.0
+    c.note_restat.new.details.items c.note_restat.ensures
 
 pub returns-clause-dyndep_files : goal.returns-clause-dyndep_files
 returns-clause-dyndep_files c =
@@ -282,5 +285,12 @@ returns-clause-joins c = λ stated joined has'.
       joined-has c.self.inside.edges c.self.inside.blocks c.self.inside.names c.self.inside.details.items
           c.self.inside.defaults.items c.self.inside.dyndep_files.items c.self.inside.bound.items
           c.self.inside.unjoined.items c.self.invariant stated joined has c.args.file name here entry
-          c.in_ok-edge.edge.0 meant c.add_inputs.new.edges c.end_join.new.self keeps opens c.end_join.ensures,
+          c.in_ok-edge.edge.0 meant c.add_inputs.new.edges c.end_join.new.self keeps opens c.end_join.ensures
+          c.note_restat.new.details.items c.note_restat.ensures,
     )
+
+pub returns-clause-details : goal.returns-clause-details
+returns-clause-details c =
+    noted-details c.self.inside.names c.self.inside.details.items c.note_restat.new.details.items
+    c.args.entry.now.restat
+    c.in_ok-edge.edge.0 c.note_restat.ensures ∙ ap (λ (h : JoiningModel). h.details) c.self.view_is
