@@ -71,8 +71,8 @@ map-append f (x ∷ xs) ys = ap (λ zs. f x ∷ zs) (map-append f xs ys)
 pub below-more : (count other : ℕ) (numbers : List ℕ) → count ≤ other → AreBelow count numbers
     → AreBelow other numbers
 below-more count other [] more below = tt
-below-more count other (n ∷ numbers) more below = let first : n < count = below.0
-    in (omega (arith, first, more), below-more count other numbers more below.1)
+below-more count other (n ∷ numbers) more below = let first : n < count = below.0 in
+    (omega (arith, first, more), below-more count other numbers more below.1)
 
 pub below-append : (count : ℕ) (one other : List ℕ) → AreBelow count one → AreBelow count other
     → AreBelow count (one ++ other)
@@ -99,8 +99,8 @@ prefix-kept names later numbers (more, is) below =
     ap (λ all. map (name_at all) numbers) is ∙ names-kept names more numbers below
 
 pub prefix-longer : {A : Type 0} (front whole : List A) → IsPrefix front whole → length front ≤ length whole
-prefix-longer front whole (more, is) = let same = ap length is
-    in omega (arith, same, length-append front more)
+prefix-longer front whole (more, is) = let same = ap length is in
+    omega (arith, same, length-append front more)
 
 pub with-prefix : (names : List (List ℕ)) (name : List ℕ) → IsPrefix names (with_name names name)
 with-prefix names name = by (is_among names name)
@@ -461,7 +461,8 @@ module _ (IsFound : Discovery → Type 0) (log_paths names later : List (List �
       };
     }
 
-    pub count-with : length (found_held later more all).edges ≡ length (found_held names inputs edges).edges + 1
+    pub count-with : length (found_held later more all).edges
+        ≡ length (found_held names inputs edges).edges + 1
     count-with =
         length-map all (found_of more) ∙ ap length pushed ∙ length-append edges (edge ∷ [])
         ∙ ap (λ n. n + 1) (sym (length-map edges (found_of inputs)))
@@ -472,7 +473,8 @@ module _ (IsFound : Discovery → Type 0) (log_paths names later : List (List �
         let own : e < length edges = subst (λ n. e < n) (length-map edges (found_of inputs)) within in
         ap (λ ns. discovery_held ns more all e) found.appends.names.1
         ∙ ap (λ ns. discovery_held (names ++ found.appends.names.0) ns all e) found.appends.numbers
-        ∙ ap (λ es. discovery_held (names ++ found.appends.names.0) (inputs ++ found.appends.added) es e) pushed
+        ∙ ap (λ es. discovery_held (names ++ found.appends.names.0) (inputs ++ found.appends.added) es e)
+        pushed
         ∙ kept names found.appends.names.0 inputs found.appends.added edges (edge ∷ []) e own held.held.within
         held.held.below
 

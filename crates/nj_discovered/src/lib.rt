@@ -14,5 +14,5 @@ mod verdict;
 pub use discoveries::Discoveries;
 pub use finder::Finder;
 pub use names::clean;
-pub use times::{FileTimes, TimeFound};
+pub use times::{FileTimes, TimeFound, time_of};
 pub use verdict::{DepfileError, Unknown, Verdict};

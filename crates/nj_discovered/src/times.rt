@@ -34,8 +34,12 @@ pub enum TimeFound {
     NoAnswer,
 }
 
-// The time of the file at a path.
-pub(crate) fn time_of<T: FileTimes>(times: &T, path: &[u8]) -> Result<TimeFound, AllocError>
+/// The time of the file at a path; a path that is not UTF-8 is not asked for.
+///
+/// # Errors
+///
+/// If an allocation failed.
+pub fn time_of<T: FileTimes>(times: &T, path: &[u8]) -> Result<TimeFound, AllocError>
     ensures { IfOk result (IsTimeOf (T.times times.now) path.now) }
 {
     let Ok(path) = str::from_utf8(path) else {

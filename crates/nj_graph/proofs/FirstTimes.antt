@@ -14,10 +14,12 @@ use Rattle.nj_scope.proofs.Gathering.{with_given}
 use Rattle.nj_edges.specs.Edges.{is_among}
 use Rattle.nj_edges.specs.Repeats.{each_once}
 use Rattle.nj_faults.specs.declared.fault.GraphFault.{GraphFault}
+use Rattle.nj_statements.specs.EdgeList.{Pending, pending_read}
+use Rattle.nj_statements.specs.Joining.{dyndep_files}
 use Rattle.nj_graph.specs.Reading.{ReadingModel, main_read, with_all_new, path_at_end, paths_come_to}
 use Rattle.nj_graph.specs.Runs.{ReachedModel}
 use Rattle.nj_graph.specs.Loads.{LoadedModel, LoadsAfter, Loads, main_reached}
-use Rattle.nj_graph.specs.Joining.{all_joined, joined_after, Joins}
+use Rattle.nj_graph.specs.Joining.{files_joined, all_joined, some_joined_after, Joins}
 use Rattle.nj_graph.specs.Inside.PathsReached.{with_new, with_news, paths_read, come_to, reached_of}
 use Rattle.nj_graph.specs.Inside.PathsReached.{come_joined}
 use Rattle.nj_graph.proofs.JoiningTables.{all_new-append}
@@ -112,11 +114,15 @@ reached-is : (main : List ℕ) (files : List Reading) → reached_of main files 
 reached-is main files = ap (λ (paths : List (List ℕ)). record { read = main_read files main; paths = paths })
     (come_to-is main (main_read files main))
 
-joined-is : (old : List Reading) (stated : List ReadStatement) (files : List Reading)
-    → come_joined old stated files ≡ joined_after old stated files
-joined-is old stated files =
-    ap (λ (paths : List (List ℕ)). record { read = (all_joined files stated).read; paths = paths })
-    (with_news-is (paths_of old) (all_joined files stated).paths)
+joined-is : (old : List Reading) (stated : List ReadStatement) (dyndeps : List Pending) (files : List Reading)
+    → come_joined old stated dyndeps files ≡ some_joined_after old stated dyndeps files
+joined-is old stated dyndeps files =
+    ap (λ (paths : List (List ℕ)). record {
+      read = (files_joined files stated dyndeps stated).read;
+      paths =
+          paths;
+    })
+    (with_news-is (paths_of old) (files_joined files stated dyndeps stated).paths)
 
 -- ---- so statements that are read or joined are as stated
 
@@ -126,9 +132,19 @@ loads main before after result h = subst
     (λ (reading : List Reading → ReachedModel). LoadsAfter [] before after reading result)
     (fun_ext (reached-is main)) h
 
-pub joins : (stated : List ReadStatement) (old : List Reading) (before after : SourceState)
+pub joins : (stated : List ReadStatement) (old : List Reading) (dyndeps : List Pending)
+    (before after : SourceState)
     (result : Result LoadedModel GraphFault)
-    → LoadsAfter old before after (come_joined old stated) result → Joins stated old before after result
-joins stated old before after result h =
+    → LoadsAfter old before after (come_joined old stated dyndeps) result
+    → LoadsAfter old before after (some_joined_after old stated dyndeps) result
+joins stated old dyndeps before after result h =
     subst (λ (reading : List Reading → ReachedModel). LoadsAfter old before after reading result)
-    (fun_ext (joined-is old stated)) h
+    (fun_ext (joined-is old stated dyndeps)) h
+
+-- where all of them are joined
+pub joins-all : (stated : List ReadStatement) (old : List Reading) (before after : SourceState)
+    (result : Result LoadedModel GraphFault)
+    → LoadsAfter old before after (some_joined_after old stated (dyndep_files (pending_read stated))) result
+    → Joins stated old before after result
+unfolding all_joined
+joins-all stated old before after result h = h

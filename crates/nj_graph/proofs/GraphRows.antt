@@ -61,7 +61,9 @@ graph = record {
         record { values = []; names = []; last = 0 };
     defaults = [];
     assigned = [];
-    pending = [];
+    restats = [];
+    pending =
+        [];
   };
   origins = record { rules = []; pools = []; openings = [] };
 }

@@ -189,8 +189,8 @@ depth-next scope entries lines i line lt at =
 
 pub same-grows : (before after : DeclarationsModel) → SameScopes before after
     → Grows before.scopes after.scopes
-same-grows before after same = let count = same.count
-    in record { count = omega (arith, count); parents = λ n below. same.parents n }
+same-grows before after same = let count = same.count in
+    record { count = omega (arith, count); parents = λ n below. same.parents n }
 
 -- ---- `build` and `default` statements
 

@@ -1,9 +1,11 @@
 -- Worked rows, computed on the definitions: the additions of dyndep files to the statements of a
 -- run, and how that ends.
-use Rattle.std.proofs.Common.{◌≡◌, ℕ, true, List, [], ◌∷◌, ◌++◌, map, refl}
+use Rattle.std.proofs.Common.{◌≡◌, ℕ, true, if◌then◌else◌, Some, None, List, [], ◌∷◌, ◌++◌, map, bytes_eq}
+use Rattle.std.proofs.Common.{refl}
 use Rattle.std.specs.Prelude.{⊤, codes}
 use Rattle.std.specs.Char.{encode_utf8}
 use Rattle.std.specs.Str.{chars, is_utf8}
+use Rattle.std.proofs.lemmas.Str.{IsUtf8-from_is_utf8}
 use Rattle.nj_text.specs.Paths.{clean_path_of, without_leftmost_pair}
 use Rattle.nj_text.specs.Units.{cut}
 use Rattle.nj_manifest.specs.LineSteps.{name_next, expect_sign, words_within, words_next, section_next}
@@ -20,12 +22,17 @@ use Rattle.nj_manifest.specs.declared.cause.SyntaxCause.TheVariants.{DyndepVersi
 use Rattle.nj_faults.specs.declared.fault.Cause.TheVariants.{Syntax, Missing, PathNotText, DyndepExtra}
 use Rattle.nj_faults.specs.declared.fault.Cause.TheVariants.{DyndepTwice, DyndepNoStatement}
 use Rattle.nj_faults.specs.Faults.{fault_at}
-use Rattle.nj_statements.specs.EdgeList.{edges_read, paths_of_edges, pending_read}
+use Rattle.nj_discovered.specs.declared.times.TimeFound.TheVariants.{Time}
+use Rattle.nj_discovered.specs.Times.{DeclaredTimes}
+use Rattle.nj_discovered.specs.Times.IsTimeOf.{asked}
+use Rattle.nj_statements.specs.EdgeList.{Pending, edges_read, paths_of_edges, pending_read}
 use Rattle.nj_statements.specs.Joining.{discover}
 use Rattle.nj_graph.specs.Parsed.{parsed_in}
 use Rattle.nj_graph.specs.Reading.{Whole, Refused, Lacking, statements_read, opened_in, main_read}
 use Rattle.nj_graph.specs.Runs.{ReachedModel}
 use Rattle.nj_graph.specs.Joining.{entries_of, entries_joined, file_joined, files_joined, all_joined}
+use Rattle.nj_graph.specs.Joining.{ArePresent}
+use Rattle.nj_graph.specs.Joining.ArePresent.{none, there, not_there}
 use Rattle.nj_graph.proofs.ReadingRows.{main_file, file, missing, read_of}
 
 -- the definitions that a row unfolds to compute on its files
@@ -180,3 +187,41 @@ second_missing : (joined_of three_edges
     [])).read.end ≡ Refused (fault_at main_file (at 3 1) (Missing (codes "ee")))
 unfolding on_dyndeps
 second_missing = refl
+
+-- ---- the second one alone
+
+abbrev dd : (edge : ℕ) → Pending
+dd edge = record { edge = edge; file = codes "dd" }
+
+abbrev ee : Pending
+ee = record { edge = 1; file = codes "ee" }
+
+abbrev ee_alone : ReachedModel
+ee_alone = files_joined both (read_of three_edges []).entries (ee ∷ []) (read_of three_edges []).entries
+
+ee_alone_paths : ee_alone.paths ≡ codes "ee" ∷ []
+unfolding on_dyndeps
+ee_alone_paths = refl
+
+ee_alone_inputs : map (λ e. e.implicit_inputs) (paths_joined ee_alone)
+    ≡ (codes "j" ∷ []) ∷ (codes "k" ∷ []) ∷ [] ∷ []
+unfolding on_dyndeps
+ee_alone_inputs = refl
+
+-- the edges that are bound to the other one stay pending
+ee_alone_is_joined : pending_read ee_alone.read.entries ≡ dd 0 ∷ dd 2 ∷ []
+unfolding on_dyndeps
+ee_alone_is_joined = refl
+
+-- of it alone a source of times has one
+abbrev times_of_ee : DeclaredTimes
+times_of_ee path = if bytes_eq path (codes "ee") then Some (Time (Some 5)) else Some (Time None)
+
+are_texts : (is_utf8 (codes "dd") ≡ true) × (is_utf8 (codes "ee") ≡ true)
+unfolding on_dyndeps
+are_texts = (refl, refl)
+
+ee_alone_is_there : ArePresent times_of_ee (dd 0 ∷ ee ∷ []) (ee ∷ [])
+ee_alone_is_there =
+    there ee (not_there (dd 0) none (asked (IsUtf8-from_is_utf8 (codes "dd") are_texts.0) refl))
+    (asked (IsUtf8-from_is_utf8 (codes "ee") are_texts.1) refl)

@@ -182,7 +182,8 @@ module _ (stated joined : List ReadStatement) (p : Pending) where
         is-text : (all : List Reading) → IsPrefix found.files all
             → file_joined all stated p joined ≡ text_joined p.file stated text joined
         is-text all ext = named utf8 all ∙ ap (λ r. outcome_read p.file at_statement joined reads r)
-            (reading-kept p.file (record { path = p.file; bytes = Some text }) all found.files ext found.found)
+            (reading-kept p.file (record { path = p.file; bytes = Some text }) all found.files ext
+            found.found)
 
         came : with_news (paths_of old) (path_asked p) ≡ paths_of found.files
         came = comes old utf8 ∙ sym found.came_to
@@ -211,7 +212,8 @@ module _ (stated joined : List ReadStatement) (p : Pending) where
             answered = none;
             failures = found.reads.failures;
             came_to =
-                subst (λ ps. IsPrefix (paths_of found.files) ps) (sym came) (prefix-self (paths_of found.files));
+                subst (λ ps. IsPrefix (paths_of found.files) ps) (sym came)
+                (prefix-self (paths_of found.files));
           });
         }
         stops-text fault (inr r) = stops-refused fault r

@@ -1,4 +1,4 @@
--- The result of joining all dyndep files: the graph of the joined statements, a cycle, or where it
+-- The result of joining dyndep files: the graph of the joined statements, a cycle, or where it
 -- stops.
 use Rattle.std.proofs.Common.{◌≡◌, ℕ, inl, inr, false, Result, Ok, Err, List, [], ◌∷◌, length, append-nil}
 use Rattle.std.proofs.Common.{refl, sym, ap, subst, ◌∙◌, true≢false}
@@ -16,7 +16,7 @@ use Rattle.nj_faults.specs.declared.fault.GraphFault.{GraphFault}
 use Rattle.nj_faults.specs.Faults.{no_memory}
 use Rattle.nj_statements.specs.EdgeList.{Pending, edges_read, paths_of_edges, pending_read}
 use Rattle.nj_statements.specs.Built.{BuiltModel, ComesTo, detail_of}
-use Rattle.nj_statements.specs.Joining.{discover}
+use Rattle.nj_statements.specs.Joining.{discover, dyndep_files}
 use Rattle.nj_statements.specs.JoiningHeld.{JoiningModel, has_pending}
 use Rattle.nj_statements.proofs.DiscoverLemmas.{declared-discover, all-discover}
 use Rattle.nj_statements.proofs.DiscoverEdges.{all_edges-discover}
@@ -25,13 +25,14 @@ use Rattle.nj_graph.specs.Origins.{origins_read, main_of}
 use Rattle.nj_graph.specs.Graph.{GraphModel, IsOpenScope, HasRule, IsGraphOf}
 use Rattle.nj_graph.specs.Inside.GraphHeld.{IsKnown, IsGraph}
 use Rattle.nj_graph.specs.Runs.{ReachedModel}
-use Rattle.nj_graph.specs.Loads.{LoadedModel, IsWhole}
-use Rattle.nj_graph.specs.Joining.{all_joined, Joins}
+use Rattle.nj_graph.specs.Loads.{LoadedModel, IsWhole, LoadsAfter}
+use Rattle.nj_graph.specs.Joining.{files_joined, some_joined_after}
 use Rattle.nj_graph.specs.Inside.JoiningContracts.{FilesJoined, FilesStop, JoinsBuilt}
+use Rattle.nj_graph.specs.Inside.JoiningContracts.JoinsChosen.{joined}
 use Rattle.nj_graph.proofs.Comes.{prefix-self, prefix-named}
 use Rattle.nj_graph.proofs.Tables.{read-nothing}
 use Rattle.nj_graph.proofs.OriginLemmas.{origins-discover}
-use Rattle.nj_graph.proofs.JoiningPending.{kept-by-all, none-unjoined, nothing-joined}
+use Rattle.nj_graph.proofs.JoiningPending.{kept-by-files}
 
 -- ---- nothing is read
 
@@ -42,155 +43,150 @@ none-pending (p ∷ ps) h = absurd (true≢false h)
 module _ (stated : List ReadStatement) (source : SourceState) (old : List Reading) (once : EachPathOnce old)
   where
     pub joins-nothing : (loaded : LoadedModel) (g : GraphModel) → loaded ≡ record { files = old; graph = g }
-        → IsGraphOf g stated → has_pending g.built.pending ≡ false → Joins stated old source source (Ok loaded)
-    joins-nothing loaded g same is none = joins stated old source source (Ok loaded) (
+        → IsGraphOf g stated
+        → LoadsAfter old source source (some_joined_after old stated []) (Ok loaded)
+    unfolding files_joined
+    joins-nothing loaded g same is = joins stated old [] source source (Ok loaded) (
       old,
       read-nothing source old once,
       record {
         files_are = ap (λ (l : LoadedModel). l.files) same;
         entries = stated;
-        whole = record {
-          read = ap (λ (j : ReachedModel). j.read) nothing;
-          came_to =
-              ap (λ (j : ReachedModel). with_news (paths_of old) j.paths) nothing;
-          failures = refl;
-        };
+        whole = record { read = refl; came_to = refl; failures = refl };
         graph_is = subst (λ (l : LoadedModel). IsGraphOf l.graph stated) (sym same) is;
       },
     )
-      where
-        nothing : all_joined old stated ≡ record { read = record { entries = stated; end = Whole }; paths = [] }
-        nothing = nothing-joined old stated (sym is.built.pending ∙ none-pending g.built.pending none)
 
-    pub joins-memory : (fault : GraphFault) → fault ≡ no_memory → Joins stated old source source (Err fault)
-    joins-memory fault none = joins stated old source source (Err fault) (
+    pub nothing-pending : (g : GraphModel) → IsGraphOf g stated → has_pending g.built.pending ≡ false
+        → pending_read stated ≡ []
+    nothing-pending g is none = sym is.built.pending ∙ none-pending g.built.pending none
+
+    pub joins-memory : (fault : GraphFault) → fault ≡ no_memory → (chosen : List Pending)
+        → LoadsAfter old source source (some_joined_after old stated chosen) (Err fault)
+    joins-memory fault none chosen = joins stated old chosen source source (Err fault) (
       old,
       read-nothing source old once,
-      inl
-          (inl (record {
-            answered = none;
-            failures = refl;
-            came_to =
-                λ all ext. prefix-named (paths_of old) (all_joined all stated).paths;
-          })),
+      inl (inl (record {
+        answered = none;
+        failures = refl;
+        came_to = λ all ext. prefix-named (paths_of old) (files_joined all stated chosen stated).paths;
+      })),
     )
 
-module _ (stated : List ReadStatement) (before after : SourceState) (old : List Reading) where
-  pub joins-stop : (fault : GraphFault) → FilesStop stated before after old fault
-      → Joins stated old before after (Err fault)
-  joins-stop fault s = joins stated old before after (Err fault) (s.files, s.reads, inl s.stops)
+module _ (chosen : List Pending) (stated : List ReadStatement) (before after : SourceState)
+    (old : List Reading) where
+  pub joins-stop : (fault : GraphFault) → FilesStop chosen stated before after old fault
+      → LoadsAfter old before after (some_joined_after old stated chosen) (Err fault)
+  joins-stop fault s = joins stated old chosen before after (Err fault) (s.files, s.reads, inl s.stops)
 
   -- ---- all is joined
 
-  module _ (table : List Reading) (held : JoiningModel) (f : FilesJoined stated before after old table held)
-    where
-      itself : IsPrefix f.files f.files
-      itself = ([], sym (append-nil f.files))
+  module _ (table : List Reading) (held : JoiningModel)
+      (f : FilesJoined chosen stated before after old table held) where
+    itself : IsPrefix f.files f.files
+    itself = ([], sym (append-nil f.files))
 
-      all-joined : all_joined f.files stated
-          ≡ record { read = record { entries = f.now; end = Whole }; paths = f.paths }
-      all-joined = f.joins f.files itself
+    all-joined : files_joined f.files stated chosen stated
+        ≡ record { read = record { entries = f.now; end = Whole }; paths = f.paths }
+    all-joined = f.joins f.files itself
 
-      whole : IsWhole before after f.files (come_joined old stated) f.now
-      whole = record {
-        read = ap (λ (j : ReachedModel). j.read) all-joined;
-        came_to =
-            ap (λ (j : ReachedModel). with_news (paths_of old) j.paths) all-joined ∙ f.came_to;
-        failures =
-            f.reads.failures;
+    whole : IsWhole before after f.files (come_joined old stated chosen) f.now
+    whole = record {
+      read = ap (λ (j : ReachedModel). j.read) all-joined;
+      came_to = ap (λ (j : ReachedModel). with_news (paths_of old) j.paths) all-joined ∙ f.came_to;
+      failures = f.reads.failures;
+    }
+
+    -- properties that the statements keep
+    stays : (P : List ReadStatement → Type 0)
+        → ((edge : ℕ) (found : Discovered) (entries : List ReadStatement) → P entries
+        → P (discover edge found entries)) → P stated → P f.now
+    stays P keeps h = subst (λ (j : ReachedModel). P j.read.entries) all-joined
+        (kept-by-files P keeps f.files stated chosen stated h)
+
+    pub joins-fault : (fault : GraphFault) → ComesTo f.now (Err fault)
+        → LoadsAfter old before after (some_joined_after old stated chosen) (Err fault)
+    joins-fault fault (inl none) = joins stated old chosen before after (Err fault) (
+      f.files,
+      f.reads.reads,
+      inl (inl (record {
+        answered = none;
+        failures = f.reads.failures;
+        came_to = λ all ext. subst (λ ps. IsPrefix (paths_of f.files) ps)
+            (sym (ap (λ (j : ReachedModel). with_news (paths_of old) j.paths) (f.joins all ext) ∙ f.came_to))
+            (prefix-self (paths_of f.files));
+      })),
+    )
+    joins-fault fault (inr cycle) =
+        joins stated old chosen before after (Err fault)
+        (f.files, f.reads.reads, inr (record { entries = f.now; whole = whole; cycle = cycle }))
+
+    pub joins-built : (Chooses : (files chosen : List Pending) → Type 0)
+        → Chooses (dyndep_files (pending_read stated)) chosen
+        → (result : Result BuiltModel GraphFault) → ComesTo f.now result
+        → JoinsBuilt Chooses stated before after old table result
+    joins-built Chooses chooses (Ok built) comes = (chosen, chooses, (held, f, comes))
+    joins-built Chooses chooses (Err fault) comes = joined chooses (joins-fault fault comes)
+
+    -- ---- the graph
+
+    module _ (g : GraphModel) (is : IsGraphOf g stated) (built : BuiltModel)
+        (comes : ComesTo f.now (Ok built)) where
+      has-rules : AllByRecursion (HasRule g.declarations.rules) (edges_read f.now)
+      has-rules =
+          stays (λ entries. AllByRecursion (HasRule g.declarations.rules) (edges_read entries))
+          (all_edges-discover (HasRule g.declarations.rules)
+          (λ e outs ins h. record { rule = h.rule; rule_is = h.rule_is; phony_is = h.phony_is })) is.rules
+
+      pub joined-graph : IsGraphOf (record {
+        declarations = g.declarations;
+        built = built;
+        origins =
+            g.origins;
+      }) f.now
+      joined-graph = record {
+        declares = stays (DeclaredBy g.declarations) (declared-discover g.declarations) is.declares;
+        scopes = stays (AllByRecursion (λ e. IsOpenScope g.declarations.scopes e.scope e.around))
+            (all-discover (λ e. IsOpenScope g.declarations.scopes e.scope e.around) (λ e was d h. h))
+            is.scopes;
+        built = comes.0;
+        rules = has-rules;
+        acyclic = subst (λ es. IsAcyclic (makers_of_inputs es) (length es)) (sym comes.0.paths)
+            (subst (λ n. IsAcyclic (makers_of_inputs (paths_of_edges (edges_read f.now))) n)
+            (sym (length-map (edges_read f.now) (λ e. e.paths))) comes.1);
+        origins = stays (λ entries. g.origins ≡ origins_read (main_of g.origins) entries)
+            (λ edge found entries same. same ∙ sym (origins-discover (main_of g.origins) edge found entries))
+            is.origins;
       }
 
-      pub none-pending-then : pending_read f.now ≡ []
-      none-pending-then = subst (λ (j : ReachedModel). pending_read j.read.entries ≡ []) all-joined
-          (none-unjoined f.files stated (ap (λ (j : ReachedModel). j.read.end) all-joined))
-
-      -- properties that the statements keep
-      stays : (P : List ReadStatement → Type 0)
-          → ((edge : ℕ) (found : Discovered) (entries : List ReadStatement) → P entries
-          → P (discover edge found entries)) → P stated → P f.now
-      stays P keeps h = subst (λ (j : ReachedModel). P j.read.entries) all-joined
-          (kept-by-all P keeps f.files stated h)
-
-      pub joins-fault : (fault : GraphFault) → ComesTo f.now (Err fault)
-          → Joins stated old before after (Err fault)
-      joins-fault fault (inl none) = joins stated old before after (Err fault) (
+      pub joins-graph : (loaded : LoadedModel)
+          → loaded ≡ record {
+            files = table;
+            graph =
+                record { declarations = g.declarations; built = built; origins = g.origins };
+          }
+          → LoadsAfter old before after (some_joined_after old stated chosen) (Ok loaded)
+      joins-graph loaded same = joins stated old chosen before after (Ok loaded) (
         f.files,
         f.reads.reads,
-        inl (inl (record {
-          answered = none;
-          failures = f.reads.failures;
-          came_to = λ all ext. subst (λ ps. IsPrefix (paths_of f.files) ps)
-              (sym (ap (λ (j : ReachedModel). with_news (paths_of old) j.paths) (f.joins all ext) ∙ f.came_to))
-              (prefix-self (paths_of f.files));
-        })),
+        record {
+          files_are = ap (λ (l : LoadedModel). l.files) same ∙ f.reads.held_is;
+          entries = f.now;
+          whole = whole;
+          graph_is = subst (λ (l : LoadedModel). IsGraphOf l.graph f.now) (sym same) joined-graph;
+        },
       )
-      joins-fault fault (inr cycle) = joins stated old before after (Err fault)
-          (f.files, f.reads.reads, inr (record { entries = f.now; whole = whole; cycle = cycle }))
 
-      pub joins-built : (result : Result BuiltModel GraphFault) → ComesTo f.now result
-          → JoinsBuilt stated before after old table result
-      joins-built (Ok built) comes = (held, f, comes)
-      joins-built (Err fault) comes = joins-fault fault comes
+      details-same : built.details ≡ g.built.details
+      details-same = comes.0.details ∙ sym f.has.details ∙ f.has.stated_details ∙ sym is.built.details
 
-      -- ---- the graph
-
-      module _ (g : GraphModel) (is : IsGraphOf g stated) (built : BuiltModel)
-          (comes : ComesTo f.now (Ok built)) where
-        has-rules : AllByRecursion (HasRule g.declarations.rules) (edges_read f.now)
-        has-rules =
-            stays (λ entries. AllByRecursion (HasRule g.declarations.rules) (edges_read entries))
-            (all_edges-discover (HasRule g.declarations.rules)
-            (λ e outs ins h. record { rule = h.rule; rule_is = h.rule_is; phony_is = h.phony_is })) is.rules
-
-        pub joined-graph : IsGraphOf (record {
-          declarations = g.declarations;
-          built = built;
-          origins =
-              g.origins;
-        }) f.now
-        joined-graph = record {
-          declares = stays (DeclaredBy g.declarations) (declared-discover g.declarations) is.declares;
-          scopes = stays (AllByRecursion (λ e. IsOpenScope g.declarations.scopes e.scope e.around))
-              (all-discover (λ e. IsOpenScope g.declarations.scopes e.scope e.around) (λ e was d h. h))
-              is.scopes;
-          built = comes.0;
-          rules = has-rules;
-          acyclic = subst (λ es. IsAcyclic (makers_of_inputs es) (length es)) (sym comes.0.paths)
-              (subst (λ n. IsAcyclic (makers_of_inputs (paths_of_edges (edges_read f.now))) n)
-              (sym (length-map (edges_read f.now) (λ e. e.paths))) comes.1);
-          origins = stays (λ entries. g.origins ≡ origins_read (main_of g.origins) entries)
-              (λ edge found entries same. same ∙ sym (origins-discover (main_of g.origins) edge found entries))
-              is.origins;
-        }
-
-        pub joins-graph : (loaded : LoadedModel)
-            → loaded ≡ record {
-              files = table;
-              graph =
-                  record { declarations = g.declarations; built = built; origins = g.origins };
-            }
-            → Joins stated old before after (Ok loaded)
-        joins-graph loaded same = joins stated old before after (Ok loaded) (
-          f.files,
-          f.reads.reads,
-          record {
-            files_are = ap (λ (l : LoadedModel). l.files) same ∙ f.reads.held_is;
-            entries = f.now;
-            whole = whole;
-            graph_is = subst (λ (l : LoadedModel). IsGraphOf l.graph f.now) (sym same) joined-graph;
-          },
-        )
-
-        details-same : built.details ≡ g.built.details
-        details-same = comes.0.details ∙ sym f.has.details ∙ f.has.stated_details ∙ sym is.built.details
-
-        -- and it has the properties of a graph
-        pub joined-held : (numbers : List ℕ) → IsGraph g.declarations g.built numbers
-            → IsGraph g.declarations built numbers
-        joined-held numbers h = record {
-          listed = h.listed;
-          outermost = h.outermost;
-          count = ap length comes.0.details ∙ length-map (edges_read f.now) detail_of
-              ∙ sym (ap length comes.0.paths ∙ length-map (edges_read f.now) (λ e. e.paths));
-          known = subst (AllByRecursion (IsKnown g.declarations)) (sym details-same) h.known;
-        }
+      -- and it has the properties of a graph
+      pub joined-held : (numbers : List ℕ) → IsGraph g.declarations g.built numbers
+          → IsGraph g.declarations built numbers
+      joined-held numbers h = record {
+        listed = h.listed;
+        outermost = h.outermost;
+        count = ap length comes.0.details ∙ length-map (edges_read f.now) detail_of
+            ∙ sym (ap length comes.0.paths ∙ length-map (edges_read f.now) (λ e. e.paths));
+        known = subst (AllByRecursion (IsKnown g.declarations)) (sym details-same) h.known;
+      }

@@ -140,11 +140,6 @@ module _ (P : List ReadStatement → Type 0)
       by (Refused fault) later = kept-by-file files stated p joined h
       by (Lacking path place) later = kept-by-file files stated p joined h
 
-  pub kept-by-all : (files : List Reading) (stated : List ReadStatement) → P stated
-      → P (all_joined files stated).read.entries
-  unfolding all_joined
-  kept-by-all files stated h = kept-by-files files stated (dyndep_files (pending_read stated)) stated h
-
 -- ---- after a whole file no edge is pending on it
 
 entries-whole : (file : List ℕ) (stated : List ReadStatement) (entries : List EntryModel)
@@ -312,13 +307,13 @@ listed (p ∷ ps) = (
         ∙ listed-after p q (dyndep_files ps) e h
 
 -- After a whole joining no edge is pending.
-pub none-unjoined : (files : List Reading) (stated : List ReadStatement)
+none-unjoined : (files : List Reading) (stated : List ReadStatement)
     → (all_joined files stated).read.end ≡ Whole → pending_read (all_joined files stated).read.entries ≡ []
 unfolding all_joined
 none-unjoined files stated h = files-whole files stated (dyndep_files (pending_read stated)) stated
     (listed (pending_read stated)) h
 
-pub nothing-joined : (files : List Reading) (stated : List ReadStatement) → pending_read stated ≡ []
+nothing-joined : (files : List Reading) (stated : List ReadStatement) → pending_read stated ≡ []
     → all_joined files stated ≡ record { read = record { entries = stated; end = Whole }; paths = [] }
 unfolding all_joined files_joined
 nothing-joined files stated none = ap (λ ps. files_joined files stated (dyndep_files ps) stated) none

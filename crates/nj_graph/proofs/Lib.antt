@@ -1,3 +1,4 @@
+pub mod ChoosingLemmas
 pub mod Comes
 pub mod Continuing
 pub mod EdgeRules

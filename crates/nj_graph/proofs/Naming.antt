@@ -252,7 +252,8 @@ stops-same main before after old first second fault same s =
       answered = m.answered;
       failures = m.failures;
       came_to =
-          λ all e. subst (λ r. IsPrefix (paths_of s.files) (come_to main r)) (sym (same all)) (m.came_to all e);
+          λ all e. subst (λ r. IsPrefix (paths_of s.files) (come_to main r)) (sym (same all))
+          (m.came_to all e);
     })
     by (inr e) = inr (record {
       reached = e.reached;

@@ -50,8 +50,8 @@ module _ (names later : List (List ℕ)) (grows : IsPrefix names later) where
   place-grown p below = ap (λ (f : List ℕ). record { file = f; spot = p.spot }) (name-grown p.file below)
 
   pub below-grown : (n : ℕ) → n < length names → n < length later
-  below-grown n below = let count = ap length grows.1 ∙ length-append names grows.0
-      in omega (arith, below, count)
+  below-grown n below = let count = ap length grows.1 ∙ length-append names grows.0 in
+      omega (arith, below, count)
 
 map-same : {A B : Type 0} (f g : A → B) (P : A → Type 0) → ((x : A) → P x → f x ≡ g x) → (xs : List A)
     → AllByRecursion P xs → map f xs ≡ map g xs
@@ -179,7 +179,10 @@ module _ (names later : List (List ℕ)) (grows : IsPrefix names later) (rules :
           (map-append (pool_held later) pools (record { place = p; depth = depth } ∷ []))
           ∙ ap (λ (o : OriginsModel). record o
           { pools = o.pools ++ record { place = place_held later p; depth = depth } ∷ [] }) origins-grown
-          ∙ ap (λ (at : Place). record held { pools = held.pools ++ record { place = at; depth = depth } ∷ [] })
+          ∙ ap (λ (at : Place). record held {
+            pools =
+                held.pools ++ record { place = at; depth = depth } ∷ [];
+          })
           is
 
       pub pool-named : (depth : ℕ) → AreNamed later rules (pools ++ record { place = p; depth = depth } ∷ [])
@@ -218,11 +221,13 @@ module _ (names later : List (List ℕ)) (grows : IsPrefix names later) (rules :
             }) origins-grown
             ∙ ap (λ (at : Place). record held {
               openings =
-                  held.openings ++ record { path = name_at later file; named_at = Some at; scope = scope.0 } ∷ [];
+                  held.openings ++ record { path = name_at later file; named_at = Some at; scope = scope.0 } ∷
+                  [];
             })
             is
-            ∙ ap (λ (text : List ℕ). record held
-            { openings = held.openings ++ record { path = text; named_at = Some place; scope = scope.0 } ∷ [] })
+            ∙ ap (λ (text : List ℕ). record held {
+              openings = held.openings ++ record { path = text; named_at = Some place; scope = scope.0 } ∷ [];
+            })
             gives
 
         pub opening-named : AreNamed later rules pools (openings ++ opened ∷ [])

@@ -68,7 +68,8 @@ module _ (part : List ℕ) where
           low = omega arith;
           high = omega (arith, high);
           before =
-              λ j low below occurs. h.0.before (suc j) (omega arith) (omega (arith, below)) (later byte text j occurs);
+              λ j low below occurs. h.0.before (suc j) (omega arith) (omega (arith, below))
+              (later byte text j occurs);
         },
         earlier byte text k h.1,
       ))

@@ -134,8 +134,8 @@ module _ (test : EdgePaths → Bool) where
       → suc number ≤ k
   least-more e edges number edge fails s zero other is passes =
       absurd (true≢false (sym passes ∙ ap test (sym (same_Some e other is)) ∙ fails))
-  least-more e edges number edge fails s (suc k) other is passes = let below = s.least k other is passes
-      in omega (arith, below)
+  least-more e edges number edge fails s (suc k) other is passes = let below = s.least k other is passes in
+      omega (arith, below)
 
   first-passing : (n : ℕ) (edges : List EdgePaths) → FirstIs n edges (slice_get (edges_from n test edges) 0)
   first-passing n [] = inl (refl, λ other e is passes. none-some e is)

@@ -1,10 +1,10 @@
 -- What the contracts of this crate cite: each name comes from the module in its line.
 pub use Rattle.nj_scope.specs.ReadingList.{ReadStatement, gathered, files_opened, pools, rules_read, scope_of, scopes_opened}
 pub use Rattle.nj_scope.specs.ReadingList.{value_if_bound}
-pub use Rattle.nj_statements.specs.EdgeList.{block_at, block_names_at, edges_read, Pending, assigned_at, assigned_read}
-pub use Rattle.nj_graph.specs.Graph.{IsGraphOf, edges_of, files_of, late_text_of, main_rules, main_rule_at, rule_name, description}
-pub use Rattle.nj_graph.specs.Graph.{has_description, description_text, NamesRise, ListsMainRules, rule_name_at, rule_number_at}
-pub use Rattle.nj_graph.specs.Graph.{scope_number_at}
+pub use Rattle.nj_statements.specs.EdgeList.{block_at, block_names_at, edges_read, assigned_at, assigned_read}
+pub use Rattle.nj_graph.specs.Graph.{IsGraphOf, edges_of, files_of, is_dyndep_restat, late_text_of, main_rules, main_rule_at, rule_name}
+pub use Rattle.nj_graph.specs.Graph.{description, has_description, description_text, NamesRise, ListsMainRules, rule_name_at}
+pub use Rattle.nj_graph.specs.Graph.{rule_number_at, scope_number_at}
 pub use Rattle.nj_manifest.specs.Contents.{words_model, build_model, rule_model, pool_model, lines_model, placed_model}
 pub use Rattle.nj_manifest.specs.Statements.{DefaultModel, BindingModel}
 pub use Rattle.nj_graph.specs.Reading.{entry_at, depth_fault, expanded_in, path_fault, opened_in, text_read, statement_read, main_read}
@@ -17,7 +17,7 @@ pub use Rattle.nj_graph.specs.Origins.{place_text, rule_place_at, origins_read, 
 pub use Rattle.std.specs.List.{AllByRecursion, IsDistinct, Contains}
 pub use Rattle.nj_text.specs.Paths.{clean_path_of}
 pub use Rattle.nj_names.specs.NameTables.{name_at, is_among}
-pub use Rattle.nj_scope.specs.Readings.{IsPrefix, EachPathOnce}
+pub use Rattle.nj_scope.specs.Readings.{IsPrefix}
 pub use Rattle.nj_edges.specs.Edges.{edge_at, first_output}
 pub use Rattle.nj_edges.specs.MoreInputs.{with_new_input}
 pub use Rattle.nj_graph.specs.DepsLogs.{JoinsLog, inputs_logged, number_logged, JoinsNamed, SameLogChangesNothing}
@@ -26,10 +26,7 @@ pub use Rattle.nj_graph.specs.Inside.LogSteps.{AreNumbersLogged, inputs_by_numbe
 pub use Rattle.nj_discovered.specs.Discoveries.{discovery_at}
 pub use Rattle.nj_discovered.specs.Discovered.{IsLater}
 pub use Rattle.nj_graph.specs.Discovering.{AreDiscovered}
-pub use Rattle.nj_statements.specs.Built.{IsBuiltOf, detail_at, defaults_in_force}
-pub use Rattle.nj_statements.specs.JoiningHeld.{HasJoined}
-pub use Rattle.nj_graph.specs.Joining.{Joins, JoinedStaysJoined}
-pub use Rattle.nj_graph.specs.Inside.JoiningContracts.{NamesFile, JoinsText, JoinsFile, JoinsFiles, JoinsBuilt, NextEntryIs}
+pub use Rattle.nj_statements.specs.Built.{detail_at, defaults_in_force}
 pub use Rattle.nj_graph.specs.ResponseFiles.{command_with_rsp_of, first_position, sign_position, on_one_line, with_content}
 pub use Rattle.nj_graph.specs.Errors.{TakesFault, error_of_text, error_text}
 pub use Rattle.nj_graph.specs.declared.error.Error.TheVariants.{OutOfMemory}
@@ -43,6 +40,7 @@ pub use Rattle.nj_graph.specs.Inside.UndeclaredFound.{AddsFile, AreMade, FindsAt
 pub use Rattle.nj_graph.specs.Inside.GraphHeld.{HasMainRules}
 pub use Rattle.nj_names.specs.Files.{AreFiles, path_at}
 pub use Rattle.nj_scope.specs.Laws.{IsInReadingOrder}
+pub use Rattle.nj_graph.specs.Joining.{JoinedStaysJoined}
 pub use Rattle.nj_graph.specs.Laws.{ReadIsFaultless, OpenFilesAreBounded, OpeningsAreBounded, OthersAreNotRead, MainRulesRise}
 pub use Rattle.nj_graph.specs.Laws.{LaterBindingsCount, LaterBindingsChangeNoEdge, StatementsAreFoundInTurn, EntriesAreFoundInTurn}
 pub use Rattle.nj_graph.specs.Laws.{FirstPositionIsFirst, SignIsBeforeTheFirst, WordsMeanPaths, EmptyWordMeansNothing, Faultless}

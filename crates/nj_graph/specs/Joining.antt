@@ -1,5 +1,5 @@
 -- The joining of dyndep files to the statements of a run ("Dynamic Dependencies" in the manual), up to the first fault.
-use Rattle.std.specs.Prelude.{◌≡◌, ℕ, suc, if◌then◌else◌, Option, Some, option_map, Result, Ok, Err, List, [], ◌∷◌, ◌++◌, map, length, slice_index_or}
+use Rattle.std.specs.Prelude.{◌≡◌, ℕ, suc, if◌then◌else◌, Option, Some, None, option_map, Result, Ok, Err, List, [], ◌∷◌, ◌++◌, map, length, slice_index_or}
 use Rattle.std.specs.Option.{option_or}
 use Rattle.std.specs.Str.{is_utf8}
 use Rattle.nj_text.specs.Lines.{Line, text_lines}
@@ -12,6 +12,8 @@ use Rattle.nj_faults.specs.declared.fault.Place.{Place}
 use Rattle.nj_faults.specs.declared.fault.GraphFault.{GraphFault}
 use Rattle.nj_faults.specs.declared.fault.Cause.TheVariants.{PathNotText}
 use Rattle.nj_faults.specs.Faults.{fault_in}
+use Rattle.nj_discovered.specs.declared.times.TimeFound.TheVariants.{Time, NoAnswer}
+use Rattle.nj_discovered.specs.Times.{DeclaredTimes, IsTimeOf}
 use Rattle.nj_statements.specs.EdgeList.{Pending, edges_read, pending_read}
 use Rattle.nj_statements.specs.Joining.{entry_fault, with_entry, lacking_fault, dyndep_files}
 use Rattle.nj_graph.specs.Parsed.{Parsed, parsed_in}
@@ -21,6 +23,7 @@ use Rattle.nj_graph.specs.Loads.{LoadedModel, LoadsAfter}
 
 -- ---- the entries of a text
 
+-- the entries after the version, or the fault of the version
 abbrev pub after_version : (most : ℕ) → Result (List Line) Fault → Parsed EntryModel
 after_version most (Ok lines) = parsed_in next_entry most lines
 after_version most (Err fault) = record { items = []; fault = Some fault }
@@ -41,6 +44,7 @@ entries_joined file stated (entry ∷ others) fault joined =
     and_then (record { entries = joined; end = end_by (entry_fault file stated joined entry) })
     (λ _. entries_joined file stated others fault (with_entry stated joined entry))
 
+-- the entries of a text, joined one after the other
 abbrev pub text_joined : (file : List ℕ) → (stated : List ReadStatement) → (text : List ℕ) → (joined : List ReadStatement) → ReadingModel
 text_joined file stated text joined = entries_joined file stated (entries_of text).items (entries_of text).fault joined
 
@@ -63,10 +67,12 @@ file_joined files stated p joined =
 abbrev pub path_asked : Pending → List (List ℕ)
 path_asked p = if is_utf8 p.file then p.file ∷ [] else []
 
+-- the other files after one that was joined whole; else the joining ends there
 abbrev pub continued : End → Pending → List ReadStatement → (List ReadStatement → ReachedModel) → ReachedModel
 continued Whole p joined others = record { read = (others joined).read; paths = path_asked p ++ (others joined).paths }
 continued end p joined others = record { read = record { entries = joined; end = end }; paths = path_asked p }
 
+-- these files, joined one after the other
 unfoldable pub files_joined : (files : List Reading) → (stated : List ReadStatement) → List Pending
     → (joined : List ReadStatement) → ReachedModel
 files_joined files stated [] joined = record { read = record { entries = joined; end = Whole }; paths = [] }
@@ -92,6 +98,34 @@ joined_after old stated files =
 abbrev pub Joins : (stated : List ReadStatement) → (old : List Reading) → (before after : SourceState)
     → Result LoadedModel GraphFault → Type 0
 Joins stated old before after result = LoadsAfter old before after (joined_after old stated) result
+
+-- ---- the files that are there
+
+-- Those of some dyndep files that are there, as a source of times answers about the path of each. One about which it cannot
+-- tell is not among them.
+pub data ArePresent (times : DeclaredTimes) : (files present : List Pending) → Type 0 where
+  none : ArePresent times [] []
+  there : (p : Pending) {files present : List Pending} {time : ℕ} → ArePresent times files present
+      → IsTimeOf times p.file (Time (Some time)) → ArePresent times (files ++ p ∷ []) (present ++ p ∷ [])
+  not_there : (p : Pending) {files present : List Pending} → ArePresent times files present
+      → IsTimeOf times p.file (Time None) → ArePresent times (files ++ p ∷ []) present
+  not_told : (p : Pending) {files present : List Pending} → ArePresent times files present
+      → IsTimeOf times p.file NoAnswer → ArePresent times (files ++ p ∷ []) present
+
+-- the reading of some dyndep files after the old files
+abbrev pub some_joined_after : (old : List Reading) → (stated : List ReadStatement) → (dyndeps : List Pending) → (files : List Reading)
+    → ReachedModel
+some_joined_after old stated dyndeps files =
+    let joined = files_joined files stated dyndeps stated in
+    record { read = joined.read; paths = with_all_new (paths_of old) joined.paths }
+
+-- Those dyndep files that are there are joined to the statements of a run that has read the old files. On the others edges
+-- stay pending.
+abbrev pub JoinsPresent : (times : DeclaredTimes) → (stated : List ReadStatement) → (old : List Reading) → (before after : SourceState)
+    → Result LoadedModel GraphFault → Type 0
+JoinsPresent times stated old before after result =
+    (present : List Pending) × ArePresent times (dyndep_files (pending_read stated)) present
+    × LoadsAfter old before after (some_joined_after old stated present) result
 
 -- ---- laws
 

@@ -1,17 +1,26 @@
 //! Joins dyndep files to the graph of a run.
 
 ghost use Rattle.std.specs.Prelude.{◌≡◌, ◌<◌, List, Some, length, slice_get, IfOk, OnOk};
-ghost use Rattle.nj_graph.specs.Cited.{EachPathOnce, IsPrefix, ReadStatement, IsBuiltOf, Pending, HasJoined, IsGraphOf, Joins, NamesFile, JoinsText, JoinsFile, JoinsFiles, JoinsBuilt, NextEntryIs};
+ghost use Rattle.std.specs.List.{AllByRecursion};
+ghost use Rattle.nj_scope.specs.Readings.{EachPathOnce, IsPrefix};
+ghost use Rattle.nj_scope.specs.ReadingList.{ReadStatement};
+ghost use Rattle.nj_statements.specs.Built.{IsBuiltOf};
+ghost use Rattle.nj_statements.specs.EdgeList.{Pending};
+ghost use Rattle.nj_statements.specs.JoiningHeld.{HasJoined};
+ghost use Rattle.nj_graph.specs.Graph.{IsGraphOf};
+ghost use Rattle.nj_graph.specs.Joining.{ArePresent, Joins, JoinsPresent};
+ghost use Rattle.nj_graph.specs.Inside.JoiningContracts.{NamesFile, JoinsText, JoinsFile, JoinsFiles, JoinsBuilt, JoinsChosen, NextEntryIs, TellsPresence, chosen_files};
 
 use crate::file_statements::text_at;
 use crate::graph::Graph;
 use crate::loading::Loaded;
+use nj_discovered::{FileTimes, TimeFound, time_of};
 use nj_edges::FileNo;
 use nj_faults::{Cause, GraphFault, PlaceRef};
 use nj_manifest::{DyndepParser, Entry};
 use nj_scope::{FileSource, FileTable};
 use nj_statements::{Built, DyndepFile, Joining};
-use std::alloc::Global;
+use std::alloc::{AllocError, Global};
 
 /// Joins the dyndep files to which edges are bound ("Dynamic Dependencies" in the Ninja manual):
 /// the outputs and inputs that they discover become implicit ones. A graph to which they were
@@ -33,48 +42,182 @@ pub fn join_dyndeps<S: FileSource>(
         → Joins stated loaded.files (S.state source.old) (S.state source.new) result }
     ensures origins { IfOk result (λ joined. joined.graph.origins ≡ loaded.graph.origins) }
 {
+    join_chosen(alloc, loaded, source, &AllFiles)
+}
+
+/// Joins those of the dyndep files that are there, as [`join_dyndeps`] does. The edges that are
+/// bound to others stay pending on them (`Graph::pending_count`). The time of each file is asked
+/// once, before any is read; one whose path is not UTF-8, or whose time cannot be read, counts as
+/// not there.
+///
+/// # Errors
+///
+/// Those of [`join_dyndeps`]: a file that was there may be gone once it is read.
+pub fn join_present_dyndeps<S: FileSource, T: FileTimes>(
+    alloc: Global,
+    loaded: Loaded,
+    source: &mut S,
+    times: &T,
+) -> Result<Loaded, GraphFault>
+    ensures joins { (stated : List ReadStatement) → IsGraphOf loaded.graph stated
+        → JoinsPresent (T.times times.now) stated loaded.files
+        (S.state source.old) (S.state source.new) result }
+    ensures origins { IfOk result (λ joined. joined.graph.origins ≡ loaded.graph.origins) }
+{
+    join_chosen(alloc, loaded, source, &PresentFiles { times })
+}
+
+// Which of the dyndep files are joined.
+trait DyndepChoice {
+    ghost use Rattle.std.specs.Prelude.{◌<◌, List, length, IfOk};
+    ghost use Rattle.std.specs.List.{AllByRecursion};
+    ghost use Rattle.nj_statements.specs.EdgeList.{Pending};
+    ghost use Rattle.nj_graph.specs.Inside.JoiningContracts.{chosen_files};
+
+    // These are the files that are chosen of some.
+    ghost chooses: { Self → (files chosen : List Pending) → Type 0 };
+
+    // The indices of the files that are joined.
+    fn choose(&self, alloc: Global, joining: &Joining) -> Result<Vec<usize>, AllocError>
+        ensures chosen { IfOk result (λ indices. chooses self.now joining.now.dyndep_files
+            (chosen_files joining.now.dyndep_files indices.items)) }
+        ensures known { IfOk result (λ indices.
+            AllByRecursion (λ index. index < length joining.now.dyndep_files) indices.items) };
+}
+
+// All dyndep files.
+#[derive(Clone, Copy)]
+struct AllFiles;
+
+impl DyndepChoice for AllFiles {
+    ghost use Rattle.std.specs.Prelude.{◌≡◌};
+
+    ghost chooses = { λ choice files chosen. chosen ≡ files };
+
+    fn choose(&self, alloc: Global, joining: &Joining) -> Result<Vec<usize>, AllocError> {
+        all_files(alloc, joining)
+    }
+}
+
+// The dyndep files that are there.
+#[derive(Drop)]
+struct PresentFiles<'a, T: FileTimes> {
+    times: &'a T,
+}
+
+impl<'a, T: FileTimes> DyndepChoice for PresentFiles<'a, T> {
+    ghost use Rattle.nj_graph.specs.Joining.{ArePresent};
+
+    ghost chooses = { λ choice. ArePresent (T.times choice.times.now) };
+
+    fn choose(&self, alloc: Global, joining: &Joining) -> Result<Vec<usize>, AllocError> {
+        present_files(alloc, joining, self.times)
+    }
+}
+
+// The indices of all dyndep files.
+fn all_files(alloc: Global, joining: &Joining) -> Result<Vec<usize>, AllocError>
+    ensures all { IfOk result (λ indices.
+        chosen_files joining.now.dyndep_files indices.items ≡ joining.now.dyndep_files) }
+    ensures known { IfOk result (λ indices.
+        AllByRecursion (λ index. index < length joining.now.dyndep_files) indices.items) }
+{
+    let mut indices = Vec::new(alloc);
+    'files: for index in 0..joining.file_count() {
+        indices.push(index)?;
+    }
+    Ok(indices)
+}
+
+// The indices of the dyndep files that are there.
+fn present_files<T: FileTimes>(
+    alloc: Global,
+    joining: &Joining,
+    times: &T,
+) -> Result<Vec<usize>, AllocError>
+    ensures present { IfOk result (λ indices. ArePresent (T.times times.now)
+        joining.now.dyndep_files (chosen_files joining.now.dyndep_files indices.items)) }
+    ensures known { IfOk result (λ indices.
+        AllByRecursion (λ index. index < length joining.now.dyndep_files) indices.items) }
+{
+    let mut indices = Vec::new(alloc);
+    'files: for index in 0..joining.file_count() {
+        if is_there(times, joining.file(index).path)? {
+            indices.push(index)?;
+        }
+    }
+    Ok(indices)
+}
+
+// Whether a file is at a path, if that can be told.
+fn is_there<T: FileTimes>(times: &T, path: &[u8]) -> Result<bool, AllocError>
+    ensures { IfOk result (TellsPresence (T.times times.now) path.now) }
+{
+    match time_of(times, path)? {
+        TimeFound::Time(time) => Ok(time.is_some()),
+        TimeFound::NoAnswer => Ok(false),
+    }
+}
+
+// Joins the dyndep files that are chosen.
+fn join_chosen<S: FileSource, C: DyndepChoice>(
+    alloc: Global,
+    loaded: Loaded,
+    source: &mut S,
+    choice: &C,
+) -> Result<Loaded, GraphFault>
+    ensures joins { (stated : List ReadStatement) → IsGraphOf loaded.graph stated
+        → JoinsChosen (C.chooses choice.now) stated loaded.files
+        (S.state source.old) (S.state source.new) result }
+    ensures origins { IfOk result (λ joined. joined.graph.origins ≡ loaded.graph.origins) }
+{
     let Loaded { mut files, graph } = loaded;
     if !graph.built.has_pending() {
         return Ok(Loaded { files, graph });
     }
     let Graph { built, declared } = graph;
-    let built = join_built(alloc, source, &mut files, built)?;
+    let built = join_built(alloc, source, &mut files, built, choice)?;
     let graph = Graph { built, declared };
     Ok(Loaded { files, graph })
 }
 
-// The edges of a run, to which the dyndep files that they wait for are joined. It owns no more than
-// these, so that each of its ends drops little.
-fn join_built<S: FileSource>(
+// The edges of a run, to which the dyndep files that they wait for are joined, those that are
+// chosen. It owns no more than these, so that each of its ends drops little.
+fn join_built<S: FileSource, C: DyndepChoice>(
     alloc: Global,
     source: &mut S,
     files: &mut FileTable,
     built: Built,
+    choice: &C,
 ) -> Result<Built, GraphFault>
     requires once { EachPathOnce files.old }
     requires built { (stated : List ReadStatement) × IsBuiltOf built stated }
     ensures { (stated : List ReadStatement) → IsBuiltOf built stated
-        → JoinsBuilt stated (S.state source.old) (S.state source.new) files.old files.new result }
+        → JoinsBuilt (C.chooses choice.now) stated (S.state source.old) (S.state source.new)
+        files.old files.new result }
 {
     let mut joining = built.join(alloc)?;
-    join_files(alloc, source, files, &mut joining)?;
+    let chosen = choice.choose(alloc, &joining)?;
+    join_files(alloc, source, files, &mut joining, &chosen)?;
     joining.finish(alloc)
 }
 
-// Joins all dyndep files.
+// Joins the dyndep files at these indices.
 fn join_files<S: FileSource>(
     alloc: Global,
     source: &mut S,
     files: &mut FileTable,
     joining: &mut Joining,
+    chosen: &[usize],
 ) -> Result<(), GraphFault>
-    requires { EachPathOnce files.old }
+    requires once { EachPathOnce files.old }
+    requires there { AllByRecursion (λ index. index < length joining.old.dyndep_files) chosen.now }
     ensures joins { (stated : List ReadStatement) → HasJoined joining.old stated stated
-        → JoinsFiles stated (S.state source.old) (S.state source.new) files.old files.new
-        joining.new result }
+        → JoinsFiles (chosen_files joining.old.dyndep_files chosen.now) stated
+        (S.state source.old) (S.state source.new) files.old files.new joining.new result }
 {
-    'files: for index in 0..joining.file_count() {
-        join_file(alloc, source, files, joining, index)?;
+    'files: for index in chosen {
+        join_file(alloc, source, files, joining, *index)?;
     }
     Ok(())
 }

@@ -29,7 +29,7 @@ mod scopes;
 mod targets;
 mod undeclared;
 
-pub use dyndep_files::join_dyndeps;
+pub use dyndep_files::{join_dyndeps, join_present_dyndeps};
 pub use error::Error;
 pub use graph::{Graph, rules_by_name};
 pub use laws::{

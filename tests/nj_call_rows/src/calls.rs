@@ -8,6 +8,7 @@ use crate::keys::DrawnKeys;
 use crate::lexing::put_lexed;
 use crate::loads::{put_comparison, put_of_files};
 use crate::marks::{put_mark, put_mark_of};
+use crate::present::put_present;
 use crate::shown_faults::{put_reported, put_shown_fault};
 use crate::small_graphs::{put_chain, put_collected, put_of_edges};
 use crate::sources::put_sources;
@@ -53,6 +54,7 @@ fn put_call(
         "discovered" => put_discovered(alloc, text, given, row.rest),
         "join-discovered" => put_joined_discoveries(alloc, text, given, row.rest),
         "dirtied" => put_dirtied(alloc, text, given, row.rest),
+        "join-present" => put_present(alloc, text, given, row.rest),
         _ => put_other(alloc, text, given, row),
     }
 }

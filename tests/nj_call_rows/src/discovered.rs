@@ -14,8 +14,17 @@ use std::alloc::{AllocError, Global};
 
 /// The times of the lines `TIME PATH` of the file `times`; `TIME` is a number, or `fails`.
 #[derive(Drop)]
-struct Times<'a> {
+pub(crate) struct Times<'a> {
     lines: &'a str,
+}
+
+impl<'a> Times<'a> {
+    /// The times of the files of a row.
+    pub(crate) fn of(given: &'a Given) -> Times<'a> {
+        Times {
+            lines: str::from_utf8(given.bytes("times")).unwrap_or(""),
+        }
+    }
 }
 
 impl<'a> FileTimes for Times<'a> {
@@ -90,9 +99,7 @@ fn found_in(alloc: Global, given: &Given, log: &str) -> Result<Found, GraphFault
     let mut files = given.source(alloc)?;
     let graph = load(alloc, &mut files, "build.ninja")?.into_graph();
     let log = log_at(alloc, given, log)?;
-    let times = Times {
-        lines: str::from_utf8(given.bytes("times")).unwrap_or(""),
-    };
+    let times = Times::of(given);
     let discoveries = graph.discover(alloc, &log, &mut files, &times)?;
     Ok(Found { graph, discoveries })
 }

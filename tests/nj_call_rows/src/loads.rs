@@ -12,7 +12,7 @@ use std::alloc::{AllocError, Global};
 /// Appends an outcome for the files with the main file `main`: `load`, the line of their first
 /// fault, or `accepted`; `cause`, the cause of that fault; `kept`, the files that are kept;
 /// `affected` and `affected-joined`, the outputs that a change of the files at the paths `words`
-/// affects; `needed`, those that these files need; `between`, and with validations
+/// affects; `variable-joined`, the values of the variable `words` for their edges; `needed`, those that these files need; `between`, and with validations
 /// `between-with-validations`, by which chain the first of them needs the second; any other kind, a
 /// part of their graph.
 pub(crate) fn put_of_files(
@@ -30,7 +30,7 @@ pub(crate) fn put_of_files(
     }
 }
 
-/// The load of the files, for `affected-joined` with the discoveries of their dyndep files.
+/// The load of the files, for a `-joined` kind with the discoveries of their dyndep files.
 fn loaded_for(
     alloc: Global,
     files: &mut MemoryFiles,
@@ -39,7 +39,7 @@ fn loaded_for(
 ) -> Result<Loaded, GraphFault> {
     let loaded = load(alloc, files, main)?;
     match kind {
-        "affected-joined" => join_dyndeps(alloc, loaded, files),
+        "affected-joined" | "variable-joined" => join_dyndeps(alloc, loaded, files),
         _ => Ok(loaded),
     }
 }
@@ -56,6 +56,7 @@ fn put_part_of(
         "load" | "cause" => text.extend_from_slice(b"accepted\n"),
         "kept" => put_kept(text, loaded),
         "affected" | "affected-joined" => put_affected(alloc, text, loaded.graph(), words),
+        "variable-joined" => put_of_graph(alloc, text, loaded.graph(), "variable", words),
         "needed" => put_needed(alloc, text, loaded.graph(), words),
         "between" => put_between(alloc, text, loaded.graph(), words, false),
         "between-with-validations" => put_between(alloc, text, loaded.graph(), words, true),

@@ -15,6 +15,7 @@ mod lexing;
 mod loads;
 mod log_parts;
 mod marks;
+mod present;
 mod printer;
 mod shown_faults;
 mod small_graphs;

@@ -1,6 +1,7 @@
 -- The results of the steps of joining dyndep files, by the statements joined so far. Nothing here has to be believed.
-use Rattle.std.specs.Prelude.{◌≡◌, ◌⊎◌, ℕ, true, false, Option, Some, None, Result, Ok, Err, List, String, string_bytes, ⊤}
+use Rattle.std.specs.Prelude.{◌≡◌, ◌⊎◌, ℕ, Bool, true, false, Option, Some, None, is_some, Result, Ok, Err, List, [], slice_get, String, string_bytes, ⊤}
 use Rattle.nj_graph.specs.Inside.PathsReached.{with_news, come_joined}
+use Rattle.std.specs.List.{filter_map}
 use Rattle.std.specs.Str.{is_utf8}
 use Rattle.nj_text.specs.Lines.{Line}
 use Rattle.nj_manifest.specs.declared.entries.Entry as text
@@ -16,14 +17,18 @@ use Rattle.nj_faults.specs.declared.fault.Place.{Place}
 use Rattle.nj_faults.specs.declared.fault.GraphFault.{GraphFault}
 use Rattle.nj_faults.specs.declared.fault.Cause.TheVariants.{PathNotText}
 use Rattle.nj_faults.specs.Faults.{fault_in, no_memory}
-use Rattle.nj_statements.specs.EdgeList.{Pending}
+use Rattle.nj_discovered.specs.declared.times.TimeFound.{TimeFound}
+use Rattle.nj_discovered.specs.declared.times.TimeFound.TheVariants.{Time, NoAnswer}
+use Rattle.nj_discovered.specs.Times.{DeclaredTimes, IsTimeOf}
+use Rattle.nj_statements.specs.EdgeList.{Pending, pending_read}
 use Rattle.nj_statements.specs.Built.{BuiltModel, ComesTo}
-use Rattle.nj_statements.specs.Joining.{lacking_fault}
+use Rattle.nj_statements.specs.Joining.{lacking_fault, dyndep_files}
 use Rattle.nj_statements.specs.JoiningHeld.{JoiningModel, HasJoined}
 use Rattle.nj_graph.specs.Reading.{End, Whole, Refused, end_by}
 use Rattle.nj_graph.specs.Runs.{IsRead, IsEnd, IsLacking, paths_with, Stops}
 use Rattle.nj_graph.specs.Inside.ReaderContracts.{ReadsAll}
-use Rattle.nj_graph.specs.Joining.{text_joined, path_asked, file_joined, all_joined, Joins}
+use Rattle.nj_graph.specs.Loads.{LoadedModel, LoadsAfter}
+use Rattle.nj_graph.specs.Joining.{text_joined, path_asked, file_joined, files_joined, some_joined_after}
 
 -- ---- the name of a file
 
@@ -106,10 +111,22 @@ abbrev pub JoinsFile : (stated joined : List ReadStatement) → Pending → (bef
 JoinsFile stated joined p before after old table held (Ok done) = FileJoined stated joined p before after old table held
 JoinsFile stated joined p before after old table held (Err fault) = FileStops stated joined p before after old fault
 
--- ---- all files
+-- ---- some files
 
-pub record FilesJoined (stated : List ReadStatement) (before after : SourceState) (old table : List Reading) (held : JoiningModel)
-    : Type 0 where
+-- the files at these indices
+abbrev pub chosen_files : (files : List Pending) → (indices : List ℕ) → List Pending
+chosen_files files indices = filter_map (slice_get files) indices
+
+-- whether a file is there, where it cannot be told it is not
+abbrev pub is_present : TimeFound → Bool
+is_present (Time time) = is_some time
+is_present NoAnswer = false
+
+abbrev pub TellsPresence : DeclaredTimes → (path : List ℕ) → (is_there : Bool) → Type 0
+TellsPresence times path is_there = (found : TimeFound) × IsTimeOf times path found × (is_there ≡ is_present found)
+
+pub record FilesJoined (chosen : List Pending) (stated : List ReadStatement) (before after : SourceState) (old table : List Reading)
+    (held : JoiningModel) : Type 0 where
   pub files : List Reading
   pub reads : ReadsAll before after old files table
   pub now : List ReadStatement
@@ -117,23 +134,35 @@ pub record FilesJoined (stated : List ReadStatement) (before after : SourceState
   pub paths : List (List ℕ)
   pub came_to : with_news (paths_of old) paths ≡ paths_of files
   pub joins : (all : List Reading) → IsPrefix files all
-      → all_joined all stated ≡ record { read = record { entries = now; end = Whole }; paths = paths }
+      → files_joined all stated chosen stated ≡ record { read = record { entries = now; end = Whole }; paths = paths }
 
-pub record FilesStop (stated : List ReadStatement) (before after : SourceState) (old : List Reading) (fault : GraphFault) : Type 0 where
+pub record FilesStop (chosen : List Pending) (stated : List ReadStatement) (before after : SourceState) (old : List Reading)
+    (fault : GraphFault) : Type 0 where
   pub files : List Reading
   pub reads : IsRead before after old files
-  pub stops : Stops before after files (come_joined old stated) fault
+  pub stops : Stops before after files (come_joined old stated chosen) fault
 
-abbrev pub JoinsFiles : (stated : List ReadStatement) → (before after : SourceState) → (old table : List Reading) → JoiningModel
-    → Result (Unit {0}) GraphFault → Type 0
-JoinsFiles stated before after old table held (Ok done) = FilesJoined stated before after old table held
-JoinsFiles stated before after old table held (Err fault) = FilesStop stated before after old fault
+abbrev pub JoinsFiles : (chosen : List Pending) → (stated : List ReadStatement) → (before after : SourceState) → (old table : List Reading)
+    → JoiningModel → Result (Unit {0}) GraphFault → Type 0
+JoinsFiles chosen stated before after old table held (Ok done) = FilesJoined chosen stated before after old table held
+JoinsFiles chosen stated before after old table held (Err fault) = FilesStop chosen stated before after old fault
 
 -- ---- the edges of a run
 
--- the edges with the additions of all files, or why there are none
-abbrev pub JoinsBuilt : (stated : List ReadStatement) → (before after : SourceState) → (old table : List Reading)
-    → Result BuiltModel GraphFault → Type 0
-JoinsBuilt stated before after old table (Ok built) =
-    (held : JoiningModel) × (f : FilesJoined stated before after old table held) × ComesTo f.now (Ok built)
-JoinsBuilt stated before after old table (Err fault) = Joins stated old before after (Err fault)
+-- The files that are chosen are joined; or there are none to choose from; or memory ran out before they were chosen.
+pub data JoinsChosen (Chooses : (files chosen : List Pending) → Type 0) (stated : List ReadStatement) (old : List Reading)
+    (before after : SourceState) (result : Result LoadedModel GraphFault) : Type 0 where
+  joined : {chosen : List Pending} → Chooses (dyndep_files (pending_read stated)) chosen
+      → LoadsAfter old before after (some_joined_after old stated chosen) result → JoinsChosen Chooses stated old before after result
+  unpending : pending_read stated ≡ [] → LoadsAfter old before after (some_joined_after old stated []) result
+      → JoinsChosen Chooses stated old before after result
+  unchosen : ((chosen : List Pending) → LoadsAfter old before after (some_joined_after old stated chosen) result)
+      → JoinsChosen Chooses stated old before after result
+
+-- the edges with the additions of these files, or why there are none
+abbrev pub JoinsBuilt : (Chooses : (files chosen : List Pending) → Type 0) → (stated : List ReadStatement) → (before after : SourceState)
+    → (old table : List Reading) → Result BuiltModel GraphFault → Type 0
+JoinsBuilt Chooses stated before after old table (Ok built) =
+    (chosen : List Pending) × Chooses (dyndep_files (pending_read stated)) chosen
+    × ((held : JoiningModel) × (f : FilesJoined chosen stated before after old table held) × ComesTo f.now (Ok built))
+JoinsBuilt Chooses stated before after old table (Err fault) = JoinsChosen Chooses stated old before after (Err fault)

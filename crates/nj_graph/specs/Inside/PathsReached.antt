@@ -4,9 +4,10 @@ use Rattle.std.specs.Option.{option_to_list}
 use Rattle.std.specs.List.{list_any}
 use Rattle.nj_scope.specs.Readings.{Reading, paths_of}
 use Rattle.nj_scope.specs.ReadingList.{ReadStatement, path_named}
+use Rattle.nj_statements.specs.EdgeList.{Pending}
 use Rattle.nj_graph.specs.Reading.{ReadingModel, main_read, path_at_end}
 use Rattle.nj_graph.specs.Runs.{ReachedModel}
-use Rattle.nj_graph.specs.Joining.{all_joined}
+use Rattle.nj_graph.specs.Joining.{files_joined}
 
 -- the paths with one more at the end, unless it is there already
 abbrev pub with_new : (before : List (List ℕ)) → (path : List ℕ) → List (List ℕ)
@@ -38,5 +39,6 @@ reached_of main files = reached_by main (main_read files main)
 abbrev pub come_after : (before : List (List ℕ)) → ReachedModel → ReachedModel
 come_after before joined = record { read = joined.read; paths = with_news before joined.paths }
 
-abbrev pub come_joined : (old : List Reading) → (stated : List ReadStatement) → (files : List Reading) → ReachedModel
-come_joined old stated files = come_after (paths_of old) (all_joined files stated)
+abbrev pub come_joined : (old : List Reading) → (stated : List ReadStatement) → (dyndeps : List Pending) → (files : List Reading)
+    → ReachedModel
+come_joined old stated dyndeps files = come_after (paths_of old) (files_joined files stated dyndeps stated)

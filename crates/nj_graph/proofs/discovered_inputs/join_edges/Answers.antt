@@ -32,8 +32,8 @@ edges-preserved c =
     let paths = paths_found d (found_at d edge) in
     let added = c.in_ok-add_paths.ensures.added
     ∙ ap (λ numbers. fold with_new_input t (map (name_at d.names) numbers)) c.inputs.ensures.inputs in
-    let below : edge < length (inputs_found d) = let count = length-map d.edges (paths_found d)
-    in omega (arith, count, c.edge_count-edge-end.ensures, c.edges-test.true) in
+    let below : edge < length (inputs_found d) = let count = length-map d.edges (paths_found d) in
+    omega (arith, count, c.edge_count-edge-end.ensures, c.edges-test.true) in
     record {
       joins = one-more (inputs_found d) edge paths t c.end_edge.new.self (found-named d edge below)
           (c.end_edge.ensures ∙ ap at_next_edge added) ∙ c.edges.invariant.joins;
@@ -46,8 +46,8 @@ edges-preserved c =
           ++ drop (length c.add_paths.new.files) c.edges.files.items))) (sym c.end_edge.ensures)
           (subst (AreFilesOf d.names c.add_paths.new.joining.table.files)
           (sym (written-back c.edges.files.len c.add_paths.new.files c.edges.files.items
-          (let now = c.in_ok-add_paths.ensures.files.count
-          in omega (arith, now, c.edges.invariant.files.count))
-          (let now = c.in_ok-add_paths.ensures.files.count
-          in omega (arith, now, c.edges.invariant.files.count)))) c.in_ok-add_paths.ensures.files);
+          (let now = c.in_ok-add_paths.ensures.files.count in
+          omega (arith, now, c.edges.invariant.files.count))
+          (let now = c.in_ok-add_paths.ensures.files.count in
+          omega (arith, now, c.edges.invariant.files.count)))) c.in_ok-add_paths.ensures.files);
     }
