@@ -77,6 +77,15 @@ class History:
             self.add_included(path, named)
         return [path for path in self.project.sources() if path in named]
 
+    def missing_dyndeps(self):
+        """The dyndep files that are not there."""
+        return [path for path in self.project.dyndeps.values() if not (self.folder / path).is_file()]
+
+    def told_edges(self):
+        """The edges of which Ninja can tell whether it would run them: those that need no dyndep file that
+        is not there."""
+        return self.project.without(self.missing_dyndeps())
+
     def has_phony_file(self):
         return any((self.folder / path).exists() for path in self.project.phony())
 
@@ -107,8 +116,8 @@ class History:
         path = self.one_of([it for it in self.project.sources() if it.endswith((".c", ".in"))])
         if path == "build.in":
             return "nothing"
-        if path == self.project.dyndep_text:
-            text = dyndep_text(self.chance, self.project)
+        if path in self.project.dyndeps:
+            text = dyndep_text(self.chance, self.project, self.project.dyndeps[path])
         else:
             generated = [it for it in self.built() if it.endswith(".h")] if path.endswith(".c") else []
             text = includes(self.chance, PLAIN_HEADERS + generated, 3)
@@ -120,6 +129,13 @@ class History:
 
     def remove_output(self):
         path = self.one_of(self.built())
+        if not path:
+            return "nothing"
+        (self.folder / path).unlink()
+        return f"rm {path}"
+
+    def remove_dyndep(self):
+        path = self.one_of(self.project.dyndeps.values())
         if not path:
             return "nothing"
         (self.folder / path).unlink()
@@ -171,8 +187,8 @@ class History:
         self.told.append(self.chance.choice(steps)())
 
     def run(self):
-        """A history, of which most end in a whole build, and after some of these an output is removed or
-        something else happens."""
+        """A history, of which most end in a whole build, and after some of these an output or one of two
+        dyndep files is removed or something else happens."""
         changes = [
             self.touch_source, self.age_file, self.edit_source, self.remove_output, self.touch_output,
             self.spoil_depfile, self.spoil_log,
@@ -185,7 +201,9 @@ class History:
             self.step(self.make_phony_file)
         if self.chance.random() < 0.9:
             self.step(self.build)
-        if self.chance.random() < 0.3:
+        if len(self.project.dyndeps) > 1 and self.chance.random() < 0.4:
+            self.step(self.remove_dyndep)
+        elif self.chance.random() < 0.3:
             self.step(self.remove_output)
         if self.chance.random() < 0.4:
             self.step(*[self.touch_output, self.spoil_depfile] * 2, *changes)

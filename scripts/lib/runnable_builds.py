@@ -9,7 +9,7 @@ from dataclasses import dataclass, field
 
 from lib.random_builds import Build, Edge, some
 
-SCRIPT, DYNDEP = "compile.sh", "dd"
+SCRIPT, DYNDEPS = "compile.sh", ["dd", "dd2"]
 PLAIN_HEADERS = ["h0.h", "h1.h", "h2.h", "h3.h", "sub/h4.h"]
 # A phony edge on the generated ones.
 HEADERS = "headers"
@@ -70,14 +70,14 @@ SMALL = {
 
 @dataclass
 class Project:
-    """A build with its files. `dyndep_text` is the file that has the text of the dyndep file: that file,
-    or its source."""
+    """A build with its files."""
 
     build: Build
     files: dict = field(default_factory=dict)
     folder_of_logs: str = ""
-    dyndep_text: str = ""
-    # The output that the dyndep file adds to an edge, by the first output of the edge.
+    # The dyndep files by the files that have their texts: each by itself, or by its source.
+    dyndeps: dict = field(default_factory=dict)
+    # The output that a dyndep file adds to an edge, by the first output of the edge.
     added: dict = field(default_factory=dict)
 
     def edges(self):
@@ -102,6 +102,19 @@ class Project:
                 if reached & {path for bars, path in edge.inputs if bars != "||"}:
                     reached.update(edge.outputs)
         return reached & {*self.firsts()}
+
+    def without(self, dyndeps):
+        """The edges that neither make nor need these dyndep files. An edge may need each other one that
+        has the same dyndep file."""
+        barred = {*dyndeps}
+        for _ in self.build.edges:
+            for edge in self.build.edges:
+                dyndep = edge.bound.get("dyndep")
+                joined = [it for it in self.build.edges if dyndep and it.bound.get("dyndep") == dyndep]
+                needed = [path for it in [edge, *joined] for _, path in it.inputs]
+                if barred & {*edge.outputs, *needed}:
+                    barred.update(edge.outputs)
+        return [edge for edge in self.build.edges if not barred & {*edge.outputs}]
 
     def sources(self):
         """The files that no edge makes, without the manifest and the script."""
@@ -137,16 +150,16 @@ def add_headers(chance, project):
     return made
 
 
-def add_dyndep(chance, project, generated):
-    """A dyndep file, or none: a file of its own, or one that an edge makes, perhaps after headers."""
-    if chance.random() < 0.5:
-        return
-    if chance.random() < 0.3:
-        project.dyndep_text = DYNDEP
-    else:
-        project.dyndep_text = f"{DYNDEP}.in"
-        after = [("||", path) for path in some(chance, generated, 1)]
-        project.build.edges.append(Edge("generate", [DYNDEP], [("", f"{DYNDEP}.in"), *after]))
+def add_dyndeps(chance, project, generated):
+    """Dyndep files, or none: each a file of its own, or one that an edge makes, perhaps after headers."""
+    for path in DYNDEPS[: chance.choice([0, 0, 1, 2])]:
+        if chance.random() < 0.3:
+            project.dyndeps[path] = path
+        else:
+            source = f"{path}.in"
+            project.dyndeps[source] = path
+            after = [("||", path) for path in some(chance, generated, 1)]
+            project.build.edges.append(Edge("generate", [path], [("", source), *after]))
 
 
 def compiling_edge(chance, project, number, generated, earlier):
@@ -165,23 +178,23 @@ def compiling_edge(chance, project, number, generated, earlier):
     return edge
 
 
-def bind_dyndep(chance, project, edge):
-    """Has the edge read the dyndep file, perhaps with an output of which only that file tells."""
-    edge.inputs.append(("||" if chance.random() < 0.7 else "|", DYNDEP))
+def bind_dyndep(chance, project, edge, dyndep):
+    """Has the edge read this dyndep file, perhaps with an output of which only that file tells."""
+    edge.inputs.append(("||" if chance.random() < 0.7 else "|", dyndep))
     edge.inputs.sort(key=lambda it: len(it[0]))
-    edge.bound["dyndep"] = DYNDEP
+    edge.bound["dyndep"] = dyndep
     if chance.random() < 0.6:
         path = edge.outputs[0][:-1] + "mod"
         project.added[edge.outputs[0]] = path
         edge.bound["more"] += f" {path}"
 
 
-def dyndep_text(chance, project):
-    """What the dyndep file says. A discovered output is an input of edges with the same file alone:
+def dyndep_text(chance, project, dyndep):
+    """What this dyndep file says. A discovered output is an input of edges with the same file alone:
     others could be visited before that file was read."""
     lines, before = [], []
     for edge in project.build.edges:
-        if "dyndep" in edge.bound:
+        if edge.bound.get("dyndep") == dyndep:
             added = project.added.get(edge.outputs[0])
             found = some(chance, PLAIN_HEADERS, 1) + some(chance, before, 2)
             outputs = f"{edge.outputs[0]} | {added}" if added else edge.outputs[0]
@@ -235,17 +248,19 @@ def random_project(chance):
     project.files[SCRIPT] = script(chance)
     project.folder_of_logs = chance.choice(["", "", "logs"])
     generated = add_headers(chance, project)
-    add_dyndep(chance, project, generated)
+    add_dyndeps(chance, project, generated)
+    dyndeps = [*project.dyndeps.values()]
     compiled = []
     for number in range(chance.randint(2, 5)):
         edge = compiling_edge(chance, project, number, generated, compiled)
-        if project.dyndep_text and (not number or chance.random() < 0.6):
-            bind_dyndep(chance, project, edge)
+        if dyndeps and (number < len(dyndeps) or chance.random() < 0.6):
+            dyndep = dyndeps[number] if number < len(dyndeps) else chance.choice(dyndeps)
+            bind_dyndep(chance, project, edge, dyndep)
         project.build.edges.append(edge)
         compiled += edge.outputs
     add_ends(chance, project, compiled)
-    if project.dyndep_text:
-        project.files[project.dyndep_text] = dyndep_text(chance, project)
+    for path, dyndep in project.dyndeps.items():
+        project.files[path] = dyndep_text(chance, project, dyndep)
     if chance.random() < 0.1:
         project.build.edges.append(Edge("regenerate", ["build.ninja"], [("", "build.in")]))
         project.files["build.in"] = project.manifest()

@@ -9,7 +9,7 @@ from lib.checks import check, expect
 from lib.programs import ROOT
 
 # The most lines of definitions on which the contract of `run_words` may rest.
-MOST = 1939
+MOST = 1963
 # How the pages say how many there are.
 BELIEVED = re.compile(r"\*\*([\d,]+) lines of definitions\*\*")
 PROOFS = ROOT / "docs/PROOFS.md"

@@ -15,9 +15,9 @@ from collections import Counter, namedtuple
 
 from lib.checks import check
 from lib.histories import LOGS, NINJA, History, latest, set_time
-from lib.programs import DONE
+from lib.programs import DONE, LOOK
 from lib.projects import MAIN
-from lib.runnable_builds import DYNDEP, random_project, small_project
+from lib.runnable_builds import DYNDEPS, random_project, small_project
 
 COMPARISONS = 1_000
 CHANGES_OF_STATE = 4
@@ -25,7 +25,7 @@ CHANGES_OF_STATE = 4
 SHOWN = 3
 WORDS = ["affected", "--deps"]
 # A change of these cannot be trusted: what they will say is not known.
-SAYING_MORE = {MAIN, "./" + DYNDEP, DYNDEP}
+SAYING_MORE = {MAIN, *DYNDEPS, *("./" + path for path in DYNDEPS)}
 # The manifest by another name: no edge makes it, so Ninja does not stop after making it anew.
 ANOTHER = "another.ninja"
 COMMAND = re.compile(r"^: (\S+);", re.M)
@@ -38,7 +38,8 @@ UNKNOWN = re.compile(
 # adds; and in how many of these something is in play.
 LEAST = {
     "comparisons": 1_000, "trusted added edges": 500, "generated header": 100, "depfile alone": 100,
-    "dyndep file": 100, "removed output": 100, "unknown": 50,
+    "dyndep file": 100, "removed output": 100, "unknown": 50, "missing dyndep file": 40,
+    "joined beside a missing one": 20,
 }
 
 # A state of a project: its seed, its history, and what Ninja would run.
@@ -60,9 +61,13 @@ def copied(folder):
 
 
 def would_run(history, folder):
-    """What Ninja would run for all outputs, in a directory that it may change. `None` if it fails."""
+    """What Ninja would run for all outputs of which it can tell, in a directory that it may change. `None`
+    if it fails."""
+    targets = [path for edge in history.told_edges() for path in edge.outputs]
+    if not targets:
+        return None
     shutil.copy(folder / MAIN, folder / ANOTHER)
-    words = ["-n", "-v", "-d", "explain", "-f", ANOTHER, *history.project.outputs()]
+    words = ["-n", "-v", "-d", "explain", "-f", ANOTHER, *targets]
     ran = NINJA.run(words, folder, NINJA_STATUS="").as_text()
     if ran.status != DONE:
         return None
@@ -91,6 +96,8 @@ def in_play(history, added):
         "depfile alone": any(edge.rule == "cc_file" for edge in edges),
         "dyndep file": any("dyndep" in edge.bound for edge in edges),
         "removed output": any(not (history.folder / path).exists() for path in outputs),
+        "missing dyndep file": bool(edges and history.missing_dyndeps()),
+        "joined beside a missing one": bool(history.missing_dyndeps()) and any("dyndep" in it.bound for it in edges),
     }
 
 
@@ -108,16 +115,29 @@ def described(state, paths, after, ending):
     )
 
 
+def is_trusted(history, ending):
+    """Whether an answer says that it is complete, but for dyndep files that are not there."""
+    told = {f"{path}: a dyndep file, may change" for path in history.missing_dyndeps()}
+    return ending.status == (LOOK if told else DONE) and {*ending.error.splitlines()} == told
+
+
 def wrong_edges(state, after, ending, whatever_status):
     """The edges that the answer lacks, and those that it should not have."""
     history = state.history
-    answered = {*ending.output.splitlines()} & {*history.project.firsts()}
-    if ending.status != DONE and not whatever_status:
+    told = {edge.outputs[0] for edge in history.told_edges()} & {*history.project.firsts()}
+    answered = {*ending.output.splitlines()} & told
+    if not is_trusted(history, ending) and not whatever_status:
         return set(), set()
     # The time of a file by the name of a phony output hides its inputs from Ninja.
-    is_exact = ending.status == DONE and not history.has_phony_file()
+    is_exact = is_trusted(history, ending) and not history.has_phony_file()
     missing = added_by(state, after) | history.project.made_from(after.unknown)
-    return missing - answered, answered - after.edges if is_exact else set()
+    return missing & told - answered, answered - after.edges if is_exact else set()
+
+
+def blind_to(history, ending, paths):
+    """What may say something else, though the answer is trusted."""
+    missing = {*history.missing_dyndeps()} if ending.status == DONE else set()
+    return missing | (SAYING_MORE & {*paths} if is_trusted(history, ending) else set())
 
 
 def compared(graph, state, paths, counts, whatever_status=False):
@@ -135,13 +155,13 @@ def compared(graph, state, paths, counts, whatever_status=False):
     counts["status", ending.status] += 1
     missing, extra = wrong_edges(state, after, ending, whatever_status)
     added = added_by(state, after)
-    blind = SAYING_MORE & {*paths, *added} if ending.status == DONE else set()
+    blind = blind_to(state.history, ending, [*paths, *added])
     if missing or extra or blind or again != ending:
         wrong = f"lacks {missing}, has {extra}, trusts {blind}, then {again}"
         yield f"{wrong}\n{described(state, paths, after, ending)}"
     counts["added edges"] += bool(added)
     counts["unknown"] += ending.status == DONE and bool(after.unknown)
-    if ending.status == DONE and added:
+    if added and is_trusted(state.history, ending):
         counts["trusted added edges"] += 1
         counts.update(name for name, value in in_play(state.history, added).items() if value)
 

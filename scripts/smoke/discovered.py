@@ -130,21 +130,31 @@ def caveats_of_other_files(graph, folder):
     yield from caveat_differs(graph, folder, "a time", "a.o", "a.o: its time cannot be read")
 
 
+# Questions whose targets need all edges, and such as need neither a.o nor b.o.
+ABOUT_ALL = {"draw": [], "keys": [], "why": ["app", "c.c"]}
+ABOUT_ONE = {"draw": ["c.o"], "keys": ["c.o"], "why": ["c.o", "c.c"], "json": []}
+
+
 def caveat_differs(graph, folder, name, output, caveat):
-    """Whether each subcommand says this, and `affected` takes the edge of the output for one to be built again."""
+    """Whether each subcommand says this, and `affected` takes the edge of the output for one to be built again. A
+    fault of a depfile ends an answer about targets that need its edge."""
+    is_fault = caveat.startswith(DEPFILE)
     caveat = f"{caveat}\n"
     found = run(graph, folder, DEPS, ["c.c"])
     yield from expect(name, found, (LOOK, touched(output), caveat))
     found = run(graph, folder, DEPS, ["none", "c.c"])
     yield from expect(f"{name}, first", found, (LOOK, touched(output), f"{caveat}none\n"))
-    others = {"audit": ["--list"], "keys": ["--take", "0"]}
-    for other in SUBCOMMANDS.keys() - {"affected", *others}:
-        words = ["app", "c.c"] if other == "why" else []
-        status, text, error = graph.run([other, *DEPS, *words], folder).as_text()
-        yield from expect(f"{name}, {other}", (status, error, text == ""), (LOOK, caveat, False))
+    told_whole = FAULT, f"ninja-graph: {caveat}", True
+    told_beside = LOOK, caveat, False
+    for questions, wanted in (ABOUT_ALL, told_whole if is_fault else told_beside), (ABOUT_ONE, told_beside):
+        for other, words in questions.items():
+            status, text, error = graph.run([other, *DEPS, *words], folder).as_text()
+            yield from expect(f"{name}, {other} {words}", (status, error, text == ""), wanted)
+    status, text, error = graph.run(["draw", "--affected", *DEPS, "c.c"], folder).as_text()
+    yield from expect(f"{name}, draw --affected", (status, error), (LOOK, caveat))
     status, text, error = graph.run(["audit", *DEPS, "--only", "unused-pool"], folder).as_text()
     yield from expect(f"{name}, audit", (status, text, error), (LOOK, "", caveat))
-    status, text, error = graph.run(["keys", *DEPS, "--take", "0"], folder).as_text()
+    status, text, error = graph.run(["keys", *DEPS, "--take", "0", "c.o"], folder).as_text()
     yield from expect(f"{name}, keys", (status, text, error), (LOOK, "", f"mark start\n{caveat}"))
 
 
@@ -210,9 +220,16 @@ def may_change(*paths):
     return lines(f"{path}: a dyndep file, may change" for path in paths)
 
 
+def implicit_inputs(graph, folder, words):
+    """The implicit inputs of each edge, by its first output, with the status and standard error."""
+    status, output, error = graph.run(["json", *words], folder).as_text()
+    objects = [json.loads(line) for line in output.splitlines()]
+    return {it["outputs"][0]: it["implicit_inputs"] for it in objects}, status, error
+
+
 @check
 def joined_dyndep_files(graph, folder):
-    """They are joined if all are there. A file that changed, or that an edge makes anew, may change what edges need."""
+    """A file that changed, or that an edge makes anew, may change what edges need."""
     write_files(folder, BOUND_FILES)
     for path, outputs, told_of in [
         ("x.h", ["x", "y"], ""),
@@ -223,31 +240,65 @@ def joined_dyndep_files(graph, folder):
     ]:
         wanted = LOOK if told_of else DONE, lines(outputs), told_of
         yield from expect(path, run(graph, folder, DEPS, [path]), wanted)
-    found = graph.run(["json", *DEPS], folder).as_text()
-    objects = [json.loads(line) for line in found.output.splitlines()]
-    inputs = {it["outputs"][0]: it["implicit_inputs"] for it in objects}
-    yield from expect("json", (found.status, found.error), (DONE, ""))
-    yield from expect("its inputs", inputs, {"dd": [], "x": ["x.h"], "y": [], "z": []})
+    wanted = {"dd": [], "x": ["x.h"], "y": [], "z": []}, DONE, ""
+    yield from expect("json", implicit_inputs(graph, folder, DEPS), wanted)
+
+
+# What is joined, and what is told, where some of the files are there.
+PRESENT = {
+    ("dd",): (["x.h"], [], ["other"]),
+    ("other",): ([], ["z.h"], ["dd"]),
+    (): ([], [], ["dd", "other"]),
+    ("dd", "other"): (["x.h"], ["z.h"], []),
+}
 
 
 @check
-def missing_dyndep_files(graph, folder):
-    """Where one is not there, none is joined, and each may change."""
+def present_dyndep_files(graph, folder):
+    """Those that are there are joined, and each other one is told of in every subcommand."""
+    text = b"ninja_dyndep_version = 1\nbuild z: dyndep | z.h\n"
+    for present, (of_x, of_z, missing) in PRESENT.items():
+        write_files(folder, {**BOUND_FILES, "other": text})
+        for path in {"dd", "other"} - {*present}:
+            (folder / path).unlink()
+        caveat, status = may_change(*missing), LOOK if missing else DONE
+        wanted = {"dd": [], "x": of_x, "y": [], "z": of_z}, status, caveat
+        yield from expect(f"json of {present}", implicit_inputs(graph, folder, DEPS), wanted)
+        touched = lines([*(["x", "y"] if of_x else []), *(["z"] if of_z else [])])
+        found = run(graph, folder, [*DEPS, "--ignore-unknown"], ["x.h", "z.h"])
+        yield from expect(f"affected of {present}", found, (status, touched, caveat))
+        yield from told_everywhere(graph, folder, caveat)
+
+
+def told_everywhere(graph, folder, caveat):
+    """Whether each subcommand says this with `--deps`, and nothing without."""
+    status = LOOK if caveat else DONE
+    for name, words in {"json": [], "draw": [], "keys": [], "why": ["y", "x.c"]}.items():
+        ran = graph.run([name, *DEPS, *words], folder).as_text()
+        yield from expect(f"{name}, {caveat}", (ran.status, ran.error, ran.output == ""), (status, caveat, False))
+        ran = graph.run([name, *words], folder).as_text()
+        yield from expect(f"{name} without", (ran.status, ran.error, ran.output == ""), (DONE, "", False))
+    ran = graph.run(["audit", *DEPS, "--only", "unused-pool"], folder).as_text()
+    yield from expect(f"audit, {caveat}", ran, (status, "", caveat))
+
+
+@check
+def demanded_dyndep_files(graph, folder):
+    """`--dyndep` wants each, and a file that is there with a fault is one in any case."""
     write_files(folder, BOUND_FILES)
     (folder / "other").unlink()
-    caveat = may_change("dd", "other")
-    found = run(graph, folder, DEPS, ["x.h", "z.c"])
-    yield from expect("affected", found, (LOOK, lines(["z"]), f"x.h\n{caveat}"))
-    for name, words in {"json": [], "draw": [], "keys": [], "why": ["y", "x.c"]}.items():
-        status, output, error = graph.run([name, *DEPS, *words], folder).as_text()
-        yield from expect(name, (status, error, output == ""), (LOOK, caveat, False))
-        status, output, error = graph.run([name, *words], folder).as_text()
-        yield from expect(f"{name} without", (status, error, output == ""), (DONE, "", False))
-    ran = graph.run(["audit", *DEPS, "--only", "unused-pool"], folder).as_text()
-    yield from expect("audit", ran, (LOOK, "", caveat))
-    ran = graph.run(["json", *DEPS, "--dyndep"], folder).as_text()
-    fault = "build.ninja:7:1: cannot find 'other'\n"
-    yield from expect("--dyndep wants each", ran, (FAULT, "", fault))
+    for words in [["--dyndep"], [*DEPS, "--dyndep"]]:
+        ran = graph.run(["json", *words], folder).as_text()
+        yield from expect(words, ran, (FAULT, "", "build.ninja:7:1: cannot find 'other'\n"))
+    write_files(folder, {"dd": b"ninja_dyndep_version = 1\n"})
+    for name, (_, words) in SUBCOMMANDS.items():
+        ran = graph.run([name, *DEPS, *words], folder, b"x.c\n").as_text()
+        fault = "build.ninja:4:1: 'x' not mentioned in its dyndep file 'dd'\n"
+        yield from expect(f"{name} with a fault", ran, (FAULT, "", fault))
+    (folder / "dd").unlink()
+    (folder / "dd").symlink_to("dd")
+    found = implicit_inputs(graph, folder, DEPS)
+    yield from expect("a time", found[1:], (LOOK, may_change("dd", "other")))
 
 
 # ---- names are texts

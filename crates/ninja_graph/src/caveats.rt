@@ -1,9 +1,13 @@
 //! What may be missing from an answer.
 
+ghost use Rattle.std.specs.Prelude.{◌<◌, All, length};
+ghost use Rattle.ninja_graph.specs.Cited.{files_of};
+
 use crate::failure::Failure;
-use nj_ask::{DiscoveredGraph, Status, shape_lines};
+use nj_ask::{DiscoveredGraph, Status, caveat_lines, needed_fault};
+use nj_graph::FileNo;
 use nj_tools::{WriteSink, write_whole};
-use std::alloc::{AllocError, Global};
+use std::alloc::Global;
 
 /// Ends an answer about a graph: if it may not have all inputs that builds discovered, standard error
 /// says why, and there is something to look at. A fault is reported alone.
@@ -25,12 +29,20 @@ pub fn with_caveats(
     }
 }
 
-/// Why a graph may not have all inputs that builds discovered, a line each; none if they were not
-/// requested.
-fn caveat_lines(alloc: Global, known: &DiscoveredGraph) -> Result<Vec<u8>, AllocError> {
-    let mut lines = Vec::from_slice(alloc, &known.caveats)?;
-    if known.has_discovered {
-        lines.extend_from_slice(&shape_lines(alloc, known, &[], &[])?)?;
+/// Refuses a request about files that need an edge whose depfile has a fault: Ninja stops there.
+#[inline(never)]
+pub fn check_depfiles(
+    alloc: Global,
+    known: &DiscoveredGraph,
+    files: &[FileNo],
+) -> Result<(), Failure>
+    requires { All (λ file. file.0 < length (files_of known.now.graph)) files.now }
+{
+    if known.faults.is_empty() {
+        return Ok(());
     }
-    Ok(lines)
+    match needed_fault(alloc, known, files)? {
+        Some(fault) => Err(Failure::Depfile(Vec::from_slice(alloc, &fault.text)?)),
+        None => Ok(()),
+    }
 }

@@ -4,6 +4,7 @@
 ghost use Rattle.std.specs.Prelude.{◌<◌, All, length};
 ghost use Rattle.ninja_graph.specs.Cited.{files_of, HasEdges};
 
+use crate::caveats::check_depfiles;
 use crate::failure::Failure;
 use crate::words::{count, flag};
 use clap::{Arg, ArgAction, ArgMatches, Command};
@@ -70,6 +71,9 @@ pub fn answer(
 {
     let words = options.get_strs("targets").unwrap_or(&[]);
     let files = known.graph.pick_targets(rt.alloc(), words)?;
+    if !options.get_flag("affected") {
+        check_depfiles(rt.alloc(), known, &files)?;
+    }
     let drawing = drawing_of(rt.alloc(), known, &files, options)?;
     let mut out = WriteSink::new(rt.stdout());
     match write_whole(&mut out, &drawing) {

@@ -25,6 +25,8 @@ pub enum Failure {
     LogPath,
     /// The graph has a fault with the inputs that the deps log at this path and depfiles name.
     Discovered(String, GraphFault),
+    /// The depfile of an edge that the request needs has this fault, after the depfile's path.
+    Depfile(Vec<u8>),
     /// The option that `--deps` has replaced is given.
     OldOption,
     /// The value of `--base` is not absolute.
@@ -100,6 +102,7 @@ impl Failure {
         let mut line = match self {
             Failure::Graph(Error::Graph(fault)) => fault.line_for(alloc, "ninja-graph")?,
             Failure::Discovered(path, fault) => discovered_line(alloc, path, fault)?,
+            Failure::Depfile(text) => depfile_line(alloc, text)?,
             _ => format!(in alloc; "ninja-graph: {self}")?.into_bytes(),
         };
         line.push(b'\n')?;
@@ -119,6 +122,7 @@ impl fmt::Display for Failure {
             Failure::Discovered(path, fault) => {
                 write!(f, "{fault}, by the inputs of {path} and of depfiles")
             }
+            Failure::Depfile(_) => f.write_str("a depfile has a fault"),
             Failure::OldOption => {
                 f.write_str("--deps-log is now --deps, which reads depfiles and times too")
             }
@@ -139,6 +143,13 @@ fn discovered_line(alloc: Global, path: &str, fault: &GraphFault) -> Result<Vec<
     let mut line = fault.line_for(alloc, "ninja-graph")?;
     let by = format!(in alloc; ", by the inputs of {path} and of depfiles")?;
     line.extend_from_slice(by.as_bytes())?;
+    Ok(line)
+}
+
+/// The line of a fault of a depfile, whose path may be any bytes.
+fn depfile_line(alloc: Global, text: &[u8]) -> Result<Vec<u8>, AllocError> {
+    let mut line = Vec::from_slice(alloc, b"ninja-graph: ")?;
+    line.extend_from_slice(text)?;
     Ok(line)
 }
 

@@ -1,12 +1,11 @@
 //! The subcommand `keys`: a key for each command that targets need.
 
-use crate::caveats::with_caveats;
+use crate::caveats::{check_depfiles, with_caveats};
 use crate::failure::Failure;
 use crate::reading::read_graph;
 use crate::words::{number, option, repeated, targets};
 use clap::{ArgMatches, Command};
-use nj_ask::{Status, write_page};
-use nj_graph::Graph;
+use nj_ask::{DiscoveredGraph, Status, write_page};
 use nj_keys::{Bases, Page, page_from};
 use nj_needs::Mark;
 use nj_tools::{Error, WriteSink};
@@ -55,10 +54,10 @@ pub fn answer(rt: HostRuntime, options: &ArgMatches<'_>) -> Result<Status, Failu
     let bases = bases_of(rt.alloc(), options.get_strs("base").unwrap_or(&[]))?;
     let mark = mark_of(rt.alloc(), options.get_str("resume"))?;
     let known = read_graph(rt, options)?;
-    let page = page_of(rt.alloc(), &known.graph, &bases, &mark, options);
+    let page = page_of(rt.alloc(), &known, &bases, &mark, options);
     let answered = match page {
         Ok(page) => written(rt, &page),
-        Err(error) => Err(error.into()),
+        Err(failure) => Err(failure),
     };
     let answered = with_caveats(rt, &known, answered);
     // The process ends here, and its memory with it.
@@ -78,14 +77,19 @@ fn written(rt: HostRuntime, page: &Page) -> Result<Status, Failure> {
 #[inline(never)]
 fn page_of(
     alloc: Global,
-    graph: &Graph,
+    known: &DiscoveredGraph,
     bases: &Bases,
     mark: &Mark,
     options: &ArgMatches<'_>,
-) -> Result<Page, Error> {
+) -> Result<Page, Failure> {
+    let graph = &known.graph;
     let targets = graph.pick_targets(alloc, options.get_strs("targets").unwrap_or(&[]))?;
+    check_depfiles(alloc, known, &targets)?;
     let take = options.get_one::<u64>("take");
-    Ok(page_from(alloc, graph, bases, &targets, mark, take)?)
+    match page_from(alloc, graph, bases, &targets, mark, take) {
+        Ok(page) => Ok(page),
+        Err(fault) => Err(Failure::Graph(fault.into())),
+    }
 }
 
 /// The directories at these paths, which have to be absolute.

@@ -138,7 +138,7 @@ fn answer_about_graph(
         "affected" => affected::answer(rt, &known, options),
         "draw" => with_caveats(rt, &known, draw::answer(rt, &known, options)),
         "json" => with_caveats(rt, &known, json::answer(rt, &known.graph)),
-        "why" => with_caveats(rt, &known, why::answer(rt, &known.graph, options)),
+        "why" => with_caveats(rt, &known, why::answer(rt, &known, options)),
         _ => Ok(Status::Usage),
     };
     // The process ends here, and its memory with it.

@@ -6,12 +6,12 @@ ghost use Rattle.ninja_graph.specs.Cited.{files_of, IsGraphOf, ReadStatement, Ar
 use crate::deps_log::{ReadLog, joins_discovered, read_log};
 use crate::failure::Failure;
 use clap::ArgMatches;
-use nj_ask::{Discovered, DiscoveredGraph, Doubts, all_are_there, with_discovered};
+use nj_ask::{Discovered, DiscoveredGraph, Doubts, with_discovered};
 use nj_deps::DepsLog;
 use nj_disk::{DiskFiles, DiskTimes};
 use nj_graph::{
-    FileSource, Graph, GraphFault, HashKeys, Loaded, UndeclaredInput, join_dyndeps, load,
-    undeclared_inputs,
+    FileSource, Graph, GraphFault, HashKeys, Loaded, UndeclaredInput, join_dyndeps,
+    join_present_dyndeps, load, undeclared_inputs,
 };
 use std::alloc::{AllocError, Global};
 use std::env;
@@ -21,13 +21,6 @@ use std::env;
 pub struct LoggedGraph {
     pub known: DiscoveredGraph,
     pub undeclared: Vec<UndeclaredInput>,
-}
-
-/// A graph, and whether dyndep files were joined to it.
-#[derive(Drop)]
-struct JoinedGraph {
-    graph: Graph,
-    has_dyndeps: bool,
 }
 
 /// Changes to the directory of `-C`, and reads the main file there and all that it includes; then
@@ -101,49 +94,49 @@ fn logged_of<S: FileSource>(
 ) -> Result<LoggedGraph, Failure>
     ensures { IfOk result HasInputs }
 {
-    let joined = with_dyndeps(rt, files, loaded, options)?;
+    let graph = with_dyndeps(rt, files, loaded, options)?;
     let keys = files.hash_keys();
     if !joins_discovered(options) {
         return Ok(LoggedGraph {
-            known: undiscovered(rt.alloc(), joined, keys),
+            known: undiscovered(rt.alloc(), graph, keys),
             undeclared: Vec::new(rt.alloc()),
         });
     }
-    let log = read_log(rt, files, &joined.graph, options)?;
-    let undeclared = undeclared_of(rt.alloc(), &joined.graph, &log.log, finds_undeclared)?;
-    let known = discover(rt, joined, log, keys)?;
+    let log = read_log(rt, files, &graph, options)?;
+    let undeclared = undeclared_of(rt.alloc(), &graph, &log.log, finds_undeclared)?;
+    let known = discover(rt, graph, log, keys)?;
     Ok(LoggedGraph { known, undeclared })
 }
 
-/// The graph of these files. Dyndep files are joined with `--dyndep`, and where the inputs that
-/// builds discovered are requested, if all of these files are there.
+/// The graph of these files. With `--dyndep` all dyndep files are joined, and where the inputs that
+/// builds discovered are requested, those that are there.
 #[inline(never)]
 fn with_dyndeps<S: FileSource>(
     rt: HostRuntime,
     files: &mut S,
     loaded: Box<Loaded>,
     options: &ArgMatches<'_>,
-) -> Result<JoinedGraph, Failure> {
+) -> Result<Graph, Failure> {
     let loaded = Box::into_inner(loaded);
-    let has_dyndeps = options.get_flag("dyndep")
-        || joins_discovered(options) && all_are_there(loaded.graph(), &DiskTimes::new(rt))?;
-    let graph = if has_dyndeps {
-        join_dyndeps(rt.alloc(), loaded, files)?.into_graph()
-    } else {
-        loaded.into_graph()
-    };
-    Ok(JoinedGraph { graph, has_dyndeps })
+    if options.get_flag("dyndep") {
+        return Ok(join_dyndeps(rt.alloc(), loaded, files)?.into_graph());
+    }
+    if joins_discovered(options) {
+        let times = DiskTimes::new(rt);
+        return Ok(join_present_dyndeps(rt.alloc(), loaded, files, &times)?.into_graph());
+    }
+    Ok(loaded.into_graph())
 }
 
 /// A graph without the inputs that builds discovered.
-fn undiscovered(alloc: Global, joined: JoinedGraph, keys: HashKeys) -> DiscoveredGraph
+fn undiscovered(alloc: Global, graph: Graph, keys: HashKeys) -> DiscoveredGraph
     ensures { HasEdges result }
 {
     DiscoveredGraph {
-        graph: joined.graph,
+        graph,
         has_discovered: false,
-        has_dyndeps: joined.has_dyndeps,
         unknown: Vec::new(alloc),
+        faults: Vec::new(alloc),
         caveats: Vec::new(alloc),
         keys,
     }
@@ -173,30 +166,33 @@ fn undeclared_of(
 #[inline(never)]
 fn discover(
     rt: HostRuntime,
-    joined: JoinedGraph,
+    graph: Graph,
     log: ReadLog,
     keys: HashKeys,
 ) -> Result<DiscoveredGraph, Failure>
     ensures edges { IfOk result HasEdges }
-    ensures follows { IfOk result (λ known. Follows joined.graph known.graph) }
+    ensures follows { IfOk result (λ known. Follows graph known.graph) }
 {
     let mut files = DiskFiles::of_regular_files(rt);
     let times = DiskTimes::new(rt);
-    let JoinedGraph { graph, has_dyndeps } = joined;
     let ReadLog { path, log, caveat } = log;
     let discovered = match with_discovered(rt.alloc(), graph, &log, &mut files, &times) {
         Ok(discovered) => discovered,
         Err(fault) => return Err(Failure::of_discovered(path, fault)),
     };
     let Discovered { graph, doubts } = discovered;
-    let Doubts { edges, lines } = doubts;
+    let Doubts {
+        edges,
+        faults,
+        lines,
+    } = doubts;
     let mut caveats = caveat;
     caveats.extend_from_slice(&lines)?;
     Ok(DiscoveredGraph {
         graph,
         has_discovered: true,
-        has_dyndeps,
         unknown: edges,
+        faults,
         caveats,
         keys,
     })

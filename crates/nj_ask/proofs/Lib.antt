@@ -1,5 +1,6 @@
 mod LineLemmas
 mod DoubtLemmas
+mod FaultLemmas
 mod OpenedLemmas
 mod FlagLemmas
 mod NeedLemmas

@@ -1,11 +1,13 @@
 -- Lists that a loop makes longer, item by item.
-use Rattle.std.proofs.Common.{◌≡◌, ◌<◌, ◌≤◌, ◌+◌, ℕ, Option, Some, None, List, [], ◌∷◌, ◌++◌, map, length}
-use Rattle.std.proofs.Common.{take, get_or, unwrap_or, refl, sym, ap, ◌∙◌, append-nil, arith}
+use Rattle.std.proofs.Common.{◌≡◌, ◌<◌, ◌≤◌, ◌+◌, ℕ, zero, suc, Option, Some, None, List, [], ◌∷◌, ◌++◌, map}
+use Rattle.std.proofs.Common.{length, take, slice_get, option_map, get_or, unwrap_or, refl, sym, ap, ◌∙◌}
+use Rattle.std.proofs.Common.{append-nil, arith}
 use Rattle.std.specs.List.{cons_option, filter_map, flat_map, range_with_len}
 use Rattle.std.proofs.lemmas.List.{flat_map_more, map_push, take_all, take_more}
 use Rattle.std.proofs.lemmas.List.Elements.{filter_map-append}
 use Rattle.std.proofs.lemmas.List.FromFn.{map-range_with_len_more}
 use Rattle.nj_graph.specs.declared.FileNo.{FileNo}
+use Rattle.nj_graph.specs.EdgeList.{Pending}
 use Rattle.nj_ask.specs.Affected.{changed_file}
 
 -- the text of one more item
@@ -88,6 +90,46 @@ module _ (h : ℕ → Option ℕ) (n : ℕ) (found : List FileNo)
   number-none is =
       held ∙ sym (found-number h n ∙ ap (λ o. filter_map h (range_with_len 0 n) ++ cons_option o []) is
       ∙ append-nil (filter_map h (range_with_len 0 n)))
+
+-- the pending edge of a number
+pub edge-at : (o : Option Pending) (n : ℕ) → option_map (λ p. p.edge) o ≡ Some n
+    → (p : Pending) × (o ≡ Some p) × (p.edge ≡ n)
+edge-at None n h = absurd cc
+edge-at (Some p) n h = (p, refl, same p.edge h)
+  where
+    same : (m : ℕ) → Some m ≡ Some n → m ≡ n
+    same m e = cc
+
+-- the same, by those of some things
+module _ {X : Type 0} (h : X → Option ℕ) (things : List X) (i : ℕ) (x : X) (at : slice_get things i ≡ Some x)
+    (found : List FileNo)
+    (held : map (λ (f : FileNo). f.0) found ≡ filter_map h (take i things)) where
+  taken : take (i + 1) things ≡ take i things ++ x ∷ []
+  taken = ap (λ n. take n things) (let more : i + 1 ≡ suc i = omega arith in more) ∙ by things i at
+    where
+      some-is : (y z : X) → Some y ≡ Some z → y ≡ z
+      some-is y z e = cc
+
+      by : (ys : List X) (j : ℕ) → slice_get ys j ≡ Some x → take (suc j) ys ≡ take j ys ++ x ∷ []
+      by [] j e = absurd cc
+      by (y ∷ ys) zero e = ap (λ z. z ∷ []) (some-is y x e)
+      by (y ∷ ys) (suc j) e = ap (λ zs. y ∷ zs) (by ys j e)
+
+  found-next : filter_map h (take (i + 1) things) ≡ filter_map h (take i things) ++ cons_option (h x) []
+  found-next = ap (filter_map h) taken ∙ filter_map-append h (take i things) (x ∷ [])
+
+  pub thing-found : (new : List FileNo) (file : FileNo) → h x ≡ Some file.0 → new ≡ found ++ file ∷ []
+      → map (λ (f : FileNo). f.0) new ≡ filter_map h (take (i + 1) things)
+  thing-found new file is more =
+      ap (map (λ (f : FileNo). f.0)) more ∙ map_push (λ (f : FileNo). f.0) found file
+      ∙ ap (λ ns. ns ++ file.0 ∷ []) held
+      ∙ sym (found-next ∙ ap (λ o. filter_map h (take i things) ++ cons_option o []) is)
+
+  pub thing-none : h x ≡ None → map (λ (f : FileNo). f.0) found ≡ filter_map h (take (i + 1) things)
+  thing-none is =
+      held
+      ∙ sym (found-next ∙ ap (λ o. filter_map h (take i things) ++ cons_option o []) is
+      ∙ append-nil (filter_map h (take i things)))
 
 -- ---- files at paths
 

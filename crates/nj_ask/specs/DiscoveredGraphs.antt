@@ -27,17 +27,28 @@ is_doubtful Known = false
 is_doubtful (Unknown reason) = true
 is_doubtful (Faulty fault) = true
 
+-- the depfile of an edge has a fault
+abbrev pub is_faulty : Verdict → Bool
+is_faulty (Faulty fault) = true
+is_faulty verdict = false
+
+-- the edges whose depfiles have a fault, by number
+abbrev pub faulty_edges : DiscoveriesModel → List ℕ
+faulty_edges found = edges_from 0 (λ edge. is_faulty edge.verdict) found.edges
+
 -- the edges whose discovered inputs are not known, by number
 abbrev pub doubtful_edges : DiscoveriesModel → List ℕ
 doubtful_edges found = edges_from 0 (λ edge. is_doubtful edge.verdict) found.edges
 
 -- The inputs that edges discover are joined to the graph of these statements, by a deps log, depfiles and times, and the edges are
--- listed whose discovered inputs are not known; or the joined inputs have a dependency cycle; or memory ran out.
+-- listed whose discovered inputs are not known, and those whose depfiles have a fault; or the joined inputs have a dependency cycle; or memory ran out.
 pub data JoinsDiscovered (before after : SourceState) (times : DeclaredTimes) (log : LogModel) (stated : List ReadStatement) :
     Result Discovered GraphFault → Type 0 where
   joined : {known : Discovered} {found : DiscoveriesModel} → AreDiscovered before after times log stated found
       → JoinsNamed (λ edge. (discovery_at found edge).inputs) stated (Ok known.graph)
-      → map (λ edge. edge.0) known.doubts.edges.items ≡ doubtful_edges found → JoinsDiscovered before after times log stated (Ok known)
+      → map (λ edge. edge.0) known.doubts.edges.items ≡ doubtful_edges found
+      → map (λ fault. fault.edge.0) known.doubts.faults.items ≡ faulty_edges found
+      → JoinsDiscovered before after times log stated (Ok known)
   refused : {fault : GraphFault} {found : DiscoveriesModel} → AreDiscovered before after times log stated found
       → JoinsNamed (λ edge. (discovery_at found edge).inputs) stated (Err fault) → JoinsDiscovered before after times log stated (Err fault)
   out_of_memory : JoinsDiscovered before after times log stated (Err no_memory)

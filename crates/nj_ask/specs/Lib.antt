@@ -5,6 +5,7 @@ pub mod DiscoveredGraphs
 pub mod Joined
 pub mod MadeFrom
 pub mod Manifest
+pub mod NeededFaults
 pub mod Pages
 pub mod Reports
 pub mod Shape

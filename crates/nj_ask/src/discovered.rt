@@ -3,7 +3,7 @@
 ghost use Rattle.std.specs.Prelude.{List, IfOk};
 ghost use Rattle.nj_ask.specs.Cited.{LogModel, DeclaredTimes, AreDiscovered, IsGraphOf, ReadStatement, SourceState, JoinsDiscovered, Follows, HasDoubtfulEdges, AreFindingsOf};
 
-use crate::doubts::{Doubts, doubts_of};
+use crate::doubts::{Doubts, EdgeFault, doubts_of};
 use nj_deps::DepsLog;
 use nj_graph::{Discoveries, EdgeNo, FileSource, FileTimes, Graph, GraphFault, HashKeys};
 use std::alloc::{AllocError, Global};
@@ -14,10 +14,10 @@ pub struct DiscoveredGraph {
     pub graph: Graph,
     /// Whether the inputs that builds discovered were joined.
     pub has_discovered: bool,
-    /// Whether dyndep files were joined.
-    pub has_dyndeps: bool,
     /// The edges whose discovered inputs are not known.
     pub unknown: Vec<EdgeNo>,
+    /// The faults of depfiles, by the numbers of their edges.
+    pub faults: Vec<EdgeFault>,
     /// Why these inputs may not be as the last build discovered them, a line each.
     pub caveats: Vec<u8>,
     /// Keys of hashes that whoever wrote the files does not know.

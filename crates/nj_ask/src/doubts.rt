@@ -1,17 +1,27 @@
 //! What is not known of the inputs that builds discovered.
 
 ghost use Rattle.std.specs.Prelude.{◌≡◌, ◌++◌, ◌<◌, All, IfOk, OnOk, length, map};
-ghost use Rattle.nj_ask.specs.Cited.{edges_of, doubtful_edges, if_doubtful};
+ghost use Rattle.nj_ask.specs.Cited.{edges_of, doubtful_edges, faulty_edges, if_doubtful, if_faulty};
 
 use crate::listing::push_line;
 use nj_graph::{DepfileError, Discoveries, EdgeNo, Graph, Unknown, Verdict};
 use std::alloc::{AllocError, Global};
+
+/// The fault of the depfile of an edge.
+#[derive(Drop)]
+pub struct EdgeFault {
+    pub edge: EdgeNo,
+    /// The path of the depfile, and its fault in the words of Ninja.
+    pub text: Vec<u8>,
+}
 
 /// What is not known of the inputs that builds discovered.
 #[derive(Drop)]
 pub struct Doubts {
     /// The edges whose discovered inputs are not known, by number.
     pub edges: Vec<EdgeNo>,
+    /// The faults of depfiles, by the numbers of their edges.
+    pub faults: Vec<EdgeFault>,
     /// A line for each depfile with a fault, and for each output whose time cannot be read.
     pub lines: Vec<u8>,
 }
@@ -23,6 +33,8 @@ pub fn doubts_of(alloc: Global, graph: &Graph, found: &Discoveries) -> Result<Do
         ≡ doubtful_edges found.now) }
     ensures known { IfOk result (λ doubts.
         All (λ edge. edge.0 < length (edges_of graph.now)) doubts.edges.items) }
+    ensures faults { IfOk result (λ doubts. map (λ fault. fault.edge.0) doubts.faults.items
+        ≡ faulty_edges found.now) }
 {
     let mut edges = Vec::new(alloc);
     let mut lines = Vec::new(alloc);
@@ -36,7 +48,12 @@ pub fn doubts_of(alloc: Global, graph: &Graph, found: &Discoveries) -> Result<Do
             &mut lines,
         )?;
     }
-    Ok(Doubts { edges, lines })
+    let faults = faults_of(alloc, graph, found)?;
+    Ok(Doubts {
+        edges,
+        faults,
+        lines,
+    })
 }
 
 /// Adds an edge unless its discovered inputs are known, and the line that says why not, if there is
@@ -73,6 +90,66 @@ fn push_no_time(graph: &Graph, edge: EdgeNo, lines: &mut Vec<u8>) -> Result<(), 
     Ok(())
 }
 
+/// The faults of depfiles, by the numbers of their edges.
+fn faults_of(
+    alloc: Global,
+    graph: &Graph,
+    found: &Discoveries,
+) -> Result<Vec<EdgeFault>, AllocError>
+    requires { length found.now.edges ≡ length (edges_of graph.now) }
+    ensures { IfOk result (λ faults.
+        map (λ fault. fault.edge.0) faults.items ≡ faulty_edges found.now) }
+{
+    let mut faults = Vec::new(alloc);
+    'edges: for number in 0..graph.edge_count() {
+        push_faulty(
+            alloc,
+            &mut faults,
+            graph,
+            EdgeNo(number),
+            found.verdict(number),
+        )?;
+    }
+    Ok(faults)
+}
+
+/// Adds an edge if its depfile has a fault.
+fn push_faulty(
+    alloc: Global,
+    faults: &mut Vec<EdgeFault>,
+    graph: &Graph,
+    edge: EdgeNo,
+    verdict: &Verdict,
+) -> Result<(), AllocError>
+    requires { edge.0 < length (edges_of graph.now) }
+    ensures { OnOk result (map (λ fault. fault.edge.0) faults.new.items
+        ≡ map (λ fault. fault.edge.0) faults.old.items ++ if_faulty verdict.now edge.0) }
+{
+    match verdict {
+        Verdict::Faulty(fault) => {
+            let text = fault_text(alloc, graph, edge, fault)?;
+            faults.push(EdgeFault { edge, text })?;
+        }
+        _ => {}
+    }
+    Ok(())
+}
+
+/// The path of the depfile of an edge, and its fault.
+fn fault_text(
+    alloc: Global,
+    graph: &Graph,
+    edge: EdgeNo,
+    fault: &DepfileError,
+) -> Result<Vec<u8>, AllocError>
+    requires { edge.0 < length (edges_of graph.now) }
+{
+    let mut text = graph.variable(alloc, edge, b"depfile")?;
+    text.extend_from_slice(b": ")?;
+    fault.append_text(&mut text)?;
+    Ok(text)
+}
+
 /// Appends the line with the fault of the depfile of an edge.
 fn push_fault(
     alloc: Global,
@@ -83,9 +160,5 @@ fn push_fault(
 ) -> Result<(), AllocError>
     requires { edge.0 < length (edges_of graph.now) }
 {
-    lines.extend_from_slice(&graph.variable(alloc, edge, b"depfile")?)?;
-    lines.extend_from_slice(b": ")?;
-    fault.append_text(lines)?;
-    lines.push(b'\n')?;
-    Ok(())
+    push_line(lines, &fault_text(alloc, graph, edge, fault)?)
 }

@@ -1,38 +1,13 @@
 //! The files that shape the graph, where they may change.
 
 ghost use Rattle.std.specs.Prelude.{◌≡◌, ◌++◌, ◌<◌, ℕ, List, All, IfOk, IfSome, OnOk, length, map, option_map};
-ghost use Rattle.nj_ask.specs.Cited.{flat_map, range_with_len, edges_of, files_of, IsGraphOf, ReadStatement, line, dyndep_files, dyndep_of, dyndep_text, line_if_changes, lines_of_changing, may_change, remade_text, shape_text, is_made_flag, AreMarks};
+ghost use Rattle.nj_ask.specs.Cited.{flat_map, range_with_len, edges_of, files_of, IsGraphOf, ReadStatement, line, caveat_text, dyndep_files, dyndep_of, dyndep_text, line_if_changes, lines_of_changing, may_change, remade_text, shape_text, unjoined_files, is_made_flag, AreMarks};
 
 use crate::discovered::DiscoveredGraph;
 use crate::listing::push_line;
 use crate::manifest::{edge_flags, file_flags, is_set, opened_files};
-use nj_graph::{EdgeNo, FileNo, FileTimes, Graph, SourceFault};
+use nj_graph::{EdgeNo, FileNo, Graph};
 use std::alloc::{AllocError, Global};
-
-/// Whether the dyndep files of all edges are there.
-pub fn all_are_there<T: FileTimes>(graph: &Graph, times: &T) -> Result<bool, AllocError> {
-    'edges: for number in 0..graph.edge_count() {
-        if !is_there(graph.dyndep(EdgeNo(number)), times)? {
-            return Ok(false);
-        }
-    }
-    Ok(true)
-}
-
-/// Whether the file at the path of an edge's dyndep file is there, if the edge has one.
-fn is_there<T: FileTimes>(path: Option<&[u8]>, times: &T) -> Result<bool, AllocError> {
-    let Some(path) = path else {
-        return Ok(true);
-    };
-    let Ok(path) = str::from_utf8(path) else {
-        return Ok(false);
-    };
-    match times.time(path) {
-        Ok(time) => Ok(time.is_some()),
-        Err(SourceFault::OutOfMemory) => Err(AllocError),
-        Err(SourceFault::Io) => Ok(false),
-    }
-}
 
 /// Of files and edges, what may change.
 #[derive(Drop)]
@@ -43,6 +18,20 @@ struct Marks {
     has_changed: Vec<bool>,
     /// Of each edge whether the change touches it.
     is_touched: Vec<bool>,
+}
+
+/// Why an answer about a graph may not have all inputs that builds discovered, a line each: what is
+/// not known of these, and the dyndep files that were not joined. It is empty if they were not
+/// requested.
+pub fn caveat_lines(alloc: Global, known: &DiscoveredGraph) -> Result<Vec<u8>, AllocError>
+    ensures { (entries : List ReadStatement) → IsGraphOf known.now.graph entries
+        → IfOk result (λ lines. lines.items ≡ caveat_text known.now entries) }
+{
+    let mut lines = Vec::from_slice(alloc, &known.caveats)?;
+    if known.has_discovered {
+        lines.extend_from_slice(&dyndep_lines(alloc, &known.graph, &[], &[])?)?;
+    }
+    Ok(lines)
 }
 
 /// Where these files changed, which touches these edges: why the graph may have another shape, a line
@@ -60,7 +49,7 @@ pub fn shape_lines(
         → IfOk result (λ lines. lines.items ≡ shape_text known.now entries
         (map (λ file. file.0) changed.now) (map (λ edge. edge.0) touched.now)) }
 {
-    let mut lines = dyndep_lines(alloc, known, changed, touched)?;
+    let mut lines = dyndep_lines(alloc, &known.graph, changed, touched)?;
     lines.extend_from_slice(&remade_lines(alloc, known, touched)?)?;
     Ok(lines)
 }
@@ -68,27 +57,20 @@ pub fn shape_lines(
 /// A line for each dyndep file that may change.
 fn dyndep_lines(
     alloc: Global,
-    known: &DiscoveredGraph,
+    graph: &Graph,
     changed: &[FileNo],
     touched: &[EdgeNo],
 ) -> Result<Vec<u8>, AllocError>
-    requires changed { All (λ file. file.0 < length (files_of known.now.graph)) changed.now }
-    requires touched { All (λ edge. edge.0 < length (edges_of known.now.graph)) touched.now }
-    ensures { (entries : List ReadStatement) → IsGraphOf known.now.graph entries
-        → IfOk result (λ lines. lines.items ≡ dyndep_text known.now.graph entries
-        known.now.has_dyndeps (map (λ file. file.0) changed.now)
-        (map (λ edge. edge.0) touched.now)) }
+    requires changed { All (λ file. file.0 < length (files_of graph.now)) changed.now }
+    requires touched { All (λ edge. edge.0 < length (edges_of graph.now)) touched.now }
+    ensures { (entries : List ReadStatement) → IsGraphOf graph.now entries
+        → IfOk result (λ lines. lines.items ≡ dyndep_text graph.now entries
+        (map (λ file. file.0) changed.now) (map (λ edge. edge.0) touched.now)) }
 {
-    let graph = &known.graph;
     let files = dyndep_files(alloc, graph)?;
-    let marks = marks_of(alloc, graph, &files, changed, touched)?;
-    marked_lines(
-        alloc,
-        graph,
-        b": a dyndep file, may change",
-        known.has_dyndeps,
-        &marks,
-    )
+    let uncertain = uncertain_files(alloc, graph, changed)?;
+    let marks = marks_of(alloc, graph, &files, &uncertain, touched)?;
+    marked_lines(alloc, graph, b": a dyndep file, may change", &marks)
 }
 
 /// A line for each file that was opened and that one of these edges makes, if it is known what
@@ -108,7 +90,7 @@ fn remade_lines(
     let graph = &known.graph;
     let files = opened_files(alloc, graph)?;
     let marks = marks_of(alloc, graph, &files, &[], touched)?;
-    marked_lines(alloc, graph, b": a manifest, may change", true, &marks)
+    marked_lines(alloc, graph, b": a manifest, may change", &marks)
 }
 
 /// The marks of these files, changed files and touched edges.
@@ -154,6 +136,44 @@ fn dyndep_files(alloc: Global, graph: &Graph) -> Result<Vec<FileNo>, AllocError>
     Ok(files)
 }
 
+/// The dyndep files that were not joined, as often as edges are pending on them, and then these
+/// files.
+fn uncertain_files(
+    alloc: Global,
+    graph: &Graph,
+    changed: &[FileNo],
+) -> Result<Vec<FileNo>, AllocError>
+    requires { All (λ file. file.0 < length (files_of graph.now)) changed.now }
+    ensures files { (entries : List ReadStatement) → IsGraphOf graph.now entries
+        → IfOk result (λ files. map (λ file. file.0) files.items
+        ≡ unjoined_files graph.now entries ++ map (λ file. file.0) changed.now) }
+    ensures known { IfOk result (λ files.
+        All (λ file. file.0 < length (files_of graph.now)) files.items) }
+{
+    let mut files = unjoined_files(alloc, graph)?;
+    files.extend_from_slice(changed)?;
+    Ok(files)
+}
+
+/// The dyndep files that were not joined, as often as edges are pending on them.
+fn unjoined_files(alloc: Global, graph: &Graph) -> Result<Vec<FileNo>, AllocError>
+    ensures files { (entries : List ReadStatement) → IsGraphOf graph.now entries
+        → IfOk result (λ files. map (λ file. file.0) files.items
+        ≡ unjoined_files graph.now entries) }
+    ensures known { IfOk result (λ files.
+        All (λ file. file.0 < length (files_of graph.now)) files.items) }
+{
+    let mut files = Vec::new(alloc);
+    'pending: for index in 0..graph.pending_count() {
+        let found = dyndep_file(graph, graph.pending_edge(index));
+        match found {
+            Some(file) => files.push(file)?,
+            None => {}
+        }
+    }
+    Ok(files)
+}
+
 /// The dyndep file of an edge, if it has one.
 fn dyndep_file(graph: &Graph, edge: EdgeNo) -> Option<FileNo>
     requires { edge.0 < length (edges_of graph.now) }
@@ -172,16 +192,15 @@ fn marked_lines(
     alloc: Global,
     graph: &Graph,
     what: &[u8],
-    are_joined: bool,
     marks: &Marks,
 ) -> Result<Vec<u8>, AllocError>
     ensures { (files changed edges : List ℕ) → AreMarks graph.now files changed edges marks.now
         → IfOk result (λ lines. lines.items
-        ≡ lines_of_changing graph.now what.now are_joined files changed edges) }
+        ≡ lines_of_changing graph.now what.now files changed edges) }
 {
     let mut lines = Vec::new(alloc);
     'files: for number in 0..graph.file_count() {
-        push_if_changes(&mut lines, graph, what, are_joined, marks, FileNo(number))?;
+        push_if_changes(&mut lines, graph, what, marks, FileNo(number))?;
     }
     Ok(lines)
 }
@@ -191,30 +210,27 @@ fn push_if_changes(
     lines: &mut Vec<u8>,
     graph: &Graph,
     what: &[u8],
-    are_joined: bool,
     marks: &Marks,
     file: FileNo,
 ) -> Result<(), AllocError>
     requires { file.0 < length (files_of graph.now) }
     ensures { (files changed edges : List ℕ) → AreMarks graph.now files changed edges marks.now
         → OnOk result (lines.new.items ≡ lines.old.items
-        ++ line_if_changes graph.now what.now are_joined files changed edges file.0) }
+        ++ line_if_changes graph.now what.now files changed edges file.0) }
 {
-    if is_set(&marks.is_some, file.0) && may_change(graph, are_joined, marks, file) {
+    if is_set(&marks.is_some, file.0) && may_change(graph, marks, file) {
         return push_changing(lines, graph.path(file), what);
     }
     Ok(())
 }
 
 /// Whether a marked file may change.
-fn may_change(graph: &Graph, are_joined: bool, marks: &Marks, file: FileNo) -> bool
+fn may_change(graph: &Graph, marks: &Marks, file: FileNo) -> bool
     requires { file.0 < length (files_of graph.now) }
     ensures { (files changed edges : List ℕ) → AreMarks graph.now files changed edges marks.now
-        → result ≡ may_change graph.now are_joined changed edges file.0 }
+        → result ≡ may_change graph.now changed edges file.0 }
 {
-    !are_joined
-        || is_set(&marks.has_changed, file.0)
-        || is_made_by(&marks.is_touched, graph.maker(file))
+    is_set(&marks.has_changed, file.0) || is_made_by(&marks.is_touched, graph.maker(file))
 }
 
 /// Whether there is a maker, and it has a flag.

@@ -1,10 +1,10 @@
 -- What was found for a graph, before it is joined.
-use Rattle.std.specs.Prelude.{◌≡◌, if◌then◌else◌, List, [], ◌∷◌, length, map}
+use Rattle.std.specs.Prelude.{◌≡◌, ℕ, if◌then◌else◌, List, [], ◌∷◌, length, map}
 use Rattle.nj_graph.specs.declared.EdgeNo.{EdgeNo}
 use Rattle.nj_graph.specs.declared.Verdict.{Verdict}
 use Rattle.nj_graph.specs.Graph.{GraphModel, edges_of}
 use Rattle.nj_ask.specs.declared.discovered.Findings.{Findings}
-use Rattle.nj_ask.specs.DiscoveredGraphs.{doubtful_edges, is_doubtful}
+use Rattle.nj_ask.specs.DiscoveredGraphs.{doubtful_edges, faulty_edges, is_doubtful, is_faulty}
 use Rattle.nj_ask.specs.Joined.{AreEdgesOf}
 
 -- as many edges as the graph has, and those of them whose discovered inputs are not known
@@ -12,7 +12,12 @@ pub record AreFindingsOf (g : GraphModel) (findings : Findings) : Type 0 where
   pub count : length findings.found.edges ≡ length (edges_of g)
   pub unknown : map (λ edge. edge.0) findings.doubts.edges.items ≡ doubtful_edges findings.found
   pub known : AreEdgesOf g findings.doubts.edges.items
+  pub faulty : map (λ fault. fault.edge.0) findings.doubts.faults.items ≡ faulty_edges findings.found
 
 -- an edge, where its discovered inputs are not known
 abbrev pub if_doubtful : Verdict → EdgeNo → List EdgeNo
 if_doubtful verdict edge = if is_doubtful verdict then edge ∷ [] else []
+
+-- the number of an edge, where its depfile has a fault
+abbrev pub if_faulty : Verdict → (edge : ℕ) → List ℕ
+if_faulty verdict edge = if is_faulty verdict then edge ∷ [] else []

@@ -7,5 +7,5 @@ use Rattle.nj_ask.proofs.shape.marked_lines.Given as goal
 abbrev pub invariant-files : goal.invariant-files
 invariant-files l =
     (files changed edges : List ℕ) → AreMarks l.graph files changed edges l.marks
-    → l.lines.items ≡ flat_map (line_if_changes l.graph l.what l.are_joined files changed edges)
+    → l.lines.items ≡ flat_map (line_if_changes l.graph l.what files changed edges)
     (range_with_len 0 l.number)

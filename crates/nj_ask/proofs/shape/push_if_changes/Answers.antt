@@ -18,13 +18,13 @@ returns-then-may_change c files changed edges marks =
     ∙ c.if-is_set.true
     in
     let said : List ℕ → List ℕ = λ path. line (path ++ c.args.what.now) in
-    let two : may_change g c.args.are_joined changed edges file ≡ true =
+    let two : may_change g changed edges file ≡ true =
     sym (c.may_change.ensures files changed edges marks) ∙ c.if-may_change.true in
     let path = ap (λ o. unwrap_or o []) (rw c.deref-then-may_change.ensures at c.path.ensures) in
     subst (λ text. OnOk c.push_changing.result
     (c.push_changing.new.lines.items ≡ c.args.lines.now.items ++ text))
-    (ap said (sym path) ∙ sym (ap (λ b. cond (b && may_change g c.args.are_joined changed edges file)
-    (said (path_of g file)) []) one
+    (ap said (sym path) ∙ sym (ap (λ b. cond (b && may_change g changed edges file) (said (path_of g file))
+    []) one
     ∙ ap (λ b. cond b (said (path_of g file)) []) two))
     c.push_changing.ensures
 
@@ -40,12 +40,12 @@ returns c files changed edges marks =
           let one = sym flagged ∙ set ∙ w.if-is_set.true in
           let two = sym (w.may_change.ensures files changed edges marks) ∙ w.if-may_change.false in
           sym (ap (λ t. c.args.lines.now.items ++ t)
-          (ap (λ b. cond (b && may_change g c.args.are_joined changed edges file) said []) one
+          (ap (λ b. cond (b && may_change g changed edges file) said []) one
           ∙ ap (λ b. cond b said []) two)
           ∙ append-nil c.args.lines.now.items)
       | else-is_set-via-else-is_set w ↦
           let one = sym flagged ∙ set ∙ w.if-is_set.false in
           sym (ap (λ t. c.args.lines.now.items ++ t)
-          (ap (λ b. cond (b && may_change g c.args.are_joined changed edges file) said []) one)
+          (ap (λ b. cond (b && may_change g changed edges file) said []) one)
           ∙ append-nil c.args.lines.now.items)
     ]

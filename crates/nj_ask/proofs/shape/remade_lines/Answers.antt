@@ -13,9 +13,9 @@ returns c =
     let what = codes ": a manifest, may change" in
     let numbers = ap (map (λ (f : FileNo). f.0)) c.deref.ensures.value ∙ c.in_ok-files.ensures.files in
     subst (λ b. IfOk c.marked_lines.result
-    (λ lines. lines.items ≡ cond b (lines_of_changing known.graph what true (opened_files known.graph) []
+    (λ lines. lines.items ≡ cond b (lines_of_changing known.graph what (opened_files known.graph) []
     touched) []))
     (sym c.if-not-known.false)
     (subst (λ files. IfOk c.marked_lines.result
-    (λ lines. lines.items ≡ lines_of_changing known.graph what true files [] touched)) numbers
+    (λ lines. lines.items ≡ lines_of_changing known.graph what files [] touched)) numbers
     (c.marked_lines.ensures _ _ _ c.in_ok-marks.ensures))
