@@ -448,7 +448,8 @@ int32_t nx_command(nx_session *session, size_t edge, void *buffer, size_t size, 
 
 /*
  * The value of a variable for an edge: `description`, `depfile`, `rspfile` or any other name; empty
- * if it is bound nowhere. NX_DONE, NX_BAD_NUMBER, NX_SHORT, NX_OUT_OF_MEMORY.
+ * if it is bound nowhere. `restat` is `1` if a dyndep file that was joined binds it for the edge.
+ * NX_DONE, NX_BAD_NUMBER, NX_SHORT, NX_OUT_OF_MEMORY.
  */
 int32_t nx_variable(nx_session *session, size_t edge, const void *name, size_t name_length,
                     void *buffer, size_t size, size_t *needed);
