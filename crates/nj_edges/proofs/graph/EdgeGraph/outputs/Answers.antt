@@ -6,7 +6,7 @@ pub returns-clause-files : goal.returns-clause-files
 returns-clause-files c =
     rw (c.part.ensures, c.deref.ensures.value)
     (outputs-at _ _ _ _ _ _ c.self.invariant.edges_are c.args.self.now c.self.view_is c.args.edge.0
-    c.row_at-row.result c.row_at-row.ensures)
+    c.row-row.result c.row-row.ensures)
 
 pub returns-clause-known : goal.returns-clause-known
 returns-clause-known c = files-known c.args.self.now.files c.part.result.now
