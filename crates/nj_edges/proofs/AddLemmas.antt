@@ -1,10 +1,10 @@
 -- Lemmas on a file that is named for the edge that is being read.
 use Rattle.std.proofs.Common.{◌≡◌, ◌≢◌, ◌<◌, ◌+◌, ◌-◌, ◌==◌, ◌||◌, ◌⊎◌, inl, inr, ℕ, Bool, true, false, cond}
-use Rattle.std.proofs.Common.{List, [], ◌∷◌, ◌++◌, map, length, drop, slice_get, get_or, set, Option, Some}
+use Rattle.std.proofs.Common.{List, [], ◌∷◌, ◌++◌, length, drop, slice_get, get_or, set, Option, Some}
 use Rattle.std.proofs.Common.{None, is_some, bytes_eq, refl, sym, ap, subst, ◌∙◌, true≢false, arith}
 use Rattle.std.proofs.Common.{length-append}
 use Rattle.std.specs.List.{IsDistinct, list_any}
-use Rattle.std.proofs.Math.Bool.{or-true}
+use Rattle.std.proofs.Math.Bool.{or-false, or-true}
 use Rattle.std.proofs.Math.Seq.{drop-length}
 use Rattle.std.proofs.lemmas.Bool.Decides.{eqb_tells}
 use Rattle.std.proofs.lemmas.List.{drop-append-le, length-map}
@@ -12,20 +12,20 @@ use Rattle.std.proofs.lemmas.Option.{slice_get_within, get_or_from_slice_get}
 use Rattle.nj_names.proofs.ListLemmas.{among-get, get-last}
 use Rattle.nj_names.specs.declared.files.FileNo.{FileNo}
 use Rattle.nj_edges.specs.declared.edges.EdgeRow.{EdgeRow}
-use Rattle.nj_edges.specs.declared.edges.OpenStarts.{OpenStarts}
 use Rattle.nj_edges.specs.declared.edges.KindEnds.{KindEnds}
 use Rattle.nj_edges.specs.Edges.{first_edge, is_among}
-use Rattle.nj_edges.specs.Inside.EdgesHeld.{within, table_of, row_between, with_maker, is_edge, is_made_by}
-use Rattle.nj_edges.specs.Inside.EdgesHeld.{has_number, AreNumbers, AreNamed, OpenAreNew, output_rows}
-use Rattle.nj_edges.specs.Inside.EdgesHeld.{EdgesAreHeld, TableIsHeld}
+use Rattle.nj_edges.specs.Inside.EdgesHeld.{Lists, within, table_of, with_maker, with_row, is_edge}
+use Rattle.nj_edges.specs.Inside.EdgesHeld.{is_made_by}
+use Rattle.nj_edges.specs.Inside.EdgesHeld.{has_number, AreNumbers, AreNamed, OpenAreNew, read_outputs}
+use Rattle.nj_edges.specs.Inside.EdgesHeld.{output_rows, EdgesAreHeld, TableIsHeld}
 use Rattle.nj_edges.specs.EdgeTables.{EdgeTable, naming, EndWithin, plus_output, plus_input, plus_validation}
 use Rattle.nj_edges.specs.EdgeTables.{with_output, with_input, with_validation, is_made}
 use Rattle.nj_names.specs.NameTables.{with_name}
 use Rattle.nj_names.specs.Files.{path_at}
-use Rattle.nj_edges.proofs.EdgeLemmas.{all-drop, ends_of, get-path, first-last, first-more, has-push}
-use Rattle.nj_edges.proofs.EdgeLemmas.{held-ended, held-input, held-new, held-output, held-validation, IsNew}
-use Rattle.nj_edges.proofs.EdgeLemmas.{IsOld, made-at, named-cases, none-front, open-among, rows-same}
-use Rattle.nj_edges.proofs.EdgeLemmas.{table-input, table-named, table-output, table-validation, unmade}
+use Rattle.nj_edges.proofs.EdgeLemmas.{all-drop, get-path, first-last, first-more, has-push, held-ended}
+use Rattle.nj_edges.proofs.EdgeLemmas.{held-inputs, held-new, held-output, held-validations, IsNew, IsOld}
+use Rattle.nj_edges.proofs.EdgeLemmas.{made-at, named-cases, none-front, open-among, read-same, table-input}
+use Rattle.nj_edges.proofs.EdgeLemmas.{table-named, table-output, table-validation, unmade}
 use Rattle.nj_edges.proofs.GraphLemmas.{first-below}
 
 -- ---- tests
@@ -120,41 +120,39 @@ maker-else files path makers n count here apart = by (named-cases files path n h
 
 -- ---- the whole after a name
 
-module _ (files : List (List ℕ)) (makers : List (Option ℕ)) (outputs inputs validations : List FileNo)
-    (rows : List EdgeRow) (starts : OpenStarts)
-    (held : TableIsHeld files makers outputs inputs validations rows starts) (path : List ℕ)
+module _ (files : List (List ℕ)) (l : Lists) (held : TableIsHeld files l) (path : List ℕ)
     (fs : List (List ℕ)) (ms : List (Option ℕ)) (f : FileNo) (files-are : fs ≡ with_name files path)
-    (makers-are : ms ≡ with_maker files path makers) (distinct : IsDistinct bytes_eq fs)
+    (makers-are : ms ≡ with_maker files path l.makers) (distinct : IsDistinct bytes_eq fs)
     (here : slice_get fs f.0 ≡ Some path) (t : EdgeTable)
-    (is : table_of files outputs inputs validations rows starts ≡ t) where
+    (is : table_of files l ≡ t) where
   as-held : (b : Bool) → list_any (bytes_eq path) files ≡ b
-      → (fs ≡ cond b files (files ++ path ∷ [])) × (ms ≡ cond b makers (makers ++ None ∷ []))
+      → (fs ≡ cond b files (files ++ path ∷ [])) × (ms ≡ cond b l.makers (l.makers ++ None ∷ []))
   as-held b e = (
     files-are ∙ ap (λ c. cond c files (files ++ path ∷ [])) e,
     makers-are
-        ∙ ap (λ c. cond c makers (makers ++ None ∷ [])) e,
+        ∙ ap (λ c. cond c l.makers (l.makers ++ None ∷ [])) e,
   )
 
-  as-two : (xs : List (List ℕ)) (ys : List (Option ℕ)) → fs ≡ xs → ms ≡ ys
-      → EdgesAreHeld xs ys outputs inputs validations rows starts
-      → EdgesAreHeld fs ms outputs inputs validations rows starts
-  as-two xs ys e d h = subst (λ x. EdgesAreHeld x ms outputs inputs validations rows starts) (sym e)
-      (subst (λ y. EdgesAreHeld xs y outputs inputs validations rows starts) (sym d) h)
+  -- the lists with the makers that they have now
+  abbrev named : Lists
+  named = record l { makers = ms }
 
-  held-name : EdgesAreHeld fs ms outputs inputs validations rows starts
+  held-name : EdgesAreHeld fs named
   held-name = by (list_any (bytes_eq path) files) refl
     where
-      by : (b : Bool) → list_any (bytes_eq path) files ≡ b
-          → EdgesAreHeld fs ms outputs inputs validations rows starts
-      by true e = as-two files makers (as-held true e).0 (as-held true e).1 held.edges_are
-      by false e = as-two (files ++ path ∷ []) (makers ++ None ∷ []) (as-held false e).0 (as-held false e).1
-          (held-new files makers outputs inputs validations rows starts held.edges_are path
-          (subst (IsDistinct bytes_eq) (as-held false e).0 distinct))
+      as-two : (xs : List (List ℕ)) (ys : List (Option ℕ)) → (fs ≡ xs) × (ms ≡ ys)
+          → EdgesAreHeld xs (record l { makers = ys }) → EdgesAreHeld fs named
+      as-two xs ys same h = rw (same.0, same.1) h
 
-  table-name : table_of fs outputs inputs validations rows starts ≡ naming t path
+      by : (b : Bool) → list_any (bytes_eq path) files ≡ b → EdgesAreHeld fs named
+      by true e = as-two files l.makers (as-held true e) held.edges_are
+      by false e = as-two (files ++ path ∷ []) (l.makers ++ None ∷ []) (as-held false e)
+          (held-new files l held.edges_are path (subst (IsDistinct bytes_eq) (as-held false e).0 distinct))
+
+  table-name : table_of fs l ≡ naming t path
   table-name =
-      ap (λ xs. table_of xs outputs inputs validations rows starts) files-are
-      ∙ table-named files makers outputs inputs validations rows starts held.edges_are path
+      ap (λ xs. table_of xs l) files-are
+      ∙ table-named files l held.edges_are path
       ∙ ap (λ u. naming u path) is
 
   cases : IsNew files path f.0 ⊎ IsOld files path f.0
@@ -181,59 +179,66 @@ module _ (files : List (List ℕ)) (makers : List (Option ℕ)) (outputs inputs 
           (eqb_tells m f.0)
       by (inr old) = inl (subst (λ xs. m < length xs) (files-are ∙ old.same) below)
 
-  named-more : (os is' vs : List FileNo)
-      → ((m : ℕ) → (has_number m outputs || has_number m inputs || has_number m validations) ≡ true
-      → (has_number m os || has_number m is' || has_number m vs) ≡ true)
-      → (has_number f.0 os || has_number f.0 is' || has_number f.0 vs) ≡ true → AreNamed (length fs) os is' vs
-  named-more os is' vs keeps one m below = by (old-or-named m below)
+  -- whether an edge of these lists names a file
+  abbrev names : (k : Lists) → (m : ℕ) → Bool
+  names k m = has_number m k.outputs || has_number m k.inputs || has_number m k.validations
+
+  named-more : (k : Lists) → ((m : ℕ) → names l m ≡ true → names k m ≡ true) → names k f.0 ≡ true
+      → AreNamed (length fs) k
+  named-more k keeps one m below = by (old-or-named m below)
     where
-      by : (m < length files) ⊎ (m ≡ f.0) → (has_number m os || has_number m is' || has_number m vs) ≡ true
+      by : (m < length files) ⊎ (m ≡ f.0) → names k m ≡ true
       by (inl old) = keeps m (held.named m old)
-      by (inr same) = subst (λ k. (has_number k os || has_number k is' || has_number k vs) ≡ true) (sym same)
-          one
+      by (inr same) = subst (λ n. names k n ≡ true) (sym same) one
 
   -- ---- an input
 
-  pub input-table : table_of fs outputs (inputs ++ f ∷ []) validations rows starts ≡ with_input t path
-  input-table = table-input fs ms outputs inputs validations rows starts held-name f path here
-      ∙ ap (λ u. plus_input u path) table-name
+  abbrev with_inputs : Lists
+  with_inputs = record named { inputs = l.inputs ++ f ∷ [] }
 
-  pub input-held : TableIsHeld fs ms outputs (inputs ++ f ∷ []) validations rows starts
+  pub input-table : table_of fs with_inputs ≡ with_input t path
+  input-table = table-input fs named held-name f path here ∙ ap (λ u. plus_input u path) table-name
+
+  pub input-held : TableIsHeld fs with_inputs
   input-held = record {
-    edges_are = held-input fs ms outputs inputs validations rows starts held-name f within-files;
+    edges_are = held-inputs fs named held-name (f ∷ []) (within-files, tt);
     open_are_new = held.open_are_new;
-    named = named-more outputs (inputs ++ f ∷ []) validations
-        (λ m h. ap (λ b. has_number m outputs || b || has_number m validations) (has-push m inputs f)
-        ∙ or-more-2 (has_number m outputs) (has_number m inputs) (has_number m validations) (m == f.0) h)
-        (ap (λ b. has_number f.0 outputs || b || has_number f.0 validations) (has-last inputs f)
-        ∙ ap (λ b. b || has_number f.0 validations) (or-true (has_number f.0 outputs)));
+    named = named-more with_inputs
+        (λ m h. ap (λ b. has_number m l.outputs || b || has_number m l.validations) (has-push m l.inputs f)
+        ∙ or-more-2 (has_number m l.outputs) (has_number m l.inputs) (has_number m l.validations) (m == f.0)
+        h)
+        (ap (λ b. has_number f.0 l.outputs || b || has_number f.0 l.validations) (has-last l.inputs f)
+        ∙ ap (λ b. b || has_number f.0 l.validations) (or-true (has_number f.0 l.outputs)));
   }
 
   -- ---- a validation
 
-  pub validation-table : table_of fs outputs inputs (validations ++ f ∷ []) rows starts
-      ≡ with_validation t path
-  validation-table = table-validation fs ms outputs inputs validations rows starts held-name f path here
+  abbrev with_validations : Lists
+  with_validations = record named { validations = l.validations ++ f ∷ [] }
+
+  pub validation-table : table_of fs with_validations ≡ with_validation t path
+  validation-table = table-validation fs named held-name f path here
       ∙ ap (λ u. plus_validation u path) table-name
 
-  pub validation-held : TableIsHeld fs ms outputs inputs (validations ++ f ∷ []) rows starts
+  pub validation-held : TableIsHeld fs with_validations
   validation-held = record {
-    edges_are = held-validation fs ms outputs inputs validations rows starts held-name f within-files;
+    edges_are = held-validations fs named held-name (f ∷ []) (within-files, tt);
     open_are_new = held.open_are_new;
-    named = named-more outputs inputs (validations ++ f ∷ [])
-        (λ m h. ap (λ b. has_number m outputs || has_number m inputs || b) (has-push m validations f)
-        ∙ or-more-3 (has_number m outputs) (has_number m inputs) (has_number m validations) (m == f.0) h)
-        (ap (λ b. has_number f.0 outputs || has_number f.0 inputs || b) (has-last validations f)
-        ∙ or-true (has_number f.0 outputs || has_number f.0 inputs));
+    named = named-more with_validations
+        (λ m h. ap (λ b. has_number m l.outputs || has_number m l.inputs || b) (has-push m l.validations f)
+        ∙ or-more-3 (has_number m l.outputs) (has_number m l.inputs) (has_number m l.validations) (m == f.0)
+        h)
+        (ap (λ b. has_number f.0 l.outputs || has_number f.0 l.inputs || b) (has-last l.validations f)
+        ∙ or-true (has_number f.0 l.outputs || has_number f.0 l.inputs));
   }
 
   -- ---- a file that was there
 
-  same-files : f.0 < length files → (fs ≡ files) × (ms ≡ makers)
+  same-files : f.0 < length files → (fs ≡ files) × (ms ≡ l.makers)
   same-files below = by (list_any (bytes_eq path) files) refl cases
     where
       by : (b : Bool) → list_any (bytes_eq path) files ≡ b → IsNew files path f.0 ⊎ IsOld files path f.0
-          → (fs ≡ files) × (ms ≡ makers)
+          → (fs ≡ files) × (ms ≡ l.makers)
       by true e known = as-held true e
       by false e (inl new) = let end : f.0 ≡ length files = new.last in absurd (omega arith)
       by false e (inr old) =
@@ -250,7 +255,7 @@ module _ (files : List (List ℕ)) (makers : List (Option ℕ)) (outputs inputs 
       last end true e = let below : f.0 < length files =
           subst (λ xs. f.0 < length xs) (as-held true e).0 within-files in absurd (omega arith)
       last end false e = ap (slice_get ms) (end ∙ sym held.edges_are.makers_count)
-          ∙ ap (λ xs. slice_get xs (length makers)) (as-held false e).1 ∙ get-last makers None
+          ∙ ap (λ xs. slice_get xs (length l.makers)) (as-held false e).1 ∙ get-last l.makers None
 
       by : IsNew files path f.0 ⊎ IsOld files path f.0 → f.0 < length files
       by (inr old) = old.below
@@ -258,118 +263,106 @@ module _ (files : List (List ℕ)) (makers : List (Option ℕ)) (outputs inputs 
           ∙ ap is_some (found-is ∙ get_or_from_slice_get ms f.0 None None
           (last new.last (list_any (bytes_eq path) files) refl))))
 
-  same-table : f.0 < length files → TableIsHeld fs ms outputs inputs validations rows starts
-      × (table_of fs outputs inputs validations rows starts ≡ t)
-  same-table below =
-      let same = same-files below in (
-        subst (λ xs. TableIsHeld xs ms outputs inputs validations rows starts) (sym same.0)
-            (subst (λ ys. TableIsHeld files ys outputs inputs validations rows starts) (sym same.1) held),
-        ap (λ xs. table_of xs outputs inputs validations rows starts) same.0 ∙ is,
-      )
+  same-table : f.0 < length files → TableIsHeld fs named × (table_of fs l ≡ t)
+  same-table below = let same = same-files below in
+      (rw (same.0, same.1) held, ap (λ xs. table_of xs l) same.0 ∙ is)
 
   -- a file with a maker: nothing changes
   pub made-table : (found : Option ℕ) → found ≡ get_or ms f.0 None → is_some found ≡ true
-      → table_of fs outputs inputs validations rows starts ≡ t
+      → table_of fs l ≡ t
   made-table found found-is some = (same-table (made-before found found-is some)).1
 
   pub made-held : (found : Option ℕ) → found ≡ get_or ms f.0 None → is_some found ≡ true
-      → TableIsHeld fs ms outputs inputs validations rows starts
+      → TableIsHeld fs named
   made-held found found-is some = (same-table (made-before found found-is some)).0
 
   -- whether it has a maker
   pub made-is : (found : Option ℕ) → found ≡ get_or ms f.0 None → is_some found ≡ is_made t path
-  made-is found found-is = made-at fs ms outputs inputs validations rows starts held-name f.0 path here found
+  made-is found found-is = made-at fs named held-name f.0 path here found
       found-is ∙ ap (λ u. is_made u path) table-name
 
   -- ---- an output
 
   module _ (found : Option ℕ) (found-is : found ≡ get_or ms f.0 None) (none : is_some found ≡ false) where
-    unmade-now : first_edge (has_number f.0) (output_rows outputs starts.outputs rows) ≡ None
-    unmade-now = unmade fs ms outputs inputs validations rows starts held-name f found within-files found-is
-        none
+    unmade-now : first_edge (has_number f.0) (output_rows l) ≡ None
+    unmade-now = unmade fs named held-name f within-files found found-is none
 
-    pub output-table : table_of fs (outputs ++ f ∷ []) inputs validations rows starts ≡ with_output t path
-    output-table = table-output fs ms outputs inputs validations rows starts held-name f path here
-        ∙ ap (λ u. plus_output u path) table-name
+    abbrev with_outputs : Lists
+    with_outputs = record l { makers = set ms f.0 (Some (length l.rows)); outputs = l.outputs ++ f ∷ [] }
 
-    output-new : OpenAreNew (outputs ++ f ∷ []) starts.outputs rows
-    output-new m has = ap (first_edge (has_number m))
-        (rows-same fs ms outputs inputs validations rows starts held-name f rows held.edges_are.rows_are)
+    pub output-table : table_of fs with_outputs ≡ with_output t path
+    output-table = table-output fs named held-name f path here ∙ ap (λ u. plus_output u path) table-name
+
+    output-new : OpenAreNew with_outputs
+    output-new m has = ap (first_edge (has_number m)) (read-same fs named held-name (f ∷ []))
         ∙ by (eqb_tells m f.0)
       where
-        has' : (has_number m (drop starts.outputs outputs) || (m == f.0)) ≡ true
-        has' = sym (ap (has_number m) (drop-append-le starts.outputs outputs (f ∷ [])
-            held.edges_are.outputs_start) ∙ has-push m (drop starts.outputs outputs) f) ∙ has
+        next : List FileNo
+        next = drop l.starts.outputs l.outputs
 
-        or-left : (a : Bool) → (a || false) ≡ true → a ≡ true
-        or-left true h = refl
-        or-left false h = h
+        has' : (has_number m next || (m == f.0)) ≡ true
+        has' = sym (ap (has_number m) (drop-append-le l.starts.outputs l.outputs (f ∷ [])
+            held.edges_are.outputs.starts) ∙ has-push m next f) ∙ has
 
         by : ((m == f.0) ≡ true × (m ≡ f.0)) ⊎ ((m == f.0) ≡ false × (m ≢ f.0))
-            → first_edge (has_number m) (map (λ (row : EdgeRow). within outputs row.outputs) rows) ≡ None
-        by (inl same) =
-            subst (λ k. first_edge (has_number k) (map (λ (row : EdgeRow). within outputs row.outputs) rows)
-            ≡ None) (sym same.1)
-            (none-front (has_number f.0) (map (λ (row : EdgeRow). within outputs row.outputs) rows)
-            (drop starts.outputs outputs) unmade-now)
-        by (inr apart) = held.open_are_new m
-            (or-left (has_number m (drop starts.outputs outputs))
-            (sym (ap (λ b. has_number m (drop starts.outputs outputs) || b) apart.0) ∙ has'))
+            → first_edge (has_number m) (read_outputs l) ≡ None
+        by (inl same) = subst (λ k. first_edge (has_number k) (read_outputs l) ≡ None) (sym same.1)
+            (none-front (has_number f.0) (read_outputs l) next unmade-now)
+        by (inr apart) = held.open_are_new m (sym (or-false (has_number m next))
+            ∙ sym (ap (λ b. has_number m next || b) apart.0) ∙ has')
 
-    pub output-held : TableIsHeld fs (set ms f.0 (Some (length rows))) (outputs ++ f ∷ []) inputs validations
-        rows starts
+    pub output-held : TableIsHeld fs with_outputs
     output-held = record {
-      edges_are = held-output fs ms outputs inputs validations rows starts held-name f within-files
-          unmade-now;
+      edges_are = held-output fs named held-name f within-files unmade-now;
       open_are_new = output-new;
-      named = named-more (outputs ++ f ∷ []) inputs validations
-          (λ m h. ap (λ b. b || has_number m inputs || has_number m validations) (has-push m outputs f)
-          ∙ or-more-1 (has_number m outputs) (has_number m inputs) (has_number m validations) (m == f.0)
+      named = named-more with_outputs
+          (λ m h. ap (λ b. b || has_number m l.inputs || has_number m l.validations) (has-push m l.outputs f)
+          ∙ or-more-1 (has_number m l.outputs) (has_number m l.inputs) (has_number m l.validations) (m == f.0)
           h)
-          (ap (λ b. b || has_number f.0 inputs || has_number f.0 validations) (has-last outputs f));
+          (ap (λ b. b || has_number f.0 l.inputs || has_number f.0 l.validations) (has-last l.outputs f));
     }
 
   -- ---- a file that the edge makes itself
 
-  pub own-number : is_made_by ms f.0 (length rows) ≡ has_number f.0 (drop starts.outputs outputs)
+  pub own-number : is_made_by ms f.0 (length l.rows) ≡ has_number f.0 (drop l.starts.outputs l.outputs)
   own-number =
-      ap (λ o. is_edge o (length rows)) (get_or_from_slice_get ms f.0
-      (first_edge (has_number f.0) (output_rows outputs starts.outputs rows)) None
+      ap (λ o. is_edge o (length l.rows)) (get_or_from_slice_get ms f.0
+      (first_edge (has_number f.0) (output_rows l)) None
       (held-name.makers_are f.0 within-all))
-      ∙ ap (is_edge (first_edge (has_number f.0) (output_rows outputs starts.outputs rows)))
-      (sym (length-map rows (λ (row : EdgeRow). within outputs row.outputs)))
-      ∙ last-edge (has_number f.0) (map (λ (row : EdgeRow). within outputs row.outputs) rows)
-      (drop starts.outputs outputs) (held.open_are_new f.0)
+      ∙ ap (is_edge (first_edge (has_number f.0) (output_rows l)))
+      (sym (length-map l.rows (λ (row : EdgeRow). within l.outputs row.outputs)))
+      ∙ last-edge (has_number f.0) (read_outputs l)
+      (drop l.starts.outputs l.outputs) (held.open_are_new f.0)
 
-  own-is : is_made_by ms f.0 (length rows) ≡ is_among t.«open».outputs path
-  own-is = own-number ∙ open-among fs ms outputs inputs validations rows starts held-name f.0 path here
+  own-is : is_made_by ms f.0 (length l.rows) ≡ is_among t.«open».outputs path
+  own-is = own-number ∙ open-among fs named held-name f.0 path here
       ∙ ap (λ u. is_among u.«open».outputs path) table-name
 
-  own-before : is_made_by ms f.0 (length rows) ≡ true → f.0 < length files
-  own-before own = has-below (length files) f.0 (drop starts.outputs outputs)
-      (all-drop (λ g. g.0 < length files) starts.outputs outputs held.edges_are.outputs_are)
+  own-before : is_made_by ms f.0 (length l.rows) ≡ true → f.0 < length files
+  own-before own = has-below (length files) f.0 (drop l.starts.outputs l.outputs)
+      (all-drop (λ g. g.0 < length files) l.starts.outputs l.outputs held.edges_are.outputs.are)
       (sym own-number ∙ own)
 
-  pub own-table : is_made_by ms f.0 (length rows) ≡ true
-      → table_of fs outputs inputs validations rows starts
+  pub own-table : is_made_by ms f.0 (length l.rows) ≡ true
+      → table_of fs l
       ≡ cond (is_among t.«open».outputs path) t (with_input t path)
   own-table own = (same-table (own-before own)).1 ∙ ap (λ b. cond b t (with_input t path)) (sym own ∙ own-is)
 
-  pub own-held : is_made_by ms f.0 (length rows) ≡ true
-      → TableIsHeld fs ms outputs inputs validations rows starts
+  pub own-held : is_made_by ms f.0 (length l.rows) ≡ true
+      → TableIsHeld fs named
   own-held own = (same-table (own-before own)).0
 
-  pub other-table : is_made_by ms f.0 (length rows) ≡ false
-      → table_of fs outputs (inputs ++ f ∷ []) validations rows starts
-      ≡ cond (is_among t.«open».outputs path) t (with_input t path)
+  pub other-table : is_made_by ms f.0 (length l.rows) ≡ false
+      → table_of fs with_inputs ≡ cond (is_among t.«open».outputs path) t (with_input t path)
   other-table other = input-table ∙ ap (λ b. cond b t (with_input t path)) (sym other ∙ own-is)
 
 -- ---- an input whose file was there
 
-module _ (files : List (List ℕ)) (makers : List (Option ℕ)) (outputs inputs validations : List FileNo)
-    (rows : List EdgeRow) (starts : OpenStarts)
-    (held : TableIsHeld files makers outputs inputs validations rows starts) (f : FileNo) (t : EdgeTable)
-    (is : table_of files outputs inputs validations rows starts ≡ t) where
+module _ (files : List (List ℕ)) (l : Lists) (held : TableIsHeld files l) (f : FileNo) (t : EdgeTable)
+    (is : table_of files l ≡ t) where
+  abbrev more_inputs : Lists
+  more_inputs = record l { inputs = l.inputs ++ f ∷ [] }
+
   module _ (path : List ℕ) (here' : slice_get t.files f.0 ≡ Some path) where
     here : slice_get files f.0 ≡ Some path
     here = ap (λ (u : EdgeTable). slice_get u.files f.0) is ∙ here'
@@ -380,49 +373,42 @@ module _ (files : List (List ℕ)) (makers : List (Option ℕ)) (outputs inputs 
     files-stay : files ≡ with_name files path
     files-stay = sym (ap (λ b. cond b files (files ++ path ∷ [])) known)
 
-    makers-stay : makers ≡ with_maker files path makers
-    makers-stay = sym (ap (λ b. cond b makers (makers ++ None ∷ [])) known)
+    makers-stay : l.makers ≡ with_maker files path l.makers
+    makers-stay = sym (ap (λ b. cond b l.makers (l.makers ++ None ∷ [])) known)
 
-    pub known-table : table_of files outputs (inputs ++ f ∷ []) validations rows starts ≡ with_input t path
-    known-table = input-table files makers outputs inputs validations rows starts held path files makers f
-        files-stay makers-stay held.edges_are.distinct here t is
+    pub known-table : table_of files more_inputs ≡ with_input t path
+    known-table = input-table files l held path files l.makers f files-stay makers-stay
+        held.edges_are.distinct here t is
 
-    pub known-own-table : is_made_by makers f.0 (length rows) ≡ true
+    pub known-own-table : is_made_by l.makers f.0 (length l.rows) ≡ true
         → t ≡ cond (is_among t.«open».outputs path) t (with_input t path)
-    known-own-table own = sym is ∙ own-table files makers outputs inputs validations rows starts held path
-        files makers f files-stay makers-stay held.edges_are.distinct here t is own
+    known-own-table own = sym is ∙ own-table files l held path files l.makers f files-stay makers-stay
+        held.edges_are.distinct here t is own
 
-    pub known-other-table : is_made_by makers f.0 (length rows) ≡ false
-        → table_of files outputs (inputs ++ f ∷ []) validations rows starts
-        ≡ cond (is_among t.«open».outputs path) t (with_input t path)
-    known-other-table other = other-table files makers outputs inputs validations rows starts held path files
-        makers f files-stay makers-stay held.edges_are.distinct here t is other
+    pub known-other-table : is_made_by l.makers f.0 (length l.rows) ≡ false
+        → table_of files more_inputs ≡ cond (is_among t.«open».outputs path) t (with_input t path)
+    known-other-table other = other-table files l held path files l.makers f files-stay makers-stay
+        held.edges_are.distinct here t is other
 
-  pub known-within : f.0 < length t.files → f.0 < length makers
+  pub known-within : f.0 < length t.files → f.0 < length l.makers
   known-within below = subst (λ k. f.0 < k) (sym held.edges_are.makers_count)
       (subst (λ (u : EdgeTable). f.0 < length u.files) (sym is) below)
 
-  pub known-held : f.0 < length t.files → TableIsHeld files makers outputs (inputs ++ f ∷ []) validations rows
-      starts
+  pub known-held : f.0 < length t.files → TableIsHeld files more_inputs
   known-held below =
       let path = path_at t.files f in
       let here' : slice_get t.files f.0 ≡ Some path = get-path t.files f below in
-      input-held files makers outputs inputs validations rows starts held path files makers f
-      (files-stay path here') (makers-stay path here') held.edges_are.distinct (here path here') t is
+      input-held files l held path files l.makers f (files-stay path here') (makers-stay path here')
+      held.edges_are.distinct (here path here') t is
 
 -- ---- the end of an edge
 
-pub ended-held : (files : List (List ℕ)) (makers : List (Option ℕ)) (outputs inputs validations : List FileNo)
-    (rows : List EdgeRow) (starts : OpenStarts)
-    → TableIsHeld files makers outputs inputs validations rows starts
-    → (kinds : KindEnds) (is_phony : Bool)
-    → EndWithin kinds (length outputs - starts.outputs) (length inputs - starts.inputs)
-    → TableIsHeld files makers outputs inputs validations
-    (rows ++ row_between starts (ends_of outputs inputs validations) kinds is_phony ∷ [])
-    (ends_of outputs inputs validations)
-ended-held files makers outputs inputs validations rows starts held kinds is_phony fits = record {
-  edges_are = held-ended files makers outputs inputs validations rows starts held.edges_are kinds is_phony
-      fits;
-  open_are_new = λ n has. absurd (true≢false (sym has ∙ ap (has_number n) (drop-length outputs)));
+pub ended-held : (files : List (List ℕ)) (l : Lists) → TableIsHeld files l → (kinds : KindEnds)
+    (is_phony : Bool) → EndWithin kinds (length l.outputs - l.starts.outputs)
+    (length l.inputs - l.starts.inputs)
+    → TableIsHeld files (with_row l kinds is_phony)
+ended-held files l held kinds is_phony fits = record {
+  edges_are = held-ended files l held.edges_are kinds is_phony fits;
+  open_are_new = λ n has. absurd (true≢false (sym has ∙ ap (has_number n) (drop-length l.outputs)));
   named = held.named;
 }

@@ -1,24 +1,20 @@
 -- Lemmas on an edge that lies on a cycle: it has an output.
-use Rattle.std.proofs.Common.{◌≡◌, ◌<◌, ◌-◌, ◌+◌, ℕ, suc, Bool, true, false, cond, List, [], ◌∷◌, length}
-use Rattle.std.proofs.Common.{get_or, slice_get, slice_range, unwrap_or, ◌≤◌, Option, Some, None, is_some}
+use Rattle.std.proofs.Common.{◌≡◌, ◌<◌, ◌+◌, ℕ, suc, Bool, true, false, cond, List, [], ◌∷◌, length}
+use Rattle.std.proofs.Common.{get_or, slice_get, unwrap_or, Option, Some, None, is_some}
 use Rattle.std.proofs.Common.{option_map, refl, sym, ap, subst, ◌∙◌, true≢false, arith, add-one}
-use Rattle.std.proofs.lemmas.List.{take-append-drop, length-map}
+use Rattle.std.proofs.lemmas.List.{length-map}
 use Rattle.std.proofs.lemmas.Option.{get_or_from_slice_get}
-use Rattle.std.proofs.Math.Seq.{drop-cons}
-use Rattle.nj_cycles.specs.Cycles.{Chain, Needs, IsLeastOnCycle}
+use Rattle.nj_cycles.specs.Cycles.{Chain, Needs, IsFirstOnCycle, IsLeastOnCycle}
 use Rattle.nj_cycles.specs.Cycles.Chain.{one, more}
 use Rattle.nj_names.specs.declared.files.FileNo.{FileNo}
-use Rattle.nj_edges.specs.declared.edges.EdgeRow.{EdgeRow}
-use Rattle.nj_edges.specs.declared.edges.OpenStarts.{OpenStarts}
-use Rattle.nj_edges.specs.EdgeGraphs.{EdgeGraph}
+use Rattle.nj_edges.specs.declared.edges.KindEnds.{KindEnds}
 use Rattle.nj_edges.specs.Edges.{EdgePaths, edge_at, outputs_of, inputs_of, first_edge, maker_of, is_among}
-use Rattle.nj_edges.specs.Inside.EdgesHeld.{paths_at, within, table_of, EdgesAreHeld}
-use Rattle.nj_edges.specs.EdgeTables.{EdgeTable}
+use Rattle.nj_edges.specs.Inside.EdgesHeld.{Lists, paths_at, table_of, makers_in_rows, EdgesAreHeld, HasFiles}
+use Rattle.nj_edges.specs.EdgeTables.{EdgeTable, no_files}
 use Rattle.nj_names.specs.Files.{path_at}
-use Rattle.nj_edges.specs.Inside.GraphHeld.{ends_of}
 use Rattle.nj_edges.specs.Needs.{makers_of_inputs}
-use Rattle.nj_edges.proofs.GraphLemmas.{edge-is, made-of, row-within}
-use Rattle.nj_edges.proofs.ListLemmas.{length-range}
+use Rattle.nj_edges.proofs.ChangeLemmas.{files-paths}
+use Rattle.nj_edges.proofs.GraphLemmas.{first-table, made-of, on-edge, outputs-are}
 
 -- the first edge that passes a test passes it
 first-passes : {E : Type 0} (test : E → Bool) (es : List E) (n : ℕ) → first_edge test es ≡ Some n
@@ -61,45 +57,38 @@ needed-output edges e f chain =
     (sym (get_or_from_slice_get edges f found.0 (edge_at [] 0) found.1))
     (among-some (outputs_of found.0) made.0 found.2)
 
--- the first file of a part
-pub range-first : (files : List (List ℕ)) (ns : List FileNo) (start end : ℕ) (d : FileNo) (path : List ℕ)
-    → start < end → end ≤ length ns → slice_get files (get_or ns start d).0 ≡ Some path
-    → slice_get (paths_at files (slice_range ns start end)) 0 ≡ Some path
-range-first files ns start end d path rises within is =
-    let below : start < length ns = omega arith in
-    let count : end - start ≡ suc (end - start - 1) = omega arith in
-    rw (drop-cons ns start d, count) (ap (λ o. Some (unwrap_or o [])) is)
+-- the first of some files
+pub first-path : (files : List (List ℕ)) (ns : List FileNo) (d : FileNo) (path : List ℕ) → 0 < length ns
+    → slice_get files (get_or ns 0 d).0 ≡ Some path → slice_get (paths_at files ns) 0 ≡ Some path
+first-path files [] d path some is = absurd (omega arith)
+first-path files (f ∷ ns) d path some is = ap (λ o. Some (unwrap_or o [])) is
 
--- the row of an edge that is on a cycle has its outputs
-module _ (files : List (List ℕ)) (makers : List (Option ℕ)) (outputs inputs validations : List FileNo)
-    (rows : List EdgeRow) (held : EdgesAreHeld files makers outputs inputs validations rows
-    (ends_of outputs inputs validations))
-    (starts : OpenStarts) (t : EdgeTable) (is : table_of files outputs inputs validations rows starts ≡ t)
-    (e : ℕ) (row : EdgeRow) (here : slice_get rows e ≡ Some row) where
-  abbrev table-graph : EdgeTable → EdgeGraph
-  table-graph u = record { files = u.files; edges = u.edges }
+-- an edge that is on a cycle has outputs
+module _ (files : List (List ℕ)) (edges : List EdgePaths) (n : ℕ) (outputs inputs validations : List FileNo)
+    (kinds : KindEnds) (is_phony : Bool)
+    (has : HasFiles files (edge_at edges n) outputs inputs validations kinds is_phony) where
+  outputs-paths : paths_at files outputs ≡ outputs_of (edge_at edges n)
+  outputs-paths = files-paths files outputs (outputs_of (edge_at edges n))
+      (outputs-are files (edge_at edges n) outputs inputs validations kinds is_phony has)
 
-  row-outputs : paths_at files (within outputs row.outputs) ≡ outputs_of (edge_at t.edges e)
-  row-outputs =
-      sym (take-append-drop row.kinds.explicit_outputs (paths_at files (within outputs row.outputs)))
-      ∙ ap outputs_of (edge-is files makers outputs inputs validations rows held (table-graph t)
-      (ap table-graph is) e row here)
+  pub some-output : IsLeastOnCycle (makers_of_inputs edges) n → 0 < length outputs
+  some-output least = omega (
+    arith,
+    needed-output edges n n least.0,
+    ap length outputs-paths,
+    length-map outputs (path_at files),
+  )
 
-  pub outputs-end : row.outputs.end ≤ length outputs
-  outputs-end = (row-within files makers outputs inputs validations rows held (table-graph t)
-      (ap table-graph is) e row here).outputs.ends
+  pub first-output : (fs : List (List ℕ)) → fs ≡ files → (path : List ℕ)
+      → slice_get (paths_at fs outputs) 0 ≡ Some path
+      → slice_get (outputs_of (edge_at edges n)) 0 ≡ Some path
+  first-output fs same path h = ap (λ paths. slice_get paths 0) (sym outputs-paths
+      ∙ ap (λ xs. paths_at xs outputs) (sym same)) ∙ h
 
-  pub some-output : IsLeastOnCycle (makers_of_inputs t.edges) e → row.outputs.start < row.outputs.end
-  some-output least =
-      let rises : row.outputs.start ≤ row.outputs.end =
-      (row-within files makers outputs inputs validations rows held (table-graph t) (ap table-graph is) e
-      row here).outputs.rises in
-      let some : 0 < length (outputs_of (edge_at t.edges e)) = needed-output t.edges e e least.0 in
-      let count : length (outputs_of (edge_at t.edges e)) ≡ row.outputs.end - row.outputs.start =
-      sym (ap length row-outputs) ∙ length-map (within outputs row.outputs) (path_at files)
-      ∙ length-range outputs row.outputs.start row.outputs.end rises outputs-end in
-      omega arith
-
-  pub first-output : (path : List ℕ) → slice_get (paths_at files (within outputs row.outputs)) 0 ≡ Some path
-      → slice_get (outputs_of (edge_at t.edges e)) 0 ≡ Some path
-  first-output path h = ap (λ paths. slice_get paths 0) (sym row-outputs) ∙ h
+-- the edge that the check finds
+pub cycle-edge : (files : List (List ℕ)) (l : Lists) → EdgesAreHeld files l → (t : EdgeTable)
+    → table_of files l ≡ t → t.«open» ≡ no_files → (edge : ℕ) (found : Option ℕ) → found ≡ Some edge
+    → IsFirstOnCycle (makers_in_rows l) (length l.rows) found
+    → (edge < length t.edges) × IsLeastOnCycle (makers_of_inputs t.edges) edge
+cycle-edge files l held t is none edge found same first = on-edge t.edges edge
+    (first-table files l held (ap (λ u. u.«open») is ∙ none) t is found (Some edge) same first)

@@ -3,28 +3,29 @@ use Rattle.std.proofs.Common.{◌≡◌, ◌≢◌, ◌<◌, ◌≤◌, ◌+◌,
 use Rattle.std.proofs.Common.{true, false, cond, List, [], ◌∷◌, ◌++◌, map, length, take, drop, slice_get}
 use Rattle.std.proofs.Common.{slice_range, get_or, Option, Some, None, is_some, option_map, unwrap_or}
 use Rattle.std.proofs.Common.{bytes_eq, refl, sym, ap, subst, ◌∙◌, true≢false, arith, length-append}
-use Rattle.std.proofs.Common.{length-drop, add-one, set}
+use Rattle.std.proofs.Common.{length-drop, add-one, replicate, set}
 use Rattle.std.specs.List.{AllByRecursion, IsDistinct, list_any, flat_map}
 use Rattle.std.proofs.Math.Bool.{or-false, or-true}
 use Rattle.std.proofs.lemmas.Bool.Decides.{eqb_tells}
 use Rattle.std.proofs.lemmas.List.{map_push, append-nil, drop-append-le, take-append-le, take-append-drop}
-use Rattle.std.proofs.lemmas.List.{length-map, length-set}
+use Rattle.std.proofs.lemmas.List.{get_or-replicate, length-map, length-replicate, length-set}
 use Rattle.std.proofs.lemmas.List.Folds.{list_any-append}
 use Rattle.std.proofs.lemmas.Option.{slice_get_within, slice_get-get_or, unwrap_or-slice_get}
 use Rattle.std.proofs.lemmas.Option.{get_or_from_slice_get}
 use Rattle.std.proofs.lemmas.Slice.Eq.{bytes_eq-Decides}
 use Rattle.std.proofs.lemmas.Grind.{flat_map-append}
+use Rattle.std.proofs.Math.Path.{fun_ext}
 use Rattle.std.proofs.Math.Seq.{drop-length, take-length}
 use Rattle.nj_names.proofs.ListLemmas.{among-get, get-last, slice_range-append, slice_range-rest}
 use Rattle.nj_names.specs.declared.files.FileNo.{FileNo}
 use Rattle.nj_edges.specs.declared.edges.Span.{Span}
 use Rattle.nj_edges.specs.declared.edges.EdgeRow.{EdgeRow}
-use Rattle.nj_edges.specs.declared.edges.OpenStarts.{OpenStarts}
 use Rattle.nj_edges.specs.declared.edges.KindEnds.{KindEnds}
 use Rattle.nj_edges.specs.Edges.{first_edge, maker_of, is_among, outputs_of}
-use Rattle.nj_edges.specs.Inside.EdgesHeld.{paths_at, within, edge_of, edges_of, table_of, row_between}
-use Rattle.nj_edges.specs.Inside.EdgesHeld.{has_number, AreNumbers, IsWithin, RowIsWithin, output_rows}
-use Rattle.nj_edges.specs.Inside.EdgesHeld.{HaveMakers, AreJoined, EdgesAreHeld}
+use Rattle.nj_edges.specs.Inside.EdgesHeld.{Lists, paths_at, within, edge_of, edges_of, ends_of, table_of}
+use Rattle.nj_edges.specs.Inside.EdgesHeld.{row_between, with_row, has_number, AreNumbers, IsWithin}
+use Rattle.nj_edges.specs.Inside.EdgesHeld.{RowIsWithin, read_outputs, output_rows, HaveMakers, AreJoined}
+use Rattle.nj_edges.specs.Inside.EdgesHeld.{EdgesAreHeld, PartsAreHeld, no_lists}
 use Rattle.nj_edges.specs.EdgeTables.{edge_read, EdgeTable, naming, plus_output, plus_input, plus_validation}
 use Rattle.nj_edges.specs.EdgeTables.{is_made, no_files, EndWithin}
 use Rattle.nj_names.specs.NameTables.{with_name}
@@ -86,30 +87,6 @@ pub within-numbers : (count : ℕ) (ns : List FileNo) (span : Span) → AreNumbe
 within-numbers count ns span are = all-take (λ f. f.0 < count) (span.end - span.start) (drop span.start ns)
     (all-drop (λ f. f.0 < count) span.start ns are)
 
-pub edge_of-more : (files others : List (List ℕ)) (outputs inputs validations : List FileNo)
-    → AreNumbers (length files) outputs → AreNumbers (length files) inputs
-    → AreNumbers (length files) validations
-    → (row : EdgeRow) → edge_of (files ++ others) outputs inputs validations row
-    ≡ edge_of files outputs inputs validations row
-edge_of-more files others outputs inputs validations os is vs row =
-    let o = paths_at-more files others (within outputs row.outputs)
-    (within-numbers (length files) outputs row.outputs os) in
-    let i = paths_at-more files others (within inputs row.inputs)
-    (within-numbers (length files) inputs row.inputs is) in
-    let v = paths_at-more files others (within validations row.validations)
-    (within-numbers (length files) validations row.validations vs) in
-    rw (o, i, v) refl
-
-pub edges_of-more : (files others : List (List ℕ)) (outputs inputs validations : List FileNo)
-    → AreNumbers (length files) outputs → AreNumbers (length files) inputs
-    → AreNumbers (length files) validations
-    → (rows : List EdgeRow) → edges_of (files ++ others) outputs inputs validations rows
-    ≡ edges_of files outputs inputs validations rows
-edges_of-more files others outputs inputs validations os is vs [] = refl
-edges_of-more files others outputs inputs validations os is vs (row ∷ rows) =
-    let first = edge_of-more files others outputs inputs validations os is vs row in
-    let more = edges_of-more files others outputs inputs validations os is vs rows in cc
-
 pub AreNumbers-more : (n m : ℕ) (ns : List FileNo) → n ≤ m → AreNumbers n ns → AreNumbers m ns
 AreNumbers-more n m ns le are = all-of (λ f. f.0 < n) (λ f. f.0 < m) (λ f below. omega arith) ns are
 
@@ -163,38 +140,62 @@ pub all-map : {X Y : Type 0} (f : X → Y) (P : Y → Type 0) (xs : List X) → 
 all-map f P [] all = tt
 all-map f P (x ∷ xs) all = (all.0, all-map f P xs all.1)
 
+-- ---- the files of one kind
+
+parts-grown : (n m : ℕ) (spans : List Span) (start : ℕ) (ns : List FileNo) → n ≤ m
+    → PartsAreHeld n spans start ns → PartsAreHeld m spans start ns
+parts-grown n m spans start ns le held =
+    record { are = AreNumbers-more n m ns le held.are; joined = held.joined; starts = held.starts }
+
+parts-more : (count : ℕ) (spans : List Span) (start : ℕ) (ns others : List FileNo)
+    → AllByRecursion (λ span. IsWithin span start) spans → AreNumbers count others
+    → PartsAreHeld count spans start ns → PartsAreHeld count spans start (ns ++ others)
+parts-more count spans start ns others all are held = record {
+  are = all-append (λ g. g.0 < count) ns others held.are are;
+  joined = joined-more ns others start held.starts spans all held.joined;
+  starts = let starts = held.starts in simp length-append (omega arith);
+}
+
+parts-ended : (count : ℕ) (spans : List Span) (start : ℕ) (ns : List FileNo)
+    → PartsAreHeld count spans start ns
+    → PartsAreHeld count (spans ++ record { start = start; end = length ns } ∷ []) (length ns) ns
+parts-ended count spans start ns held = record {
+  are = held.are;
+  joined = joined-end ns start held.starts spans held.joined;
+  starts = omega arith;
+}
+
 -- each edge that was read stays
-module _ (files : List (List ℕ)) (outputs inputs validations : List FileNo) (starts : OpenStarts)
-    (others : List FileNo) where
-  pub edges-output : starts.outputs ≤ length outputs → (rows : List EdgeRow)
-      → AllByRecursion (RowIsWithin starts.outputs starts.inputs starts.validations) rows
-      → edges_of files (outputs ++ others) inputs validations rows
-      ≡ edges_of files outputs inputs validations rows
-  edges-output le [] all = refl
-  edges-output le (row ∷ rows) all =
-      let same = within-append outputs (others) row.outputs starts.outputs all.0.outputs le in
-      let more = edges-output le rows all.1 in
-      rw (same, more) refl
+module _ (files : List (List ℕ)) (l : Lists) (held : EdgesAreHeld files l) (others : List FileNo) where
+  abbrev more_outputs : Lists
+  more_outputs = record l { outputs = l.outputs ++ others }
 
-  pub edges-input : starts.inputs ≤ length inputs → (rows : List EdgeRow)
-      → AllByRecursion (RowIsWithin starts.outputs starts.inputs starts.validations) rows
-      → edges_of files outputs (inputs ++ others) validations rows
-      ≡ edges_of files outputs inputs validations rows
-  edges-input le [] all = refl
-  edges-input le (row ∷ rows) all =
-      let same = within-append inputs (others) row.inputs starts.inputs all.0.inputs le in
-      let more = edges-input le rows all.1 in
-      rw (same, more) refl
+  abbrev more_inputs : Lists
+  more_inputs = record l { inputs = l.inputs ++ others }
 
-  pub edges-validation : starts.validations ≤ length validations → (rows : List EdgeRow)
-      → AllByRecursion (RowIsWithin starts.outputs starts.inputs starts.validations) rows
-      → edges_of files outputs inputs (validations ++ others) rows
-      ≡ edges_of files outputs inputs validations rows
-  edges-validation le [] all = refl
-  edges-validation le (row ∷ rows) all =
-      let same = within-append validations (others) row.validations starts.validations all.0.validations le in
-      let more = edges-validation le rows all.1 in
-      rw (same, more) refl
+  abbrev more_validations : Lists
+  more_validations = record l { validations = l.validations ++ others }
+
+  edges-output : edges_of files more_outputs ≡ edges_of files l
+  edges-output = map-same (RowIsWithin l.starts) (edge_of files more_outputs) (edge_of files l)
+      (λ row inside. rw (within-append l.outputs others row.outputs l.starts.outputs inside.outputs
+      held.outputs.starts) refl) l.rows held.rows_are
+
+  pub edges-input : edges_of files more_inputs ≡ edges_of files l
+  edges-input = map-same (RowIsWithin l.starts) (edge_of files more_inputs) (edge_of files l)
+      (λ row inside. rw (within-append l.inputs others row.inputs l.starts.inputs inside.inputs
+      held.inputs.starts) refl) l.rows held.rows_are
+
+  pub edges-validation : edges_of files more_validations ≡ edges_of files l
+  edges-validation = map-same (RowIsWithin l.starts) (edge_of files more_validations) (edge_of files l)
+      (λ row inside. rw (within-append l.validations others row.validations l.starts.validations
+      inside.validations held.validations.starts) refl) l.rows held.rows_are
+
+  pub read-same : read_outputs more_outputs ≡ read_outputs l
+  read-same = map-same (RowIsWithin l.starts) (λ (row : EdgeRow). within (l.outputs ++ others) row.outputs)
+      (λ row. within l.outputs row.outputs)
+      (λ row inside. within-append l.outputs others row.outputs l.starts.outputs inside.outputs
+      held.outputs.starts) l.rows held.rows_are
 
 -- ---- naming a file
 
@@ -261,19 +262,6 @@ first-none test [] all = refl
 first-none test (e ∷ es) all = ap (λ b. cond b (Some 0) (option_map (λ n. n + 1) (first_edge test es))) all.0
     ∙ ap (option_map (λ n. n + 1)) (first-none test es all.1)
 
--- the rows of outputs have numbers of files alone
-pub rows-numbers : (count : ℕ) (outputs : List FileNo) (start : ℕ) (rows : List EdgeRow)
-    → AreNumbers count outputs → AllByRecursion (AreNumbers count) (output_rows outputs start rows)
-rows-numbers count outputs start [] are = (all-drop (λ f. f.0 < count) start outputs are, tt)
-rows-numbers count outputs start (row ∷ rows) are =
-    (within-numbers count outputs row.outputs are, rows-numbers count outputs start rows are)
-
-pub no-maker : (n : ℕ) (outputs : List FileNo) (start : ℕ) (rows : List EdgeRow) → AreNumbers n outputs
-    → first_edge (has_number n) (output_rows outputs start rows) ≡ None
-no-maker n outputs start rows are = first-none (has_number n) (output_rows outputs start rows)
-    (all-of (AreNumbers n) (λ ns. has_number n ns ≡ false) (none-has n) (output_rows outputs start rows)
-    (rows-numbers n outputs start rows are))
-
 -- a file more, without a maker
 pub makers-push : (rows : List (List FileNo)) (makers : List (Option ℕ))
     → first_edge (has_number (length makers)) rows ≡ None → HaveMakers rows makers
@@ -293,86 +281,91 @@ makers-push rows makers none held n below = by (eqb_tells n (length makers))
 
 -- ---- the whole after a name
 
-module _ (files : List (List ℕ)) (makers : List (Option ℕ)) (outputs inputs validations : List FileNo)
-    (rows : List EdgeRow) (starts : OpenStarts) (held : EdgesAreHeld files makers outputs inputs validations
-    rows starts) (path : List ℕ) where
-  pub table-grown : table_of (files ++ path ∷ []) outputs inputs validations rows starts
-      ≡ record (table_of files outputs inputs validations rows starts) { files = files ++ path ∷ [] }
-  table-grown =
-      let edges = edges_of-more files (path ∷ []) outputs inputs validations held.outputs_are held.inputs_are
-      held.validations_are rows in
-      let o = paths_at-more files (path ∷ []) (drop starts.outputs outputs)
-      (all-drop (λ f. f.0 < length files) starts.outputs outputs held.outputs_are) in
-      let i = paths_at-more files (path ∷ []) (drop starts.inputs inputs)
-      (all-drop (λ f. f.0 < length files) starts.inputs inputs held.inputs_are) in
-      let v = paths_at-more files (path ∷ []) (drop starts.validations validations)
-      (all-drop (λ f. f.0 < length files) starts.validations validations held.validations_are) in
-      rw (edges, o, i, v) refl
+module _ (files : List (List ℕ)) (l : Lists) (held : EdgesAreHeld files l) (path : List ℕ) where
+  stay : (ns : List FileNo) → AreNumbers (length files) ns
+      → paths_at (files ++ path ∷ []) ns ≡ paths_at files ns
+  stay ns are = paths_at-more files (path ∷ []) ns are
 
-  pub table-named : table_of (with_name files path) outputs inputs validations rows starts
-      ≡ naming (table_of files outputs inputs validations rows starts) path
+  open-stay : (start : ℕ) (ns : List FileNo) → AreNumbers (length files) ns
+      → paths_at (files ++ path ∷ []) (drop start ns) ≡ paths_at files (drop start ns)
+  open-stay start ns are = stay (drop start ns) (all-drop (λ f. f.0 < length files) start ns are)
+
+  edge-stays : (row : EdgeRow) → edge_of (files ++ path ∷ []) l row ≡ edge_of files l row
+  edge-stays row =
+      let part = within-numbers (length files) in
+      let o = stay (within l.outputs row.outputs) (part l.outputs row.outputs held.outputs.are) in
+      let i = stay (within l.inputs row.inputs) (part l.inputs row.inputs held.inputs.are) in
+      let v = stay (within l.validations row.validations)
+      (part l.validations row.validations held.validations.are) in
+      rw (o, i, v) refl
+
+  pub table-named : table_of (with_name files path) l ≡ naming (table_of files l) path
   table-named = by (list_any (bytes_eq path) files)
     where
-      by : (b : Bool) → table_of (cond b files (files ++ path ∷ [])) outputs inputs validations rows starts
-          ≡ record (table_of files outputs inputs validations rows starts)
-          { files = cond b files (files ++ path ∷ []) }
+      by : (b : Bool) → table_of (cond b files (files ++ path ∷ [])) l
+          ≡ record (table_of files l) { files = cond b files (files ++ path ∷ []) }
       by true = refl
-      by false = table-grown
+      by false =
+          let edges : edges_of (files ++ path ∷ []) l ≡ edges_of files l = ap (λ f. map f l.rows)
+          (fun_ext edge-stays) in
+          let o = open-stay l.starts.outputs l.outputs held.outputs.are in
+          let i = open-stay l.starts.inputs l.inputs held.inputs.are in
+          let v = open-stay l.starts.validations l.validations held.validations.are in
+          rw (edges, o, i, v) refl
+
+  -- a number that no output has is that of no maker
+  no-maker : (n : ℕ) → AreNumbers n l.outputs → first_edge (has_number n) (output_rows l) ≡ None
+  no-maker n are = first-none (has_number n) (output_rows l)
+      (all-of (AreNumbers n) (λ ns. has_number n ns ≡ false) (none-has n) (output_rows l)
+      (all-push (AreNumbers n) (read_outputs l) (drop l.starts.outputs l.outputs)
+      (all-map (λ (row : EdgeRow). within l.outputs row.outputs) (AreNumbers n) l.rows
+      (all-of (RowIsWithin l.starts) (λ row. AreNumbers n (within l.outputs row.outputs))
+      (λ row inside. within-numbers n l.outputs row.outputs are) l.rows held.rows_are))
+      (all-drop (λ f. f.0 < n) l.starts.outputs l.outputs are)))
 
   pub held-new : IsDistinct bytes_eq (files ++ path ∷ [])
-      → EdgesAreHeld (files ++ path ∷ []) (makers ++ None ∷ []) outputs inputs validations rows starts
+      → EdgesAreHeld (files ++ path ∷ []) (record l { makers = l.makers ++ None ∷ [] })
   held-new distinct =
-      let count : length makers ≡ length files = held.makers_count in
+      let count : length l.makers ≡ length files = held.makers_count in
       let more : length files ≤ length (files ++ path ∷ []) = simp length-append (omega arith) in
       record {
         distinct = distinct;
         makers_count = simp length-append (ap (λ n. n + 1) count);
-        makers_are = makers-push (output_rows outputs starts.outputs rows) makers
-            (no-maker (length makers) outputs starts.outputs rows
-            (subst (λ n. AreNumbers n outputs) (sym count) held.outputs_are)) held.makers_are;
-        outputs_are = AreNumbers-more (length files) (length (files ++ path ∷ [])) outputs more
-            held.outputs_are;
-        inputs_are = AreNumbers-more (length files) (length (files ++ path ∷ [])) inputs more held.inputs_are;
-        validations_are = AreNumbers-more (length files) (length (files ++ path ∷ [])) validations more
-            held.validations_are;
+        makers_are = makers-push (output_rows l) l.makers (no-maker (length l.makers)
+            (subst (λ n. AreNumbers n l.outputs) (sym count) held.outputs.are)) held.makers_are;
         rows_are = held.rows_are;
-        outputs_joined = held.outputs_joined;
-        inputs_joined = held.inputs_joined;
-        validations_joined = held.validations_joined;
-        outputs_start = held.outputs_start;
-        inputs_start = held.inputs_start;
-        validations_start = held.validations_start;
+        outputs = parts-grown _ _ _ _ _ more held.outputs;
+        inputs = parts-grown _ _ _ _ _ more held.inputs;
+        validations = parts-grown _ _ _ _ _ more held.validations;
       }
 
 -- ---- a file of the edge that is being read
 
-module _ (files : List (List ℕ)) (makers : List (Option ℕ)) (outputs inputs validations : List FileNo)
-    (rows : List EdgeRow) (starts : OpenStarts)
-    (held : EdgesAreHeld files makers outputs inputs validations rows starts) (f : FileNo) (path : List ℕ)
+module _ (files : List (List ℕ)) (l : Lists) (held : EdgesAreHeld files l) (f : FileNo) (path : List ℕ)
     (here : slice_get files f.0 ≡ Some path) where
-  pub table-output : table_of files (outputs ++ f ∷ []) inputs validations rows starts
-      ≡ plus_output (table_of files outputs inputs validations rows starts) path
-  table-output =
-      let edges = edges-output files outputs inputs validations starts
-      (f ∷ []) held.outputs_start rows held.rows_are in
-      let opened = open-push files outputs starts.outputs f path held.outputs_start here in
-      rw (edges, opened) refl
+  pub table-output : table_of files (record l { outputs = l.outputs ++ f ∷ [] })
+      ≡ plus_output (table_of files l) path
+  table-output = rw (
+    edges-output files l held (f ∷ []),
+    open-push files l.outputs l.starts.outputs f path
+        held.outputs.starts here,
+  ) refl
 
-  pub table-input : table_of files outputs (inputs ++ f ∷ []) validations rows starts
-      ≡ plus_input (table_of files outputs inputs validations rows starts) path
-  table-input =
-      let edges = edges-input files outputs inputs validations starts
-      (f ∷ []) held.inputs_start rows held.rows_are in
-      let opened = open-push files inputs starts.inputs f path held.inputs_start here in
-      rw (edges, opened) refl
+  pub table-input : table_of files (record l { inputs = l.inputs ++ f ∷ [] })
+      ≡ plus_input (table_of files l) path
+  table-input = rw (
+    edges-input files l held (f ∷ []),
+    open-push files l.inputs l.starts.inputs f path
+        held.inputs.starts here,
+  ) refl
 
-  pub table-validation : table_of files outputs inputs (validations ++ f ∷ []) rows starts
-      ≡ plus_validation (table_of files outputs inputs validations rows starts) path
-  table-validation =
-      let edges = edges-validation files outputs inputs validations starts
-      (f ∷ []) held.validations_start rows held.rows_are in
-      let opened = open-push files validations starts.validations f path held.validations_start here in
-      rw (edges, opened) refl
+  pub table-validation : table_of files (record l { validations = l.validations ++ f ∷ [] })
+      ≡ plus_validation (table_of files l) path
+  table-validation = rw (
+    edges-validation files l held (f ∷ []),
+    open-push files l.validations
+        l.starts.validations f path held.validations.starts here,
+  ) refl
 
 -- ---- the end of an edge
 
@@ -382,87 +375,68 @@ first-more test [] e fails = ap (λ b. cond b (Some 0) None) fails
 first-more test (x ∷ es) e fails = ap (λ o. cond (test x) (Some 0) (option_map (λ n. n + 1) o))
     (first-more test es e fails)
 
-abbrev pub ends_of : (outputs inputs validations : List FileNo) → OpenStarts
-ends_of outputs inputs validations = record
-    { outputs = length outputs; inputs = length inputs; validations = length validations }
+-- the table where the edge that is being read ends
+abbrev pub end-value : KindEnds → Bool → EdgeTable → EdgeTable
+end-value kinds is_phony t = record {
+  files = t.files;
+  edges =
+      t.edges ++ edge_read t.«open» kinds is_phony ∷ [];
+  «open» = no_files;
+}
 
-map-append : {X Y : Type 0} (f : X → Y) (xs : List X) (x : X) → map f (xs ++ x ∷ []) ≡ map f xs ++ f x ∷ []
-map-append f xs x = map_push f xs x
-
-module _ (files : List (List ℕ)) (makers : List (Option ℕ)) (outputs inputs validations : List FileNo)
-    (rows : List EdgeRow) (starts : OpenStarts)
-    (held : EdgesAreHeld files makers outputs inputs validations rows starts) (kinds : KindEnds)
+module _ (files : List (List ℕ)) (l : Lists) (held : EdgesAreHeld files l) (kinds : KindEnds)
     (is_phony : Bool) where
   abbrev next_row : EdgeRow
-  next_row = row_between starts (ends_of outputs inputs validations) kinds is_phony
+  next_row = row_between l.starts (ends_of l) kinds is_phony
 
-  pub table-ended : table_of files outputs inputs validations (rows ++ next_row ∷ [])
-      (ends_of outputs inputs validations)
-      ≡ record {
-        files = files;
-        edges = edges_of files outputs inputs validations rows
-            ++ edge_read (table_of files outputs inputs validations rows starts).«open» kinds is_phony ∷ [];
-        «open» = no_files;
-      }
+  pub table-ended : table_of files (with_row l kinds is_phony) ≡ end-value kinds is_phony (table_of files l)
   table-ended =
-      let edges = map-append (edge_of files outputs inputs validations) rows next_row in
-      let o = slice_range-rest outputs starts.outputs held.outputs_start in
-      let i = slice_range-rest inputs starts.inputs held.inputs_start in
-      let v = slice_range-rest validations starts.validations held.validations_start in
-      rw (edges, o, i, v, drop-length outputs, drop-length inputs, drop-length validations) refl
+      let edges = map_push (edge_of files l) l.rows next_row in
+      let o = slice_range-rest l.outputs l.starts.outputs held.outputs.starts in
+      let i = slice_range-rest l.inputs l.starts.inputs held.inputs.starts in
+      let v = slice_range-rest l.validations l.starts.validations held.validations.starts in
+      rw (edges, o, i, v, drop-length l.outputs, drop-length l.inputs, drop-length l.validations) refl
 
-  rows-ended : output_rows outputs (length outputs) (rows ++ next_row ∷ [])
-      ≡ output_rows outputs starts.outputs rows ++ [] ∷ []
+  rows-ended : output_rows (with_row l kinds is_phony) ≡ output_rows l ++ [] ∷ []
   rows-ended =
-      let more = map-append (λ (row : EdgeRow). within outputs row.outputs) rows next_row in
-      let o = slice_range-rest outputs starts.outputs held.outputs_start in
-      rw (more, o, drop-length outputs) refl
+      let more = map_push (λ (row : EdgeRow). within l.outputs row.outputs) l.rows next_row in
+      let o = slice_range-rest l.outputs l.starts.outputs held.outputs.starts in
+      rw (more, o, drop-length l.outputs) refl
 
-  larger : (row : EdgeRow) → RowIsWithin starts.outputs starts.inputs starts.validations row
-      → RowIsWithin (length outputs) (length inputs) (length validations) row
-  larger row inside =
-      let o = inside.outputs.ends in let i = inside.inputs.ends in let v = inside.validations.ends in
-      let os = held.outputs_start in let is = held.inputs_start in let vs = held.validations_start in
-      record {
-        outputs = record { rises = inside.outputs.rises; ends = omega arith };
-        inputs = record { rises = inside.inputs.rises; ends = omega arith };
-        validations = record { rises = inside.validations.rises; ends = omega arith };
-        kinds = inside.kinds;
-      }
+  larger : (row : EdgeRow) → RowIsWithin l.starts row → RowIsWithin (ends_of l) row
+  larger row inside = record {
+    outputs = wider row.outputs l.starts.outputs (length l.outputs) held.outputs.starts inside.outputs;
+    inputs = wider row.inputs l.starts.inputs (length l.inputs) held.inputs.starts inside.inputs;
+    validations = wider row.validations l.starts.validations (length l.validations)
+        held.validations.starts inside.validations;
+    kinds = inside.kinds;
+  }
+    where
+      wider : (span : Span) (n m : ℕ) → n ≤ m → IsWithin span n → IsWithin span m
+      wider span n m le is = let ends = is.ends in record { rises = is.rises; ends = omega arith }
 
-  pub held-ended : EndWithin kinds (length outputs - starts.outputs) (length inputs - starts.inputs)
-      → EdgesAreHeld files makers outputs inputs validations (rows ++ next_row ∷ [])
-      (ends_of outputs inputs validations)
+  pub held-ended : EndWithin kinds (length l.outputs - l.starts.outputs) (length l.inputs - l.starts.inputs)
+      → EdgesAreHeld files (with_row l kinds is_phony)
   held-ended fits = record {
     distinct = held.distinct;
     makers_count = held.makers_count;
     makers_are = λ n below. held.makers_are n below
-        ∙ ap Some (sym (first-more (has_number n) (output_rows outputs starts.outputs rows) [] refl))
+        ∙ ap Some (sym (first-more (has_number n) (output_rows l) [] refl))
         ∙ ap (λ rs. Some (first_edge (has_number n) rs)) (sym rows-ended);
-    outputs_are = held.outputs_are;
-    inputs_are = held.inputs_are;
-    validations_are = held.validations_are;
-    rows_are = all-push (RowIsWithin (length outputs) (length inputs) (length validations)) rows next_row
-        (all-of (RowIsWithin starts.outputs starts.inputs starts.validations)
-        (RowIsWithin (length outputs) (length inputs) (length validations)) larger rows held.rows_are)
+    rows_are = all-push (RowIsWithin (ends_of l)) l.rows next_row
+        (all-of (RowIsWithin l.starts) (RowIsWithin (ends_of l)) larger l.rows held.rows_are)
         (record {
-          outputs = record { rises = held.outputs_start; ends = omega arith };
-          inputs = record { rises = held.inputs_start; ends = omega arith };
-          validations = record { rises = held.validations_start; ends = omega arith };
+          outputs = record { rises = held.outputs.starts; ends = omega arith };
+          inputs = record { rises = held.inputs.starts; ends = omega arith };
+          validations = record { rises = held.validations.starts; ends = omega arith };
           kinds = fits;
         });
-    outputs_joined = rw (map-append (λ (row : EdgeRow). row.outputs) rows next_row)
-        (joined-end outputs starts.outputs held.outputs_start (map (λ (row : EdgeRow). row.outputs) rows)
-        held.outputs_joined);
-    inputs_joined = rw (map-append (λ (row : EdgeRow). row.inputs) rows next_row)
-        (joined-end inputs starts.inputs held.inputs_start (map (λ (row : EdgeRow). row.inputs) rows)
-        held.inputs_joined);
-    validations_joined = rw (map-append (λ (row : EdgeRow). row.validations) rows next_row)
-        (joined-end validations starts.validations held.validations_start
-        (map (λ (row : EdgeRow). row.validations) rows) held.validations_joined);
-    outputs_start = omega arith;
-    inputs_start = omega arith;
-    validations_start = omega arith;
+    outputs = rw (map_push (λ (row : EdgeRow). row.outputs) l.rows next_row)
+        (parts-ended _ _ _ _ held.outputs);
+    inputs = rw (map_push (λ (row : EdgeRow). row.inputs) l.rows next_row)
+        (parts-ended _ _ _ _ held.inputs);
+    validations = rw (map_push (λ (row : EdgeRow). row.validations) l.rows next_row)
+        (parts-ended _ _ _ _ held.validations);
   }
 
 -- ---- numbers and paths
@@ -549,58 +523,47 @@ first-some : {E : Type 0} (test : E → Bool) (es : List E) (e : E)
 first-some test es e = some-in test (es ++ e ∷ []) ∙ list_any-append test es (e ∷ [])
     ∙ ap (λ b. list_any test es || b) (or-false (test e)) ∙ ap (λ b. b || test e) (sym (some-in test es))
 
-module _ (files : List (List ℕ)) (makers : List (Option ℕ)) (outputs inputs validations : List FileNo)
-    (rows : List EdgeRow) (starts : OpenStarts)
-    (held : EdgesAreHeld files makers outputs inputs validations rows starts) (n : ℕ) (path : List ℕ)
+module _ (files : List (List ℕ)) (l : Lists) (held : EdgesAreHeld files l) (n : ℕ) (path : List ℕ)
     (here : slice_get files n ≡ Some path) where
-  row-among : (row : EdgeRow) → has_number n (within outputs row.outputs)
-      ≡ is_among (outputs_of (edge_of files outputs inputs validations row)) path
+  row-among : (row : EdgeRow) → has_number n (within l.outputs row.outputs)
+      ≡ is_among (outputs_of (edge_of files l row)) path
   row-among row =
-      has-among files held.distinct n path here (within outputs row.outputs)
-      (within-numbers (length files) outputs row.outputs held.outputs_are)
+      has-among files held.distinct n path here (within l.outputs row.outputs)
+      (within-numbers (length files) l.outputs row.outputs held.outputs.are)
       ∙ ap (λ ps. is_among ps path) (sym (take-append-drop row.kinds.explicit_outputs
-      (paths_at files (within outputs row.outputs))))
+      (paths_at files (within l.outputs row.outputs))))
 
   -- the maker of a file among the edges that were read
-  pub maker-read : first_edge (has_number n) (map (λ (row : EdgeRow). within outputs row.outputs) rows)
-      ≡ maker_of (edges_of files outputs inputs validations rows) path
+  pub maker-read : first_edge (has_number n) (read_outputs l)
+      ≡ maker_of (edges_of files l) path
   maker-read =
-      first-map (has_number n) (λ (row : EdgeRow). within outputs row.outputs) rows
-      ∙ first-same (λ (row : EdgeRow). has_number n (within outputs row.outputs))
-      (λ row. is_among (outputs_of (edge_of files outputs inputs validations row)) path) row-among rows
-      ∙ sym (first-map (λ e. is_among (outputs_of e) path) (edge_of files outputs inputs validations) rows)
+      first-map (has_number n) (λ (row : EdgeRow). within l.outputs row.outputs) l.rows
+      ∙ first-same (λ (row : EdgeRow). has_number n (within l.outputs row.outputs))
+      (λ row. is_among (outputs_of (edge_of files l row)) path) row-among l.rows
+      ∙ sym (first-map (λ e. is_among (outputs_of e) path) (edge_of files l) l.rows)
 
-  pub open-among : has_number n (drop starts.outputs outputs)
-      ≡ is_among (paths_at files (drop starts.outputs outputs)) path
-  open-among = has-among files held.distinct n path here (drop starts.outputs outputs)
-      (all-drop (λ f. f.0 < length files) starts.outputs outputs held.outputs_are)
+  pub open-among : has_number n (drop l.starts.outputs l.outputs)
+      ≡ is_among (paths_at files (drop l.starts.outputs l.outputs)) path
+  open-among = has-among files held.distinct n path here (drop l.starts.outputs l.outputs)
+      (all-drop (λ f. f.0 < length files) l.starts.outputs l.outputs held.outputs.are)
 
-  pub made-by : is_some (first_edge (has_number n) (output_rows outputs starts.outputs rows))
-      ≡ is_made (table_of files outputs inputs validations rows starts) path
+  pub made-by : is_some (first_edge (has_number n) (output_rows l))
+      ≡ is_made (table_of files l) path
   made-by =
-      first-some (has_number n) (map (λ (row : EdgeRow). within outputs row.outputs) rows)
-      (drop starts.outputs outputs)
-      ∙ ap (λ o. is_some o || has_number n (drop starts.outputs outputs)) maker-read
-      ∙ ap (λ b. is_some (maker_of (edges_of files outputs inputs validations rows) path) || b) open-among
+      first-some (has_number n) (read_outputs l)
+      (drop l.starts.outputs l.outputs)
+      ∙ ap (λ o. is_some o || has_number n (drop l.starts.outputs l.outputs)) maker-read
+      ∙ ap (λ b. is_some (maker_of (edges_of files l) path) || b) open-among
 
-  pub within-makers : n < length makers
+  pub within-makers : n < length l.makers
   within-makers = subst (λ m. n < m) (sym held.makers_count) (slice_get_within files n path here)
 
   -- the maker that the list has at the file
-  pub made-at : (found : Option ℕ) → found ≡ get_or makers n None
-      → is_some found ≡ is_made (table_of files outputs inputs validations rows starts) path
-  made-at found is = ap is_some (is ∙ get_or_from_slice_get makers n
-      (first_edge (has_number n) (output_rows outputs starts.outputs rows)) None
+  pub made-at : (found : Option ℕ) → found ≡ get_or l.makers n None
+      → is_some found ≡ is_made (table_of files l) path
+  made-at found is = ap is_some (is ∙ get_or_from_slice_get l.makers n
+      (first_edge (has_number n) (output_rows l)) None
       (held.makers_are n within-makers)) ∙ made-by
-
--- the table where the edge that is being read ends
-abbrev pub end-value : KindEnds → Bool → EdgeTable → EdgeTable
-end-value kinds is_phony t = record {
-  files = t.files;
-  edges =
-      t.edges ++ edge_read t.«open» kinds is_phony ∷ [];
-  «open» = no_files;
-}
 
 -- ---- an output more
 
@@ -686,202 +649,156 @@ first-again test es e e' some passes = by (test e) refl
     by false is = first-more test es e is ∙ front (first_edge test es) refl
         (ap is_some (sym (first-more test es e is)) ∙ some)
 
-module _ (files : List (List ℕ)) (makers : List (Option ℕ)) (outputs inputs validations : List FileNo)
-    (rows : List EdgeRow) (starts : OpenStarts) (held : EdgesAreHeld files makers outputs inputs validations
-    rows starts) (others : List FileNo) where
-  pub held-inputs : AreNumbers (length files) others → EdgesAreHeld files makers outputs
-      (inputs ++ others) validations rows starts
-  held-inputs are = record {
+module _ (files : List (List ℕ)) (l : Lists) (held : EdgesAreHeld files l) (others : List FileNo)
+    (are : AreNumbers (length files) others) where
+  -- the parts of edges are before the files of the one that is being read
+  parts-inside : (part : EdgeRow → Span) (end : ℕ)
+      → ((row : EdgeRow) → RowIsWithin l.starts row → IsWithin (part row) end)
+      → AllByRecursion (λ span. IsWithin span end) (map part l.rows)
+  parts-inside part end inside = all-map part (λ span. IsWithin span end) l.rows
+      (all-of (RowIsWithin l.starts) (λ row. IsWithin (part row) end) inside l.rows held.rows_are)
+
+  pub held-inputs : EdgesAreHeld files (record l { inputs = l.inputs ++ others })
+  held-inputs = record {
     distinct = held.distinct;
     makers_count = held.makers_count;
     makers_are = held.makers_are;
-    outputs_are = held.outputs_are;
-    inputs_are = all-append (λ g. g.0 < length files) inputs others held.inputs_are are;
-    validations_are = held.validations_are;
     rows_are = held.rows_are;
-    outputs_joined = held.outputs_joined;
-    inputs_joined = joined-more inputs others starts.inputs held.inputs_start
-        (map (λ (row : EdgeRow). row.inputs) rows) (all-map (λ (row : EdgeRow). row.inputs)
-        (λ span. IsWithin span starts.inputs) rows (all-of
-        (RowIsWithin starts.outputs starts.inputs starts.validations)
-        (λ row. IsWithin row.inputs starts.inputs) (λ row h. h.inputs) rows held.rows_are))
-        held.inputs_joined;
-    validations_joined = held.validations_joined;
-    outputs_start = held.outputs_start;
-    inputs_start = let start = held.inputs_start in simp length-append (omega arith);
-    validations_start = held.validations_start;
+    outputs = held.outputs;
+    inputs = parts-more _ _ _ _ _ (parts-inside (λ row. row.inputs) l.starts.inputs (λ row h. h.inputs)) are
+        held.inputs;
+    validations = held.validations;
   }
 
-  pub held-validations : AreNumbers (length files) others
-      → EdgesAreHeld files makers outputs inputs (validations ++ others) rows starts
-  held-validations are = record {
+  pub held-validations : EdgesAreHeld files (record l { validations = l.validations ++ others })
+  held-validations = record {
     distinct = held.distinct;
     makers_count = held.makers_count;
     makers_are = held.makers_are;
-    outputs_are = held.outputs_are;
-    inputs_are = held.inputs_are;
-    validations_are = all-append (λ g. g.0 < length files) validations others held.validations_are are;
     rows_are = held.rows_are;
-    outputs_joined = held.outputs_joined;
-    inputs_joined = held.inputs_joined;
-    validations_joined = joined-more validations others starts.validations held.validations_start
-        (map (λ (row : EdgeRow). row.validations) rows) (all-map (λ (row : EdgeRow). row.validations)
-        (λ span. IsWithin span starts.validations) rows (all-of
-        (RowIsWithin starts.outputs starts.inputs starts.validations)
-        (λ row. IsWithin row.validations starts.validations) (λ row h. h.validations) rows held.rows_are))
-        held.validations_joined;
-    outputs_start = held.outputs_start;
-    inputs_start = held.inputs_start;
-    validations_start = let start = held.validations_start in simp length-append (omega arith);
+    outputs = held.outputs;
+    inputs = held.inputs;
+    validations = parts-more _ _ _ _ _ (parts-inside (λ row. row.validations) l.starts.validations
+        (λ row h. h.validations)) are held.validations;
   }
 
-module _ (files : List (List ℕ)) (makers : List (Option ℕ)) (outputs inputs validations : List FileNo)
-    (rows : List EdgeRow) (starts : OpenStarts)
-    (held : EdgesAreHeld files makers outputs inputs validations rows starts) (f : FileNo) where
-  abbrev closed_rows : List (List FileNo)
-  closed_rows = map (λ (row : EdgeRow). within outputs row.outputs) rows
-
-  pub rows-same : (rs : List EdgeRow) → AllByRecursion
-      (RowIsWithin starts.outputs starts.inputs starts.validations) rs
-      → map (λ (row : EdgeRow). within (outputs ++ f ∷ []) row.outputs) rs
-      ≡ map (λ (row : EdgeRow). within outputs row.outputs) rs
-  rows-same [] all = refl
-  rows-same (row ∷ rs) all =
-      let first = within-append outputs (f ∷ []) row.outputs starts.outputs all.0.outputs held.outputs_start
-      in
-      let more = rows-same rs all.1 in cc
-
-  rows-output : output_rows (outputs ++ f ∷ []) starts.outputs rows
-      ≡ closed_rows ++ (drop starts.outputs outputs ++ f ∷ []) ∷ []
-  rows-output = rw (
-    rows-same rows held.rows_are,
-    drop-append-le starts.outputs outputs (f ∷ []) held.outputs_start,
-  ) refl
-
-  makers-output : f.0 < length makers → first_edge (has_number f.0) (output_rows outputs starts.outputs rows)
-      ≡ None
-      → HaveMakers (closed_rows ++ (drop starts.outputs outputs ++ f ∷ []) ∷ [])
-      (set makers f.0 (Some (length rows)))
-  makers-output capacity none m below = by (eqb_tells m f.0)
-    where
-      by : ((m == f.0) ≡ true × (m ≡ f.0)) ⊎ ((m == f.0) ≡ false × (m ≢ f.0))
-          → slice_get (set makers f.0 (Some (length rows))) m
-          ≡ Some (first_edge (has_number m) (closed_rows ++ (drop starts.outputs outputs ++ f ∷ []) ∷ []))
-      by (inl same) =
-          let count : length closed_rows ≡ length rows =
-          length-map rows (λ (row : EdgeRow). within outputs row.outputs) in
-          let none' : first_edge (has_number m) closed_rows ≡ None =
-          none-front (has_number m) closed_rows (drop starts.outputs outputs)
-          (ap (λ k. first_edge (has_number k) (output_rows outputs starts.outputs rows)) same.1 ∙ none) in
-          let has : has_number m (drop starts.outputs outputs ++ f ∷ []) ≡ true =
-          has-push m (drop starts.outputs outputs) f
-          ∙ ap (λ b. has_number m (drop starts.outputs outputs) || b) same.0
-          ∙ or-true (has_number m (drop starts.outputs outputs)) in
-          ap (slice_get (set makers f.0 (Some (length rows)))) same.1
-          ∙ get-set_same makers f.0 (Some (length rows)) capacity
-          ∙ ap Some (ap Some (sym count) ∙ sym
-          (first-last (has_number m) closed_rows (drop starts.outputs outputs ++ f ∷ []) none' has))
-      by (inr apart) =
-          let small : m < length makers = subst (λ k. m < k) (length-set makers f.0 (Some (length rows)))
-          below in
-          let has : has_number m (drop starts.outputs outputs)
-          ≡ has_number m (drop starts.outputs outputs ++ f ∷ []) =
-          sym (has-push m (drop starts.outputs outputs) f
-          ∙ ap (λ b. has_number m (drop starts.outputs outputs) || b) apart.0
-          ∙ or-false (has_number m (drop starts.outputs outputs))) in
-          get-set_other makers f.0 (Some (length rows)) m apart.1 ∙ held.makers_are m small
-          ∙ ap Some (first-other (has_number m) closed_rows (drop starts.outputs outputs)
-          (drop starts.outputs outputs ++ f ∷ []) has)
-
-  -- one more output, whoever made it
-  held-made : (ms : List (Option ℕ)) → length ms ≡ length makers
-      → HaveMakers (closed_rows ++ (drop starts.outputs outputs ++ f ∷ []) ∷ []) ms → f.0 < length files
-      → EdgesAreHeld files ms (outputs ++ f ∷ []) inputs validations rows starts
-  held-made ms count are capacity = record {
+  -- whoever made the outputs
+  held-outputs : (ms : List (Option ℕ)) → length ms ≡ length l.makers
+      → HaveMakers (read_outputs l ++ (drop l.starts.outputs l.outputs ++ others) ∷ []) ms
+      → EdgesAreHeld files (record l { makers = ms; outputs = l.outputs ++ others })
+  held-outputs ms count made = record {
     distinct = held.distinct;
     makers_count = count ∙ held.makers_count;
-    makers_are = subst (λ rs. HaveMakers rs ms) (sym rows-output) are;
-    outputs_are = all-push (λ g. g.0 < length files) outputs f held.outputs_are capacity;
-    inputs_are = held.inputs_are;
-    validations_are = held.validations_are;
+    makers_are = subst (λ rs. HaveMakers rs ms) (sym rows-output) made;
     rows_are = held.rows_are;
-    outputs_joined = joined-more outputs (f ∷ []) starts.outputs held.outputs_start
-        (map (λ (row : EdgeRow). row.outputs) rows) (all-map (λ (row : EdgeRow). row.outputs)
-        (λ span. IsWithin span starts.outputs) rows (all-of
-        (RowIsWithin starts.outputs starts.inputs starts.validations)
-        (λ row. IsWithin row.outputs starts.outputs) (λ row h. h.outputs) rows held.rows_are))
-        held.outputs_joined;
-    inputs_joined = held.inputs_joined;
-    validations_joined = held.validations_joined;
-    outputs_start = let start = held.outputs_start in simp length-append (omega arith);
-    inputs_start = held.inputs_start;
-    validations_start = held.validations_start;
+    outputs = parts-more _ _ _ _ _ (parts-inside (λ row. row.outputs) l.starts.outputs (λ row h. h.outputs))
+        are held.outputs;
+    inputs = held.inputs;
+    validations = held.validations;
   }
+    where
+      rows-output : output_rows (record l { outputs = l.outputs ++ others })
+          ≡ read_outputs l ++ (drop l.starts.outputs l.outputs ++ others) ∷ []
+      rows-output = rw (
+        read-same files l held others,
+        drop-append-le l.starts.outputs l.outputs others
+            held.outputs.starts,
+      ) refl
 
-  pub held-output : f.0 < length files → first_edge (has_number f.0) (output_rows outputs starts.outputs rows)
-      ≡ None
-      → EdgesAreHeld files (set makers f.0 (Some (length rows)))
-      (outputs ++ f ∷ []) inputs validations rows starts
-  held-output capacity none =
-      held-made (set makers f.0 (Some (length rows))) (length-set makers f.0 (Some (length rows)))
-      (makers-output (subst (λ n. f.0 < n) (sym held.makers_count) capacity) none) capacity
+module _ (files : List (List ℕ)) (l : Lists) (held : EdgesAreHeld files l) (f : FileNo)
+    (below : f.0 < length files) where
+  abbrev next : List FileNo
+  next = drop l.starts.outputs l.outputs
+
+  abbrev Tells : (m : ℕ) → Type 0
+  Tells m = ((m == f.0) ≡ true × (m ≡ f.0)) ⊎ ((m == f.0) ≡ false × (m ≢ f.0))
+
+  has-now : (m : ℕ) → (m == f.0) ≡ true → has_number m (next ++ f ∷ []) ≡ true
+  has-now m same = has-push m next f ∙ ap (λ b. has_number m next || b) same ∙ or-true (has_number m next)
+
+  has-still : (m : ℕ) → (m == f.0) ≡ false → has_number m next ≡ has_number m (next ++ f ∷ [])
+  has-still m apart = sym (has-push m next f ∙ ap (λ b. has_number m next || b) apart
+      ∙ or-false (has_number m next))
+
+  within-list : f.0 < length l.makers
+  within-list = subst (λ n. f.0 < n) (sym held.makers_count) below
+
+  pub held-output : first_edge (has_number f.0) (output_rows l) ≡ None
+      → EdgesAreHeld files (record l {
+        makers = set l.makers f.0 (Some (length l.rows));
+        outputs = l.outputs ++ f ∷ [];
+      })
+  held-output none = held-outputs files l held (f ∷ []) (below, tt) ms
+      (length-set l.makers f.0 (Some (length l.rows))) (λ m small. by m small (eqb_tells m f.0))
+    where
+      ms : List (Option ℕ)
+      ms = set l.makers f.0 (Some (length l.rows))
+
+      by : (m : ℕ) → m < length ms → Tells m
+          → slice_get ms m ≡ Some (first_edge (has_number m) (read_outputs l ++ (next ++ f ∷ []) ∷ []))
+      by m small (inl same) =
+          let count = length-map l.rows (λ (row : EdgeRow). within l.outputs row.outputs) in
+          let none' : first_edge (has_number m) (read_outputs l) ≡ None =
+          none-front (has_number m) (read_outputs l) next
+          (ap (λ k. first_edge (has_number k) (output_rows l)) same.1 ∙ none) in
+          ap (slice_get ms) same.1 ∙ get-set_same l.makers f.0 (Some (length l.rows)) within-list
+          ∙ ap Some (ap Some (sym count) ∙ sym
+          (first-last (has_number m) (read_outputs l) (next ++ f ∷ []) none' (has-now m same.0)))
+      by m small (inr apart) =
+          let known : m < length l.makers = subst (λ k. m < k)
+          (length-set l.makers f.0 (Some (length l.rows))) small in
+          get-set_other l.makers f.0 (Some (length l.rows)) m apart.1 ∙ held.makers_are m known
+          ∙ ap Some (first-other (has_number m) (read_outputs l) next (next ++ f ∷ []) (has-still m apart.0))
 
   -- a file with a maker keeps it
-  pub held-again : f.0 < length files → is_some (get_or makers f.0 None) ≡ true
-      → EdgesAreHeld files makers (outputs ++ f ∷ []) inputs validations rows starts
-  held-again capacity made = held-made makers refl (λ m below. held.makers_are m below
-      ∙ ap Some (by m below (eqb_tells m f.0))) capacity
+  pub held-again : is_some (get_or l.makers f.0 None) ≡ true
+      → EdgesAreHeld files (record l { outputs = l.outputs ++ f ∷ [] })
+  held-again made = held-outputs files l held (f ∷ []) (below, tt) l.makers refl
+      (λ m small. held.makers_are m small ∙ ap Some (by m small (eqb_tells m f.0)))
     where
-      next : List FileNo
-      next = drop starts.outputs outputs
-
-      by : (m : ℕ) → m < length makers → ((m == f.0) ≡ true × (m ≡ f.0)) ⊎ ((m == f.0) ≡ false × (m ≢ f.0))
-          → first_edge (has_number m) (closed_rows ++ next ∷ [])
-          ≡ first_edge (has_number m) (closed_rows ++ (next ++ f ∷ []) ∷ [])
-      by m below (inl same) =
-          let has : has_number m (next ++ f ∷ []) ≡ true = has-push m next f
-          ∙ ap (λ b. has_number m next || b) same.0 ∙ or-true (has_number m next) in
-          let some : is_some (first_edge (has_number m) (closed_rows ++ next ∷ [])) ≡ true =
-          ap is_some (sym (get_or_from_slice_get makers m
-          (first_edge (has_number m) (closed_rows ++ next ∷ [])) None (held.makers_are m below)))
-          ∙ ap (λ k. is_some (get_or makers k None)) same.1 ∙ made in
-          first-again (has_number m) closed_rows next (next ++ f ∷ []) some has
-      by m below (inr apart) = first-other (has_number m) closed_rows next (next ++ f ∷ [])
-          (sym (has-push m next f ∙ ap (λ b. has_number m next || b) apart.0 ∙ or-false (has_number m next)))
+      by : (m : ℕ) → m < length l.makers → Tells m → first_edge (has_number m) (output_rows l)
+          ≡ first_edge (has_number m) (read_outputs l ++ (next ++ f ∷ []) ∷ [])
+      by m small (inl same) =
+          let some : is_some (first_edge (has_number m) (output_rows l)) ≡ true =
+          ap is_some (sym (get_or_from_slice_get l.makers m (first_edge (has_number m) (output_rows l)) None
+          (held.makers_are m small))) ∙ ap (λ k. is_some (get_or l.makers k None)) same.1 ∙ made in
+          first-again (has_number m) (read_outputs l) next (next ++ f ∷ []) some (has-now m same.0)
+      by m small (inr apart) = first-other (has_number m) (read_outputs l) next (next ++ f ∷ [])
+          (has-still m apart.0)
 
   -- a file whose maker is none is made by none
-  pub unmade : (found : Option ℕ) → f.0 < length files → found ≡ get_or makers f.0 None
-      → is_some found ≡ false → first_edge (has_number f.0) (output_rows outputs starts.outputs rows) ≡ None
-  unmade found capacity is none =
-      let below : f.0 < length makers = subst (λ n. f.0 < n) (sym held.makers_count) capacity in
-      let same = is ∙ get_or_from_slice_get makers f.0
-      (first_edge (has_number f.0) (output_rows outputs starts.outputs rows)) None
-      (held.makers_are f.0 below) in
-      sym same ∙ absent found none
-
-  pub held-input : f.0 < length files → EdgesAreHeld files makers outputs (inputs ++ f ∷ []) validations rows
-      starts
-  held-input capacity = held-inputs files makers outputs inputs validations rows starts held (f ∷ [])
-      (capacity, tt)
-
-  pub held-validation : f.0 < length files
-      → EdgesAreHeld files makers outputs inputs (validations ++ f ∷ []) rows starts
-  held-validation capacity = held-validations files makers outputs inputs validations rows starts held
-      (f ∷ []) (capacity, tt)
+  pub unmade : (found : Option ℕ) → found ≡ get_or l.makers f.0 None → is_some found ≡ false
+      → first_edge (has_number f.0) (output_rows l) ≡ None
+  unmade found is none = sym (is ∙ get_or_from_slice_get l.makers f.0
+      (first_edge (has_number f.0) (output_rows l)) None (held.makers_are f.0 within-list))
+      ∙ absent found none
 
 -- how many files the edge that is being read has
 pub length-open : (files : List (List ℕ)) (ns : List FileNo) (start : ℕ)
     → length (paths_at files (drop start ns)) ≡ length ns - start
 length-open files ns start = length-map (drop start ns) (path_at files) ∙ length-drop start ns
 
-pub ended-within : (files : List (List ℕ)) (outputs inputs validations : List FileNo) (rows : List EdgeRow)
-    (starts : OpenStarts) (kinds : KindEnds) (t : EdgeTable)
-    → table_of files outputs inputs validations rows starts ≡ t
-    → EndWithin kinds (length t.«open».outputs) (length t.«open».inputs)
-    → EndWithin kinds (length outputs - starts.outputs) (length inputs - starts.inputs)
-ended-within files outputs inputs validations rows starts kinds t is fits =
-    let o : length t.«open».outputs ≡ length outputs - starts.outputs =
-    ap (λ u. length u.«open».outputs) (sym is) ∙ length-open files outputs starts.outputs in
-    let i : length t.«open».inputs ≡ length inputs - starts.inputs =
-    ap (λ u. length u.«open».inputs) (sym is) ∙ length-open files inputs starts.inputs in
+pub ended-within : (files : List (List ℕ)) (l : Lists) (kinds : KindEnds) (t : EdgeTable)
+    → table_of files l ≡ t → EndWithin kinds (length t.«open».outputs) (length t.«open».inputs)
+    → EndWithin kinds (length l.outputs - l.starts.outputs) (length l.inputs - l.starts.inputs)
+ended-within files l kinds t is fits =
+    let o : length t.«open».outputs ≡ length l.outputs - l.starts.outputs =
+    ap (λ u. length u.«open».outputs) (sym is) ∙ length-open files l.outputs l.starts.outputs in
+    let i : length t.«open».inputs ≡ length l.inputs - l.starts.inputs =
+    ap (λ u. length u.«open».inputs) (sym is) ∙ length-open files l.inputs l.starts.inputs in
     rw (← o, ← i) fits
+
+-- no edges, and files without makers
+pub sources-held : (files : List (List ℕ)) (count : ℕ) → IsDistinct bytes_eq files → count ≡ length files
+    → EdgesAreHeld files (no_lists (replicate count None))
+sources-held files count distinct is = record {
+  distinct = distinct;
+  makers_count = length-replicate count None ∙ is;
+  makers_are = λ n below. slice_get-get_or (replicate count None) n None below
+      ∙ ap Some (get_or-replicate count n None None
+      (subst (λ m. n < m) (length-replicate count None) below));
+  rows_are = tt;
+  outputs = record { are = tt; joined = refl; starts = omega arith };
+  inputs = record { are = tt; joined = refl; starts = omega arith };
+  validations = record { are = tt; joined = refl; starts = omega arith };
+}

@@ -1,23 +1,28 @@
 -- Lemmas on the users of the files of a graph.
-use Rattle.std.proofs.Common.{◌≡◌, ◌<◌, ◌+◌, ℕ, Bool, true, false, cond, List, [], ◌∷◌, map, length}
-use Rattle.std.proofs.Common.{slice_get, Option, refl, sym, ap, subst, ◌∙◌, arith}
+use Rattle.std.proofs.Common.{◌≡◌, ◌<◌, ◌≤◌, ◌+◌, ◌-◌, ℕ, Bool, true, false, cond, List, [], ◌∷◌, map, length}
+use Rattle.std.proofs.Common.{take, drop, Option, refl, sym, ap, subst, ◌∙◌, arith}
 use Rattle.std.specs.List.{All, AllByRecursion}
+use Rattle.std.proofs.Math.Seq.{take-take}
+use Rattle.std.proofs.lemmas.List.{take-map}
 use Rattle.std.proofs.lemmas.List.Elements.{All-from_recursion}
 use Rattle.nj_names.specs.declared.files.FileNo.{FileNo}
 use Rattle.nj_edges.specs.declared.edges.EdgeNo.{EdgeNo}
 use Rattle.nj_edges.specs.declared.edges.EdgeRow.{EdgeRow}
-use Rattle.nj_edges.specs.declared.edges.OpenStarts.{OpenStarts}
 use Rattle.nj_edges.specs.declared.users.RowPart.{RowPart}
 use Rattle.nj_edges.specs.declared.users.Users.{Users}
-use Rattle.nj_edges.specs.declared.users.RowPart.TheVariants.{Inputs, Validations}
+use Rattle.nj_edges.specs.declared.users.RowPart.TheVariants.{CountedInputs, Inputs, Outputs, Validations}
 use Rattle.nj_edges.specs.EdgeGraphs.{EdgeGraph}
-use Rattle.nj_edges.specs.Edges.{EdgePaths, edges_from, inputs_of, is_among, users_of, validation_users_of}
-use Rattle.nj_edges.specs.Inside.EdgesHeld.{has_number, paths_at, within, edge_of, edges_of, RowIsWithin}
-use Rattle.nj_edges.specs.Inside.EdgesHeld.{EdgesAreHeld}
+use Rattle.nj_edges.specs.Edges.{edges_from, is_among}
+use Rattle.nj_edges.specs.Inside.DirtyHeld.{HaveUsersIn, paths_in, users_in}
+use Rattle.nj_edges.specs.Inside.EdgesHeld.{Lists, has_number, paths_at, within, edge_of, edges_of}
+use Rattle.nj_edges.specs.Inside.EdgesHeld.{AreNumbers}
+use Rattle.nj_edges.specs.Inside.EdgesHeld.{EdgesAreHeld, IsWithin, RowIsWithin}
 use Rattle.nj_names.specs.Files.{path_at}
-use Rattle.nj_edges.specs.Inside.UsersHeld.{AreParts, HaveUsers, HaveUsersIfAny, numbers_of, using_edges}
+use Rattle.nj_edges.specs.Inside.UsersHeld.{AreParts, HaveUsers, HaveUsersIfAny, IsPart, numbers_of, span_of}
+use Rattle.nj_edges.specs.Inside.UsersHeld.{using_edges}
 use Rattle.nj_edges.proofs.EdgeLemmas.{all-of, get-path, has-among, within-numbers}
-use Rattle.nj_edges.proofs.GraphLemmas.{kinds-joined}
+use Rattle.nj_edges.proofs.GraphLemmas.{counted-joined}
+use Rattle.nj_edges.proofs.RootLemmas.{inputs-joined, outputs-joined}
 
 pub edges-map : {E F : Type 0} (k : ℕ) (test : F → Bool) (f : E → F) (es : List E)
     → edges_from k test (map f es) ≡ edges_from k (λ e. test (f e)) es
@@ -56,55 +61,100 @@ users-known test es found is = All-from_recursion (λ (e : EdgeNo). e.0 < length
     (all-of (λ n. n < 0 + length es) (λ n. n < length es) (λ n below. omega arith) (edges_from 0 test es)
     (edges-below 0 test es))))
 
-module _ (files : List (List ℕ)) (makers : List (Option ℕ)) (outputs inputs validations : List FileNo)
-    (rows : List EdgeRow) (starts : OpenStarts)
-    (held : EdgesAreHeld files makers outputs inputs validations rows starts) where
-  abbrev edge : EdgeRow → EdgePaths
-  edge = edge_of files outputs inputs validations
+-- ---- the users by a part of the edges
 
-  abbrev Inside : EdgeRow → Type 0
-  Inside = RowIsWithin starts.outputs starts.inputs starts.validations
+counted-range : (inputs : List FileNo) (row : EdgeRow)
+    → row.kinds.implicit_inputs ≤ row.inputs.end - row.inputs.start
+    → within inputs (span_of CountedInputs row) ≡ take row.kinds.implicit_inputs (within inputs row.inputs)
+counted-range inputs row le =
+    let count : (row.inputs.start + row.kinds.implicit_inputs) - row.inputs.start
+    ≡ row.kinds.implicit_inputs = omega arith in
+    ap (λ n. take n (drop row.inputs.start inputs)) count
+    ∙ sym (take-take row.kinds.implicit_inputs (row.inputs.end - row.inputs.start)
+    (drop row.inputs.start inputs) le)
 
-  module _ (g : EdgeGraph) (is : record {
-    files = files;
-    edges =
-        edges_of files outputs inputs validations rows;
-  } ≡ g) (f : FileNo) (below' : f.0 < length g.files) where
-    below : f.0 < length files
-    below = subst (λ (v : EdgeGraph). f.0 < length v.files) (sym is) below'
+-- the files of this part of all edges
+abbrev pub part_of : RowPart → Lists → List FileNo
+part_of Inputs l = l.inputs
+part_of CountedInputs l = l.inputs
+part_of Outputs l = l.outputs
+part_of Validations l = l.validations
 
-    here : slice_get files f.0 ≡ Option.Some (path_at files f)
-    here = get-path files f below
+module _ (files : List (List ℕ)) (l : Lists) (held : EdgesAreHeld files l) where
+  pub part-numbers : (part : RowPart) → AreNumbers (length files) (part_of part l)
+  part-numbers Inputs = held.inputs.are
+  part-numbers CountedInputs = held.inputs.are
+  part-numbers Outputs = held.outputs.are
+  part-numbers Validations = held.validations.are
 
-    pub users-paths : using_edges inputs Inputs 0 rows f.0 ≡ users_of g.edges (path_at g.files f)
-    users-paths =
-        edges-same 0 (λ row. has_number f.0 (within inputs row.inputs))
-        (λ row. is_among (inputs_of (edge row)) (path_at files f)) Inside
-        (λ row inside. has-among files held.distinct f.0 (path_at files f) here (within inputs row.inputs)
-        (within-numbers (length files) inputs row.inputs held.inputs_are)
-        ∙ ap (λ ps. is_among ps (path_at files f))
-        (sym (kinds-joined (paths_at files (within inputs row.inputs)) row.kinds.explicit_inputs
-        row.kinds.implicit_inputs inside.kinds.explicit_inputs)))
-        rows held.rows_are
-        ∙ sym (edges-map 0 (λ e. is_among (inputs_of e) (path_at files f)) edge rows)
-        ∙ ap (λ (v : EdgeGraph). users_of v.edges (path_at v.files f)) is
+  row-within : (part : RowPart) (row : EdgeRow) → RowIsWithin l.starts row
+      → IsWithin (span_of part row) (length (part_of part l))
+  row-within Inputs row inside = let ends = inside.inputs.ends in let starts = held.inputs.starts in
+      record { rises = inside.inputs.rises; ends = omega arith }
+  row-within CountedInputs row inside = let starts = held.inputs.starts in record {
+    rises = omega arith;
+    ends = omega (arith, inside.inputs.rises, inside.inputs.ends, inside.kinds.implicit_inputs);
+  }
+  row-within Outputs row inside = let ends = inside.outputs.ends in let starts = held.outputs.starts in
+      record { rises = inside.outputs.rises; ends = omega arith }
+  row-within Validations row inside = let ends = inside.validations.ends in
+      let starts = held.validations.starts in
+      record { rises = inside.validations.rises; ends = omega arith }
 
-    pub validation-paths : using_edges validations Validations 0 rows f.0
-        ≡ validation_users_of g.edges (path_at g.files f)
-    validation-paths =
-        edges-same 0 (λ row. has_number f.0 (within validations row.validations))
-        (λ row. is_among (edge row).validations (path_at files f)) Inside
-        (λ row inside. has-among files held.distinct f.0 (path_at files f) here
-        (within validations row.validations)
-        (within-numbers (length files) validations row.validations held.validations_are))
-        rows held.rows_are
-        ∙ sym (edges-map 0 (λ (e : EdgePaths). is_among e.validations (path_at files f)) edge rows)
-        ∙ ap (λ (v : EdgeGraph). validation_users_of v.edges (path_at v.files f)) is
+  pub part-within : (part : RowPart)
+      → AllByRecursion (λ row. IsWithin (span_of part row) (length (part_of part l))) l.rows
+  part-within part = all-of (RowIsWithin l.starts)
+      (λ row. IsWithin (span_of part row) (length (part_of part l))) (row-within part) l.rows held.rows_are
 
-    pub starts-below : (starts numbers : List ℕ) (uses : ℕ → List ℕ)
-        → HaveUsers (length files) starts numbers uses → f.0 + 1 < length starts
-    starts-below starts numbers uses users = let count : length starts ≡ length files + 1 = users.count_is in
-        let less = below in omega (arith, count, less)
+  part-paths : (part : RowPart) (row : EdgeRow) → RowIsWithin l.starts row
+      → paths_at files (within (part_of part l) (span_of part row)) ≡ paths_in part (edge_of files l row)
+  part-paths Inputs row inside = sym (inputs-joined files l row inside)
+  part-paths CountedInputs row inside =
+      ap (paths_at files) (counted-range l.inputs row inside.kinds.implicit_inputs)
+      ∙ sym (take-map (path_at files) row.kinds.implicit_inputs (within l.inputs row.inputs))
+      ∙ sym (counted-joined (paths_at files (within l.inputs row.inputs)) row.kinds.explicit_inputs
+      row.kinds.implicit_inputs inside.kinds.explicit_inputs)
+  part-paths Outputs row inside = sym (outputs-joined files l row)
+  part-paths Validations row inside = refl
+
+  module _ (g : EdgeGraph) (is : record { files = files; edges = edges_of files l } ≡ g) (part : RowPart)
+    where
+      -- the users of a file, by paths
+      pub users-paths : (f : FileNo) → f.0 < length g.files
+          → using_edges (part_of part l) part 0 l.rows f.0 ≡ users_in part g f.0
+      users-paths f below' =
+          edges-same 0 (λ row. has_number f.0 (within (part_of part l) (span_of part row)))
+          (λ row. is_among (paths_in part (edge_of files l row)) path) (RowIsWithin l.starts)
+          (λ row inside. has-among files held.distinct f.0 path (get-path files f below)
+          (within (part_of part l) (span_of part row))
+          (within-numbers (length files) (part_of part l) (span_of part row) (part-numbers part))
+          ∙ ap (λ ps. is_among ps path) (part-paths part row inside)) l.rows held.rows_are
+          ∙ sym (edges-map 0 (λ e. is_among (paths_in part e) path) (edge_of files l) l.rows)
+          ∙ ap (λ (v : EdgeGraph). users_in part v f.0) is
+        where
+          path : List ℕ
+          path = path_at files f
+
+          below : f.0 < length files
+          below = subst (λ (v : EdgeGraph). f.0 < length v.files) (sym is) below'
+
+      pub have-users : (users : Users)
+          → HaveUsers (length files) users.starts.items (numbers_of users.edges.items)
+          (using_edges (part_of part l) part 0 l.rows) → HaveUsersIn part g users
+      have-users users have = record {
+        count_is = have.count_is ∙ count;
+        parts_are = λ n below. subst (IsPart (numbers_of users.edges.items) _ _)
+            (users-paths (record { 0 = n }) (omega (arith, below, have.count_is, count)))
+            (have.parts_are n below);
+      }
+        where
+          count : length files + 1 ≡ length g.files + 1
+          count = ap (λ (v : EdgeGraph). length v.files + 1) is
+
+      pub starts-below : (f : FileNo) → f.0 < length g.files → (starts numbers : List ℕ) (uses : ℕ → List ℕ)
+          → HaveUsers (length files) starts numbers uses → f.0 + 1 < length starts
+      starts-below f below starts numbers uses users =
+          omega (arith, below, users.count_is, ap (λ (v : EdgeGraph). length v.files) is)
 
 -- the parts, as borrowed
 pub parts-lent : (count : ℕ) (starts ss : List ℕ) (edges es : List EdgeNo) (uses : ℕ → List ℕ) → ss ≡ starts

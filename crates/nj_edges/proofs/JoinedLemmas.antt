@@ -14,27 +14,27 @@ use Rattle.nj_names.specs.declared.files.FileNo.{FileNo}
 use Rattle.nj_names.specs.Files.{AreFiles, path_at}
 use Rattle.nj_edges.specs.declared.edges.EdgeRow.{EdgeRow}
 use Rattle.nj_edges.specs.declared.edges.KindEnds.{KindEnds}
-use Rattle.nj_edges.specs.declared.edges.OpenStarts.{OpenStarts}
 use Rattle.nj_edges.specs.declared.edges.Span.{Span}
 use Rattle.nj_edges.specs.declared.joined_edges.AddedSpans.{AddedSpans}
-use Rattle.nj_edges.specs.Edges.{EdgePaths, counted_inputs_of, edge_at, first_edge, is_among, maker_of}
+use Rattle.nj_edges.specs.Edges.{EdgePaths, edge_at, first_edge, is_among, maker_of}
 use Rattle.nj_edges.specs.Edges.{outputs_of}
 use Rattle.nj_edges.specs.EdgeTables.{EdgeTable, OpenEdge, edge_read, is_named_so_far, no_files, plus_output}
-use Rattle.nj_edges.specs.Inside.EdgesHeld.{AreNumbers, EdgesAreHeld, HasFiles, IsWithin, RowIsWithin}
+use Rattle.nj_edges.specs.Inside.EdgesHeld.{AreNumbers, EdgesAreHeld, HasFiles, IsWithin, Lists, RowIsWithin}
 use Rattle.nj_edges.specs.Inside.EdgesHeld.{TableIsHeld, edge_of, edges_of, has_number, output_rows, paths_at}
-use Rattle.nj_edges.specs.Inside.EdgesHeld.{table_of, within}
+use Rattle.nj_edges.specs.Inside.EdgesHeld.{read_outputs, table_of, within}
 use Rattle.nj_edges.specs.Inside.JoiningHeld.{JoinIsHeld, added_at, all_joined, input_spans, joined_by}
 use Rattle.nj_edges.specs.Inside.JoiningHeld.{joined_edge, joined_up_to, output_spans, plus_inputs}
 use Rattle.nj_edges.specs.Inside.JoiningHeld.{plus_outputs, plus_validations, spans_of, with_edge}
 use Rattle.nj_edges.specs.Joining.{with_added}
-use Rattle.nj_edges.proofs.EdgeLemmas.{all-get, all-take, edges-input, edges-validation, first-front}
+use Rattle.nj_edges.proofs.EdgeLemmas.{all-get, edges-input, edges-validation, first-front}
 use Rattle.nj_edges.proofs.EdgeLemmas.{first-last, first-more, first-none, get-path, maker-read, table-output}
 use Rattle.nj_edges.proofs.EdgeLemmas.{within-numbers}
 use Rattle.nj_edges.proofs.ChangeLemmas.{files-paths}
-use Rattle.nj_edges.proofs.GraphLemmas.{counted-joined, files-at, files-numbers, first-below}
+use Rattle.nj_edges.proofs.GraphLemmas.{files-numbers, first-below}
 use Rattle.nj_edges.proofs.JoiningLemmas.{get-map, named-joined}
 use Rattle.nj_edges.proofs.ListLemmas.{length-range}
 use Rattle.nj_edges.proofs.NamedLemmas.{closed-named, named-number, none-among}
+use Rattle.nj_edges.proofs.RootLemmas.{outputs-joined}
 
 -- ---- the edges that were read
 
@@ -61,110 +61,77 @@ first-parts test es e found is = by (first_edge test es) refl (test e) refl
         let absent = is ∙ first-more test es e fails ∙ none in
         inr (none, λ n some. absurd (true≢false (sym (ap is_some (sym absent ∙ some)))))
 
-module _ (files : List (List ℕ)) (makers : List (Option ℕ)) (outputs inputs validations : List FileNo)
-    (rows : List EdgeRow) (starts : OpenStarts) (held : EdgesAreHeld files makers outputs inputs validations
-    rows starts)
-    (t : EdgeTable) (is : table_of files outputs inputs validations rows starts ≡ t) where
+module _ (files : List (List ℕ)) (l : Lists) (held : EdgesAreHeld files l) (t : EdgeTable)
+    (is : table_of files l ≡ t) where
   module _ (path : List ℕ) where
     none-make : list_any (bytes_eq path) files ≡ false → (rs : List EdgeRow)
-        → AllByRecursion (λ (e : EdgePaths). is_among (outputs_of e) path ≡ false)
-        (edges_of files outputs inputs validations rs)
+        → AllByRecursion (λ (e : EdgePaths). is_among (outputs_of e) path ≡ false) (map (edge_of files l) rs)
     none-make absent [] = tt
     none-make absent (row ∷ rs) = (
-      ap (λ ps. is_among ps path) (take-append-drop row.kinds.explicit_outputs
-          (paths_at files (within outputs row.outputs)))
-          ∙ none-among files path absent (within outputs row.outputs)
-          (within-numbers (length files) outputs row.outputs held.outputs_are),
+      ap (λ ps. is_among ps path) (outputs-joined files l row)
+          ∙ none-among files path absent (within l.outputs row.outputs)
+          (within-numbers (length files) l.outputs row.outputs held.outputs.are),
       none-make absent rs,
     )
 
     -- a path of no file has no maker
     pub unmade-path : list_any (bytes_eq path) files ≡ false → maker_of t.edges path ≡ None
     unmade-path absent = ap (λ (u : EdgeTable). maker_of u.edges path) (sym is)
-        ∙ first-none (λ e. is_among (outputs_of e) path) (edges_of files outputs inputs validations rows)
-        (none-make absent rows)
+        ∙ first-none (λ e. is_among (outputs_of e) path) (edges_of files l) (none-make absent l.rows)
 
     module _ (n : ℕ) (here : slice_get files n ≡ Some path) (found : Option ℕ)
-        (found-is : found ≡ get_or makers n None) where
-      abbrev closed : List (List FileNo)
-      closed = map (λ (row : EdgeRow). within outputs row.outputs) rows
-
-      parts : AreParts (has_number n) closed found
+        (found-is : found ≡ get_or l.makers n None) where
+      parts : AreParts (has_number n) (read_outputs l) found
       parts =
-          let below : n < length makers = subst (λ k. n < k) (sym held.makers_count)
+          let below : n < length l.makers = subst (λ k. n < k) (sym held.makers_count)
           (slice_get_within files n path here) in
-          first-parts (has_number n) closed (drop starts.outputs outputs) found
-          (found-is ∙ get_or_from_slice_get makers n (first_edge (has_number n)
-          (output_rows outputs starts.outputs rows)) None (held.makers_are n below))
+          first-parts (has_number n) (read_outputs l) (drop l.starts.outputs l.outputs) found
+          (found-is ∙ get_or_from_slice_get l.makers n (first_edge (has_number n) (output_rows l)) None
+          (held.makers_are n below))
 
-      maker-is : maker_of t.edges path ≡ first_edge (has_number n) closed
+      maker-is : maker_of t.edges path ≡ first_edge (has_number n) (read_outputs l)
       maker-is = ap (λ (u : EdgeTable). maker_of u.edges path) (sym is)
-          ∙ sym (maker-read files makers outputs inputs validations rows starts held n path here)
+          ∙ sym (maker-read files l held n path here)
 
-      count : length closed ≡ length rows
-      count = length-map rows (λ (row : EdgeRow). within outputs row.outputs)
+      count : length (read_outputs l) ≡ length l.rows
+      count = length-map l.rows (λ (row : EdgeRow). within l.outputs row.outputs)
 
-      pub made-path : (e : ℕ) → found ≡ Some e → e < length rows → maker_of t.edges path ≡ Some e
+      pub made-path : (e : ℕ) → found ≡ Some e → e < length l.rows → maker_of t.edges path ≡ Some e
       made-path e some below = maker-is ∙ by parts
         where
-          by : AreParts (has_number n) closed found → first_edge (has_number n) closed ≡ Some e
+          by : AreParts (has_number n) (read_outputs l) found
+              → first_edge (has_number n) (read_outputs l) ≡ Some e
           by (inl made) = made.3 ∙ sym made.1 ∙ some
           by (inr none) = let end = none.1 e some in let as-many = count in absurd (omega arith)
 
-      pub none-path : ((e : ℕ) → found ≡ Some e → e < length rows → ⊥) → maker_of t.edges path ≡ None
+      pub none-path : ((e : ℕ) → found ≡ Some e → e < length l.rows → ⊥) → maker_of t.edges path ≡ None
       none-path above = maker-is ∙ by parts
         where
-          by : AreParts (has_number n) closed found → first_edge (has_number n) closed ≡ None
+          by : AreParts (has_number n) (read_outputs l) found
+              → first_edge (has_number n) (read_outputs l) ≡ None
           by (inl made) = absurd (above made.0 made.1 (subst (λ k. made.0 < k) count made.2))
           by (inr none) = none.0
 
-  -- the files of an edge
-  pub has-files : (edge : ℕ) (row : EdgeRow) → slice_get rows edge ≡ Some row
-      → HasFiles t.files (edge_at t.edges edge) (within outputs row.outputs) (within inputs row.inputs)
-      (within validations row.validations) row.kinds row.is_phony
-  has-files edge row here =
-      let inside : RowIsWithin starts.outputs starts.inputs starts.validations row = all-get
-      (RowIsWithin starts.outputs starts.inputs starts.validations) rows edge row held.rows_are here in
-      let oe = inside.outputs.ends in let ie = inside.inputs.ends in let os = held.outputs_start in
-      let is' = held.inputs_start in
-      let o = length-range outputs row.outputs.start row.outputs.end inside.outputs.rises (omega arith) in
-      let i = length-range inputs row.inputs.start row.inputs.end inside.inputs.rises (omega arith) in
-      subst (λ (u : EdgeTable). HasFiles u.files (edge_at u.edges edge) (within outputs row.outputs)
-      (within inputs row.inputs) (within validations row.validations) row.kinds row.is_phony) is
-      (record {
-        is = at rows here;
-        outputs_are = within-numbers (length files) outputs row.outputs held.outputs_are;
-        inputs_are = within-numbers (length files) inputs row.inputs held.inputs_are;
-        validations_are = within-numbers (length files) validations row.validations held.validations_are;
-        kinds_end = rw (o, i) inside.kinds;
-      })
-    where
-      at : (rs : List EdgeRow) → slice_get rs edge ≡ Some row
-          → edge_at (edges_of files outputs inputs validations rs) edge
-          ≡ edge_of files outputs inputs validations row
-      at rs h = get rs edge h
-        where
-          get : (rs : List EdgeRow) (n : ℕ) → slice_get rs n ≡ Some row
-              → edge_at (edges_of files outputs inputs validations rs) n
-              ≡ edge_of files outputs inputs validations row
-          get [] n h = absurd (true≢false (sym (ap is_some h)))
-          get (r ∷ rs) zero h = ap (edge_of files outputs inputs validations) (ap (λ o. unwrap_or o r) h)
-          get (r ∷ rs) (suc n) h = get rs n h
-
-module _ (files : List (List ℕ)) (e : EdgePaths) (outputs inputs validations : List FileNo) (kinds : KindEnds)
-    (is_phony : Bool) (has : HasFiles files e outputs inputs validations kinds is_phony) where
-  pub outputs-are : AreFiles files outputs (outputs_of e)
-  outputs-are = subst (AreFiles files outputs) (sym (take-append-drop kinds.explicit_outputs
-      (paths_at files outputs)) ∙ ap outputs_of (sym has.is)) (files-at files outputs has.outputs_are)
-
-  pub counted-are : AreFiles files (take kinds.implicit_inputs inputs) (counted_inputs_of e)
-  counted-are =
-      subst (AreFiles files (take kinds.implicit_inputs inputs))
-      (sym (take-map (path_at files) kinds.implicit_inputs inputs)
-      ∙ sym (counted-joined (paths_at files inputs) kinds.explicit_inputs kinds.implicit_inputs
-      has.kinds_end.explicit_inputs) ∙ ap counted_inputs_of (sym has.is))
-      (files-at files (take kinds.implicit_inputs inputs)
-      (all-take (λ f. f.0 < length files) kinds.implicit_inputs inputs has.inputs_are))
+-- the files of an edge
+pub has-files : (files : List (List ℕ)) (l : Lists) → EdgesAreHeld files l → (edge : ℕ) (row : EdgeRow)
+    → slice_get l.rows edge ≡ Some row
+    → HasFiles files (edge_at (edges_of files l) edge) (within l.outputs row.outputs)
+    (within l.inputs row.inputs) (within l.validations row.validations) row.kinds row.is_phony
+has-files files l held edge row here =
+    let inside : RowIsWithin l.starts row = all-get (RowIsWithin l.starts) l.rows edge row held.rows_are here
+    in
+    let oe = inside.outputs.ends in let ie = inside.inputs.ends in let os = held.outputs.starts in
+    let is = held.inputs.starts in
+    let o = length-range l.outputs row.outputs.start row.outputs.end inside.outputs.rises (omega arith) in
+    let i = length-range l.inputs row.inputs.start row.inputs.end inside.inputs.rises (omega arith) in
+    record {
+      is = get_or_from_slice_get (edges_of files l) edge (edge_of files l row) (edge_at [] 0)
+          (get-map (edge_of files l) l.rows edge row here);
+      outputs_are = within-numbers (length files) l.outputs row.outputs held.outputs.are;
+      inputs_are = within-numbers (length files) l.inputs row.inputs held.inputs.are;
+      validations_are = within-numbers (length files) l.validations row.validations held.validations.are;
+      kinds_end = rw (o, i) inside.kinds;
+    }
 
 -- ---- files of the edge that is being made
 
@@ -173,35 +140,30 @@ open-more : (files : List (List ℕ)) (ns others : List FileNo) (start : ℕ) �
 open-more files ns others start le = rw (drop-append-le start ns others le)
     (map-append (path_at files) (drop start ns) others)
 
-module _ (files : List (List ℕ)) (makers : List (Option ℕ)) (outputs inputs validations : List FileNo)
-    (rows : List EdgeRow) (starts : OpenStarts) (held : EdgesAreHeld files makers outputs inputs validations
-    rows starts)
-    (t : EdgeTable) (is : table_of files outputs inputs validations rows starts ≡ t)
-    (others : List FileNo) where
-  pub inputs-table : table_of files outputs (inputs ++ others) validations rows starts
+module _ (files : List (List ℕ)) (l : Lists) (held : EdgesAreHeld files l) (t : EdgeTable)
+    (is : table_of files l ≡ t) where
+  pub inputs-table : (others : List FileNo) → table_of files (record l { inputs = l.inputs ++ others })
       ≡ plus_inputs t (paths_at t.files others)
-  inputs-table =
-      let edges = edges-input files outputs inputs validations starts others held.inputs_start rows
-      held.rows_are in
-      let opened = open-more files inputs others starts.inputs held.inputs_start in
-      rw (edges, opened) (ap (λ (u : EdgeTable). plus_inputs u (paths_at u.files others)) is)
+  inputs-table others = rw (
+    edges-input files l held others,
+    open-more files l.inputs others l.starts.inputs
+        held.inputs.starts,
+  ) (ap (λ (u : EdgeTable). plus_inputs u (paths_at u.files others)) is)
 
-  pub validations-table : table_of files outputs inputs (validations ++ others) rows starts
+  pub validations-table : (others : List FileNo)
+      → table_of files (record l { validations = l.validations ++ others })
       ≡ plus_validations t (paths_at t.files others)
-  validations-table =
-      let edges = edges-validation files outputs inputs validations starts others held.validations_start rows
-      held.rows_are in
-      let opened = open-more files validations others starts.validations held.validations_start in
-      rw (edges, opened) (ap (λ (u : EdgeTable). plus_validations u (paths_at u.files others)) is)
+  validations-table others = rw (
+    edges-validation files l held others,
+    open-more files l.validations others
+        l.starts.validations held.validations.starts,
+  )
+      (ap (λ (u : EdgeTable). plus_validations u (paths_at u.files others)) is)
 
-module _ (files : List (List ℕ)) (makers : List (Option ℕ)) (outputs inputs validations : List FileNo)
-    (rows : List EdgeRow) (starts : OpenStarts) (held : EdgesAreHeld files makers outputs inputs validations
-    rows starts)
-    (t : EdgeTable) (is : table_of files outputs inputs validations rows starts ≡ t) where
   pub output-table : (f : FileNo) → f.0 < length t.files
-      → table_of files (outputs ++ f ∷ []) inputs validations rows starts ≡ plus_output t (path_at t.files f)
+      → table_of files (record l { outputs = l.outputs ++ f ∷ [] }) ≡ plus_output t (path_at t.files f)
   output-table f below =
-      table-output files makers outputs inputs validations rows starts held f (path_at files f)
+      table-output files l held f (path_at files f)
       (get-path files f (subst (λ (u : EdgeTable). f.0 < length u.files) (sym is) below))
       ∙ ap (λ (u : EdgeTable). plus_output u (path_at u.files f)) is
 
@@ -421,12 +383,9 @@ module _ (t : EdgeTable) (added : List (Option AddedSpans))
       (take_all count (joined_by t.«open» t.edges added) (omega arith))
 
   -- the lists of all edges make a table again
-  module _ (files fs : List (List ℕ)) (makers : List (Option ℕ)) (outputs inputs validations : List FileNo)
-      (rows : List EdgeRow) (starts : OpenStarts) (lists : EdgesAreHeld fs makers outputs inputs validations
-      rows starts)
-      (is : table_of fs outputs inputs validations rows starts ≡ all_joined t added)
-      (files-are : files ≡ t.files) (named : (path : List ℕ)
-      → list_any (bytes_eq path) t.files ≡ is_named_so_far t path) where
+  module _ (files fs : List (List ℕ)) (l : Lists) (lists : EdgesAreHeld fs l)
+      (is : table_of fs l ≡ all_joined t added) (files-are : files ≡ t.files)
+      (named : (path : List ℕ) → list_any (bytes_eq path) t.files ≡ is_named_so_far t path) where
     same : fs ≡ files
     same = ap (λ (u : EdgeTable). u.files) is ∙ sym files-are
 
@@ -434,18 +393,18 @@ module _ (t : EdgeTable) (added : List (Option AddedSpans))
     no-files [] none n = refl
     no-files (f ∷ ns) none n = absurd (omega (arith, ap length none))
 
-    pub all-table : table_of files outputs inputs validations rows starts ≡ all_joined t added
-    all-table = subst (λ xs. table_of xs outputs inputs validations rows starts ≡ all_joined t added) same is
+    pub all-table : table_of files l ≡ all_joined t added
+    all-table = subst (λ xs. table_of xs l ≡ all_joined t added) same is
 
-    pub all-held : TableIsHeld files makers outputs inputs validations rows starts
-    all-held = subst (λ xs. TableIsHeld xs makers outputs inputs validations rows starts) same (record {
+    pub all-held : TableIsHeld files l
+    all-held = subst (λ xs. TableIsHeld xs l) same (record {
       edges_are = lists;
       open_are_new = λ n has. absurd (true≢false (sym has
-          ∙ no-files (drop starts.outputs outputs) (ap (λ (u : EdgeTable). u.«open».outputs) is) n));
+          ∙ no-files (drop l.starts.outputs l.outputs) (ap (λ (u : EdgeTable). u.«open».outputs) is) n));
       named = λ n below.
           let path = get_or fs n [] in
           let here : slice_get fs n ≡ Some path = slice_get-get_or fs n [] below in
-          named-number fs makers outputs inputs validations rows starts lists path n here
+          named-number fs l lists path n here
           (ap (λ (u : EdgeTable). is_named_so_far u path) is ∙ closed-named (all_joined t added) path refl
           ∙ sym (named-joined t added (length t.«open».outputs)
           (length t.«open».inputs) held refl refl path)

@@ -1,10 +1,9 @@
 -- Lemmas on the files that edges name: they are the files that are held.
 use Rattle.std.proofs.Common.{◌≡◌, ◌<◌, ◌||◌, ℕ, zero, suc, Bool, true, false, List, [], ◌∷◌, map, length}
-use Rattle.std.proofs.Common.{take, drop, slice_get, Option, Some, bytes_eq, refl, sym, ap, subst, ◌∙◌}
+use Rattle.std.proofs.Common.{take, drop, slice_get, Some, bytes_eq, refl, sym, ap, subst, ◌∙◌}
 use Rattle.std.proofs.Common.{true≢false}
-use Rattle.std.specs.List.{AllByRecursion, IsDistinct, flat_map, list_any}
+use Rattle.std.specs.List.{AllByRecursion, IsDistinct, list_any}
 use Rattle.std.proofs.Math.Bool.{or-false, or-true}
-use Rattle.std.proofs.Math.Seq.{drop-length}
 use Rattle.std.proofs.lemmas.List.{take-append-drop, map-append}
 use Rattle.std.proofs.lemmas.List.Folds.{list_any-append}
 use Rattle.std.proofs.lemmas.Option.{slice_get_within}
@@ -13,18 +12,16 @@ use Rattle.nj_names.proofs.ListLemmas.{among-get}
 use Rattle.nj_names.specs.declared.files.FileNo.{FileNo}
 use Rattle.nj_edges.specs.declared.edges.Span.{Span}
 use Rattle.nj_edges.specs.declared.edges.EdgeRow.{EdgeRow}
-use Rattle.nj_edges.specs.declared.edges.OpenStarts.{OpenStarts}
 use Rattle.nj_edges.specs.Edges.{EdgePaths, inputs_of, is_among, is_named, outputs_of}
 use Rattle.nj_edges.specs.EdgeGraphs.{EdgeGraph}
-use Rattle.nj_edges.specs.Inside.EdgesHeld.{paths_at, within, edge_of, edges_of, table_of, has_number}
+use Rattle.nj_edges.specs.Inside.EdgesHeld.{Lists, paths_at, within, edge_of, edges_of, table_of, has_number}
 use Rattle.nj_edges.specs.Inside.EdgesHeld.{AreNumbers, AreJoined, AreNamed, RowIsWithin, EdgesAreHeld}
 use Rattle.nj_edges.specs.Inside.EdgesHeld.{TableIsHeld}
 use Rattle.nj_edges.specs.EdgeTables.{OpenEdge, EdgeTable, no_files, is_named_so_far}
 use Rattle.nj_names.specs.Files.{AreFiles, path_at}
-use Rattle.nj_edges.specs.Inside.GraphHeld.{ends_of}
 use Rattle.nj_edges.proofs.EdgeLemmas.{all-drop, get-path, has-among}
-use Rattle.nj_edges.proofs.GraphLemmas.{files-at, kinds-joined}
-use Rattle.nj_edges.proofs.RootLemmas.{among-flat}
+use Rattle.nj_edges.proofs.GraphLemmas.{files-at}
+use Rattle.nj_edges.proofs.RootLemmas.{among-flat, inputs-joined, outputs-joined, parts-paths}
 
 -- ---- tests
 
@@ -74,18 +71,6 @@ none-among files path absent (f ∷ ns) are =
 
 -- ---- parts of edges
 
-parts-paths : (files : List (List ℕ)) (part : EdgePaths → List (List ℕ)) (ns : List FileNo)
-    (span : EdgeRow → Span) (edge : EdgeRow → EdgePaths) (P : EdgeRow → Type 0)
-    → ((row : EdgeRow) → P row → part (edge row) ≡ paths_at files (within ns (span row)))
-    → (rows : List EdgeRow) → AllByRecursion P rows
-    → flat_map part (map edge rows) ≡ paths_at files (flat_map (within ns) (map span rows))
-parts-paths files part ns span edge P same [] all = refl
-parts-paths files part ns span edge P same (row ∷ rows) all =
-    let first = same row all.0 in
-    let more = parts-paths files part ns span edge P same rows all.1 in
-    let join = map-append (path_at files) (within ns (span row)) (flat_map (within ns) (map span rows)) in
-    rw (first, more) (sym join)
-
 among-parts : (files : List (List ℕ)) (part : EdgePaths → List (List ℕ)) (ns : List FileNo)
     (span : EdgeRow → Span) (edge : EdgeRow → EdgePaths) (P : EdgeRow → Type 0)
     → ((row : EdgeRow) → P row → part (edge row) ≡ paths_at files (within ns (span row)))
@@ -102,86 +87,68 @@ among-parts files part ns span edge P same rows all start joined path =
     ∙ ap (λ ps. is_among ps path) (sym (parts-paths files part ns span edge P same rows all))
     ∙ among-flat part path (map edge rows))
 
-module _ (files : List (List ℕ)) (makers : List (Option ℕ)) (outputs inputs validations : List FileNo)
-    (rows : List EdgeRow) (starts : OpenStarts) (held : EdgesAreHeld files makers outputs inputs validations
-    rows starts) (path : List ℕ) where
-  at-numbers : AreNamed (length files) outputs inputs validations
-      → list_any (bytes_eq path) files ≡ (is_among (paths_at files outputs) path || is_among
-      (paths_at files inputs) path || is_among (paths_at files validations) path)
+module _ (files : List (List ℕ)) (l : Lists) (held : EdgesAreHeld files l) (path : List ℕ) where
+  abbrev Inside : EdgeRow → Type 0
+  Inside = RowIsWithin l.starts
+
+  -- whether a path is among the files of one kind
+  abbrev among : List FileNo → Bool
+  among ns = is_among (paths_at files ns) path
+
+  abbrev among_edges : (part : EdgePaths → List (List ℕ)) → Bool
+  among_edges part = list_any (λ e. is_among (part e) path) (edges_of files l)
+
+  at-numbers : AreNamed (length files) l
+      → list_any (bytes_eq path) files ≡ (among l.outputs || among l.inputs || among l.validations)
   at-numbers named = by (list_any (bytes_eq path) files) refl
     where
       by : (b : Bool) → list_any (bytes_eq path) files ≡ b
-          → b ≡ (is_among (paths_at files outputs) path || is_among (paths_at files inputs) path
-          || is_among (paths_at files validations) path)
+          → b ≡ (among l.outputs || among l.inputs || among l.validations)
       by true e =
           let n = found-get path files e in
           sym (named n.0 (slice_get_within files n.0 path n.1))
-          ∙ or-same (has-among files held.distinct n.0 path n.1 outputs held.outputs_are)
-          (has-among files held.distinct n.0 path n.1 inputs held.inputs_are)
-          (has-among files held.distinct n.0 path n.1 validations held.validations_are)
-      by false e = sym (or-same (none-among files path e outputs held.outputs_are)
-          (none-among files path e inputs held.inputs_are)
-          (none-among files path e validations held.validations_are))
+          ∙ or-same (has-among files held.distinct n.0 path n.1 l.outputs held.outputs.are)
+          (has-among files held.distinct n.0 path n.1 l.inputs held.inputs.are)
+          (has-among files held.distinct n.0 path n.1 l.validations held.validations.are)
+      by false e = sym (or-same (none-among files path e l.outputs held.outputs.are)
+          (none-among files path e l.inputs held.inputs.are)
+          (none-among files path e l.validations held.validations.are))
 
-  abbrev edge : EdgeRow → EdgePaths
-  edge = edge_of files outputs inputs validations
-
-  abbrev Inside : EdgeRow → Type 0
-  Inside = RowIsWithin starts.outputs starts.inputs starts.validations
-
-  outputs-among : is_among (paths_at files outputs) path
-      ≡ (list_any (λ e. is_among (outputs_of e) path) (map edge rows)
-      || is_among (paths_at files (drop starts.outputs outputs)) path)
-  outputs-among = among-parts files outputs_of outputs (λ row. row.outputs) edge Inside
-      (λ row inside. take-append-drop row.kinds.explicit_outputs
-      (paths_at files (within outputs row.outputs))) rows held.rows_are starts.outputs held.outputs_joined
+  outputs-among : among l.outputs ≡ (among_edges outputs_of || among (drop l.starts.outputs l.outputs))
+  outputs-among = among-parts files outputs_of l.outputs (λ row. row.outputs) (edge_of files l) Inside
+      (λ row inside. outputs-joined files l row) l.rows held.rows_are l.starts.outputs held.outputs.joined
       path
 
-  inputs-among : is_among (paths_at files inputs) path
-      ≡ (list_any (λ e. is_among (inputs_of e) path) (map edge rows)
-      || is_among (paths_at files (drop starts.inputs inputs)) path)
-  inputs-among = among-parts files inputs_of inputs (λ row. row.inputs) edge Inside
-      (λ row inside. kinds-joined (paths_at files (within inputs row.inputs)) row.kinds.explicit_inputs
-      row.kinds.implicit_inputs inside.kinds.explicit_inputs) rows held.rows_are starts.inputs
-      held.inputs_joined path
+  inputs-among : among l.inputs ≡ (among_edges inputs_of || among (drop l.starts.inputs l.inputs))
+  inputs-among = among-parts files inputs_of l.inputs (λ row. row.inputs) (edge_of files l) Inside
+      (inputs-joined files l) l.rows held.rows_are l.starts.inputs held.inputs.joined path
 
-  validations-among : is_among (paths_at files validations) path
-      ≡ (list_any (λ (e : EdgePaths). is_among e.validations path) (map edge rows)
-      || is_among (paths_at files (drop starts.validations validations)) path)
-  validations-among = among-parts files (λ e. e.validations) validations (λ row. row.validations) edge Inside
-      (λ row inside. refl) rows held.rows_are starts.validations held.validations_joined path
+  validations-among : among l.validations
+      ≡ (among_edges (λ e. e.validations) || among (drop l.starts.validations l.validations))
+  validations-among = among-parts files (λ e. e.validations) l.validations (λ row. row.validations)
+      (edge_of files l) Inside (λ row inside. refl) l.rows held.rows_are l.starts.validations
+      held.validations.joined path
 
-  numbers-named : (is_among (paths_at files outputs) path || is_among (paths_at files inputs) path || is_among
-      (paths_at files validations) path) ≡ is_named_so_far
-      (table_of files outputs inputs validations rows starts) path
+  numbers-named : (among l.outputs || among l.inputs || among l.validations)
+      ≡ is_named_so_far (table_of files l) path
   numbers-named =
       or-same outputs-among inputs-among validations-among
-      ∙ sym (or-parts (list_any (λ e. is_among (outputs_of e) path) (map edge rows))
-      (list_any (λ e. is_among (inputs_of e) path) (map edge rows))
-      (list_any (λ (e : EdgePaths). is_among e.validations path) (map edge rows))
-      (is_among (paths_at files (drop starts.outputs outputs)) path)
-      (is_among (paths_at files (drop starts.inputs inputs)) path)
-      (is_among (paths_at files (drop starts.validations validations)) path))
-      ∙ ap (λ b. b || (is_among (paths_at files (drop starts.outputs outputs)) path
-      || is_among (paths_at files (drop starts.inputs inputs)) path
-      || is_among (paths_at files (drop starts.validations validations)) path))
+      ∙ sym (or-parts (among_edges outputs_of) (among_edges inputs_of) (among_edges (λ e. e.validations))
+      (among (drop l.starts.outputs l.outputs)) (among (drop l.starts.inputs l.inputs))
+      (among (drop l.starts.validations l.validations)))
+      ∙ ap (λ b. b || (among (drop l.starts.outputs l.outputs) || among (drop l.starts.inputs l.inputs)
+      || among (drop l.starts.validations l.validations)))
       (sym (any-parts (λ e. is_among (outputs_of e) path) (λ e. is_among (inputs_of e) path)
-      (λ (e : EdgePaths). is_among e.validations path) (map edge rows)))
+      (λ (e : EdgePaths). is_among e.validations path) (edges_of files l)))
 
-  -- the files that are held are those that edges name
-  named-files : AreNamed (length files) outputs inputs validations
-      → list_any (bytes_eq path) files ≡ is_named_so_far
-      (table_of files outputs inputs validations rows starts) path
-  named-files named = at-numbers named ∙ numbers-named
-
-  -- and the other way round
+  -- a file that edges name is one that is held
   pub named-number : (n : ℕ) → slice_get files n ≡ Some path
-      → is_named_so_far (table_of files outputs inputs validations rows starts) path ≡ true
-      → (has_number n outputs || has_number n inputs || has_number n validations) ≡ true
+      → is_named_so_far (table_of files l) path ≡ true
+      → (has_number n l.outputs || has_number n l.inputs || has_number n l.validations) ≡ true
   named-number n here is =
-      or-same (has-among files held.distinct n path here outputs held.outputs_are)
-      (has-among files held.distinct n path here inputs held.inputs_are)
-      (has-among files held.distinct n path here validations held.validations_are)
+      or-same (has-among files held.distinct n path here l.outputs held.outputs.are)
+      (has-among files held.distinct n path here l.inputs held.inputs.are)
+      (has-among files held.distinct n path here l.validations held.validations.are)
       ∙ numbers-named ∙ is
 
 -- where no edge is being read
@@ -191,29 +158,19 @@ closed-named t path none = ap (λ (o : OpenEdge). is_named t.edges path ||
     (is_among o.outputs path || is_among o.inputs path || is_among o.validations path)) none
     ∙ or-false (is_named t.edges path)
 
-pub table-files : (files : List (List ℕ)) (makers : List (Option ℕ))
-    (outputs inputs validations : List FileNo) (rows : List EdgeRow) (starts : OpenStarts)
-    → TableIsHeld files makers outputs inputs validations rows starts
-    → (t : EdgeTable) → table_of files outputs inputs validations rows starts ≡ t → (path : List ℕ)
-    → list_any (bytes_eq path) t.files ≡ is_named_so_far t path
-table-files files makers outputs inputs validations rows starts held t is path =
+pub table-files : (files : List (List ℕ)) (l : Lists) → TableIsHeld files l → (t : EdgeTable)
+    → table_of files l ≡ t → (path : List ℕ) → list_any (bytes_eq path) t.files ≡ is_named_so_far t path
+table-files files l held t is path =
     subst (λ u. list_any (bytes_eq path) u.files ≡ is_named_so_far u path) is
-    (named-files files makers outputs inputs validations rows starts held.edges_are path held.named)
+    (at-numbers files l held.edges_are path held.named ∙ numbers-named files l held.edges_are path)
 
-pub graph-files : (files : List (List ℕ)) (makers : List (Option ℕ))
-    (outputs inputs validations : List FileNo) (rows : List EdgeRow)
-    → EdgesAreHeld files makers outputs inputs validations rows (ends_of outputs inputs validations)
-    → AreNamed (length files) outputs inputs validations
-    → (g : EdgeGraph) → record { files = files; edges = edges_of files outputs inputs validations rows } ≡ g
+pub graph-files : (files : List (List ℕ)) (l : Lists) → TableIsHeld files l
+    → (table_of files l).«open» ≡ no_files → (g : EdgeGraph)
+    → record { files = files; edges = edges_of files l } ≡ g
     → (path : List ℕ) → list_any (bytes_eq path) g.files ≡ is_named g.edges path
-graph-files files makers outputs inputs validations rows held named g is path =
-    let none : (table_of files outputs inputs validations rows (ends_of outputs inputs validations)).«open»
-    ≡ no_files = rw (drop-length outputs, drop-length inputs, drop-length validations) refl in
+graph-files files l held closed g is path =
     subst (λ (h : EdgeGraph). list_any (bytes_eq path) h.files ≡ is_named h.edges path) is
-    (named-files files makers outputs inputs validations rows
-    (ends_of outputs inputs validations) held path named
-    ∙ closed-named (table_of files outputs inputs validations rows (ends_of outputs inputs validations))
-    path none)
+    (table-files files l held (table_of files l) refl path ∙ closed-named (table_of files l) path closed)
 
 -- ---- the files of the edge that is being read
 

@@ -1,20 +1,20 @@
 -- Lemmas on the roots of a graph.
 use Rattle.std.proofs.Common.{◌≡◌, ◌<◌, ◌||◌, ℕ, Bool, true, false, cond, not, List, [], ◌∷◌, map, length}
-use Rattle.std.proofs.Common.{slice_get, slice_index_or, Option, Some, bytes_eq, refl, sym, ap, subst, ◌∙◌}
+use Rattle.std.proofs.Common.{slice_get, slice_index_or, Some, bytes_eq, refl, sym, ap, subst, ◌∙◌}
 use Rattle.std.specs.List.{AllByRecursion, filter, flat_map, list_any}
 use Rattle.std.proofs.lemmas.List.{take-append-drop, map-append}
 use Rattle.std.proofs.lemmas.List.Folds.{list_any-append}
-use Rattle.std.proofs.Math.Seq.{take-length}
 use Rattle.nj_names.specs.declared.files.FileNo.{FileNo}
 use Rattle.nj_edges.specs.declared.edges.EdgeRow.{EdgeRow}
+use Rattle.nj_edges.specs.declared.edges.Span.{Span}
 use Rattle.nj_edges.specs.Edges.{EdgePaths, is_among, is_used, outputs_of, inputs_of, roots_of}
-use Rattle.nj_edges.specs.Inside.EdgesHeld.{paths_at, within, edge_of, edges_of, has_number, AreNumbers}
-use Rattle.nj_edges.specs.Inside.EdgesHeld.{RowIsWithin, EdgesAreHeld}
+use Rattle.nj_edges.specs.Inside.EdgesHeld.{Lists, paths_at, within, edge_of, edges_of, has_number, table_of}
+use Rattle.nj_edges.specs.Inside.EdgesHeld.{AreNumbers, RowIsWithin, EdgesAreHeld}
+use Rattle.nj_edges.specs.EdgeTables.{no_files}
 use Rattle.nj_names.specs.Files.{path_at, AreFiles}
-use Rattle.nj_edges.specs.Inside.GraphHeld.{ends_of}
 use Rattle.nj_edges.specs.Inside.RootsHeld.{AreFlags}
 use Rattle.nj_edges.proofs.EdgeLemmas.{get-path, has-among}
-use Rattle.nj_edges.proofs.GraphLemmas.{kinds-joined}
+use Rattle.nj_edges.proofs.GraphLemmas.{inputs-whole, kinds-joined, outputs-whole}
 
 -- ---- without flags
 
@@ -57,61 +57,53 @@ filter-paths files p q same (f ∷ ns) are =
     by false true e here rest = cc
     by false false e here rest = rest
 
-module _ (files : List (List ℕ)) (makers : List (Option ℕ)) (outputs inputs validations : List FileNo)
-    (rows : List EdgeRow) (held : EdgesAreHeld files makers outputs inputs validations rows
-    (ends_of outputs inputs validations)) where
-  outputs-rows : (rs : List EdgeRow) → flat_map outputs_of (map (edge_of files outputs inputs validations) rs)
-      ≡ paths_at files (flat_map (within outputs) (map (λ (row : EdgeRow). row.outputs) rs))
-  outputs-rows [] = refl
-  outputs-rows (row ∷ rs) =
-      let first = take-append-drop row.kinds.explicit_outputs (paths_at files (within outputs row.outputs)) in
-      let more = outputs-rows rs in
-      let join = map-append (path_at files) (within outputs row.outputs)
-      (flat_map (within outputs) (map (λ (r : EdgeRow). r.outputs) rs)) in
-      rw (first, more) (sym join)
+-- ---- parts of edges
 
-  inputs-rows : (rs : List EdgeRow) → AllByRecursion
-      (RowIsWithin (length outputs) (length inputs) (length validations)) rs
-      → flat_map inputs_of (map (edge_of files outputs inputs validations) rs)
-      ≡ paths_at files (flat_map (within inputs) (map (λ (row : EdgeRow). row.inputs) rs))
-  inputs-rows [] all = refl
-  inputs-rows (row ∷ rs) all =
-      let first = kinds-joined (paths_at files (within inputs row.inputs)) row.kinds.explicit_inputs
-      row.kinds.implicit_inputs all.0.kinds.explicit_inputs in
-      let more = inputs-rows rs all.1 in
-      let join = map-append (path_at files) (within inputs row.inputs)
-      (flat_map (within inputs) (map (λ (r : EdgeRow). r.inputs) rs)) in
-      rw (first, more) (sym join)
+pub parts-paths : (files : List (List ℕ)) (part : EdgePaths → List (List ℕ)) (ns : List FileNo)
+    (span : EdgeRow → Span) (edge : EdgeRow → EdgePaths) (P : EdgeRow → Type 0)
+    → ((row : EdgeRow) → P row → part (edge row) ≡ paths_at files (within ns (span row)))
+    → (rows : List EdgeRow) → AllByRecursion P rows
+    → flat_map part (map edge rows) ≡ paths_at files (flat_map (within ns) (map span rows))
+parts-paths files part ns span edge P same [] all = refl
+parts-paths files part ns span edge P same (row ∷ rows) all =
+    let first = same row all.0 in
+    let more = parts-paths files part ns span edge P same rows all.1 in
+    let join = map-append (path_at files) (within ns (span row)) (flat_map (within ns) (map span rows)) in
+    rw (first, more) (sym join)
 
-  pub outputs-flat : flat_map outputs_of (edges_of files outputs inputs validations rows)
-      ≡ paths_at files outputs
-  outputs-flat = outputs-rows rows ∙ ap (paths_at files) (held.outputs_joined ∙ take-length outputs)
+module _ (files : List (List ℕ)) (l : Lists) (row : EdgeRow) where
+  pub outputs-joined : outputs_of (edge_of files l row) ≡ paths_at files (within l.outputs row.outputs)
+  outputs-joined = take-append-drop row.kinds.explicit_outputs (paths_at files (within l.outputs row.outputs))
 
-  pub inputs-flat : flat_map inputs_of (edges_of files outputs inputs validations rows)
-      ≡ paths_at files inputs
-  inputs-flat = inputs-rows rows held.rows_are ∙ ap (paths_at files) (held.inputs_joined ∙ take-length inputs)
+  pub inputs-joined : RowIsWithin l.starts row
+      → inputs_of (edge_of files l row) ≡ paths_at files (within l.inputs row.inputs)
+  inputs-joined inside = kinds-joined (paths_at files (within l.inputs row.inputs)) row.kinds.explicit_inputs
+      row.kinds.implicit_inputs inside.kinds.explicit_inputs
+
+module _ (files : List (List ℕ)) (l : Lists) (held : EdgesAreHeld files l)
+    (closed : (table_of files l).«open» ≡ no_files) where
+  outputs-flat : flat_map outputs_of (edges_of files l) ≡ paths_at files l.outputs
+  outputs-flat = parts-paths files outputs_of l.outputs (λ row. row.outputs) (edge_of files l)
+      (RowIsWithin l.starts) (λ row inside. outputs-joined files l row) l.rows held.rows_are
+      ∙ ap (paths_at files) (held.outputs.joined ∙ outputs-whole files l closed)
+
+  inputs-flat : flat_map inputs_of (edges_of files l) ≡ paths_at files l.inputs
+  inputs-flat = parts-paths files inputs_of l.inputs (λ row. row.inputs) (edge_of files l)
+      (RowIsWithin l.starts) (inputs-joined files l) l.rows held.rows_are
+      ∙ ap (paths_at files) (held.inputs.joined ∙ inputs-whole files l closed)
 
   used-is : (f : FileNo) → f.0 < length files
-      → has_number f.0 inputs ≡ is_used (edges_of files outputs inputs validations rows) (path_at files f)
+      → has_number f.0 l.inputs ≡ is_used (edges_of files l) (path_at files f)
   used-is f below =
-      has-among files held.distinct f.0 (path_at files f) (get-path files f below) inputs held.inputs_are
+      has-among files held.distinct f.0 (path_at files f) (get-path files f below) l.inputs held.inputs.are
       ∙ ap (λ ps. is_among ps (path_at files f)) (sym inputs-flat)
-      ∙ among-flat inputs_of (path_at files f) (edges_of files outputs inputs validations rows)
+      ∙ among-flat inputs_of (path_at files f) (edges_of files l)
 
-  pub roots-are : AreFiles files (filter (λ f. not (has_number f.0 inputs)) outputs)
-      (roots_of (edges_of files outputs inputs validations rows))
-  roots-are =
-      subst (λ ps. AreFiles files (filter (λ f. not (has_number f.0 inputs)) outputs)
-      (filter (λ path. not (is_used (edges_of files outputs inputs validations rows) path)) ps))
-      (sym outputs-flat)
-      (filter-paths files (λ f. not (has_number f.0 inputs))
-      (λ path. not (is_used (edges_of files outputs inputs validations rows) path))
-      (λ f below. ap not (used-is f below)) outputs held.outputs_are)
-
-  pub roots-held : (roots outs ins : List FileNo) → outs ≡ outputs → ins ≡ inputs
-      → roots ≡ filter (λ f. not (has_number f.0 ins)) outs
-      → AreFiles files roots (roots_of (edges_of files outputs inputs validations rows))
-  roots-held roots outs ins o i is = subst
-      (λ ns. AreFiles files ns (roots_of (edges_of files outputs inputs validations rows)))
-      (sym (is ∙ ap (λ ns. filter (λ f. not (has_number f.0 ns)) outs) i
-      ∙ ap (λ ns. filter (λ f. not (has_number f.0 inputs)) ns) o)) roots-are
+  pub roots-held : (roots : List FileNo) → roots ≡ filter (λ f. not (has_number f.0 l.inputs)) l.outputs
+      → AreFiles files roots (roots_of (edges_of files l))
+  roots-held roots is =
+      subst (λ ns. AreFiles files ns (roots_of (edges_of files l))) (sym is)
+      (subst (λ ps. AreFiles files (filter (λ f. not (has_number f.0 l.inputs)) l.outputs)
+      (filter (λ path. not (is_used (edges_of files l) path)) ps)) (sym outputs-flat)
+      (filter-paths files (λ f. not (has_number f.0 l.inputs)) (λ path. not (is_used (edges_of files l) path))
+      (λ f below. ap not (used-is f below)) l.outputs held.outputs.are))

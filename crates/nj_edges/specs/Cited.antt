@@ -13,11 +13,11 @@ pub use Rattle.nj_edges.specs.Chains.{PathIs}
 pub use Rattle.nj_edges.specs.Inside.ChainsHeld.{AddsMakers, ChainIs, ComeFromEarlier, MakesInput, StepIs, StepToIs, Traces, with_arrival}
 pub use Rattle.nj_edges.specs.Dirty.{IsDirty, OtherEdgesAreUntouched}
 pub use Rattle.nj_edges.specs.Inside.DirtyHeld.{HasOneIn, HaveUsersIn}
-pub use Rattle.std.specs.List.{IsDistinct, list_any, AllByRecursion, filter, range_with_len}
+pub use Rattle.std.specs.List.{IsDistinct, list_any, filter, range_with_len, AllByRecursion}
 pub use Rattle.nj_edges.specs.EdgeTables.{no_files, EndWithin, with_output, with_input, with_validation, is_made, is_named_so_far}
 pub use Rattle.nj_edges.specs.EdgeTables.{edge_read, plus_output}
-pub use Rattle.nj_edges.specs.Inside.EdgesHeld.{AreNumbers, HasFiles, row_between, has_number, is_made_by, IsWithin, paths_at, within}
-pub use Rattle.nj_edges.specs.Inside.EdgesHeld.{with_maker}
+pub use Rattle.nj_edges.specs.Inside.EdgesHeld.{AreNumbers, HasFiles, EdgesAreHeld, edges_of, lists_of, no_lists, with_row, row_between}
+pub use Rattle.nj_edges.specs.Inside.EdgesHeld.{has_number, is_made_by, paths_at, IsWithin, with_maker, within}
 pub use Rattle.nj_edges.specs.Graph.{FinishesAs, IsFirstCycle}
 pub use Rattle.nj_edges.specs.Joining.{none_added, join_of, with_added_output, with_added_input, with_joined, is_made_so_far, is_joined}
 pub use Rattle.nj_cycles.specs.Cycles.{IsAcyclic}

@@ -120,8 +120,7 @@ impl EdgeGraph {
         requires { edge.0 < length self.now.edges }
         ensures { StepIs self.now with_validations edge index result }
     {
-        let row = self.rows.row(edge.0);
-        let inputs = part(&self.inputs, row.inputs.start, row.inputs.end);
+        let inputs = self.edge_files(edge).inputs;
         if index < inputs.len() {
             return Some(Step {
                 edge,

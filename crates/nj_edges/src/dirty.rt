@@ -76,8 +76,8 @@ impl EdgeGraph {
         users_of_files(
             alloc,
             file_count,
-            &self.inputs,
-            &self.rows,
+            &self.lists.inputs,
+            &self.lists.rows,
             RowPart::CountedInputs,
         )
     }
@@ -90,8 +90,8 @@ impl EdgeGraph {
         users_of_files(
             alloc,
             file_count,
-            &self.outputs,
-            &self.rows,
+            &self.lists.outputs,
+            &self.lists.rows,
             RowPart::Outputs,
         )
     }

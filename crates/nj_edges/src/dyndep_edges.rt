@@ -3,7 +3,7 @@
 ghost use Rattle.std.specs.Prelude.{◌≡◌, ℕ, List, ◌<◌, None, Some, not, if◌then◌else◌, option_map, length, replicate, slice_get, bytes_eq, IfOk, IfSome, OnOk, OnErr, false};
 ghost use Rattle.nj_edges.specs.Cited.{IsDistinct, counted_inputs_of, edge_at, outputs_of, maker_of, no_files, AreNumbers, AreFiles, FinishesAs, none_added, join_of, with_added_output, with_added_input, with_joined, is_made_so_far, is_joined};
 
-use crate::edges::{EdgeNo, Edges, OpenStarts, Span};
+use crate::edges::{EdgeNo, Edges, Span};
 use crate::graph::{EdgeGraph, Finished};
 use crate::joined_edges::{AddedSpans, joined_edges};
 use crate::list_parts::first;
@@ -53,19 +53,9 @@ impl EdgeGraph {
     fn into_edges(self) -> Edges
         ensures { result ≡ record { files = self.files; edges = self.edges; «open» = no_files } }
     {
-        let starts = OpenStarts {
-            outputs: self.outputs.as_slice().len(),
-            inputs: self.inputs.as_slice().len(),
-            validations: self.validations.as_slice().len(),
-        };
         Edges {
             files: self.files,
-            makers: self.makers,
-            outputs: self.outputs,
-            inputs: self.inputs,
-            validations: self.validations,
-            rows: self.rows,
-            starts,
+            lists: self.lists,
         }
     }
 }

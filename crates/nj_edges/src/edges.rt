@@ -3,9 +3,9 @@
 ghost use Rattle.std.specs.Prelude.{◌≡◌, ℕ, ◌<◌, List, [], ◌∷◌, ◌++◌, Some, not, if◌then◌else◌, option_map, position, slice_get, is_some, length, bytes_eq, IfOk, IfSome, OnOk, OnErr};
 ghost use Rattle.nj_edges.specs.Cited.{IsDistinct, list_any, edge_at, is_among, is_named, maker_of, AreFiles, HasFiles, row_between, has_number, is_made_by, no_files, EndWithin, with_output, with_input, with_validation, is_made, is_named_so_far, edge_read};
 
-use crate::list_parts::{after, part};
+use crate::edge_lists::EdgeLists;
+use crate::list_parts::after;
 use crate::makers::{Makers, name};
-use crate::rows::Rows;
 use nj_names::{FileNo, Files, HashKeys};
 use std::alloc::{AllocError, Global};
 use std::marker::Model;
@@ -74,25 +74,18 @@ pub(crate) struct EdgeFiles<'a> {
 #[derive(Drop)]
 pub struct Edges {
     pub(crate) files: Files,
-    pub(crate) makers: Makers,
-    pub(crate) outputs: Vec<FileNo>,
-    pub(crate) inputs: Vec<FileNo>,
-    pub(crate) validations: Vec<FileNo>,
-    pub(crate) rows: Rows,
-    pub(crate) starts: OpenStarts,
+    pub(crate) lists: EdgeLists,
 }
 
 impl Model for Edges {
-    ghost use Rattle.nj_edges.specs.Inside.EdgesHeld.{TableIsHeld, table_of};
+    ghost use Rattle.nj_edges.specs.Inside.EdgesHeld.{TableIsHeld, lists_of, table_of};
     ghost use Rattle.nj_edges.specs.EdgeTables.{EdgeTable};
 
     ghost Value = { EdgeTable };
 
-    ghost view = { λ e. table_of e.files e.outputs.items e.inputs.items e.validations.items
-        e.rows e.starts };
+    ghost view = { λ e. table_of e.files (lists_of e.lists) };
 
-    ghost invariant = { λ e. TableIsHeld e.files e.makers e.outputs.items e.inputs.items
-        e.validations.items e.rows e.starts };
+    ghost invariant = { λ e. TableIsHeld e.files (lists_of e.lists) };
 }
 
 impl Edges {
@@ -102,16 +95,7 @@ impl Edges {
     {
         Edges {
             files: Files::new(alloc, keys),
-            makers: Makers::new(alloc),
-            outputs: Vec::new(alloc),
-            inputs: Vec::new(alloc),
-            validations: Vec::new(alloc),
-            rows: Rows::new(alloc),
-            starts: OpenStarts {
-                outputs: 0,
-                inputs: 0,
-                validations: 0,
-            },
+            lists: EdgeLists::new(alloc),
         }
     }
 
@@ -123,13 +107,13 @@ impl Edges {
             self.new ≡ (if is_new then with_output self.old path.now else self.old)) }
         ensures refused { OnErr result (self.new ≡ self.old) }
     {
-        self.outputs.reserve(1)?;
-        let file = name(&mut self.files, &mut self.makers, path)?;
-        if self.makers.maker(file).is_some() {
+        self.lists.outputs.reserve(1)?;
+        let file = name(&mut self.files, &mut self.lists.makers, path)?;
+        if self.lists.makers.maker(file).is_some() {
             return Ok(false);
         }
-        self.makers.set(file, self.rows.count());
-        self.outputs.push_reserved(file);
+        self.lists.makers.set(file, self.lists.rows.count());
+        self.lists.outputs.push_reserved(file);
         Ok(true)
     }
 
@@ -148,9 +132,9 @@ impl Edges {
         ensures number { IfOk result (λ file. slice_get self.new.files file.0 ≡ Some path.now) }
         ensures refused { OnErr result (self.new ≡ self.old) }
     {
-        self.inputs.reserve(1)?;
-        let file = name(&mut self.files, &mut self.makers, path)?;
-        self.inputs.push_reserved(file);
+        self.lists.inputs.reserve(1)?;
+        let file = name(&mut self.files, &mut self.lists.makers, path)?;
+        self.lists.inputs.push_reserved(file);
         Ok(file)
     }
 
@@ -161,12 +145,12 @@ impl Edges {
             else with_input self.old path.now)) }
         ensures refused { OnErr result (self.new ≡ self.old) }
     {
-        self.inputs.reserve(1)?;
-        let file = name(&mut self.files, &mut self.makers, path)?;
-        if is_made_by(&self.makers, file, self.rows.count()) {
+        self.lists.inputs.reserve(1)?;
+        let file = name(&mut self.files, &mut self.lists.makers, path)?;
+        if is_made_by(&self.lists.makers, file, self.lists.rows.count()) {
             return Ok(());
         }
-        self.inputs.push_reserved(file);
+        self.lists.inputs.push_reserved(file);
         Ok(())
     }
 
@@ -177,7 +161,7 @@ impl Edges {
             → OnOk result (self.new ≡ with_input self.old path) }
         ensures refused { OnErr result (self.new ≡ self.old) }
     {
-        self.inputs.push(file)?;
+        self.lists.inputs.push(file)?;
         Ok(())
     }
 
@@ -190,11 +174,11 @@ impl Edges {
             else with_input self.old path)) }
         ensures refused { OnErr result (self.new ≡ self.old) }
     {
-        let edge = self.rows.count();
-        if is_made_by(&self.makers, file, edge) {
+        let edge = self.lists.rows.count();
+        if is_made_by(&self.lists.makers, file, edge) {
             return Ok(());
         }
-        self.inputs.push(file)?;
+        self.lists.inputs.push(file)?;
         Ok(())
     }
 
@@ -203,9 +187,9 @@ impl Edges {
         ensures added { OnOk result (self.new ≡ with_validation self.old path.now) }
         ensures refused { OnErr result (self.new ≡ self.old) }
     {
-        self.validations.reserve(1)?;
-        let file = name(&mut self.files, &mut self.makers, path)?;
-        self.validations.push_reserved(file);
+        self.lists.validations.reserve(1)?;
+        let file = name(&mut self.files, &mut self.lists.makers, path)?;
+        self.lists.validations.push_reserved(file);
         Ok(())
     }
 
@@ -234,7 +218,7 @@ impl Edges {
     pub fn edge_count(&self) -> usize
         ensures { result ≡ length self.now.edges }
     {
-        self.rows.count()
+        self.lists.rows.count()
     }
 
     /// The edge that makes the file at this path, of those that were read; `None` if none does.
@@ -243,9 +227,9 @@ impl Edges {
         ensures known { IfSome result (λ edge. edge.0 < length self.now.edges) }
     {
         let file = self.files.number(path)?;
-        let edge = self.makers.maker(file)?;
+        let edge = self.lists.makers.maker(file)?;
         // the next number is that of the edge that is being read
-        if edge < self.rows.count() {
+        if edge < self.lists.rows.count() {
             return Some(EdgeNo(edge));
         }
         None
@@ -257,32 +241,21 @@ impl Edges {
         ensures { HasFiles self.now.files (edge_at self.now.edges edge.0) result.outputs.now
             result.inputs.now result.validations.now result.kinds result.is_phony }
     {
-        let row = self.rows.row(edge.0);
-        EdgeFiles {
-            outputs: part(&self.outputs, row.outputs.start, row.outputs.end),
-            inputs: part(&self.inputs, row.inputs.start, row.inputs.end),
-            validations: part(
-                &self.validations,
-                row.validations.start,
-                row.validations.end,
-            ),
-            kinds: row.kinds,
-            is_phony: row.is_phony,
-        }
+        self.lists.edge(edge)
     }
 
     /// The outputs that the edge that is being read has so far.
     pub fn open_output_files(&self) -> &[FileNo]
         ensures { AreFiles self.now.files result.now self.now.«open».outputs }
     {
-        after(&self.outputs, self.starts.outputs)
+        after(&self.lists.outputs, self.lists.starts.outputs)
     }
 
     /// The inputs that the edge that is being read has so far.
     pub fn open_input_files(&self) -> &[FileNo]
         ensures { AreFiles self.now.files result.now self.now.«open».inputs }
     {
-        after(&self.inputs, self.starts.inputs)
+        after(&self.lists.inputs, self.lists.starts.inputs)
     }
 
     /// The number of the file at this path, if the edge that is being read has it as an input so
@@ -292,7 +265,7 @@ impl Edges {
         ensures file { IfSome result (λ file. slice_get self.now.files file.0 ≡ Some path.now) }
     {
         let file = self.files.number(path)?;
-        if has_file(after(&self.inputs, self.starts.inputs), file) {
+        if has_file(after(&self.lists.inputs, self.lists.starts.inputs), file) {
             return Some(file);
         }
         None
@@ -302,14 +275,14 @@ impl Edges {
     pub fn open_outputs(&self) -> usize
         ensures { result ≡ length self.now.«open».outputs }
     {
-        self.outputs.as_slice().len() - self.starts.outputs
+        self.lists.outputs.as_slice().len() - self.lists.starts.outputs
     }
 
     /// How many inputs the edge that is being read has so far.
     pub fn open_inputs(&self) -> usize
         ensures { result ≡ length self.now.«open».inputs }
     {
-        self.inputs.as_slice().len() - self.starts.inputs
+        self.lists.inputs.as_slice().len() - self.lists.starts.inputs
     }
 
     /// Ends the edge that is being read, with these ends of its kinds, and begins another.
@@ -327,14 +300,7 @@ impl Edges {
         }) }
         ensures refused { OnErr result (self.new ≡ self.old) }
     {
-        let ends = OpenStarts {
-            outputs: self.outputs.as_slice().len(),
-            inputs: self.inputs.as_slice().len(),
-            validations: self.validations.as_slice().len(),
-        };
-        self.rows
-            .push(row_between(self.starts, ends, kinds, is_phony))?;
-        self.starts = ends;
+        self.lists.end_edge(kinds, is_phony)?;
         Ok(())
     }
 }

@@ -16,9 +16,8 @@ impl EdgeGraph {
             (edge_at self.now.edges edge.0).implicit_outputs }
         ensures known { All (λ file. file.0 < length self.now.files) result.now }
     {
-        let row = self.rows.row(edge.0);
-        let outputs = part(&self.outputs, row.outputs.start, row.outputs.end);
-        after(outputs, row.kinds.explicit_outputs)
+        let files = self.edge_files(edge);
+        after(files.outputs, files.kinds.explicit_outputs)
     }
 
     /// The implicit inputs of an edge, which come after the explicit ones.
@@ -28,9 +27,9 @@ impl EdgeGraph {
             (edge_at self.now.edges edge.0).implicit_inputs }
         ensures known { All (λ file. file.0 < length self.now.files) result.now }
     {
-        let row = self.rows.row(edge.0);
-        let inputs = part(&self.inputs, row.inputs.start, row.inputs.end);
-        part(inputs, row.kinds.explicit_inputs, row.kinds.implicit_inputs)
+        let files = self.edge_files(edge);
+        let kinds = files.kinds;
+        part(files.inputs, kinds.explicit_inputs, kinds.implicit_inputs)
     }
 
     /// The order-only inputs of an edge, which come after all others.
@@ -40,8 +39,7 @@ impl EdgeGraph {
             (edge_at self.now.edges edge.0).order_only_inputs }
         ensures known { All (λ file. file.0 < length self.now.files) result.now }
     {
-        let row = self.rows.row(edge.0);
-        let inputs = part(&self.inputs, row.inputs.start, row.inputs.end);
-        after(inputs, row.kinds.implicit_inputs)
+        let files = self.edge_files(edge);
+        after(files.inputs, files.kinds.implicit_inputs)
     }
 }

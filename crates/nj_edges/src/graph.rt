@@ -1,14 +1,13 @@
 //! The graph of all edges of a run.
 
 ghost use Rattle.std.specs.Prelude.{◌≡◌, ℕ, List, ◌+◌, ◌<◌, ◌≤◌, ◌^◌, None, Some, is_some, length, slice_get, option_map, position, bytes_eq, map, IfOk, All, IfSome, if◌then◌else◌, nat_lt, not};
-ghost use Rattle.nj_edges.specs.Cited.{AllByRecursion, IsDistinct, filter, list_any, IsAcyclic, edge_at, outputs_of, inputs_of, kind_at, is_named, maker_of, roots_of, users_of, validation_users_of, AreNumbers, IsWithin, has_number, paths_at, within, HaveUsers, HaveUsersIfAny, numbers_of, using_edges, no_files, path_at, AreFiles, FinishesAs, IsFirstCycle, makers_of_inputs};
+ghost use Rattle.nj_edges.specs.Cited.{EdgesAreHeld, HasFiles, lists_of, IsDistinct, filter, list_any, IsAcyclic, edge_at, outputs_of, inputs_of, kind_at, is_named, maker_of, roots_of, users_of, validation_users_of, AreNumbers, has_number, paths_at, HaveUsers, HaveUsersIfAny, numbers_of, using_edges, no_files, path_at, AreFiles, FinishesAs, IsFirstCycle, makers_of_inputs};
 
-use crate::edges::{EdgeNo, EdgeRow, Edges, Kind, KindEnds};
+use crate::edge_lists::EdgeLists;
+use crate::edges::{EdgeFiles, EdgeNo, Edges, Kind, KindEnds};
 use crate::input_makers::InputMakers;
-use crate::list_parts::{first, part};
-use crate::makers::Makers;
+use crate::list_parts::first;
 use crate::roots::roots;
-use crate::rows::Rows;
 use crate::users::{RowPart, Users, users_at, users_if_any, users_of_files};
 use nj_cycles::{EdgeInputs, first_on_cycle};
 use nj_names::{FileNo, Files};
@@ -19,11 +18,8 @@ use std::marker::Model;
 #[derive(Drop)]
 pub struct EdgeGraph {
     pub(crate) files: Files,
-    pub(crate) makers: Makers,
-    pub(crate) outputs: Vec<FileNo>,
-    pub(crate) inputs: Vec<FileNo>,
-    pub(crate) validations: Vec<FileNo>,
-    pub(crate) rows: Rows,
+    // no edge is being read
+    pub(crate) lists: EdgeLists,
     roots: Vec<FileNo>,
     users: Users,
     // none where no edge has validations
@@ -31,7 +27,7 @@ pub struct EdgeGraph {
 }
 
 impl Model for EdgeGraph {
-    ghost use Rattle.nj_edges.specs.Inside.EdgesHeld.{edges_of};
+    ghost use Rattle.nj_edges.specs.Inside.EdgesHeld.{edges_of, lists_of};
     ghost use Rattle.nj_edges.specs.EdgeGraphs as spec;
     ghost use Rattle.nj_edges.specs.Inside.GraphHeld.{GraphIsHeld};
 
@@ -39,11 +35,11 @@ impl Model for EdgeGraph {
 
     ghost view = { λ g. record {
       files = g.files;
-      edges = edges_of g.files g.outputs.items g.inputs.items g.validations.items g.rows;
+      edges = edges_of g.files (lists_of g.lists);
     } };
 
-    ghost invariant = { λ g. GraphIsHeld g.files g.makers g.outputs.items g.inputs.items
-        g.validations.items g.rows g.roots.items g.users g.validation_users };
+    ghost invariant = { λ g. GraphIsHeld g.files (lists_of g.lists) g.roots.items g.users
+        g.validation_users };
 }
 
 /// An edge on a dependency cycle.
@@ -70,7 +66,7 @@ impl EdgeGraph {
         ensures count { result ≡ length self.now.edges }
         ensures acyclic { IsAcyclic (makers_of_inputs self.now.edges) (length self.now.edges) }
     {
-        self.rows.count()
+        self.lists.rows.count()
     }
 
     /// The number of files: of the distinct paths that edges name as outputs, inputs or
@@ -109,10 +105,20 @@ impl EdgeGraph {
             ≡ maker_of self.now.edges (path_at self.now.files file) }
         ensures known { IfSome result (λ edge. edge.0 < length self.now.edges) }
     {
-        match self.makers.maker(file) {
+        match self.lists.makers.maker(file) {
             Some(edge) => Some(EdgeNo(edge)),
             None => None,
         }
+    }
+
+    /// The files of an edge.
+    pub(crate) fn edge_files(&self, edge: EdgeNo) -> EdgeFiles<'_>
+        requires { edge.0 < length self.now.edges }
+        ensures files { HasFiles self.now.files (edge_at self.now.edges edge.0) result.outputs.now
+            result.inputs.now result.validations.now result.kinds result.is_phony }
+        ensures each_path_once { IsDistinct bytes_eq self.now.files }
+    {
+        self.lists.edge(edge)
     }
 
     /// The outputs of an edge, the explicit ones first.
@@ -122,8 +128,7 @@ impl EdgeGraph {
             (outputs_of (edge_at self.now.edges edge.0)) }
         ensures known { All (λ file. file.0 < length self.now.files) result.now }
     {
-        let row = self.rows.row(edge.0);
-        part(&self.outputs, row.outputs.start, row.outputs.end)
+        self.edge_files(edge).outputs
     }
 
     /// The inputs of an edge: the explicit, the implicit and then the order-only ones.
@@ -133,8 +138,7 @@ impl EdgeGraph {
             (inputs_of (edge_at self.now.edges edge.0)) }
         ensures known { All (λ file. file.0 < length self.now.files) result.now }
     {
-        let row = self.rows.row(edge.0);
-        part(&self.inputs, row.inputs.start, row.inputs.end)
+        self.edge_files(edge).inputs
     }
 
     /// The edge that makes the input at an index of an edge's inputs: `None` past the last input,
@@ -145,11 +149,7 @@ impl EdgeGraph {
             ≡ slice_get (makers_of_inputs self.now.edges edge.0) index }
         ensures fits { IfSome result (λ _. index + 1 < 2 ^ 64) }
     {
-        let held = InputMakers {
-            inputs: &self.inputs,
-            rows: &self.rows,
-            makers: &self.makers,
-        };
+        let held = InputMakers { lists: &self.lists };
         match held.maker_at(edge.0, index)? {
             Some(maker) => Some(Some(EdgeNo(maker))),
             None => Some(None),
@@ -163,12 +163,7 @@ impl EdgeGraph {
             (edge_at self.now.edges edge.0).validations }
         ensures known { All (λ file. file.0 < length self.now.files) result.now }
     {
-        let row = self.rows.row(edge.0);
-        part(
-            &self.validations,
-            row.validations.start,
-            row.validations.end,
-        )
+        self.edge_files(edge).validations
     }
 
     /// The roots: the outputs that no edge has as an input, by edge and then by output.
@@ -218,9 +213,8 @@ impl EdgeGraph {
             (edge_at self.now.edges edge.0).explicit_inputs }
         ensures known { All (λ file. file.0 < length self.now.files) result.now }
     {
-        let row = self.rows.row(edge.0);
-        let inputs = part(&self.inputs, row.inputs.start, row.inputs.end);
-        first(inputs, row.kinds.explicit_inputs)
+        let files = self.edge_files(edge);
+        first(files.inputs, files.kinds.explicit_inputs)
     }
 
     /// The explicit outputs of an edge, which are the first of its outputs; for this library's own
@@ -231,9 +225,8 @@ impl EdgeGraph {
             (edge_at self.now.edges edge.0).explicit_outputs }
         ensures known { All (λ file. file.0 < length self.now.files) result.now }
     {
-        let row = self.rows.row(edge.0);
-        let outputs = part(&self.outputs, row.outputs.start, row.outputs.end);
-        first(outputs, row.kinds.explicit_outputs)
+        let files = self.edge_files(edge);
+        first(files.outputs, files.kinds.explicit_outputs)
     }
 
     /// How many outputs of an edge are explicit; these are the first of its outputs.
@@ -241,7 +234,7 @@ impl EdgeGraph {
         requires { edge.0 < length self.now.edges }
         ensures { result ≡ length (edge_at self.now.edges edge.0).explicit_outputs }
     {
-        self.rows.row(edge.0).kinds.explicit_outputs
+        self.lists.rows.row(edge.0).kinds.explicit_outputs
     }
 
     /// How many inputs of an edge are explicit; these are the first of its inputs.
@@ -249,7 +242,7 @@ impl EdgeGraph {
         requires { edge.0 < length self.now.edges }
         ensures { result ≡ length (edge_at self.now.edges edge.0).explicit_inputs }
     {
-        self.rows.row(edge.0).kinds.explicit_inputs
+        self.lists.rows.row(edge.0).kinds.explicit_inputs
     }
 
     /// The kind of the input at an index.
@@ -257,7 +250,7 @@ impl EdgeGraph {
         requires { edge.0 < length self.now.edges }
         ensures { result ≡ kind_at (edge_at self.now.edges edge.0) index }
     {
-        kind_before(self.rows.row(edge.0).kinds, index)
+        kind_before(self.lists.rows.row(edge.0).kinds, index)
     }
 
     /// Whether the rule of an edge is `phony`, so that it has no command.
@@ -265,7 +258,7 @@ impl EdgeGraph {
         requires { edge.0 < length self.now.edges }
         ensures { result ≡ (edge_at self.now.edges edge.0).is_phony }
     {
-        self.rows.row(edge.0).is_phony
+        self.lists.rows.row(edge.0).is_phony
     }
 }
 
@@ -294,24 +287,13 @@ impl Edges {
         if let Some(cycle) = self.first_cycle(alloc)? {
             return Ok(Finished::Cycle(cycle));
         }
-        let lists = graph_lists(
-            alloc,
-            self.files.count(),
-            &self.outputs,
-            &self.inputs,
-            &self.validations,
-            &self.rows,
-        )?;
+        let found = found_lists(alloc, &self.files, &self.lists)?;
         Ok(Finished::Graph(EdgeGraph {
             files: self.files,
-            makers: self.makers,
-            outputs: self.outputs,
-            inputs: self.inputs,
-            validations: self.validations,
-            rows: self.rows,
-            roots: lists.roots,
-            users: lists.users,
-            validation_users: lists.validation_users,
+            lists: self.lists,
+            roots: found.roots,
+            users: found.users,
+            validation_users: found.validation_users,
         }))
     }
 
@@ -320,15 +302,11 @@ impl Edges {
         requires { self.now.«open» ≡ no_files }
         ensures { IfOk result (λ cycle. IsFirstCycle self.now.edges cycle) }
     {
-        let held = InputMakers {
-            inputs: &self.inputs,
-            rows: &self.rows,
-            makers: &self.makers,
-        };
+        let held = InputMakers { lists: &self.lists };
         match first_on_cycle(alloc, &held)? {
             Some(edge) => {
-                let row = self.rows.row(edge);
-                let cycle = cycle_edge(alloc, &self.files, &self.outputs, row, EdgeNo(edge))?;
+                let outputs = self.edge_files(EdgeNo(edge)).outputs;
+                let cycle = cycle_edge(alloc, &self.files, outputs, EdgeNo(edge))?;
                 Ok(Some(cycle))
             }
             None => Ok(None),
@@ -338,68 +316,60 @@ impl Edges {
 
 // What a graph keeps beside its edges: its roots, and the users of files.
 #[derive(Drop)]
-struct GraphLists {
+struct FoundLists {
     roots: Vec<FileNo>,
     users: Users,
     validation_users: Option<Users>,
 }
 
-// The same of the edges of these rows.
-fn graph_lists(
-    alloc: Global,
-    file_count: usize,
-    outputs: &[FileNo],
-    inputs: &[FileNo],
-    validations: &[FileNo],
-    rows: &Rows,
-) -> Result<GraphLists, AllocError>
-    requires outputs { AreNumbers file_count outputs.now }
-    requires inputs { AreNumbers file_count inputs.now }
-    requires validations { AreNumbers file_count validations.now }
-    requires input_rows { AllByRecursion
-        (λ row. IsWithin row.inputs (length inputs.now)) rows.now }
-    requires validation_rows { AllByRecursion
-        (λ row. IsWithin row.validations (length validations.now)) rows.now }
-    ensures roots { IfOk result (λ lists. lists.roots.items
-        ≡ filter (λ file. not (has_number file.0 inputs.now)) outputs.now) }
-    ensures users { IfOk result (λ lists. HaveUsers file_count lists.users.starts.items
-        (numbers_of lists.users.edges.items) (using_edges inputs.now RowPart.Inputs 0 rows.now)) }
-    ensures validation_users { IfOk result (λ lists. HaveUsersIfAny file_count
-        lists.validation_users (using_edges validations.now RowPart.Validations 0 rows.now)) }
+// The same of these edges.
+fn found_lists(alloc: Global, files: &Files, edges: &EdgeLists) -> Result<FoundLists, AllocError>
+    requires { EdgesAreHeld files.now (lists_of edges.now) }
+    ensures roots { IfOk result (λ found. found.roots.items ≡ filter
+        (λ file. not (has_number file.0 edges.now.inputs.items)) edges.now.outputs.items) }
+    ensures users { IfOk result (λ found. HaveUsers (length files.now) found.users.starts.items
+        (numbers_of found.users.edges.items)
+        (using_edges edges.now.inputs.items RowPart.Inputs 0 edges.now.rows)) }
+    ensures validation_users { IfOk result (λ found. HaveUsersIfAny (length files.now)
+        found.validation_users
+        (using_edges edges.now.validations.items RowPart.Validations 0 edges.now.rows)) }
 {
-    let roots = roots(alloc, file_count, outputs, inputs)?;
-    let users = users_of_files(alloc, file_count, inputs, rows, RowPart::Inputs)?;
+    let file_count = files.count();
+    let roots = roots(alloc, file_count, &edges.outputs, &edges.inputs)?;
+    let users = users_of_files(
+        alloc,
+        file_count,
+        &edges.inputs,
+        &edges.rows,
+        RowPart::Inputs,
+    )?;
     let validation_users = users_if_any(
         alloc,
         file_count,
-        validations,
-        rows,
+        &edges.validations,
+        &edges.rows,
         RowPart::Validations,
     )?;
-    Ok(GraphLists {
+    Ok(FoundLists {
         roots,
         users,
         validation_users,
     })
 }
 
-// The edge of this row and number, with the path of its first output.
+// The edge of this number, with the path of the first of these outputs.
 fn cycle_edge(
     alloc: Global,
     files: &Files,
     outputs: &[FileNo],
-    row: EdgeRow,
     edge: EdgeNo,
 ) -> Result<CycleEdge, AllocError>
-    requires some { row.outputs.start < row.outputs.end }
-    requires within { row.outputs.end ≤ length outputs.now }
+    requires some { 0 < length outputs.now }
     requires files { AreNumbers (length files.now) outputs.now }
     ensures edge { IfOk result (λ cycle. cycle.edge ≡ edge) }
     ensures output { IfOk result (λ cycle.
-        slice_get (paths_at files.now (within outputs.now row.outputs)) 0
-        ≡ Some cycle.output.items) }
+        slice_get (paths_at files.now outputs.now) 0 ≡ Some cycle.output.items) }
 {
-    let first = outputs[row.outputs.start];
-    let output = Vec::from_slice(alloc, files.path(first))?;
+    let output = Vec::from_slice(alloc, files.path(outputs[0]))?;
     Ok(CycleEdge { edge, output })
 }

@@ -3,10 +3,9 @@
 ghost use Rattle.std.specs.Prelude.{◌≡◌, ℕ, List, ◌<◌, ◌++◌, [], ◌∷◌, Some, length, slice_get, IfOk, OnOk};
 ghost use Rattle.nj_edges.specs.Cited.{edge_at, EndWithin, edge_read, no_files, plus_output, AreNumbers, IsWithin, paths_at, path_at, JoinIsHeld, all_joined, joined_edge, plus_inputs, plus_outputs, plus_validations, spans_of, with_edge};
 
-use crate::edges::{EdgeNo, Edges, KindEnds, OpenStarts, Span, row_between};
+use crate::edge_lists::EdgeLists;
+use crate::edges::{EdgeNo, Edges, KindEnds, Span};
 use crate::list_parts::{after, first, part};
-use crate::makers::Makers;
-use crate::rows::Rows;
 use nj_names::{FileNo, Files};
 use std::alloc::{AllocError, Global};
 use std::marker::Model;
@@ -22,25 +21,18 @@ pub(crate) struct AddedSpans {
 #[derive(Drop)]
 struct JoinedEdges<'a> {
     files: &'a Files,
-    makers: Makers,
-    outputs: Vec<FileNo>,
-    inputs: Vec<FileNo>,
-    validations: Vec<FileNo>,
-    rows: Rows,
-    starts: OpenStarts,
+    lists: EdgeLists,
 }
 
 impl<'a> Model for JoinedEdges<'a> {
-    ghost use Rattle.nj_edges.specs.Inside.EdgesHeld.{EdgesAreHeld, table_of};
+    ghost use Rattle.nj_edges.specs.Inside.EdgesHeld.{EdgesAreHeld, lists_of, table_of};
     ghost use Rattle.nj_edges.specs.EdgeTables.{EdgeTable};
 
     ghost Value = { EdgeTable };
 
-    ghost view = { λ j. table_of j.files.now j.outputs.items j.inputs.items j.validations.items
-        j.rows j.starts };
+    ghost view = { λ j. table_of j.files.now (lists_of j.lists) };
 
-    ghost invariant = { λ j. EdgesAreHeld j.files.now j.makers j.outputs.items j.inputs.items
-        j.validations.items j.rows j.starts };
+    ghost invariant = { λ j. EdgesAreHeld j.files.now (lists_of j.lists) };
 }
 
 // The edges with their additions. The files of all additions are those of the edge that is being
@@ -59,12 +51,7 @@ pub(crate) fn joined_edges(
         joined.push_edge(&edges, EdgeNo(edge), spans_of(added[edge]))?;
     }
     Ok(Edges {
-        makers: joined.makers,
-        outputs: joined.outputs,
-        inputs: joined.inputs,
-        validations: joined.validations,
-        rows: joined.rows,
-        starts: joined.starts,
+        lists: joined.lists,
         files: edges.files,
     })
 }
@@ -89,19 +76,8 @@ impl<'a> JoinedEdges<'a> {
             ≡ record { files = edges.now.files; edges = []; «open» = no_files }) }
     {
         let files = edges.files();
-        Ok(JoinedEdges {
-            files,
-            makers: Makers::of_sources(alloc, files.count())?,
-            outputs: Vec::with_capacity(alloc, edges.outputs.as_slice().len())?,
-            inputs: Vec::with_capacity(alloc, edges.inputs.as_slice().len())?,
-            validations: Vec::with_capacity(alloc, edges.validations.as_slice().len())?,
-            rows: Rows::with_capacity(alloc, edges.edge_count())?,
-            starts: OpenStarts {
-                outputs: 0,
-                inputs: 0,
-                validations: 0,
-            },
-        })
+        let lists = EdgeLists::with_capacity(alloc, files.count(), &edges.lists)?;
+        Ok(JoinedEdges { files, lists })
     }
 
     // Appends the edge of this number, with the additions that are there.
@@ -152,9 +128,9 @@ impl<'a> JoinedEdges<'a> {
         requires { file.0 < length self.old.files }
         ensures { OnOk result (self.new ≡ plus_output self.old (path_at self.old.files file)) }
     {
-        self.outputs.push(file)?;
-        if self.makers.maker(file).is_none() {
-            self.makers.set(file, self.rows.count());
+        self.lists.outputs.push(file)?;
+        if self.lists.makers.maker(file).is_none() {
+            self.lists.makers.set(file, self.lists.rows.count());
         }
         Ok(())
     }
@@ -164,7 +140,7 @@ impl<'a> JoinedEdges<'a> {
         ensures { OnOk result (self.new
             ≡ plus_inputs self.old (paths_at self.old.files files.now)) }
     {
-        self.inputs.extend_from_slice(files)?;
+        self.lists.inputs.extend_from_slice(files)?;
         Ok(())
     }
 
@@ -173,7 +149,7 @@ impl<'a> JoinedEdges<'a> {
         ensures { OnOk result (self.new
             ≡ plus_validations self.old (paths_at self.old.files files.now)) }
     {
-        self.validations.extend_from_slice(files)?;
+        self.lists.validations.extend_from_slice(files)?;
         Ok(())
     }
 
@@ -184,14 +160,7 @@ impl<'a> JoinedEdges<'a> {
         ensures { OnOk result (self.new
             ≡ with_edge self.old (edge_read self.old.«open» kinds is_phony)) }
     {
-        let ends = OpenStarts {
-            outputs: self.outputs.as_slice().len(),
-            inputs: self.inputs.as_slice().len(),
-            validations: self.validations.as_slice().len(),
-        };
-        self.rows
-            .push(row_between(self.starts, ends, kinds, is_phony))?;
-        self.starts = ends;
+        self.lists.end_edge(kinds, is_phony)?;
         Ok(())
     }
 }

@@ -5,6 +5,7 @@ mod affected;
 mod chains;
 mod dirty;
 mod dyndep_edges;
+mod edge_lists;
 mod edges;
 mod files_by_kind;
 mod graph;

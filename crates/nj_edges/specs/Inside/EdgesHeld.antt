@@ -3,6 +3,7 @@ use Rattle.std.specs.Prelude.{◌≡◌, ℕ, ◌<◌, ◌≤◌, ◌-◌, ◌==
 use Rattle.std.specs.Prelude.{◌∷◌, ◌++◌, map, length, take, drop, slice_get, slice_index_or, slice_range, bytes_eq}
 use Rattle.std.specs.List.{list_any, flat_map, AllByRecursion, IsDistinct}
 use Rattle.nj_names.specs.declared.files.FileNo.{FileNo}
+use Rattle.nj_edges.specs.declared.edge_lists.EdgeLists.{EdgeLists}
 use Rattle.nj_edges.specs.declared.edges.Span.{Span}
 use Rattle.nj_edges.specs.declared.edges.EdgeRow.{EdgeRow}
 use Rattle.nj_edges.specs.declared.edges.KindEnds.{KindEnds}
@@ -19,16 +20,47 @@ paths_at files numbers = map (path_at files) numbers
 abbrev pub within : {A : Type 0} → List A → Span → List A
 within items span = slice_range items span.start span.end
 
-abbrev pub edge_of : (files : List (List ℕ)) → (outputs inputs validations : List FileNo) → EdgeRow → EdgePaths
-edge_of files outputs inputs validations row =
+-- the lists of the edges: the maker of each file, the files of all edges one after the other, and the row of each edge. The files from
+-- the starts on are those of the edge that is being read.
+pub record Lists : Type 0 where
+  pub makers : List (Option ℕ)
+  pub outputs : List FileNo
+  pub inputs : List FileNo
+  pub validations : List FileNo
+  pub rows : List EdgeRow
+  pub starts : OpenStarts
+
+abbrev pub lists_of : EdgeLists → Lists
+lists_of l = record {
+  makers = l.makers;
+  outputs = l.outputs.items;
+  inputs = l.inputs.items;
+  validations = l.validations.items;
+  rows = l.rows;
+  starts = l.starts;
+}
+
+-- no edges, and these makers of files
+abbrev pub no_lists : (makers : List (Option ℕ)) → Lists
+no_lists makers = record {
+  makers = makers;
+  outputs = [];
+  inputs = [];
+  validations = [];
+  rows = [];
+  starts = record { outputs = 0; inputs = 0; validations = 0 };
+}
+
+abbrev pub edge_of : (files : List (List ℕ)) → Lists → EdgeRow → EdgePaths
+edge_of files l row =
     edge_read (record {
-      outputs = paths_at files (within outputs row.outputs);
-      inputs = paths_at files (within inputs row.inputs);
-      validations = paths_at files (within validations row.validations);
+      outputs = paths_at files (within l.outputs row.outputs);
+      inputs = paths_at files (within l.inputs row.inputs);
+      validations = paths_at files (within l.validations row.validations);
     }) row.kinds row.is_phony
 
-abbrev pub edges_of : (files : List (List ℕ)) → (outputs inputs validations : List FileNo) → List EdgeRow → List EdgePaths
-edges_of files outputs inputs validations rows = map (edge_of files outputs inputs validations) rows
+abbrev pub edges_of : (files : List (List ℕ)) → Lists → List EdgePaths
+edges_of files l = map (edge_of files l) l.rows
 
 abbrev pub row_between : (starts ends : OpenStarts) → KindEnds → Bool → EdgeRow
 row_between starts ends kinds is_phony = record {
@@ -39,15 +71,23 @@ row_between starts ends kinds is_phony = record {
   is_phony = is_phony;
 }
 
--- the table that the fields hold
-abbrev pub table_of : (files : List (List ℕ)) → (outputs inputs validations : List FileNo) → List EdgeRow → OpenStarts → EdgeTable
-table_of files outputs inputs validations rows starts = record {
+-- where the next edge starts
+abbrev pub ends_of : Lists → OpenStarts
+ends_of l = record { outputs = length l.outputs; inputs = length l.inputs; validations = length l.validations }
+
+-- the edge that is being read has ended, with these ends of its kinds
+abbrev pub with_row : Lists → KindEnds → Bool → Lists
+with_row l kinds is_phony = record l { rows = l.rows ++ row_between l.starts (ends_of l) kinds is_phony ∷ []; starts = ends_of l }
+
+-- the table that the lists hold
+abbrev pub table_of : (files : List (List ℕ)) → Lists → EdgeTable
+table_of files l = record {
   files = files;
-  edges = edges_of files outputs inputs validations rows;
+  edges = edges_of files l;
   «open» = record {
-    outputs = paths_at files (drop starts.outputs outputs);
-    inputs = paths_at files (drop starts.inputs inputs);
-    validations = paths_at files (drop starts.validations validations);
+    outputs = paths_at files (drop l.starts.outputs l.outputs);
+    inputs = paths_at files (drop l.starts.inputs l.inputs);
+    validations = paths_at files (drop l.starts.validations l.validations);
   };
 }
 
@@ -68,15 +108,19 @@ abbrev pub AreJoined : List Span → (end : ℕ) → List FileNo → Type 0
 AreJoined spans end files = flat_map (within files) spans ≡ take end files
 
 -- the files of an edge come before the files of the edge that is being read
-pub record RowIsWithin (open_outputs open_inputs open_validations : ℕ) (row : EdgeRow) : Type 0 where
-  pub outputs : IsWithin row.outputs open_outputs
-  pub inputs : IsWithin row.inputs open_inputs
-  pub validations : IsWithin row.validations open_validations
+pub record RowIsWithin (starts : OpenStarts) (row : EdgeRow) : Type 0 where
+  pub outputs : IsWithin row.outputs starts.outputs
+  pub inputs : IsWithin row.inputs starts.inputs
+  pub validations : IsWithin row.validations starts.validations
   pub kinds : EndWithin row.kinds (row.outputs.end - row.outputs.start) (row.inputs.end - row.inputs.start)
 
--- the outputs by edge, and the outputs of the edge that is being read
-abbrev pub output_rows : (outputs : List FileNo) → (open_outputs : ℕ) → List EdgeRow → List (List FileNo)
-output_rows outputs open_outputs rows = map (λ row. within outputs row.outputs) rows ++ drop open_outputs outputs ∷ []
+-- the outputs by edge
+abbrev pub read_outputs : Lists → List (List FileNo)
+read_outputs l = map (λ row. within l.outputs row.outputs) l.rows
+
+-- and the outputs of the edge that is being read
+abbrev pub output_rows : Lists → List (List FileNo)
+output_rows l = read_outputs l ++ drop l.starts.outputs l.outputs ∷ []
 
 -- the maker of each file: the first edge that has it as an output
 abbrev pub HaveMakers : (output_rows : List (List FileNo)) → (makers : List (Option ℕ)) → Type 0
@@ -95,25 +139,24 @@ abbrev pub is_made_by : (makers : List (Option ℕ)) → (file edge : ℕ) → B
 is_made_by makers file edge = is_edge (slice_index_or makers file None) edge
 
 -- the makers of the inputs of the edge of a number, by its row
-abbrev pub makers_in_rows : (inputs : List FileNo) → List EdgeRow → (makers : List (Option ℕ)) → (edge : ℕ) → List (Option ℕ)
-makers_in_rows inputs rows makers edge =
-    slice_index_or (map (λ (row : EdgeRow). map (λ f. slice_index_or makers f.0 None) (within inputs row.inputs)) rows) edge []
+abbrev pub makers_in_rows : Lists → (edge : ℕ) → List (Option ℕ)
+makers_in_rows l edge =
+    slice_index_or (map (λ (row : EdgeRow). map (λ f. slice_index_or l.makers f.0 None) (within l.inputs row.inputs)) l.rows) edge []
 
-pub record EdgesAreHeld (files : List (List ℕ)) (makers : List (Option ℕ)) (outputs inputs validations : List FileNo)
-    (rows : List EdgeRow) (starts : OpenStarts) : Type 0 where
+-- the outputs, the inputs or the validations of all edges: those of the edges that were read lie there one after the other
+pub record PartsAreHeld (count : ℕ) (spans : List Span) (start : ℕ) (numbers : List FileNo) : Type 0 where
+  pub are : AreNumbers count numbers
+  pub joined : AreJoined spans start numbers
+  pub starts : start ≤ length numbers
+
+pub record EdgesAreHeld (files : List (List ℕ)) (l : Lists) : Type 0 where
   pub distinct : IsDistinct bytes_eq files
-  pub makers_count : length makers ≡ length files
-  pub makers_are : HaveMakers (output_rows outputs starts.outputs rows) makers
-  pub outputs_are : AreNumbers (length files) outputs
-  pub inputs_are : AreNumbers (length files) inputs
-  pub validations_are : AreNumbers (length files) validations
-  pub rows_are : AllByRecursion (RowIsWithin starts.outputs starts.inputs starts.validations) rows
-  pub outputs_joined : AreJoined (map (λ row. row.outputs) rows) starts.outputs outputs
-  pub inputs_joined : AreJoined (map (λ row. row.inputs) rows) starts.inputs inputs
-  pub validations_joined : AreJoined (map (λ row. row.validations) rows) starts.validations validations
-  pub outputs_start : starts.outputs ≤ length outputs
-  pub inputs_start : starts.inputs ≤ length inputs
-  pub validations_start : starts.validations ≤ length validations
+  pub makers_count : length l.makers ≡ length files
+  pub makers_are : HaveMakers (output_rows l) l.makers
+  pub rows_are : AllByRecursion (RowIsWithin l.starts) l.rows
+  pub outputs : PartsAreHeld (length files) (map (λ row. row.outputs) l.rows) l.starts.outputs l.outputs
+  pub inputs : PartsAreHeld (length files) (map (λ row. row.inputs) l.rows) l.starts.inputs l.inputs
+  pub validations : PartsAreHeld (length files) (map (λ row. row.validations) l.rows) l.starts.validations l.validations
 
 -- an edge has the files of these numbers, of which these kinds
 pub record HasFiles (files : List (List ℕ)) (e : EdgePaths) (outputs inputs validations : List FileNo) (kinds : KindEnds)
@@ -129,18 +172,16 @@ pub record HasFiles (files : List (List ℕ)) (e : EdgePaths) (outputs inputs va
   pub kinds_end : EndWithin kinds (length outputs) (length inputs)
 
 -- no other edge makes an output of the edge that is being read
-abbrev pub OpenAreNew : (outputs : List FileNo) → (open_outputs : ℕ) → List EdgeRow → Type 0
-OpenAreNew outputs open_outputs rows =
-    (n : ℕ) → has_number n (drop open_outputs outputs) ≡ true
-    → first_edge (has_number n) (map (λ row. within outputs row.outputs) rows) ≡ None
+abbrev pub OpenAreNew : Lists → Type 0
+OpenAreNew l =
+    (n : ℕ) → has_number n (drop l.starts.outputs l.outputs) ≡ true → first_edge (has_number n) (read_outputs l) ≡ None
 
 -- an edge names each file
-abbrev pub AreNamed : (count : ℕ) → (outputs inputs validations : List FileNo) → Type 0
-AreNamed count outputs inputs validations =
-    (n : ℕ) → n < count → (has_number n outputs || has_number n inputs || has_number n validations) ≡ true
+abbrev pub AreNamed : (count : ℕ) → Lists → Type 0
+AreNamed count l =
+    (n : ℕ) → n < count → (has_number n l.outputs || has_number n l.inputs || has_number n l.validations) ≡ true
 
-pub record TableIsHeld (files : List (List ℕ)) (makers : List (Option ℕ)) (outputs inputs validations : List FileNo)
-    (rows : List EdgeRow) (starts : OpenStarts) : Type 0 where
-  pub edges_are : EdgesAreHeld files makers outputs inputs validations rows starts
-  pub open_are_new : OpenAreNew outputs starts.outputs rows
-  pub named : AreNamed (length files) outputs inputs validations
+pub record TableIsHeld (files : List (List ℕ)) (l : Lists) : Type 0 where
+  pub edges_are : EdgesAreHeld files l
+  pub open_are_new : OpenAreNew l
+  pub named : AreNamed (length files) l

@@ -21,16 +21,16 @@ rows-preserved c =
 
 pub invariant_of-result : goal.invariant_of-result
 invariant_of-result c =
-    all-held c.args.edges c.args.added.now c.requires c.edges.inside.files _ _ _ _ _ _ _ c.joined-2.invariant
+    all-held c.args.edges c.args.added.now c.requires c.edges.inside.files _ _ c.joined-2.invariant
     (c.joined-2.view_is ∙ c.rows.invariant ∙ joined-all c.args.edges c.args.added.now c.requires
     c.rows.edge (omega arith))
-    (ap (λ (t : EdgeTable). t.files) c.edges.view_is) (table-files _ _ _ _ _ _ _ c.edges.invariant
+    (ap (λ (t : EdgeTable). t.files) c.edges.view_is) (table-files _ _ c.edges.invariant
     c.args.edges c.edges.view_is)
 
 pub returns : goal.returns
 returns c =
-    all-table c.args.edges c.args.added.now c.requires c.edges.inside.files _ _ _ _ _ _ _ c.joined-2.invariant
+    all-table c.args.edges c.args.added.now c.requires c.edges.inside.files _ _ c.joined-2.invariant
     (c.joined-2.view_is ∙ c.rows.invariant ∙ joined-all c.args.edges c.args.added.now c.requires
     c.rows.edge (omega arith))
-    (ap (λ (t : EdgeTable). t.files) c.edges.view_is) (table-files _ _ _ _ _ _ _ c.edges.invariant
+    (ap (λ (t : EdgeTable). t.files) c.edges.view_is) (table-files _ _ c.edges.invariant
     c.args.edges c.edges.view_is)

@@ -2,8 +2,7 @@ use Rattle.std.proofs.Common.{subst, take}
 use Rattle.nj_names.specs.Files.{AreFiles}
 use Rattle.nj_edges.specs.Edges.{counted_inputs_of, edge_at}
 use Rattle.nj_edges.specs.Joining.{JoinTable}
-use Rattle.nj_edges.proofs.GraphLemmas.{files-numbers}
-use Rattle.nj_edges.proofs.JoinedLemmas.{counted-are}
+use Rattle.nj_edges.proofs.GraphLemmas.{counted-are, files-numbers}
 use Rattle.nj_edges.proofs.dyndep_edges.JoiningEdges.stated_counted_inputs.Goals as goal
 
 pub returns-clause-files : goal.returns-clause-files

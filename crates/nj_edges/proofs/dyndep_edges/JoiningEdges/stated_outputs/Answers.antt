@@ -2,7 +2,7 @@ use Rattle.std.proofs.Common.{subst}
 use Rattle.nj_names.specs.Files.{AreFiles}
 use Rattle.nj_edges.specs.Edges.{edge_at, outputs_of}
 use Rattle.nj_edges.specs.Joining.{JoinTable}
-use Rattle.nj_edges.proofs.JoinedLemmas.{outputs-are}
+use Rattle.nj_edges.proofs.GraphLemmas.{outputs-are}
 use Rattle.nj_edges.proofs.dyndep_edges.JoiningEdges.stated_outputs.Goals as goal
 
 pub returns : goal.returns

@@ -1,15 +1,15 @@
-use Rattle.nj_edges.proofs.JoinedLemmas.{has-files}
+use Rattle.std.proofs.Common.{subst}
+use Rattle.nj_edges.specs.Edges.{edge_at}
+use Rattle.nj_edges.specs.EdgeTables.{EdgeTable}
+use Rattle.nj_edges.specs.Inside.EdgesHeld.{HasFiles}
 use Rattle.nj_edges.proofs.edges.Edges.edge_files.Goals as goal
+
+pub edge-requires-clause-held : goal.edge-requires-clause-held
+edge-requires-clause-held c = (c.self.inside.files, c.self.invariant.edges_are)
 
 pub returns : goal.returns
 returns c =
-    rw (
-      c.part.ensures,
-      c.part-2.ensures,
-      c.part-3.ensures,
-      c.deref.ensures.value,
-      c.deref-2.ensures.value,
-      c.deref-3.ensures.value,
-    )
-    (has-files _ _ _ _ _ _ _ c.self.invariant.edges_are _ c.self.view_is c.args.edge.0 c.row-row.result
-    c.row-row.ensures)
+    let e = c.edge.result in
+    subst (λ (t : EdgeTable). HasFiles t.files (edge_at t.edges c.args.edge.0) e.outputs.now e.inputs.now
+    e.validations.now e.kinds e.is_phony) c.self.view_is
+    (c.edge.ensures c.self.inside.files c.self.invariant.edges_are)

@@ -6,5 +6,5 @@ use Rattle.nj_edges.proofs.edges.Edges.file_named.Goals as goal
 pub returns-clause-named : goal.returns-clause-named
 returns-clause-named c = λ none.
     c.number.ensures.known ∙ ap (λ t. list_any (bytes_eq c.args.path.now) t.files) c.self.view_is
-    ∙ table-files _ _ _ _ _ _ _ c.self.invariant c.args.self.now c.self.view_is c.args.path.now
+    ∙ table-files _ _ c.self.invariant c.args.self.now c.self.view_is c.args.path.now
     ∙ closed-named c.args.self.now c.args.path.now none

@@ -7,7 +7,8 @@ use Rattle.nj_edges.proofs.edges.Edges.open_input_files.Goals as goal
 pub returns : goal.returns
 returns c =
     rw (c.after.ensures, c.deref.ensures.value)
-    (subst (λ (t : EdgeTable). AreFiles t.files (drop c.self.inside.starts.inputs c.self.inside.inputs.items)
+    (subst (λ (t : EdgeTable). AreFiles t.files
+    (drop c.self.inside.lists.starts.inputs c.self.inside.lists.inputs.items)
     t.«open».inputs) c.self.view_is
-    (open-files c.self.inside.files c.self.inside.inputs.items c.self.inside.starts.inputs
-    c.self.invariant.edges_are.inputs_are))
+    (open-files c.self.inside.files c.self.inside.lists.inputs.items c.self.inside.lists.starts.inputs
+    c.self.invariant.edges_are.inputs.are))

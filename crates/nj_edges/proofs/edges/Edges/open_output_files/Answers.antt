@@ -8,6 +8,7 @@ pub returns : goal.returns
 returns c =
     rw (c.after.ensures, c.deref.ensures.value)
     (subst (λ (t : EdgeTable). AreFiles t.files
-    (drop c.self.inside.starts.outputs c.self.inside.outputs.items) t.«open».outputs) c.self.view_is
-    (open-files c.self.inside.files c.self.inside.outputs.items c.self.inside.starts.outputs
-    c.self.invariant.edges_are.outputs_are))
+    (drop c.self.inside.lists.starts.outputs c.self.inside.lists.outputs.items) t.«open».outputs)
+    c.self.view_is
+    (open-files c.self.inside.files c.self.inside.lists.outputs.items c.self.inside.lists.starts.outputs
+    c.self.invariant.edges_are.outputs.are))

@@ -1,12 +1,10 @@
 use Rattle.nj_edges.specs.Edges.{edge_at}
-use Rattle.nj_edges.proofs.GraphLemmas.{files-known, explicit-inputs-at}
+use Rattle.nj_edges.proofs.GraphLemmas.{files-known, explicit-inputs-are}
 use Rattle.nj_edges.proofs.graph.EdgeGraph.explicit_input_files.Goals as goal
 
 pub returns-clause-files : goal.returns-clause-files
-returns-clause-files c =
-    rw (c.first.ensures, c.part-inputs.ensures, c.deref.ensures.value)
-    (explicit-inputs-at _ _ _ _ _ _ c.self.invariant.edges_are c.args.self.now c.self.view_is c.args.edge.0
-    c.row-row.result c.row-row.ensures)
+returns-clause-files c = rw c.first.ensures
+    (explicit-inputs-are _ _ _ _ _ _ _ c.edge_files-files.ensures.files)
 
 pub returns-clause-known : goal.returns-clause-known
 returns-clause-known c = files-known c.args.self.now.files c.first.result.now

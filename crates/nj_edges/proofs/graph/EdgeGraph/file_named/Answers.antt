@@ -6,5 +6,5 @@ use Rattle.nj_edges.proofs.graph.EdgeGraph.file_named.Goals as goal
 pub returns-clause-named : goal.returns-clause-named
 returns-clause-named c =
     c.number.ensures.known ∙ ap (λ g. list_any (bytes_eq c.args.path.now) g.files) c.self.view_is
-    ∙ graph-files _ _ _ _ _ _ c.self.invariant.edges_are c.self.invariant.named c.args.self.now c.self.view_is
+    ∙ graph-files _ _ c.self.invariant.table c.self.invariant.closed c.args.self.now c.self.view_is
     c.args.path.now

@@ -8,10 +8,10 @@ use Rattle.nj_edges.proofs.joined_edges.JoinedEdges.add_inputs.Goals as goal
 pub invariant_of-self-2 : goal.invariant_of-self-2
 invariant_of-self-2 c =
     rw c.in_ok-extend_from_slice.ensures.items
-    (held-inputs _ _ _ _ _ _ _ c.self.invariant c.args.files.now
+    (held-inputs _ _ c.self.invariant c.args.files.now
     (subst (λ (t : EdgeTable). AreNumbers (length t.files) c.args.files.now)
     (sym c.self.view_is) c.requires))
 
 pub returns : goal.returns
-returns c = rw c.in_ok-extend_from_slice.ensures.items (inputs-table _ _ _ _ _ _ _ c.self.invariant _
+returns c = rw c.in_ok-extend_from_slice.ensures.items (inputs-table _ _ c.self.invariant _
     c.self.view_is c.args.files.now)
