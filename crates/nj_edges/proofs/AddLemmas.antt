@@ -14,6 +14,7 @@ use Rattle.nj_names.specs.declared.files.FileNo.{FileNo}
 use Rattle.nj_edges.specs.declared.edges.EdgeRow.{EdgeRow}
 use Rattle.nj_edges.specs.declared.edges.KindEnds.{KindEnds}
 use Rattle.nj_edges.specs.Edges.{first_edge, is_among}
+use Rattle.nj_edges.specs.Inside.EdgesHeld.{IsNamed}
 use Rattle.nj_edges.specs.Inside.EdgesHeld.{Lists, within, table_of, with_maker, with_row, is_edge}
 use Rattle.nj_edges.specs.Inside.EdgesHeld.{is_made_by}
 use Rattle.nj_edges.specs.Inside.EdgesHeld.{has_number, AreNumbers, AreNamed, OpenAreNew, read_outputs}
@@ -121,15 +122,13 @@ maker-else files path makers n count here apart = by (named-cases files path n h
 -- ---- the whole after a name
 
 module _ (files : List (List ℕ)) (l : Lists) (held : TableIsHeld files l) (path : List ℕ)
-    (fs : List (List ℕ)) (ms : List (Option ℕ)) (f : FileNo) (files-are : fs ≡ with_name files path)
-    (makers-are : ms ≡ with_maker files path l.makers) (distinct : IsDistinct bytes_eq fs)
-    (here : slice_get fs f.0 ≡ Some path) (t : EdgeTable)
-    (is : table_of files l ≡ t) where
+    (fs : List (List ℕ)) (ms : List (Option ℕ)) (f : FileNo)
+    (now : IsNamed files l.makers path fs ms f) (t : EdgeTable) (is : table_of files l ≡ t) where
   as-held : (b : Bool) → list_any (bytes_eq path) files ≡ b
       → (fs ≡ cond b files (files ++ path ∷ [])) × (ms ≡ cond b l.makers (l.makers ++ None ∷ []))
   as-held b e = (
-    files-are ∙ ap (λ c. cond c files (files ++ path ∷ [])) e,
-    makers-are
+    now.files_are ∙ ap (λ c. cond c files (files ++ path ∷ [])) e,
+    now.makers_are
         ∙ ap (λ c. cond c l.makers (l.makers ++ None ∷ [])) e,
   )
 
@@ -147,19 +146,19 @@ module _ (files : List (List ℕ)) (l : Lists) (held : TableIsHeld files l) (pat
       by : (b : Bool) → list_any (bytes_eq path) files ≡ b → EdgesAreHeld fs named
       by true e = as-two files l.makers (as-held true e) held.edges_are
       by false e = as-two (files ++ path ∷ []) (l.makers ++ None ∷ []) (as-held false e)
-          (held-new files l held.edges_are path (subst (IsDistinct bytes_eq) (as-held false e).0 distinct))
+          (held-new files l held.edges_are path (subst (IsDistinct bytes_eq) (as-held false e).0 now.distinct))
 
   table-name : table_of fs l ≡ naming t path
   table-name =
-      ap (λ xs. table_of xs l) files-are
+      ap (λ xs. table_of xs l) now.files_are
       ∙ table-named files l held.edges_are path
       ∙ ap (λ u. naming u path) is
 
   cases : IsNew files path f.0 ⊎ IsOld files path f.0
-  cases = named-cases files path f.0 (ap (λ xs. slice_get xs f.0) (sym files-are) ∙ here)
+  cases = named-cases files path f.0 (ap (λ xs. slice_get xs f.0) (sym now.files_are) ∙ now.number)
 
   within-files : f.0 < length fs
-  within-files = slice_get_within fs f.0 path here
+  within-files = slice_get_within fs f.0 path now.number
 
   pub within-all : f.0 < length ms
   within-all = subst (λ k. f.0 < k) (sym held-name.makers_count) within-files
@@ -175,9 +174,9 @@ module _ (files : List (List ℕ)) (l : Lists) (held : TableIsHeld files l) (pat
       last count end (inr apart) = let differ : m ≢ f.0 = apart.1 in inl (omega arith)
 
       by : IsNew files path f.0 ⊎ IsOld files path f.0 → (m < length files) ⊎ (m ≡ f.0)
-      by (inl new) = last (ap length (files-are ∙ new.grown) ∙ length-append files (path ∷ [])) new.last
+      by (inl new) = last (ap length (now.files_are ∙ new.grown) ∙ length-append files (path ∷ [])) new.last
           (eqb_tells m f.0)
-      by (inr old) = inl (subst (λ xs. m < length xs) (files-are ∙ old.same) below)
+      by (inr old) = inl (subst (λ xs. m < length xs) (now.files_are ∙ old.same) below)
 
   -- whether an edge of these lists names a file
   abbrev names : (k : Lists) → (m : ℕ) → Bool
@@ -197,7 +196,7 @@ module _ (files : List (List ℕ)) (l : Lists) (held : TableIsHeld files l) (pat
   with_inputs = record named { inputs = l.inputs ++ f ∷ [] }
 
   pub input-table : table_of fs with_inputs ≡ with_input t path
-  input-table = table-input fs named held-name f path here ∙ ap (λ u. plus_input u path) table-name
+  input-table = table-input fs named held-name f path now.number ∙ ap (λ u. plus_input u path) table-name
 
   pub input-held : TableIsHeld fs with_inputs
   input-held = record {
@@ -217,7 +216,7 @@ module _ (files : List (List ℕ)) (l : Lists) (held : TableIsHeld files l) (pat
   with_validations = record named { validations = l.validations ++ f ∷ [] }
 
   pub validation-table : table_of fs with_validations ≡ with_validation t path
-  validation-table = table-validation fs named held-name f path here
+  validation-table = table-validation fs named held-name f path now.number
       ∙ ap (λ u. plus_validation u path) table-name
 
   pub validation-held : TableIsHeld fs with_validations
@@ -278,7 +277,7 @@ module _ (files : List (List ℕ)) (l : Lists) (held : TableIsHeld files l) (pat
 
   -- whether it has a maker
   pub made-is : (found : Option ℕ) → found ≡ get_or ms f.0 None → is_some found ≡ is_made t path
-  made-is found found-is = made-at fs named held-name f.0 path here found
+  made-is found found-is = made-at fs named held-name f.0 path now.number found
       found-is ∙ ap (λ u. is_made u path) table-name
 
   -- ---- an output
@@ -291,7 +290,7 @@ module _ (files : List (List ℕ)) (l : Lists) (held : TableIsHeld files l) (pat
     with_outputs = record l { makers = set ms f.0 (Some (length l.rows)); outputs = l.outputs ++ f ∷ [] }
 
     pub output-table : table_of fs with_outputs ≡ with_output t path
-    output-table = table-output fs named held-name f path here ∙ ap (λ u. plus_output u path) table-name
+    output-table = table-output fs named held-name f path now.number ∙ ap (λ u. plus_output u path) table-name
 
     output-new : OpenAreNew with_outputs
     output-new m has = ap (first_edge (has_number m)) (read-same fs named held-name (f ∷ []))
@@ -335,7 +334,7 @@ module _ (files : List (List ℕ)) (l : Lists) (held : TableIsHeld files l) (pat
       (drop l.starts.outputs l.outputs) (held.open_are_new f.0)
 
   own-is : is_made_by ms f.0 (length l.rows) ≡ is_among t.«open».outputs path
-  own-is = own-number ∙ open-among fs named held-name f.0 path here
+  own-is = own-number ∙ open-among fs named held-name f.0 path now.number
       ∙ ap (λ u. is_among u.«open».outputs path) table-name
 
   own-before : is_made_by ms f.0 (length l.rows) ≡ true → f.0 < length files
@@ -364,31 +363,26 @@ module _ (files : List (List ℕ)) (l : Lists) (held : TableIsHeld files l) (f :
   more_inputs = record l { inputs = l.inputs ++ f ∷ [] }
 
   module _ (path : List ℕ) (here' : slice_get t.files f.0 ≡ Some path) where
-    here : slice_get files f.0 ≡ Some path
-    here = ap (λ (u : EdgeTable). slice_get u.files f.0) is ∙ here'
-
-    known : list_any (bytes_eq path) files ≡ true
-    known = among-get files f.0 path here
-
-    files-stay : files ≡ with_name files path
-    files-stay = sym (ap (λ b. cond b files (files ++ path ∷ [])) known)
-
-    makers-stay : l.makers ≡ with_maker files path l.makers
-    makers-stay = sym (ap (λ b. cond b l.makers (l.makers ++ None ∷ [])) known)
+    stays : IsNamed files l.makers path files l.makers f
+    stays =
+        let here = ap (λ (u : EdgeTable). slice_get u.files f.0) is ∙ here' in
+        let known : list_any (bytes_eq path) files ≡ true = among-get files f.0 path here in record {
+          files_are = sym (ap (λ b. cond b files (files ++ path ∷ [])) known);
+          makers_are = sym (ap (λ b. cond b l.makers (l.makers ++ None ∷ [])) known);
+          distinct = held.edges_are.distinct;
+          number = here;
+        }
 
     pub known-table : table_of files more_inputs ≡ with_input t path
-    known-table = input-table files l held path files l.makers f files-stay makers-stay
-        held.edges_are.distinct here t is
+    known-table = input-table files l held path files l.makers f stays t is
 
     pub known-own-table : is_made_by l.makers f.0 (length l.rows) ≡ true
         → t ≡ cond (is_among t.«open».outputs path) t (with_input t path)
-    known-own-table own = sym is ∙ own-table files l held path files l.makers f files-stay makers-stay
-        held.edges_are.distinct here t is own
+    known-own-table own = sym is ∙ own-table files l held path files l.makers f stays t is own
 
     pub known-other-table : is_made_by l.makers f.0 (length l.rows) ≡ false
         → table_of files more_inputs ≡ cond (is_among t.«open».outputs path) t (with_input t path)
-    known-other-table other = other-table files l held path files l.makers f files-stay makers-stay
-        held.edges_are.distinct here t is other
+    known-other-table other = other-table files l held path files l.makers f stays t is other
 
   pub known-within : f.0 < length t.files → f.0 < length l.makers
   known-within below = subst (λ k. f.0 < k) (sym held.edges_are.makers_count)
@@ -398,8 +392,7 @@ module _ (files : List (List ℕ)) (l : Lists) (held : TableIsHeld files l) (f :
   known-held below =
       let path = path_at t.files f in
       let here' : slice_get t.files f.0 ≡ Some path = get-path t.files f below in
-      input-held files l held path files l.makers f (files-stay path here') (makers-stay path here')
-      held.edges_are.distinct (here path here') t is
+      input-held files l held path files l.makers f (stays path here') t is
 
 -- ---- the end of an edge
 

@@ -17,14 +17,13 @@ pub use Rattle.std.specs.List.{IsDistinct, list_any, filter, range_with_len, All
 pub use Rattle.nj_edges.specs.EdgeTables.{no_files, EndWithin, with_output, with_input, with_validation, is_made, is_named_so_far}
 pub use Rattle.nj_edges.specs.EdgeTables.{edge_read, plus_output}
 pub use Rattle.nj_edges.specs.Inside.EdgesHeld.{AreNumbers, HasFiles, EdgesAreHeld, edges_of, lists_of, no_lists, with_row, row_between}
-pub use Rattle.nj_edges.specs.Inside.EdgesHeld.{has_number, is_made_by, paths_at, IsWithin, with_maker, within}
+pub use Rattle.nj_edges.specs.Inside.EdgesHeld.{has_number, is_made_by, paths_at, IsWithin, IsNamed, within}
 pub use Rattle.nj_edges.specs.Graph.{FinishesAs, IsFirstCycle}
 pub use Rattle.nj_edges.specs.Joining.{none_added, join_of, with_added_output, with_added_input, with_joined, is_made_so_far, is_joined}
 pub use Rattle.nj_cycles.specs.Cycles.{IsAcyclic}
 pub use Rattle.nj_edges.specs.Needs.{makers_of_inputs}
 pub use Rattle.nj_edges.specs.Inside.JoiningHeld.{JoinIsHeld, all_joined, joined_edge, plus_inputs, plus_outputs, plus_validations}
 pub use Rattle.nj_edges.specs.Inside.JoiningHeld.{spans_of, with_edge}
-pub use Rattle.nj_names.specs.NameTables.{with_name}
 pub use Rattle.nj_edges.specs.Inside.MakersHeld.{maker_held}
 pub use Rattle.nj_edges.specs.Inside.MarksHeld.{MarksFiles, MarksInputs, is_marked}
 pub use Rattle.nj_edges.specs.MoreInputs.{at_next_edge, with_new_input}

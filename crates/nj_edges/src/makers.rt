@@ -1,7 +1,7 @@
 //! The makers of files: which edge makes each.
 
-ghost use Rattle.std.specs.Prelude.{◌≡◌, ◌+◌, ◌<◌, ◌^◌, [], None, Some, length, replicate, slice_get, slice_index_or, slice_set, bytes_eq, IfOk, IfSome, OnOk, OnErr};
-ghost use Rattle.nj_edges.specs.Cited.{IsDistinct, with_name, with_maker, maker_held};
+ghost use Rattle.std.specs.Prelude.{◌≡◌, ◌+◌, ◌<◌, ◌^◌, [], None, Some, length, replicate, slice_get, slice_index_or, slice_set, IfOk, IfSome, OnOk, OnErr};
+ghost use Rattle.nj_edges.specs.Cited.{IsNamed, maker_held};
 
 use nj_names::{FileNo, Files};
 use std::alloc::{AllocError, Global};
@@ -67,10 +67,8 @@ pub(crate) fn name(
     path: &[u8],
 ) -> Result<FileNo, AllocError>
     requires { length makers.old ≡ length files.old }
-    ensures named { OnOk result (files.new ≡ with_name files.old path.now) }
-    ensures each_path_once { OnOk result (IsDistinct bytes_eq files.new) }
-    ensures makers { OnOk result (makers.new ≡ with_maker files.old path.now makers.old) }
-    ensures number { IfOk result (λ file. slice_get files.new file.0 ≡ Some path.now) }
+    ensures named { IfOk result (λ file. IsNamed files.old makers.old path.now
+        files.new makers.new file) }
     ensures refused { OnErr result (files.new ≡ files.old) }
     ensures makers_refused { OnErr result (makers.new ≡ makers.old) }
 {

@@ -10,6 +10,7 @@ use Rattle.nj_edges.specs.declared.edges.KindEnds.{KindEnds}
 use Rattle.nj_edges.specs.declared.edges.OpenStarts.{OpenStarts}
 use Rattle.nj_edges.specs.Edges.{EdgePaths, first_edge}
 use Rattle.nj_names.specs.Files.{path_at}
+use Rattle.nj_names.specs.NameTables.{with_name}
 use Rattle.nj_edges.specs.EdgeTables.{EdgeTable, EndWithin, edge_read}
 
 -- ---- by numbers
@@ -129,6 +130,14 @@ HaveMakers rows makers = (n : ℕ) → n < length makers → slice_get makers n 
 -- the makers of the files with one that is named: a new file has none
 abbrev pub with_maker : (files : List (List ℕ)) → (path : List ℕ) → (makers : List (Option ℕ)) → List (Option ℕ)
 with_maker files path makers = if list_any (bytes_eq path) files then makers else makers ++ None ∷ []
+
+-- a path has a number from now on: its file is this one
+pub record IsNamed (files : List (List ℕ)) (makers : List (Option ℕ)) (path : List ℕ) (new_files : List (List ℕ))
+    (new_makers : List (Option ℕ)) (file : FileNo) : Type 0 where
+  pub files_are : new_files ≡ with_name files path
+  pub makers_are : new_makers ≡ with_maker files path makers
+  pub distinct : IsDistinct bytes_eq new_files
+  pub number : slice_get new_files file.0 ≡ Some path
 
 abbrev pub is_edge : Option ℕ → (edge : ℕ) → Bool
 is_edge None edge = false

@@ -4,13 +4,9 @@ use Rattle.nj_edges.proofs.edges.Edges.add_input_named.Goals as goal
 pub returns-clause-added : goal.returns-clause-added
 returns-clause-added c =
     rw (c.push_reserved.ensures.items, c.in_ok-reserve.ensures.items)
-    (input-table _ _ c.self.invariant c.args.path.now c.name.new.files c.name.new.makers
-    c.in_ok-file.file c.in_ok-file.ensures.named c.in_ok-file.ensures.makers
-    c.in_ok-file.ensures.each_path_once c.in_ok-file.ensures.number _ c.self.view_is)
+    (input-table _ _ c.self.invariant _ _ _ _ c.in_ok-file.ensures.named _ c.self.view_is)
 
 pub invariant_of-self-2 : goal.invariant_of-self-2
 invariant_of-self-2 c =
     rw (c.push_reserved.ensures.items, c.in_ok-reserve.ensures.items)
-    (input-held _ _ c.self.invariant c.args.path.now c.name.new.files c.name.new.makers
-    c.in_ok-file.file c.in_ok-file.ensures.named c.in_ok-file.ensures.makers
-    c.in_ok-file.ensures.each_path_once c.in_ok-file.ensures.number _ c.self.view_is)
+    (input-held _ _ c.self.invariant _ _ _ _ c.in_ok-file.ensures.named _ c.self.view_is)
