@@ -1,4 +1,5 @@
 -- Lemmas on a file that is named for the edge that is being read.
+use Rattle.std.proofs.lemmas.Grind.{common_steps}
 use Rattle.std.proofs.Common.{◌≡◌, ◌≢◌, ◌<◌, ◌+◌, ◌-◌, ◌==◌, ◌||◌, ◌⊎◌, inl, inr, ℕ, Bool, true, false, cond}
 use Rattle.std.proofs.Common.{List, [], ◌∷◌, ◌++◌, length, drop, slice_get, get_or, set, Option, Some}
 use Rattle.std.proofs.Common.{None, is_some, bytes_eq, refl, sym, ap, subst, ◌∙◌, true≢false, arith}
@@ -9,7 +10,7 @@ use Rattle.std.proofs.Math.Seq.{drop-length}
 use Rattle.std.proofs.lemmas.Bool.Decides.{eqb_tells}
 use Rattle.std.proofs.lemmas.List.{drop-append-le, length-map}
 use Rattle.std.proofs.lemmas.Option.{slice_get_within, get_or_from_slice_get}
-use Rattle.nj_names.proofs.ListLemmas.{among-get, get-last}
+use Rattle.nj_names.proofs.ListLemmas.{among-get}
 use Rattle.nj_names.specs.declared.files.FileNo.{FileNo}
 use Rattle.nj_edges.specs.declared.edges.EdgeRow.{EdgeRow}
 use Rattle.nj_edges.specs.declared.edges.KindEnds.{KindEnds}
@@ -23,7 +24,7 @@ use Rattle.nj_edges.specs.EdgeTables.{EdgeTable, naming, EndWithin, plus_output,
 use Rattle.nj_edges.specs.EdgeTables.{with_output, with_input, with_validation, is_made}
 use Rattle.nj_names.specs.NameTables.{with_name}
 use Rattle.nj_names.specs.Files.{path_at}
-use Rattle.nj_edges.proofs.EdgeLemmas.{all-drop, get-path, first-last, first-more, has-push, held-ended}
+use Rattle.nj_edges.proofs.EdgeLemmas.{get-path, first-last, first-more, has-push, held-ended}
 use Rattle.nj_edges.proofs.EdgeLemmas.{held-inputs, held-new, held-output, held-validations, IsNew, IsOld}
 use Rattle.nj_edges.proofs.EdgeLemmas.{made-at, named-cases, none-front, open-among, read-same, table-input}
 use Rattle.nj_edges.proofs.EdgeLemmas.{table-named, table-output, table-validation, unmade}
@@ -48,11 +49,7 @@ or-more-3 false true c d h = refl
 or-more-3 false false c d h = ap (λ t. t || d) h
 
 pub same-number : (n : ℕ) → (n == n) ≡ true
-same-number n = by (eqb_tells n n)
-  where
-    by : ((n == n) ≡ true × (n ≡ n)) ⊎ ((n == n) ≡ false × (n ≢ n)) → (n == n) ≡ true
-    by (inl same) = same.0
-    by (inr apart) = absurd (apart.1 refl)
+same-number n = grind (arith, common_steps)
 
 has-last : (ns : List FileNo) (f : FileNo) → has_number f.0 (ns ++ f ∷ []) ≡ true
 has-last ns f = has-push f.0 ns f ∙ ap (λ b. has_number f.0 ns || b) (same-number f.0)
@@ -82,12 +79,7 @@ last-edge test es e new = by (test e) refl
 -- a number among numbers of files is one
 has-below : (count n : ℕ) (ns : List FileNo) → AreNumbers count ns → has_number n ns ≡ true → n < count
 has-below count n [] are h = absurd (true≢false (sym h))
-has-below count n (f ∷ ns) are h = by (eqb_tells n f.0) are.0 h (has-below count n ns are.1)
-  where
-    by : ((n == f.0) ≡ true × (n ≡ f.0)) ⊎ ((n == f.0) ≡ false × (n ≢ f.0)) → f.0 < count
-        → ((n == f.0) || has_number n ns) ≡ true → (has_number n ns ≡ true → n < count) → n < count
-    by (inl same) below h' more = subst (λ k. k < count) (sym same.1) below
-    by (inr apart) below h' more = more (sym (ap (λ b. b || has_number n ns) apart.0) ∙ h')
+has-below count n (f ∷ ns) are h = grind (arith, common_steps, (has-below count n ns are.1))
 
 -- ---- the list of makers
 
@@ -95,12 +87,7 @@ has-below count n (f ∷ ns) are h = by (eqb_tells n f.0) are.0 h (has-below cou
 pub maker-then : (files : List (List ℕ)) (path : List ℕ) (makers : List (Option ℕ)) (n : ℕ)
     → length makers ≡ length files → slice_get (with_name files path) n ≡ Some path → n ≡ length makers
     → makers ++ None ∷ [] ≡ with_maker files path makers
-maker-then files path makers n count here next = by (list_any (bytes_eq path) files) here
-  where
-    by : (b : Bool) → slice_get (cond b files (files ++ path ∷ [])) n ≡ Some path
-        → makers ++ None ∷ [] ≡ cond b makers (makers ++ None ∷ [])
-    by true h = let below : n < length files = slice_get_within files n path h in absurd (omega arith)
-    by false h = refl
+maker-then files path makers n count here next = grind (arith, slice_get_within)
 
 pub maker-else : (files : List (List ℕ)) (path : List ℕ) (makers : List (Option ℕ)) (n : ℕ)
     → length makers ≡ length files → slice_get (with_name files path) n ≡ Some path → (n ≡ length makers → ⊥)
@@ -126,11 +113,7 @@ module _ (files : List (List ℕ)) (l : Lists) (held : TableIsHeld files l) (pat
     (now : IsNamed files l.makers path fs ms f) (t : EdgeTable) (is : table_of files l ≡ t) where
   as-held : (b : Bool) → list_any (bytes_eq path) files ≡ b
       → (fs ≡ cond b files (files ++ path ∷ [])) × (ms ≡ cond b l.makers (l.makers ++ None ∷ []))
-  as-held b e = (
-    now.files_are ∙ ap (λ c. cond c files (files ++ path ∷ [])) e,
-    now.makers_are
-        ∙ ap (λ c. cond c l.makers (l.makers ++ None ∷ [])) e,
-  )
+  as-held b e = grind (arith, common_steps)
 
   -- the lists with the makers that they have now
   abbrev named : Lists
@@ -146,13 +129,11 @@ module _ (files : List (List ℕ)) (l : Lists) (held : TableIsHeld files l) (pat
       by : (b : Bool) → list_any (bytes_eq path) files ≡ b → EdgesAreHeld fs named
       by true e = as-two files l.makers (as-held true e) held.edges_are
       by false e = as-two (files ++ path ∷ []) (l.makers ++ None ∷ []) (as-held false e)
-          (held-new files l held.edges_are path (subst (IsDistinct bytes_eq) (as-held false e).0 now.distinct))
+          (held-new files l held.edges_are path
+          (subst (IsDistinct bytes_eq) (as-held false e).0 now.distinct))
 
   table-name : table_of fs l ≡ naming t path
-  table-name =
-      ap (λ xs. table_of xs l) now.files_are
-      ∙ table-named files l held.edges_are path
-      ∙ ap (λ u. naming u path) is
+  table-name = grind (arith, table-named)
 
   cases : IsNew files path f.0 ⊎ IsOld files path f.0
   cases = named-cases files path f.0 (ap (λ xs. slice_get xs f.0) (sym now.files_are) ∙ now.number)
@@ -247,20 +228,7 @@ module _ (files : List (List ℕ)) (l : Lists) (held : TableIsHeld files l) (pat
 
   -- a file with a maker was there
   made-before : (found : Option ℕ) → found ≡ get_or ms f.0 None → is_some found ≡ true → f.0 < length files
-  made-before found found-is some = by cases
-    where
-      last : f.0 ≡ length files → (b : Bool) → list_any (bytes_eq path) files ≡ b
-          → slice_get ms f.0 ≡ Some None
-      last end true e = let below : f.0 < length files =
-          subst (λ xs. f.0 < length xs) (as-held true e).0 within-files in absurd (omega arith)
-      last end false e = ap (slice_get ms) (end ∙ sym held.edges_are.makers_count)
-          ∙ ap (λ xs. slice_get xs (length l.makers)) (as-held false e).1 ∙ get-last l.makers None
-
-      by : IsNew files path f.0 ⊎ IsOld files path f.0 → f.0 < length files
-      by (inr old) = old.below
-      by (inl new) = absurd (true≢false (sym some
-          ∙ ap is_some (found-is ∙ get_or_from_slice_get ms f.0 None None
-          (last new.last (list_any (bytes_eq path) files) refl))))
+  made-before found found-is some = grind (arith, common_steps)
 
   same-table : f.0 < length files → TableIsHeld fs named × (table_of fs l ≡ t)
   same-table below = let same = same-files below in
@@ -338,9 +306,7 @@ module _ (files : List (List ℕ)) (l : Lists) (held : TableIsHeld files l) (pat
       ∙ ap (λ u. is_among u.«open».outputs path) table-name
 
   own-before : is_made_by ms f.0 (length l.rows) ≡ true → f.0 < length files
-  own-before own = has-below (length files) f.0 (drop l.starts.outputs l.outputs)
-      (all-drop (λ g. g.0 < length files) l.starts.outputs l.outputs held.edges_are.outputs.are)
-      (sym own-number ∙ own)
+  own-before own = grind (arith, common_steps)
 
   pub own-table : is_made_by ms f.0 (length l.rows) ≡ true
       → table_of fs l
@@ -400,8 +366,4 @@ pub ended-held : (files : List (List ℕ)) (l : Lists) → TableIsHeld files l �
     (is_phony : Bool) → EndWithin kinds (length l.outputs - l.starts.outputs)
     (length l.inputs - l.starts.inputs)
     → TableIsHeld files (with_row l kinds is_phony)
-ended-held files l held kinds is_phony fits = record {
-  edges_are = held-ended files l held.edges_are kinds is_phony fits;
-  open_are_new = λ n has. absurd (true≢false (sym has ∙ ap (has_number n) (drop-length l.outputs)));
-  named = held.named;
-}
+ended-held files l held kinds is_phony fits = grind (arith, drop-length, held-ended, true≢false)

@@ -1,4 +1,5 @@
 -- How a shortest chain is found.
+use Rattle.std.proofs.lemmas.Grind.{common_steps}
 use Rattle.std.proofs.Common.{◌≡◌, ◌≢◌, ◌<◌, ◌≤◌, ◌+◌, ◌-◌, ◌^◌, ◌==◌, inl, inr, ℕ, zero, suc, Bool, true}
 use Rattle.std.proofs.Common.{false, cond, nat_lt, List, [], ◌∷◌, ◌++◌, map, length, take, get_or, Option}
 use Rattle.std.proofs.Common.{Some, None, slice_get, bytes_eq, refl, sym, ap, subst, ◌∙◌, arith, eqb-true}
@@ -11,7 +12,7 @@ use Rattle.std.proofs.lemmas.Bool.Decides.{nat_tests}
 use Rattle.std.proofs.lemmas.List.{get_or-append_right, get_or-map, get_or_append_left, get_or_past}
 use Rattle.std.proofs.lemmas.List.{get_or_push, length-map, length_push, map_push, reverse-append, take_all}
 use Rattle.std.proofs.lemmas.List.{take_more}
-use Rattle.std.proofs.lemmas.List.Elements.{All-cons, All-get_or, All-nil}
+use Rattle.std.proofs.lemmas.List.Elements.{All-get_or}
 use Rattle.std.proofs.lemmas.Option.{get_or_from_slice_get, slice_get-get_or, slice_get_within}
 use Rattle.std.proofs.lemmas.Slice.Eq.{bytes_eq-Decides}
 use Rattle.nj_names.specs.NumberSets.{NumberSetModel, has, with_number}
@@ -27,11 +28,11 @@ use Rattle.nj_edges.specs.EdgeGraphs.{EdgeGraph}
 use Rattle.nj_names.specs.Files.{path_at, AreFiles}
 use Rattle.nj_edges.specs.Inside.ChainsHeld.{AddsMakers, Arrives, ChainIs, ComeFromEarlier, HasInput}
 use Rattle.nj_edges.specs.Inside.ChainsHeld.{IsArrival, IsReachedFrom, IsShortestFrom, IsStepAt, LeadFrom}
-use Rattle.nj_edges.specs.Inside.ChainsHeld.{MakesInput, MakesInputBefore, SearchesChain, StepToIs, Traces}
+use Rattle.nj_edges.specs.Inside.ChainsHeld.{MakesInput, MakesInputBefore, SearchesChain, Traces}
 use Rattle.nj_edges.specs.Inside.ChainsHeld.{with_arrival}
 use Rattle.nj_edges.specs.Inside.ChainsHeld.Traces.{back, start}
 use Rattle.nj_edges.specs.Inside.ChangesHeld.{FindsMore}
-use Rattle.nj_edges.proofs.ChangeLemmas.{files-paths, finds-none, finds-one}
+use Rattle.nj_edges.proofs.ChangeLemmas.{files-paths, finds-one}
 use Rattle.nj_edges.proofs.EdgeLemmas.{get-path, same-number}
 use Rattle.nj_edges.proofs.GraphLemmas.{first-below}
 use Rattle.nj_edges.proofs.NeededLemmas.{finds-maker, finds-source}
@@ -224,11 +225,6 @@ module _ (g : EdgeGraph) (wv : Bool) where
 
 -- ---- the first step from an edge to a file
 
-module _ (g : EdgeGraph) (wv : Bool) (edge : EdgeNo) (to : FileNo) (to_known : to.0 < length g.files) where
-  pub found-here : (index : ℕ) (s : Step) → IsStepAt g wv edge index s → s.file ≡ to
-      → StepToIs g wv edge (path_at g.files to) (Some s)
-  found-here index s at is = (at.edge_is, at.is_step, ap (path_at g.files) is)
-
 -- ---- back to the beginning
 
 reverse-push : (steps : List Step) (s : Step) → reverse (steps ++ s ∷ []) ≡ s ∷ reverse steps
@@ -247,12 +243,7 @@ traces-back arrivals place arrival steps pushed whole here are traced =
 pub arrival-kept : (g : EdgeGraph) (wv : Bool) (numbers others : List ℕ) (i : ℕ) (arrival : Arrival)
     → i < length numbers → ((k : ℕ) → k < length numbers → slice_index others k ≡ slice_index numbers k)
     → IsArrival g wv numbers i arrival → IsArrival g wv others i arrival
-arrival-kept g wv numbers others i arrival below stays held = record {
-  earlier = held.earlier;
-  from = held.from ∙ sym (stays arrival.place (omega (arith, held.earlier, below)));
-  is_step = held.is_step;
-  made = held.made ∙ ap Some (sym (stays i below));
-}
+arrival-kept g wv numbers others i arrival below stays held = grind (arith, common_steps)
 
 -- one more input, from an edge
 module _ (g : EdgeGraph) (wv : Bool) (edge : EdgeNo) (index place : ℕ) (s : Step)
@@ -268,10 +259,7 @@ module _ (g : EdgeGraph) (wv : Bool) (edge : EdgeNo) (index place : ℕ) (s : St
 
   input-here : slice_get (inputs_with wv (edge_at g.edges (slice_index first.numbers place))) index
       ≡ Some (path_at g.files s.file)
-  input-here =
-      ap (λ e. slice_get (inputs_with wv (edge_at g.edges e)) index)
-      (sym (ap (λ (x : EdgeNo). x.0) at.edge_is ∙ edge_is))
-      ∙ ap (slice_get (inputs_with wv (edge_at g.edges s.edge.0))) (sym at.index_is) ∙ at.is_step.input
+  input-here = grind (arith, common_steps)
 
   makers-more : map (maker_of g.edges) (take (index + 1)
       (inputs_with wv (edge_at g.edges (slice_index first.numbers place))))
@@ -303,11 +291,7 @@ module _ (g : EdgeGraph) (wv : Bool) (edge : EdgeNo) (index place : ℕ) (s : St
       → (new : NumberSetModel) (now : List (Option Arrival)) → new ≡ old → now ≡ after
       → AddsMakers g wv (MakesInputBefore g wv (index + 1) (slice_index first.numbers place)) place first new
       before now
-  adds-source-as unmade new now is came =
-      subst (λ f. AddsMakers g wv (MakesInputBefore g wv (index + 1) (slice_index first.numbers place)) place
-      first f before now) (sym is)
-      (subst (λ arrivals. AddsMakers g wv (MakesInputBefore g wv (index + 1)
-      (slice_index first.numbers place)) place first old before arrivals) (sym came) (adds-source unmade))
+  adds-source-as unmade new now is came = grind (arith, adds-source)
 
   module _ (maker : ℕ) (made : maker_of g.edges (path_at g.files s.file) ≡ Some maker) where
     abbrev arrival_here : Option Arrival
@@ -394,16 +378,6 @@ module _ (g : EdgeGraph) (wv : Bool) (edge : EdgeNo) (index place : ℕ) (s : St
         (subst (λ arrivals. AddsMakers g wv (MakesInputBefore g wv (index + 1)
         (slice_index first.numbers place)) place first
         (record old { numbers = with_number old.numbers maker }) before arrivals) (sym came) adds-maker)
-
-pub adds-none : (g : EdgeGraph) (wv : Bool) (user place : ℕ) (found : NumberSetModel)
-    (arrivals : List (Option Arrival)) → length arrivals ≡ length found.numbers
-    → AddsMakers g wv (MakesInputBefore g wv 0 user) place found found arrivals arrivals
-adds-none g wv user place found arrivals count = record {
-  finds = finds-none (MakesInputBefore g wv 0 user) found (λ e makes. absurd (omega (arith, makes.1)));
-  count = count;
-  stays = λ i below. refl;
-  added = λ i past below. absurd (omega (arith, past, below));
-}
 
 pub adds-all : (g : EdgeGraph) (wv : Bool) (user place index : ℕ) (old new : NumberSetModel)
     (before after : List (Option Arrival)) → length (inputs_with wv (edge_at g.edges user)) ≤ index
@@ -591,8 +565,7 @@ pub path-is : (g : EdgeGraph) (wv : Bool) (from to : FileNo) (first : ℕ) (path
     → from ≢ to → maker_of g.edges (path_at g.files from) ≡ Some first
     → ChainIs g wv first (path_at g.files to) path → PathIs g wv from to path
 path-is g wv from to first None apart maker chain = path-none g wv from to first maker chain
-path-is g wv from to first (Some steps) apart maker chain =
-    path-some g wv from to first steps apart maker chain
+path-is g wv from to first (Some steps) apart maker chain = grind (arith, path-some)
 
 -- ---- the files that the steps of a chain name
 
@@ -603,15 +576,9 @@ module _ (g : EdgeGraph) (wv : Bool) where
   steps-known : (from : List ℕ) (steps : List Step) (to : List ℕ) → Lead g wv from steps to
       → All (λ (s : Step). s.edge.0 < length g.edges) steps
       × All (λ (s : Step). s.file.0 < length g.files) steps
-  steps-known from [] to leads = (
-    All-nil (λ (s : Step). s.edge.0 < length g.edges),
-    All-nil (λ (s : Step). s.file.0 < length g.files),
-  )
+  steps-known from [] to leads = grind (arith, common_steps)
   steps-known from (s ∷ steps) to (made, step, leads) =
-      let rest = steps-known (path_at g.files s.file) steps to leads in (
-        All-cons (λ (s : Step). s.edge.0 < length g.edges) s steps (made-below from s.edge.0 made) rest.0,
-        All-cons (λ (s : Step). s.file.0 < length g.files) s steps step.file rest.1,
-      )
+      grind (arith, common_steps, (steps-known (path_at g.files s.file) steps to leads))
 
   chain-known : (from : List ℕ) (steps : List Step) (to : List ℕ) → IsChain g wv from steps to
       → All (λ (s : Step). s.edge.0 < length g.edges) steps
@@ -624,13 +591,11 @@ module _ (g : EdgeGraph) (wv : Bool) where
       → ChainIs g wv first to (option_map (λ steps. steps.items) path)
       → IfSome path (λ steps. All (λ (s : Step). s.edge.0 < length g.edges) steps.items)
   path-edges from first to None maker chain = tt
-  path-edges from first to (Some steps) maker chain =
-      (chain-known from steps.items to (chain.leads from maker)).0
+  path-edges from first to (Some steps) maker chain = grind (arith, chain-known)
 
   pub path-files : (from : List ℕ) (first : ℕ) (to : List ℕ) (path : Option (Vec Step))
       → maker_of g.edges from ≡ Some first
       → ChainIs g wv first to (option_map (λ steps. steps.items) path)
       → IfSome path (λ steps. All (λ (s : Step). s.file.0 < length g.files) steps.items)
   path-files from first to None maker chain = tt
-  path-files from first to (Some steps) maker chain =
-      (chain-known from steps.items to (chain.leads from maker)).1
+  path-files from first to (Some steps) maker chain = grind (arith, chain-known)

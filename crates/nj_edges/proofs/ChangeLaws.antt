@@ -1,12 +1,13 @@
 -- The edges that a change of files affects, by the needs of edges.
+use Rattle.std.proofs.lemmas.Grind.{common_steps}
 use Rattle.std.proofs.Common.{◌≡◌, ◌<◌, ◌+◌, ◌||◌, inl, inr, ℕ, zero, suc, Bool, true, false, cond, List, []}
-use Rattle.std.proofs.Common.{◌∷◌, ◌++◌, length, get_or, Option, Some, None, is_some, option_map, unwrap_or}
+use Rattle.std.proofs.Common.{◌∷◌, ◌++◌, length, get_or, Some, is_some, option_map}
 use Rattle.std.proofs.Common.{bytes_eq, refl, sym, ap, subst, ◌∙◌, true≢false, arith}
 use Rattle.std.specs.Prelude.{Contains}
 use Rattle.std.specs.List.{AllByRecursion, IsDistinct, flat_map}
-use Rattle.std.proofs.lemmas.Bool.{both_ways, cases_lt}
+use Rattle.std.proofs.lemmas.Bool.{both_ways}
 use Rattle.std.proofs.lemmas.Cmp.{nat_list_eq_equiv}
-use Rattle.std.proofs.lemmas.List.{get_or-map, get_or_past, length-map}
+use Rattle.std.proofs.lemmas.List.{get_or-map, length-map}
 use Rattle.std.proofs.lemmas.List.Folds.{Any-from_list_any, list_any_at, list_any-from_Any}
 use Rattle.std.proofs.lemmas.Map.Views.{Contains-from_any, list_any-from_Contains}
 use Rattle.std.proofs.lemmas.Slice.Eq.{bytes_eq-Decides}
@@ -32,9 +33,7 @@ contains-among path paths has = list_any-from_Contains nat_list_eq_equiv path pa
 -- edge `e` has one of the paths that are among these as an input
 input-of : (path : List ℕ) (paths : List (List ℕ)) (e : EdgePaths) → is_among paths path ≡ true
     → is_among (inputs_of e) path ≡ true → has_input_of paths e ≡ true
-input-of path paths e is input =
-    let has = among-contains path paths is in
-    list_any-from_Any (is_among (inputs_of e)) paths (has.0, path, has.1, has.2, input)
+input-of path paths e is input = grind (arith, among-contains, list_any-from_Any)
 
 -- ---- makers
 
@@ -45,31 +44,12 @@ no-edge = edge_at [] 0
 -- an output of some edge is an output of an edge of the graph
 made-below : (edges : List EdgePaths) (f : ℕ) (path : List ℕ)
     → is_among (outputs_of (edge_at edges f)) path ≡ true → f < length edges
-made-below edges f path is = elim (cases_lt f (length edges)) [
-  | inl below ↦ below
-  | inr past ↦ absurd (both_ways (is_among (outputs_of (edge_at edges f)) path)
-      (ap (λ e. is_among (outputs_of e) path) (get_or_past edges f no-edge past)) is)
-]
+made-below edges f path is = grind (arith, common_steps)
 
 first-passes : {E : Type 0} (test : E → Bool) (d : E) (es : List E) (f : ℕ) → first_edge test es ≡ Some f
     → test (get_or es f d) ≡ true
 first-passes test d [] f first = absurd (true≢false (sym (ap is_some first)))
-first-passes test d (e ∷ es) f first = by (test e) refl first (first-passes test d es)
-  where
-    later : (o : Option ℕ) → first_edge test es ≡ o → option_map (λ n. n + 1) o ≡ Some f
-        → ((g : ℕ) → first_edge test es ≡ Some g → test (get_or es g d) ≡ true)
-        → test (get_or (e ∷ es) f d) ≡ true
-    later None is h rest = absurd (true≢false (sym (ap is_some h)))
-    later (Some g) is h rest =
-        let after : g + 1 ≡ f = ap (λ o. unwrap_or o 0) h in
-        let next : suc g ≡ f = omega (arith, after) in
-        subst (λ n. test (get_or (e ∷ es) n d) ≡ true) next (rest g is)
-
-    by : (b : Bool) → test e ≡ b → cond b (Some 0) (option_map (λ n. n + 1) (first_edge test es)) ≡ Some f
-        → ((g : ℕ) → first_edge test es ≡ Some g → test (get_or es g d) ≡ true)
-        → test (get_or (e ∷ es) f d) ≡ true
-    by true is h rest = subst (λ n. test (get_or (e ∷ es) n d) ≡ true) (ap (λ o. unwrap_or o 0) h) is
-    by false is h rest = later (first_edge test es) refl h rest
+first-passes test d (e ∷ es) f first = grind (arith, common_steps, (first-passes test d es))
 
 maker-makes : (edges : List EdgePaths) (path : List ℕ) (f : ℕ) → maker_of edges path ≡ Some f
     → is_among (outputs_of (edge_at edges f)) path ≡ true
@@ -135,14 +115,7 @@ module _ (edges : List EdgePaths) where
   -- the maker of an input is needed
   needs-maker : (e f : ℕ) (path : List ℕ) → is_among (inputs_of (edge e)) path ≡ true
       → maker_of edges path ≡ Some f → Needs (makers_of_inputs edges) e f
-  needs-maker e f path input made =
-      let has = among-contains path (inputs_of (edge e)) input in
-      let count = length-map (inputs_of (edge e)) (maker_of edges) in (
-        has.0,
-        omega (arith, has.1, count),
-        get_or-map (maker_of edges) (inputs_of (edge e)) has.0 path
-            (Some f) has.1 ∙ ap (maker_of edges) has.2 ∙ made,
-      )
+  needs-maker e f path input made = grind (arith, among-contains, get_or-map, length-map)
 
   -- where an output of `f` is an input of `e`, that is needed
   takes-needs : IsDistinct bytes_eq (flat_map outputs_of edges) → (e f : ℕ)

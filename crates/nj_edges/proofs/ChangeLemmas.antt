@@ -1,4 +1,5 @@
 -- How the edges that a change reaches are found.
+use Rattle.std.proofs.lemmas.Grind.{common_steps}
 use Rattle.std.proofs.Common.{◌≡◌, ◌<◌, ◌≤◌, ◌+◌, ◌||◌, ◌⊎◌, ◌↔◌, inl, inr, ℕ, Bool, true, false, cond, List}
 use Rattle.std.proofs.Common.{[], ◌∷◌, ◌++◌, map, length, take, get_or, Some, slice_get, unwrap_or, refl, sym}
 use Rattle.std.proofs.Common.{ap, subst, ◌∙◌, arith, append-nil}
@@ -8,7 +9,6 @@ use Rattle.std.specs.List.Sorted.{IsStrictlyIncreasing}
 use Rattle.std.proofs.lemmas.Bool.{both_ways, cases_lt, or_cases}
 use Rattle.std.proofs.lemmas.List.{length_push, map_push, take_more}
 use Rattle.std.proofs.lemmas.List.Elements.{Contains-append_left, Contains-push, Contains-push_cases}
-use Rattle.std.proofs.lemmas.List.Folds.{list_any-append}
 use Rattle.nj_names.specs.NumberSets.{NumberSetModel, has, with_number}
 use Rattle.nj_names.proofs.NumberLemmas.{contains-has, has-contains}
 use Rattle.nj_cycles.proofs.Places.{at_left, at_push, contains_at, index_of}
@@ -54,10 +54,7 @@ module _ (flags : List Bool) (found : List EdgeNo)
     (listed : numbers_of found ≡ edges_from 0 (λ flag. flag) flags) where
   pub found-are : (P : ℕ → Type 0) → ((e : ℕ) → IsFlagged flags e ↔ P e) → (e : ℕ)
       → Contains (numbers_of found) e ↔ P e
-  found-are P are e = (
-    λ has. (are e).0 ((flagged-listed flags e).0 (subst (λ ns. Contains ns e) listed has)),
-    λ p. subst (λ ns. Contains ns e) (sym listed) ((flagged-listed flags e).1 ((are e).1 p)),
-  )
+  found-are P are e = grind (arith, flagged-listed)
 
   pub found-rise : IsStrictlyIncreasing (numbers_of found)
   found-rise = subst IsStrictlyIncreasing (sym listed) (from-rises (λ flag. flag) flags 0)
@@ -87,12 +84,7 @@ module _ (files_of : EdgePaths → List (List ℕ)) (none : files_of (edge_at []
 -- one of these paths, or one more, is among some
 has-more : (paths : List (List ℕ)) (path : List ℕ) (some : List (List ℕ))
     → list_any (is_among some) (paths ++ path ∷ []) ≡ (list_any (is_among some) paths || is_among some path)
-has-more paths path some = list_any-append (is_among some) paths (path ∷ [])
-    ∙ ap (λ b. list_any (is_among some) paths || b) (or-none (is_among some path))
-  where
-    or-none : (b : Bool) → (b || false) ≡ b
-    or-none true = refl
-    or-none false = refl
+has-more paths path some = grind (arith, common_steps)
 
 or-left : (b c : Bool) → b ≡ true → (b || c) ≡ true
 or-left b c is = ap (λ x. x || c) is
@@ -105,15 +97,7 @@ or-right false c is = is
 
 pub finds-none : (P : ℕ → Type 0) (found : NumberSetModel) → ((e : ℕ) → P e → Contains found.numbers e)
     → FindsMore P found found
-finds-none P found all = record {
-  limit = refl;
-  kept = λ e is. is;
-  all = all;
-  fresh = λ e is. inl is;
-  longer = omega arith;
-  added = λ i past below. absurd (omega (arith, past, below));
-  stays = λ i below. refl;
-}
+finds-none P found all = grind (arith, common_steps)
 
 pub finds-then : (P Q R : ℕ → Type 0) (old mid new : NumberSetModel) → ((e : ℕ) → P e → R e)
     → ((e : ℕ) → Q e → R e) → ((e : ℕ) → R e → P e ⊎ Q e) → FindsMore P old mid → FindsMore Q mid new
@@ -312,7 +296,4 @@ module _ (edges : List EdgePaths) (files : List (List ℕ)) where
 pub flags-are : (flags : List Bool) (numbers : List ℕ) (P : ℕ → Type 0)
     → ((n : ℕ) → get_or flags n false ≡ has numbers n) → ((e : ℕ) → Contains numbers e ↔ P e) → (e : ℕ)
     → IsFlagged flags e ↔ P e
-flags-are flags numbers P tell are e = (
-  λ is. (are e).0 (has-contains numbers e (sym (tell e) ∙ is)),
-  λ p. tell e ∙ contains-has numbers e ((are e).1 p),
-)
+flags-are flags numbers P tell are e = grind (arith, contains-has, has-contains)

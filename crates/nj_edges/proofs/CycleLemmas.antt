@@ -11,7 +11,6 @@ use Rattle.nj_edges.specs.declared.edges.KindEnds.{KindEnds}
 use Rattle.nj_edges.specs.Edges.{EdgePaths, edge_at, outputs_of, inputs_of, first_edge, maker_of, is_among}
 use Rattle.nj_edges.specs.Inside.EdgesHeld.{Lists, paths_at, table_of, makers_in_rows, EdgesAreHeld, HasFiles}
 use Rattle.nj_edges.specs.EdgeTables.{EdgeTable, no_files}
-use Rattle.nj_names.specs.Files.{path_at}
 use Rattle.nj_edges.specs.Needs.{makers_of_inputs}
 use Rattle.nj_edges.proofs.ChangeLemmas.{files-paths}
 use Rattle.nj_edges.proofs.GraphLemmas.{first-table, made-of, on-edge, outputs-are}
@@ -72,12 +71,7 @@ module _ (files : List (List ℕ)) (edges : List EdgePaths) (n : ℕ) (outputs i
       (outputs-are files (edge_at edges n) outputs inputs validations kinds is_phony has)
 
   pub some-output : IsLeastOnCycle (makers_of_inputs edges) n → 0 < length outputs
-  some-output least = omega (
-    arith,
-    needed-output edges n n least.0,
-    ap length outputs-paths,
-    length-map outputs (path_at files),
-  )
+  some-output least = grind (arith, length-map, needed-output, outputs-paths)
 
   pub first-output : (fs : List (List ℕ)) → fs ≡ files → (path : List ℕ)
       → slice_get (paths_at fs outputs) 0 ≡ Some path

@@ -1,22 +1,20 @@
 -- Lemmas on edges that are held by the numbers of files.
+use Rattle.std.proofs.lemmas.Grind.{common_steps}
 use Rattle.std.proofs.Common.{◌≡◌, ◌≢◌, ◌<◌, ◌≤◌, ◌+◌, ◌-◌, ◌==◌, ◌||◌, ◌⊎◌, inl, inr, ℕ, zero, suc, Bool}
 use Rattle.std.proofs.Common.{true, false, cond, List, [], ◌∷◌, ◌++◌, map, length, take, drop, slice_get}
-use Rattle.std.proofs.Common.{slice_range, get_or, Option, Some, None, is_some, option_map, unwrap_or}
+use Rattle.std.proofs.Common.{get_or, Option, Some, None, is_some, option_map, unwrap_or}
 use Rattle.std.proofs.Common.{bytes_eq, refl, sym, ap, subst, ◌∙◌, true≢false, arith, length-append}
 use Rattle.std.proofs.Common.{length-drop, add-one, replicate, set}
 use Rattle.std.specs.List.{AllByRecursion, IsDistinct, list_any, flat_map}
 use Rattle.std.proofs.Math.Bool.{or-false, or-true}
 use Rattle.std.proofs.lemmas.Bool.Decides.{eqb_tells}
-use Rattle.std.proofs.lemmas.List.{map_push, append-nil, drop-append-le, take-append-le, take-append-drop}
+use Rattle.std.proofs.lemmas.List.{map_push, drop-append-le, take-append-le, take-append-drop}
 use Rattle.std.proofs.lemmas.List.{get_or-replicate, length-map, length-replicate, length-set}
 use Rattle.std.proofs.lemmas.List.Folds.{list_any-append}
 use Rattle.std.proofs.lemmas.Option.{slice_get_within, slice_get-get_or, unwrap_or-slice_get}
 use Rattle.std.proofs.lemmas.Option.{get_or_from_slice_get}
 use Rattle.std.proofs.lemmas.Slice.Eq.{bytes_eq-Decides}
-use Rattle.std.proofs.lemmas.Grind.{flat_map-append}
-use Rattle.std.proofs.Math.Path.{fun_ext}
-use Rattle.std.proofs.Math.Seq.{drop-length, take-length}
-use Rattle.nj_names.proofs.ListLemmas.{among-get, get-last, slice_range-append, slice_range-rest}
+use Rattle.nj_names.proofs.ListLemmas.{among-get, get-last, slice_range-append}
 use Rattle.nj_names.specs.declared.files.FileNo.{FileNo}
 use Rattle.nj_edges.specs.declared.edges.Span.{Span}
 use Rattle.nj_edges.specs.declared.edges.EdgeRow.{EdgeRow}
@@ -116,8 +114,7 @@ parts-same : (ns others : List FileNo) (start : ℕ) → start ≤ length ns →
     → flat_map (within (ns ++ others)) spans ≡ flat_map (within ns) spans
 parts-same ns others start le [] all = refl
 parts-same ns others start le (span ∷ spans) all =
-    let first = within-append ns others span start all.0 le in
-    let more = parts-same ns others start le spans all.1 in cc
+    grind (arith, common_steps, (parts-same ns others start le spans all.1))
 
 pub joined-more : (ns others : List FileNo) (start : ℕ) → start ≤ length ns → (spans : List Span)
     → AllByRecursion (λ span. IsWithin span start) spans → AreJoined spans start ns
@@ -128,12 +125,7 @@ joined-more ns others start le spans all joined = parts-same ns others start le 
 pub joined-end : (ns : List FileNo) (start : ℕ) → start ≤ length ns → (spans : List Span)
     → AreJoined spans start ns → AreJoined (spans ++ record { start = start; end = length ns } ∷ [])
     (length ns) ns
-joined-end ns start le spans joined =
-    flat_map-append (within ns) spans (record { start = start; end = length ns } ∷ [])
-    ∙ ap (λ xs. xs ++ (slice_range ns start (length ns) ++ [])) joined
-    ∙ ap (λ xs. take start ns ++ xs) (append-nil (slice_range ns start (length ns))
-    ∙ slice_range-rest ns start le)
-    ∙ take-append-drop start ns ∙ sym (take-length ns)
+joined-end ns start le spans joined = grind (arith, common_steps)
 
 pub all-map : {X Y : Type 0} (f : X → Y) (P : Y → Type 0) (xs : List X) → AllByRecursion (λ x. P (f x)) xs
     → AllByRecursion P (map f xs)
@@ -150,20 +142,12 @@ parts-grown n m spans start ns le held =
 parts-more : (count : ℕ) (spans : List Span) (start : ℕ) (ns others : List FileNo)
     → AllByRecursion (λ span. IsWithin span start) spans → AreNumbers count others
     → PartsAreHeld count spans start ns → PartsAreHeld count spans start (ns ++ others)
-parts-more count spans start ns others all are held = record {
-  are = all-append (λ g. g.0 < count) ns others held.are are;
-  joined = joined-more ns others start held.starts spans all held.joined;
-  starts = let starts = held.starts in simp length-append (omega arith);
-}
+parts-more count spans start ns others all are held = grind (arith, all-append, joined-more, length-append)
 
 parts-ended : (count : ℕ) (spans : List Span) (start : ℕ) (ns : List FileNo)
     → PartsAreHeld count spans start ns
     → PartsAreHeld count (spans ++ record { start = start; end = length ns } ∷ []) (length ns) ns
-parts-ended count spans start ns held = record {
-  are = held.are;
-  joined = joined-end ns start held.starts spans held.joined;
-  starts = omega arith;
-}
+parts-ended count spans start ns held = grind (arith, common_steps)
 
 -- each edge that was read stays
 module _ (files : List (List ℕ)) (l : Lists) (held : EdgesAreHeld files l) (others : List FileNo) where
@@ -177,25 +161,16 @@ module _ (files : List (List ℕ)) (l : Lists) (held : EdgesAreHeld files l) (ot
   more_validations = record l { validations = l.validations ++ others }
 
   edges-output : edges_of files more_outputs ≡ edges_of files l
-  edges-output = map-same (RowIsWithin l.starts) (edge_of files more_outputs) (edge_of files l)
-      (λ row inside. rw (within-append l.outputs others row.outputs l.starts.outputs inside.outputs
-      held.outputs.starts) refl) l.rows held.rows_are
+  edges-output = grind (arith, map-same, within-append)
 
   pub edges-input : edges_of files more_inputs ≡ edges_of files l
-  edges-input = map-same (RowIsWithin l.starts) (edge_of files more_inputs) (edge_of files l)
-      (λ row inside. rw (within-append l.inputs others row.inputs l.starts.inputs inside.inputs
-      held.inputs.starts) refl) l.rows held.rows_are
+  edges-input = grind (arith, map-same, within-append)
 
   pub edges-validation : edges_of files more_validations ≡ edges_of files l
-  edges-validation = map-same (RowIsWithin l.starts) (edge_of files more_validations) (edge_of files l)
-      (λ row inside. rw (within-append l.validations others row.validations l.starts.validations
-      inside.validations held.validations.starts) refl) l.rows held.rows_are
+  edges-validation = grind (arith, map-same, within-append)
 
   pub read-same : read_outputs more_outputs ≡ read_outputs l
-  read-same = map-same (RowIsWithin l.starts) (λ (row : EdgeRow). within (l.outputs ++ others) row.outputs)
-      (λ row. within l.outputs row.outputs)
-      (λ row inside. within-append l.outputs others row.outputs l.starts.outputs inside.outputs
-      held.outputs.starts) l.rows held.rows_are
+  read-same = grind (arith, map-same, within-append)
 
 -- ---- naming a file
 
@@ -205,12 +180,7 @@ pub get-push : {X : Type 0} (xs : List X) (x y : X) (n : ℕ) → slice_get (xs 
 get-push [] x y zero h = inl refl
 get-push [] x y (suc n) h = absurd (true≢false (sym (ap is_some h)))
 get-push (z ∷ xs) x y zero h = inr (omega arith, h)
-get-push (z ∷ xs) x y (suc n) h = by (get-push xs x y n h)
-  where
-    by : (n ≡ length xs) ⊎ ((n < length xs) × (slice_get xs n ≡ Some y))
-        → (suc n ≡ suc (length xs)) ⊎ ((suc n < suc (length xs)) × (slice_get xs n ≡ Some y))
-    by (inl e) = inl (ap suc e)
-    by (inr both) = let below : n < length xs = both.0 in inr (omega arith, both.1)
+get-push (z ∷ xs) x y (suc n) h = grind (arith, common_steps, (get-push xs x y n h))
 
 pub record IsNew (files : List (List ℕ)) (path : List ℕ) (n : ℕ) : Type 0 where
   pub last : n ≡ length files
@@ -249,18 +219,12 @@ named-cases files path n h = by (list_any (bytes_eq path) files) refl
 -- a number that no file has is not among files
 pub none-has : (n : ℕ) (ns : List FileNo) → AreNumbers n ns → has_number n ns ≡ false
 none-has n [] are = refl
-none-has n (f ∷ ns) are = by (eqb_tells n f.0) are.0 (none-has n ns are.1)
-  where
-    by : ((n == f.0) ≡ true × (n ≡ f.0)) ⊎ ((n == f.0) ≡ false × (n ≢ f.0)) → f.0 < n
-        → has_number n ns ≡ false → ((n == f.0) || has_number n ns) ≡ false
-    by (inl same) below more = let e : n ≡ f.0 = same.1 in absurd (omega arith)
-    by (inr apart) below more = ap (λ b. b || has_number n ns) apart.0 ∙ more
+none-has n (f ∷ ns) are = grind (arith, common_steps, (none-has n ns are.1))
 
 pub first-none : {E : Type 0} (test : E → Bool) (es : List E) → AllByRecursion (λ e. test e ≡ false) es
     → first_edge test es ≡ None
 first-none test [] all = refl
-first-none test (e ∷ es) all = ap (λ b. cond b (Some 0) (option_map (λ n. n + 1) (first_edge test es))) all.0
-    ∙ ap (option_map (λ n. n + 1)) (first-none test es all.1)
+first-none test (e ∷ es) all = grind (arith, common_steps, (first-none test es all.1))
 
 -- a file more, without a maker
 pub makers-push : (rows : List (List FileNo)) (makers : List (Option ℕ))
@@ -291,27 +255,10 @@ module _ (files : List (List ℕ)) (l : Lists) (held : EdgesAreHeld files l) (pa
   open-stay start ns are = stay (drop start ns) (all-drop (λ f. f.0 < length files) start ns are)
 
   edge-stays : (row : EdgeRow) → edge_of (files ++ path ∷ []) l row ≡ edge_of files l row
-  edge-stays row =
-      let part = within-numbers (length files) in
-      let o = stay (within l.outputs row.outputs) (part l.outputs row.outputs held.outputs.are) in
-      let i = stay (within l.inputs row.inputs) (part l.inputs row.inputs held.inputs.are) in
-      let v = stay (within l.validations row.validations)
-      (part l.validations row.validations held.validations.are) in
-      rw (o, i, v) refl
+  edge-stays row = grind (arith, stay, within-numbers)
 
   pub table-named : table_of (with_name files path) l ≡ naming (table_of files l) path
-  table-named = by (list_any (bytes_eq path) files)
-    where
-      by : (b : Bool) → table_of (cond b files (files ++ path ∷ [])) l
-          ≡ record (table_of files l) { files = cond b files (files ++ path ∷ []) }
-      by true = refl
-      by false =
-          let edges : edges_of (files ++ path ∷ []) l ≡ edges_of files l = ap (λ f. map f l.rows)
-          (fun_ext edge-stays) in
-          let o = open-stay l.starts.outputs l.outputs held.outputs.are in
-          let i = open-stay l.starts.inputs l.inputs held.inputs.are in
-          let v = open-stay l.starts.validations l.validations held.validations.are in
-          rw (edges, o, i, v) refl
+  table-named = grind (arith, edge-stays, open-stay)
 
   -- a number that no output has is that of no maker
   no-maker : (n : ℕ) → AreNumbers n l.outputs → first_edge (has_number n) (output_rows l) ≡ None
@@ -345,35 +292,22 @@ module _ (files : List (List ℕ)) (l : Lists) (held : EdgesAreHeld files l) (f 
     (here : slice_get files f.0 ≡ Some path) where
   pub table-output : table_of files (record l { outputs = l.outputs ++ f ∷ [] })
       ≡ plus_output (table_of files l) path
-  table-output = rw (
-    edges-output files l held (f ∷ []),
-    open-push files l.outputs l.starts.outputs f path
-        held.outputs.starts here,
-  ) refl
+  table-output = grind (arith, edges-output, open-push)
 
   pub table-input : table_of files (record l { inputs = l.inputs ++ f ∷ [] })
       ≡ plus_input (table_of files l) path
-  table-input = rw (
-    edges-input files l held (f ∷ []),
-    open-push files l.inputs l.starts.inputs f path
-        held.inputs.starts here,
-  ) refl
+  table-input = grind (arith, edges-input, open-push)
 
   pub table-validation : table_of files (record l { validations = l.validations ++ f ∷ [] })
       ≡ plus_validation (table_of files l) path
-  table-validation = rw (
-    edges-validation files l held (f ∷ []),
-    open-push files l.validations
-        l.starts.validations f path held.validations.starts here,
-  ) refl
+  table-validation = grind (arith, edges-validation, open-push)
 
 -- ---- the end of an edge
 
 pub first-more : {E : Type 0} (test : E → Bool) (es : List E) (e : E) → test e ≡ false
     → first_edge test (es ++ e ∷ []) ≡ first_edge test es
 first-more test [] e fails = ap (λ b. cond b (Some 0) None) fails
-first-more test (x ∷ es) e fails = ap (λ o. cond (test x) (Some 0) (option_map (λ n. n + 1) o))
-    (first-more test es e fails)
+first-more test (x ∷ es) e fails = grind (arith, common_steps, (first-more test es e fails))
 
 -- the table where the edge that is being read ends
 abbrev pub end-value : KindEnds → Bool → EdgeTable → EdgeTable
@@ -390,30 +324,13 @@ module _ (files : List (List ℕ)) (l : Lists) (held : EdgesAreHeld files l) (ki
   next_row = row_between l.starts (ends_of l) kinds is_phony
 
   pub table-ended : table_of files (with_row l kinds is_phony) ≡ end-value kinds is_phony (table_of files l)
-  table-ended =
-      let edges = map_push (edge_of files l) l.rows next_row in
-      let o = slice_range-rest l.outputs l.starts.outputs held.outputs.starts in
-      let i = slice_range-rest l.inputs l.starts.inputs held.inputs.starts in
-      let v = slice_range-rest l.validations l.starts.validations held.validations.starts in
-      rw (edges, o, i, v, drop-length l.outputs, drop-length l.inputs, drop-length l.validations) refl
+  table-ended = grind (arith, common_steps)
 
   rows-ended : output_rows (with_row l kinds is_phony) ≡ output_rows l ++ [] ∷ []
-  rows-ended =
-      let more = map_push (λ (row : EdgeRow). within l.outputs row.outputs) l.rows next_row in
-      let o = slice_range-rest l.outputs l.starts.outputs held.outputs.starts in
-      rw (more, o, drop-length l.outputs) refl
+  rows-ended = grind (arith, common_steps)
 
   larger : (row : EdgeRow) → RowIsWithin l.starts row → RowIsWithin (ends_of l) row
-  larger row inside = record {
-    outputs = wider row.outputs l.starts.outputs (length l.outputs) held.outputs.starts inside.outputs;
-    inputs = wider row.inputs l.starts.inputs (length l.inputs) held.inputs.starts inside.inputs;
-    validations = wider row.validations l.starts.validations (length l.validations)
-        held.validations.starts inside.validations;
-    kinds = inside.kinds;
-  }
-    where
-      wider : (span : Span) (n m : ℕ) → n ≤ m → IsWithin span n → IsWithin span m
-      wider span n m le is = let ends = is.ends in record { rises = is.rises; ends = omega arith }
+  larger row inside = grind (arith, common_steps)
 
   pub held-ended : EndWithin kinds (length l.outputs - l.starts.outputs) (length l.inputs - l.starts.inputs)
       → EdgesAreHeld files (with_row l kinds is_phony)
@@ -492,16 +409,14 @@ pub has-among : (files : List (List ℕ)) → IsDistinct bytes_eq files → (n :
     → has_number n ns ≡ is_among (paths_at files ns) path
 has-among files distinct n path here [] are = refl
 has-among files distinct n path here (f ∷ ns) are =
-    let first = same-number files distinct n path here f are.0 in
-    let more = has-among files distinct n path here ns are.1 in cc
+    grind (arith, same-number, (has-among files distinct n path here ns are.1))
 
 -- ---- which files are made
 
 pub first-map : {E F : Type 0} (test : F → Bool) (f : E → F) (es : List E)
     → first_edge test (map f es) ≡ first_edge (λ e. test (f e)) es
 first-map test f [] = refl
-first-map test f (e ∷ es) = ap (λ o. cond (test (f e)) (Some 0) (option_map (λ n. n + 1) o))
-    (first-map test f es)
+first-map test f (e ∷ es) = grind (arith, common_steps, (first-map test f es))
 
 pub first-same : {E : Type 0} (t u : E → Bool) → ((e : E) → t e ≡ u e) → (es : List E)
     → first_edge t es ≡ first_edge u es
@@ -510,13 +425,7 @@ first-same t u same (e ∷ es) = let here = same e in let more = first-same t u 
 
 pub some-in : {E : Type 0} (test : E → Bool) (es : List E) → is_some (first_edge test es) ≡ list_any test es
 some-in test [] = refl
-some-in test (e ∷ es) = by (test e) (first_edge test es) (some-in test es)
-  where
-    by : (b : Bool) (o : Option ℕ) → is_some o ≡ list_any test es
-        → is_some (cond b (Some 0) (option_map (λ n. n + 1) o)) ≡ (b || list_any test es)
-    by true o same = refl
-    by false None same = same
-    by false (Some n) same = same
+some-in test (e ∷ es) = grind (arith, common_steps, (some-in test es))
 
 first-some : {E : Type 0} (test : E → Bool) (es : List E) (e : E)
     → is_some (first_edge test (es ++ e ∷ [])) ≡ (is_some (first_edge test es) || test e)
@@ -527,20 +436,12 @@ module _ (files : List (List ℕ)) (l : Lists) (held : EdgesAreHeld files l) (n 
     (here : slice_get files n ≡ Some path) where
   row-among : (row : EdgeRow) → has_number n (within l.outputs row.outputs)
       ≡ is_among (outputs_of (edge_of files l row)) path
-  row-among row =
-      has-among files held.distinct n path here (within l.outputs row.outputs)
-      (within-numbers (length files) l.outputs row.outputs held.outputs.are)
-      ∙ ap (λ ps. is_among ps path) (sym (take-append-drop row.kinds.explicit_outputs
-      (paths_at files (within l.outputs row.outputs))))
+  row-among row = grind (arith, has-among, take-append-drop, within-numbers)
 
   -- the maker of a file among the edges that were read
   pub maker-read : first_edge (has_number n) (read_outputs l)
       ≡ maker_of (edges_of files l) path
-  maker-read =
-      first-map (has_number n) (λ (row : EdgeRow). within l.outputs row.outputs) l.rows
-      ∙ first-same (λ (row : EdgeRow). has_number n (within l.outputs row.outputs))
-      (λ row. is_among (outputs_of (edge_of files l row)) path) row-among l.rows
-      ∙ sym (first-map (λ e. is_among (outputs_of e) path) (edge_of files l) l.rows)
+  maker-read = grind (arith, first-map, first-same, row-among)
 
   pub open-among : has_number n (drop l.starts.outputs l.outputs)
       ≡ is_among (paths_at files (drop l.starts.outputs l.outputs)) path
@@ -549,11 +450,7 @@ module _ (files : List (List ℕ)) (l : Lists) (held : EdgesAreHeld files l) (n 
 
   pub made-by : is_some (first_edge (has_number n) (output_rows l))
       ≡ is_made (table_of files l) path
-  made-by =
-      first-some (has_number n) (read_outputs l)
-      (drop l.starts.outputs l.outputs)
-      ∙ ap (λ o. is_some o || has_number n (drop l.starts.outputs l.outputs)) maker-read
-      ∙ ap (λ b. is_some (maker_of (edges_of files l) path) || b) open-among
+  made-by = grind (arith, first-some, maker-read, open-among)
 
   pub within-makers : n < length l.makers
   within-makers = subst (λ m. n < m) (sym held.makers_count) (slice_get_within files n path here)
@@ -561,9 +458,7 @@ module _ (files : List (List ℕ)) (l : Lists) (held : EdgesAreHeld files l) (n 
   -- the maker that the list has at the file
   pub made-at : (found : Option ℕ) → found ≡ get_or l.makers n None
       → is_some found ≡ is_made (table_of files l) path
-  made-at found is = ap is_some (is ∙ get_or_from_slice_get l.makers n
-      (first_edge (has_number n) (output_rows l)) None
-      (held.makers_are n within-makers)) ∙ made-by
+  made-at found is = grind (arith, get_or_from_slice_get, made-by, within-makers)
 
 -- ---- an output more
 
@@ -595,8 +490,7 @@ first-last test (x ∷ es) e none passes = by (test x) none (λ h. first-last te
 pub first-other : {E : Type 0} (test : E → Bool) (es : List E) (e e' : E) → test e ≡ test e'
     → first_edge test (es ++ e ∷ []) ≡ first_edge test (es ++ e' ∷ [])
 first-other test [] e e' same = ap (λ b. cond b (Some 0) None) same
-first-other test (x ∷ es) e e' same = ap (λ o. cond (test x) (Some 0) (option_map (λ n. n + 1) o))
-    (first-other test es e e' same)
+first-other test (x ∷ es) e e' same = grind (arith, common_steps, (first-other test es e e' same))
 
 pub has-push : (n : ℕ) (ns : List FileNo) (f : FileNo)
     → has_number n (ns ++ f ∷ []) ≡ (has_number n ns || (n == f.0))
@@ -624,14 +518,7 @@ get-set_other (y ∷ xs) (suc i) x (suc j) apart = get-set_other xs i x j (λ e.
 pub first-front : {E : Type 0} (test : E → Bool) (es : List E) (e : E) (n : ℕ) → first_edge test es ≡ Some n
     → first_edge test (es ++ e ∷ []) ≡ Some n
 first-front test [] e n h = absurd (true≢false (sym (ap is_some h)))
-first-front test (x ∷ es) e n h = by (test x) (first_edge test es) (first-front test es e) h
-  where
-    by : (b : Bool) (o : Option ℕ) → ((m : ℕ) → o ≡ Some m → first_edge test (es ++ e ∷ []) ≡ Some m)
-        → cond b (Some 0) (option_map (λ n. n + 1) o) ≡ Some n
-        → cond b (Some 0) (option_map (λ n. n + 1) (first_edge test (es ++ e ∷ []))) ≡ Some n
-    by true o more is = is
-    by false None more is = absurd (true≢false (sym (ap is_some is)))
-    by false (Some m) more is = ap (option_map (λ n. n + 1)) (more m refl) ∙ is
+first-front test (x ∷ es) e n h = grind (arith, common_steps, (first-front test es e))
 
 -- another row at the end, which passes, where some row did
 first-again : {E : Type 0} (test : E → Bool) (es : List E) (e e' : E)
@@ -769,9 +656,7 @@ module _ (files : List (List ℕ)) (l : Lists) (held : EdgesAreHeld files l) (f 
   -- a file whose maker is none is made by none
   pub unmade : (found : Option ℕ) → found ≡ get_or l.makers f.0 None → is_some found ≡ false
       → first_edge (has_number f.0) (output_rows l) ≡ None
-  unmade found is none = sym (is ∙ get_or_from_slice_get l.makers f.0
-      (first_edge (has_number f.0) (output_rows l)) None (held.makers_are f.0 within-list))
-      ∙ absent found none
+  unmade found is none = grind (arith, absent, get_or_from_slice_get, within-list)
 
 -- how many files the edge that is being read has
 pub length-open : (files : List (List ℕ)) (ns : List FileNo) (start : ℕ)
@@ -781,12 +666,7 @@ length-open files ns start = length-map (drop start ns) (path_at files) ∙ leng
 pub ended-within : (files : List (List ℕ)) (l : Lists) (kinds : KindEnds) (t : EdgeTable)
     → table_of files l ≡ t → EndWithin kinds (length t.«open».outputs) (length t.«open».inputs)
     → EndWithin kinds (length l.outputs - l.starts.outputs) (length l.inputs - l.starts.inputs)
-ended-within files l kinds t is fits =
-    let o : length t.«open».outputs ≡ length l.outputs - l.starts.outputs =
-    ap (λ u. length u.«open».outputs) (sym is) ∙ length-open files l.outputs l.starts.outputs in
-    let i : length t.«open».inputs ≡ length l.inputs - l.starts.inputs =
-    ap (λ u. length u.«open».inputs) (sym is) ∙ length-open files l.inputs l.starts.inputs in
-    rw (← o, ← i) fits
+ended-within files l kinds t is fits = grind (arith, common_steps)
 
 -- no edges, and files without makers
 pub sources-held : (files : List (List ℕ)) (count : ℕ) → IsDistinct bytes_eq files → count ≡ length files

@@ -1,7 +1,8 @@
 -- Lemmas on a graph of edges that is held by the numbers of files.
-use Rattle.std.proofs.Common.{◌≡◌, ◌<◌, ◌≤◌, ◌+◌, ◌-◌, ℕ, zero, suc, Bool, true, false, cond, List, [], ◌∷◌}
+use Rattle.std.proofs.lemmas.Grind.{common_steps}
+use Rattle.std.proofs.Common.{◌≡◌, ◌<◌, ◌≤◌, ◌+◌, ◌-◌, ℕ, zero, suc, Bool, List, [], ◌∷◌}
 use Rattle.std.proofs.Common.{◌++◌, map, length, take, drop, slice_range, get_or, Option, Some}
-use Rattle.std.proofs.Common.{None, is_some, option_map, unwrap_or, refl, sym, ap, subst, ◌∙◌, true≢false}
+use Rattle.std.proofs.Common.{None, is_some, refl, sym, ap, subst, ◌∙◌, true≢false}
 use Rattle.std.proofs.Common.{arith, append_assoc}
 use Rattle.std.specs.Prelude.{All, Contains}
 use Rattle.std.specs.List.{AllByRecursion}
@@ -60,10 +61,7 @@ module _ (files : List (List ℕ)) (l : Lists) (closed : (table_of files l).«op
 -- the kinds of inputs one after the other
 pub kinds-joined : (paths : List (List ℕ)) (explicit implicit : ℕ) → explicit ≤ implicit
     → (take explicit paths ++ slice_range paths explicit implicit) ++ drop implicit paths ≡ paths
-kinds-joined paths explicit implicit le =
-    append_assoc (take explicit paths) (slice_range paths explicit implicit) (drop implicit paths)
-    ∙ ap (λ ps. take explicit paths ++ ps) (sym (drop_split paths explicit implicit le))
-    ∙ take-append-drop explicit paths
+kinds-joined paths explicit implicit le = grind (arith, append_assoc, drop_split, take-append-drop)
 
 -- and those that are not order-only
 pub counted-joined : (paths : List (List ℕ)) (explicit implicit : ℕ) → explicit ≤ implicit
@@ -75,31 +73,18 @@ counted-joined paths explicit implicit le =
 get-some : (makers : List (Option ℕ)) (file e : ℕ) → get_or makers file None ≡ Some e → file < length makers
 get-some [] file e h = absurd (true≢false (sym (ap is_some h)))
 get-some (m ∷ makers) zero e h = omega arith
-get-some (m ∷ makers) (suc file) e h = let rest : file < length makers = get-some makers file e h in
-    omega arith
+get-some (m ∷ makers) (suc file) e h = grind (arith, common_steps, (get-some makers file e h))
 
 pub first-below : {E : Type 0} (test : E → Bool) (es : List E) (n : ℕ) → first_edge test es ≡ Some n
     → n < length es
 first-below test [] n h = absurd (true≢false (sym (ap is_some h)))
-first-below test (e ∷ es) n h = by (test e) (first_edge test es) (first-below test es) h
-  where
-    by : (b : Bool) (o : Option ℕ) → ((m : ℕ) → o ≡ Some m → m < length es)
-        → cond b (Some 0) (option_map (λ m. m + 1) o) ≡ Some n → n < suc (length es)
-    by true o rest is = let none : 0 ≡ n = ap (λ p. unwrap_or p 0) is in omega arith
-    by false None rest is = absurd (true≢false (sym (ap is_some is)))
-    by false (Some m) rest is = let next : m + 1 ≡ n = ap (λ p. unwrap_or p 0) is in
-        let below : m < length es = rest m refl in omega arith
+first-below test (e ∷ es) n h = grind (arith, common_steps, (first-below test es))
 
 -- each edge of a list of makers is that of an element
 pub made-of : {X : Type 0} (maker : X → Option ℕ) (xs : List X) (m : ℕ) → Contains (map maker xs) (Some m)
     → (x : X) × (maker x ≡ Some m)
 made-of maker [] m c = absurd (omega (arith, c.1))
-made-of {X = X} maker (x ∷ xs) m c = by c.0 c.1 c.2 (made-of maker xs m)
-  where
-    by : (k : ℕ) → k < length (map maker (x ∷ xs)) → get_or (map maker (x ∷ xs)) k (Some m) ≡ Some m
-        → (Contains (map maker xs) (Some m) → (y : X) × (maker y ≡ Some m)) → (y : X) × (maker y ≡ Some m)
-    by zero lt is later = (x, is)
-    by (suc k) lt is later = later (k, omega (arith, lt), is)
+made-of {X = X} maker (x ∷ xs) m c = grind (arith, common_steps, (made-of maker xs m))
 
 -- only the edges of the rows have inputs, and files have makers among them
 made-in-rows : (l : Lists) (rows : List EdgeRow) (e f : ℕ)
@@ -124,19 +109,14 @@ module _ (files : List (List ℕ)) (l : Lists) (held : EdgesAreHeld files l)
       (held.makers_are n below) ∙ closed-makers files l closed n
 
   pub maker-below : (file e : ℕ) → get_or l.makers file None ≡ Some e → e < length l.rows
-  maker-below file e h =
-      let some = get-some l.makers file e h in
-      subst (λ n. e < n) (length-map l.rows (λ (row : EdgeRow). within l.outputs row.outputs))
-      (first-below (has_number file) (read_outputs l) e (sym (made-by-row file some) ∙ h))
+  maker-below file e h = grind (arith, first-below, get-some, length-map, made-by-row)
 
   pub rows-rise : All (λ (row : EdgeRow). row.inputs.start ≤ row.inputs.end) l.rows
   rows-rise = All-weaker (RowIsWithin l.starts) (λ row. row.inputs.start ≤ row.inputs.end)
       (λ row is. is.inputs.rises) l.rows (All-from_recursion (RowIsWithin l.starts) l.rows held.rows_are)
 
   pub rows-end : All (λ (row : EdgeRow). row.inputs.end ≤ length l.inputs) l.rows
-  rows-end = All-weaker (RowIsWithin l.starts) (λ row. row.inputs.end ≤ length l.inputs)
-      (λ row is. let ends = is.inputs.ends in let starts = held.inputs.starts in omega arith) l.rows
-      (All-from_recursion (RowIsWithin l.starts) l.rows held.rows_are)
+  rows-end = grind (arith, common_steps)
 
   pub inputs-below : All (λ (f : FileNo). f.0 < length l.makers) l.inputs
   inputs-below = subst (λ n. All (λ (f : FileNo). f.0 < n) l.inputs) (sym held.makers_count)
@@ -145,9 +125,7 @@ module _ (files : List (List ℕ)) (l : Lists) (held : EdgesAreHeld files l)
   -- the maker of a file, by its path
   pub maker-path : (f : FileNo) → f.0 < length files
       → get_or l.makers f.0 None ≡ maker_of (edges_of files l) (path_at files f)
-  maker-path f below =
-      made-by-row f.0 (subst (λ n. f.0 < n) (sym held.makers_count) below)
-      ∙ maker-read files l held f.0 (path_at files f) (get-path files f below)
+  maker-path f below = grind (arith, get-path, made-by-row, maker-read)
 
   makers-paths : (ns : List FileNo) → AreNumbers (length files) ns
       → map (λ f. get_or l.makers f.0 None) ns ≡ map (maker_of (edges_of files l)) (paths_at files ns)
@@ -174,12 +152,7 @@ module _ (files : List (List ℕ)) (l : Lists) (held : EdgesAreHeld files l)
   pub first-table : (t : EdgeTable) → table_of files l ≡ t → (found first : Option ℕ) → found ≡ first
       → IsFirstOnCycle (makers_in_rows l) (length l.rows) found
       → IsFirstOnCycle (makers_of_inputs t.edges) (length t.edges) first
-  first-table t is found first same h =
-      let count = length-map l.rows (edge_of files l) in
-      subst (λ es. IsFirstOnCycle (makers_of_inputs es) (length es) first) (ap (λ u. u.edges) is)
-      (subst (λ n. IsFirstOnCycle (makers_of_inputs (edges_of files l)) n first) (sym count)
-      (subst (λ ms. IsFirstOnCycle ms (length l.rows) first) makers-by-paths
-      (subst (IsFirstOnCycle (makers_in_rows l) (length l.rows)) same h)))
+  first-table t is found first same h = grind (arith, first, length-map, makers-by-paths)
 
 -- ---- an edge on a cycle is one of the edges
 
@@ -187,8 +160,7 @@ some-makers : (makers : List ℕ → Option ℕ) (edges : List EdgePaths) (e k :
     → k < length (map makers (inputs_of (edge_at edges e))) → e < length edges
 some-makers makers [] e k below = absurd (omega arith)
 some-makers makers (edge ∷ edges) zero k below = omega arith
-some-makers makers (edge ∷ edges) (suc e) k below = let rest : e < length edges =
-    some-makers makers edges e k below in omega arith
+some-makers makers (edge ∷ edges) (suc e) k below = grind (arith, common_steps)
 
 needs-below : (edges : List EdgePaths) (e f : ℕ) → Needs (makers_of_inputs edges) e f → e < length edges
 needs-below edges e f needs = some-makers (maker_of edges) edges e needs.0 needs.1
@@ -204,9 +176,7 @@ on-edge edges e least = (chain-below edges e e least.0, least)
 
 pub acyclic-held : (files : List (List ℕ)) (l : Lists) (t : EdgeTable) → table_of files l ≡ t
     → IsFirstCycle t.edges None → IsAcyclic (makers_of_inputs (edges_of files l)) (length l.rows)
-acyclic-held files l t is none =
-    subst (IsAcyclic (makers_of_inputs (edges_of files l))) (length-map l.rows (edge_of files l))
-    (subst (λ es. IsAcyclic (makers_of_inputs es) (length es)) (sym (ap (λ u. u.edges) is)) none)
+acyclic-held files l t is none = grind (arith, common_steps)
 
 -- ---- one edge
 
@@ -310,14 +280,10 @@ module _ (files : List (List ℕ)) (l : Lists) (held : EdgesAreHeld files l)
     (is : record { files = files; edges = edges_of files l } ≡ g) where
   pub maker-at : (f : FileNo) → f.0 < length g.files
       → get_or l.makers f.0 None ≡ maker_of g.edges (path_at g.files f)
-  maker-at f below = subst (λ (v : EdgeGraph). get_or l.makers f.0 None
-      ≡ maker_of v.edges (path_at v.files f))
-      is (maker-path files l held closed f (subst (λ (v : EdgeGraph). f.0 < length v.files) (sym is) below))
+  maker-at f below = grind (arith, maker-path)
 
   pub graph-makers : makers_in_rows l ≡ makers_of_inputs g.edges
   graph-makers = makers-by-paths files l held closed ∙ ap (λ (v : EdgeGraph). makers_of_inputs v.edges) is
 
   pub maker-edge : (n e : ℕ) → get_or l.makers n None ≡ Some e → e < length g.edges
-  maker-edge n e h = subst (λ (v : EdgeGraph). e < length v.edges) is
-      (subst (λ m. e < m) (sym (length-map l.rows (edge_of files l)))
-      (maker-below files l held closed n e h))
+  maker-edge n e h = grind (arith, length-map, maker-below)

@@ -1,8 +1,8 @@
 -- Lemmas on the users of the files of a graph.
+use Rattle.std.proofs.lemmas.Grind.{common_steps}
 use Rattle.std.proofs.Common.{◌≡◌, ◌<◌, ◌≤◌, ◌+◌, ◌-◌, ℕ, Bool, true, false, cond, List, [], ◌∷◌, map, length}
-use Rattle.std.proofs.Common.{take, drop, Option, refl, sym, ap, subst, ◌∙◌, arith}
+use Rattle.std.proofs.Common.{take, refl, sym, ap, subst, ◌∙◌, arith}
 use Rattle.std.specs.List.{All, AllByRecursion}
-use Rattle.std.proofs.Math.Seq.{take-take}
 use Rattle.std.proofs.lemmas.List.{take-map}
 use Rattle.std.proofs.lemmas.List.Elements.{All-from_recursion}
 use Rattle.nj_names.specs.declared.files.FileNo.{FileNo}
@@ -18,7 +18,7 @@ use Rattle.nj_edges.specs.Inside.EdgesHeld.{Lists, has_number, paths_at, within,
 use Rattle.nj_edges.specs.Inside.EdgesHeld.{AreNumbers}
 use Rattle.nj_edges.specs.Inside.EdgesHeld.{EdgesAreHeld, IsWithin, RowIsWithin}
 use Rattle.nj_names.specs.Files.{path_at}
-use Rattle.nj_edges.specs.Inside.UsersHeld.{AreParts, HaveUsers, HaveUsersIfAny, IsPart, numbers_of, span_of}
+use Rattle.nj_edges.specs.Inside.UsersHeld.{AreParts, HaveUsers, IsPart, numbers_of, span_of}
 use Rattle.nj_edges.specs.Inside.UsersHeld.{using_edges}
 use Rattle.nj_edges.proofs.EdgeLemmas.{all-of, get-path, has-among, within-numbers}
 use Rattle.nj_edges.proofs.GraphLemmas.{counted-joined}
@@ -32,9 +32,7 @@ edges-map k test f (e ∷ es) = ap (λ xs. cond (test (f e)) (k ∷ xs) xs) (edg
 pub edges-same : {E : Type 0} (k : ℕ) (t u : E → Bool) (P : E → Type 0) → ((e : E) → P e → t e ≡ u e)
     → (es : List E) → AllByRecursion P es → edges_from k t es ≡ edges_from k u es
 edges-same k t u P same [] all = refl
-edges-same k t u P same (e ∷ es) all =
-    ap (λ xs. cond (t e) (k ∷ xs) xs) (edges-same (k + 1) t u P same es all.1)
-    ∙ ap (λ b. cond b (k ∷ edges_from (k + 1) u es) (edges_from (k + 1) u es)) (same e all.0)
+edges-same k t u P same (e ∷ es) all = grind (arith, common_steps, (edges-same (k + 1) t u P same es all.1))
 
 edges-below : {E : Type 0} (k : ℕ) (test : E → Bool) (es : List E)
     → AllByRecursion (λ n. n < k + length es) (edges_from k test es)
@@ -66,12 +64,7 @@ users-known test es found is = All-from_recursion (λ (e : EdgeNo). e.0 < length
 counted-range : (inputs : List FileNo) (row : EdgeRow)
     → row.kinds.implicit_inputs ≤ row.inputs.end - row.inputs.start
     → within inputs (span_of CountedInputs row) ≡ take row.kinds.implicit_inputs (within inputs row.inputs)
-counted-range inputs row le =
-    let count : (row.inputs.start + row.kinds.implicit_inputs) - row.inputs.start
-    ≡ row.kinds.implicit_inputs = omega arith in
-    ap (λ n. take n (drop row.inputs.start inputs)) count
-    ∙ sym (take-take row.kinds.implicit_inputs (row.inputs.end - row.inputs.start)
-    (drop row.inputs.start inputs) le)
+counted-range inputs row le = grind (arith, common_steps)
 
 -- the files of this part of all edges
 abbrev pub part_of : RowPart → Lists → List FileNo
@@ -89,17 +82,10 @@ module _ (files : List (List ℕ)) (l : Lists) (held : EdgesAreHeld files l) whe
 
   row-within : (part : RowPart) (row : EdgeRow) → RowIsWithin l.starts row
       → IsWithin (span_of part row) (length (part_of part l))
-  row-within Inputs row inside = let ends = inside.inputs.ends in let starts = held.inputs.starts in
-      record { rises = inside.inputs.rises; ends = omega arith }
-  row-within CountedInputs row inside = let starts = held.inputs.starts in record {
-    rises = omega arith;
-    ends = omega (arith, inside.inputs.rises, inside.inputs.ends, inside.kinds.implicit_inputs);
-  }
-  row-within Outputs row inside = let ends = inside.outputs.ends in let starts = held.outputs.starts in
-      record { rises = inside.outputs.rises; ends = omega arith }
-  row-within Validations row inside = let ends = inside.validations.ends in
-      let starts = held.validations.starts in
-      record { rises = inside.validations.rises; ends = omega arith }
+  row-within Inputs row inside = grind (arith, common_steps)
+  row-within CountedInputs row inside = grind (arith, common_steps)
+  row-within Outputs row inside = grind (arith, common_steps)
+  row-within Validations row inside = grind (arith, common_steps)
 
   pub part-within : (part : RowPart)
       → AllByRecursion (λ row. IsWithin (span_of part row) (length (part_of part l))) l.rows
@@ -109,11 +95,7 @@ module _ (files : List (List ℕ)) (l : Lists) (held : EdgesAreHeld files l) whe
   part-paths : (part : RowPart) (row : EdgeRow) → RowIsWithin l.starts row
       → paths_at files (within (part_of part l) (span_of part row)) ≡ paths_in part (edge_of files l row)
   part-paths Inputs row inside = sym (inputs-joined files l row inside)
-  part-paths CountedInputs row inside =
-      ap (paths_at files) (counted-range l.inputs row inside.kinds.implicit_inputs)
-      ∙ sym (take-map (path_at files) row.kinds.implicit_inputs (within l.inputs row.inputs))
-      ∙ sym (counted-joined (paths_at files (within l.inputs row.inputs)) row.kinds.explicit_inputs
-      row.kinds.implicit_inputs inside.kinds.explicit_inputs)
+  part-paths CountedInputs row inside = grind (arith, counted-joined, counted-range, take-map)
   part-paths Outputs row inside = sym (outputs-joined files l row)
   part-paths Validations row inside = refl
 
@@ -166,8 +148,3 @@ pub held-users : (count n : ℕ) (starts numbers : List ℕ) (part : RowPart) (f
     → HaveUsers count starts numbers (using_edges fs part 0 rows)
     → HaveUsers n starts numbers (using_edges files part 0 rows)
 held-users count n starts numbers part fs files rows c f held = rw (← c, ← f) held
-
-pub held-if-any : (count n : ℕ) (found : Option Users) (part : RowPart) (fs files : List FileNo)
-    (rows : List EdgeRow) → count ≡ n → fs ≡ files → HaveUsersIfAny count found (using_edges fs part 0 rows)
-    → HaveUsersIfAny n found (using_edges files part 0 rows)
-held-if-any count n found part fs files rows c f held = rw (← c, ← f) held

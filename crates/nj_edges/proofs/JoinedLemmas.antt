@@ -1,15 +1,16 @@
 -- Lemmas on the edges of a graph with the files that are added to them.
-use Rattle.std.proofs.Common.{◌≡◌, ◌≤◌, ◌<◌, ◌+◌, ◌-◌, ◌⊎◌, inl, inr, ℕ, zero, suc, Bool, true, false, List}
+use Rattle.std.proofs.lemmas.Grind.{common_steps}
+use Rattle.std.proofs.Common.{◌≡◌, ◌≤◌, ◌<◌, ◌+◌, ◌-◌, ◌⊎◌, inl, inr, ℕ, zero, suc, Bool, false, List}
 use Rattle.std.proofs.Common.{[], ◌∷◌, ◌++◌, map, length, take, drop, slice_get, slice_range, get_or, Option}
-use Rattle.std.proofs.Common.{Some, None, Result, Ok, Err, is_some, unwrap_or, bytes_eq, refl, sym, ap, subst}
-use Rattle.std.proofs.Common.{◌∙◌, true≢false, arith, append_assoc, length-append, length-take}
+use Rattle.std.proofs.Common.{Some, None, Result, Ok, Err, bytes_eq, refl, sym, ap, subst}
+use Rattle.std.proofs.Common.{◌∙◌, true≢false, arith, length-append, length-take}
 use Rattle.std.specs.Prelude.{OnOk}
 use Rattle.std.specs.List.{AllByRecursion, list_any}
 use Rattle.std.proofs.Math.Seq.{drop-append_seam}
 use Rattle.std.proofs.lemmas.List.{drop-append-le, drop-map, length-map, map-append, take-append-drop}
-use Rattle.std.proofs.lemmas.List.{take-append-le, take-map, take_all, take_more}
+use Rattle.std.proofs.lemmas.List.{take-map, take_all, take_more}
 use Rattle.std.proofs.lemmas.Option.{get_or_from_slice_get, slice_get-get_or, slice_get_within}
-use Rattle.nj_names.proofs.ListLemmas.{among-get, slice_range-append, slice_range-rest}
+use Rattle.nj_names.proofs.ListLemmas.{among-get}
 use Rattle.nj_names.specs.declared.files.FileNo.{FileNo}
 use Rattle.nj_names.specs.Files.{AreFiles, path_at}
 use Rattle.nj_edges.specs.declared.edges.EdgeRow.{EdgeRow}
@@ -46,20 +47,7 @@ AreParts test es found =
 
 first-parts : {E : Type 0} (test : E → Bool) (es : List E) (e : E) (found : Option ℕ)
     → found ≡ first_edge test (es ++ e ∷ []) → AreParts test es found
-first-parts test es e found is = by (first_edge test es) refl (test e) refl
-  where
-    by : (o : Option ℕ) → first_edge test es ≡ o → (b : Bool) → test e ≡ b → AreParts test es found
-    by (Some n) front b passes = inl (
-      n,
-      is ∙ first-front test es e n front,
-      first-below test es n front,
-      front,
-    )
-    by None none true passes =
-        inr (none, λ n some. ap (λ o. unwrap_or o n) (sym some ∙ is ∙ first-last test es e none passes))
-    by None none false fails =
-        let absent = is ∙ first-more test es e fails ∙ none in
-        inr (none, λ n some. absurd (true≢false (sym (ap is_some (sym absent ∙ some)))))
+first-parts test es e found is = grind (arith, first-below, first-front, first-last, first-more, true≢false)
 
 module _ (files : List (List ℕ)) (l : Lists) (held : EdgesAreHeld files l) (t : EdgeTable)
     (is : table_of files l ≡ t) where
@@ -144,48 +132,27 @@ module _ (files : List (List ℕ)) (l : Lists) (held : EdgesAreHeld files l) (t 
     (is : table_of files l ≡ t) where
   pub inputs-table : (others : List FileNo) → table_of files (record l { inputs = l.inputs ++ others })
       ≡ plus_inputs t (paths_at t.files others)
-  inputs-table others = rw (
-    edges-input files l held others,
-    open-more files l.inputs others l.starts.inputs
-        held.inputs.starts,
-  ) (ap (λ (u : EdgeTable). plus_inputs u (paths_at u.files others)) is)
+  inputs-table others = grind (arith, edges-input, open-more)
 
   pub validations-table : (others : List FileNo)
       → table_of files (record l { validations = l.validations ++ others })
       ≡ plus_validations t (paths_at t.files others)
-  validations-table others = rw (
-    edges-validation files l held others,
-    open-more files l.validations others
-        l.starts.validations held.validations.starts,
-  )
-      (ap (λ (u : EdgeTable). plus_validations u (paths_at u.files others)) is)
+  validations-table others = grind (arith, edges-validation, open-more)
 
   pub output-table : (f : FileNo) → f.0 < length t.files
       → table_of files (record l { outputs = l.outputs ++ f ∷ [] }) ≡ plus_output t (path_at t.files f)
-  output-table f below =
-      table-output files l held f (path_at files f)
-      (get-path files f (subst (λ (u : EdgeTable). f.0 < length u.files) (sym is) below))
-      ∙ ap (λ (u : EdgeTable). plus_output u (path_at u.files f)) is
+  output-table f below = grind (arith, get-path, table-output)
 
 -- ---- an edge with its additions
 
 -- the kinds of inputs, with some more before the last ones
 module _ {X : Type 0} (first more last : List X) (end : ℕ) (inside : end ≤ length first) where
   take-more : take end ((first ++ more) ++ last) ≡ take end (first ++ last)
-  take-more =
-      let n = length-append first more in
-      take-append-le end (first ++ more) last (omega arith) ∙ take-append-le end first more inside
-      ∙ sym (take-append-le end first last inside)
+  take-more = grind (arith, common_steps)
 
   range-more : slice_range ((first ++ more) ++ last) end (length (first ++ more))
       ≡ slice_range (first ++ last) end (length first) ++ more
-  range-more =
-      let n = length-append first more in
-      slice_range-append (first ++ more) last end (length (first ++ more)) (omega arith) (omega arith)
-      ∙ slice_range-rest (first ++ more) end (omega arith)
-      ∙ drop-append-le end first more inside
-      ∙ ap (λ xs. xs ++ more) (sym (slice_range-append first last end (length first) inside (omega arith)
-      ∙ slice_range-rest first end inside))
+  range-more = grind (arith, common_steps)
 
   drop-more : drop (length (first ++ more)) ((first ++ more) ++ last) ≡ drop (length first) (first ++ last)
   drop-more = drop-append_seam (first ++ more) last ∙ sym (drop-append_seam first last)
@@ -204,13 +171,7 @@ edge-more : (outputs more_outputs first more last validations : List (List ℕ))
     (kinds_with kinds (length (first ++ more))) is_phony
     ≡ with_added (record { outputs = more_outputs; inputs = more })
     (edge_with outputs (first ++ last) validations (kinds_with kinds (length first)) is_phony)
-edge-more outputs more_outputs first more last validations kinds is_phony os is =
-    let taken = take-append-le kinds.explicit_outputs outputs more_outputs os in
-    let dropped = drop-append-le kinds.explicit_outputs outputs more_outputs os in
-    let ti = take-more first more last kinds.explicit_inputs is in
-    let ri = range-more first more last kinds.explicit_inputs is in
-    let di = drop-more first more last kinds.explicit_inputs is in
-    rw (taken, dropped, ti, ri, di) refl
+edge-more outputs more_outputs first more last validations kinds is_phony os is = grind (arith, common_steps)
 
 -- a part of the files of these paths
 part-paths : (files : List (List ℕ)) (ns : List FileNo) (paths : List (List ℕ)) → AreFiles files ns paths
@@ -318,15 +279,7 @@ module _ (t : EdgeTable) (ns : List FileNo) (i : ℕ) (f : FileNo) (below : i < 
   pub outputs-next : s ≡ plus_outputs t (paths_at t.files (take i ns))
       → new ≡ plus_output s (path_at s.files (get_or ns i f))
       → new ≡ plus_outputs t (paths_at t.files (take (i + 1) ns))
-  outputs-next s-is new-is =
-      let next = path_at t.files (get_or ns i f) in
-      let grown : paths_at t.files (take (i + 1) ns) ≡ paths_at t.files (take i ns) ++ next ∷ [] = ap
-      (paths_at t.files) (take_more ns i f below) ∙ map-append (path_at t.files) (take i ns)
-      (get_or ns i f ∷ []) in
-      new-is ∙ ap (λ (u : EdgeTable). plus_output u (path_at u.files (get_or ns i f))) s-is
-      ∙ ap (λ os. record t { «open» = record t.«open» { outputs = os } })
-      (append_assoc t.«open».outputs (paths_at t.files (take i ns)) (next ∷ []))
-      ∙ ap (plus_outputs t) (sym grown)
+  outputs-next s-is new-is = grind (arith, common_steps)
 
 -- ---- all edges
 
@@ -377,10 +330,7 @@ module _ (t : EdgeTable) (added : List (Option AddedSpans))
         ∙ ap (λ es. record { files = t.files; edges = es; «open» = no_files }) (sym next)
 
   pub joined-all : (count : ℕ) → length t.edges ≤ count → joined_up_to t added count ≡ all_joined t added
-  joined-all count above =
-      let as-many = joined-count t.edges added held.count in
-      ap (λ es. record { files = t.files; edges = es; «open» = no_files })
-      (take_all count (joined_by t.«open» t.edges added) (omega arith))
+  joined-all count above = grind (arith, count, joined-count, take_all)
 
   -- the lists of all edges make a table again
   module _ (files fs : List (List ℕ)) (l : Lists) (lists : EdgesAreHeld fs l)

@@ -1,17 +1,18 @@
 -- Lemmas on files that are added to the edges of a graph.
+use Rattle.std.proofs.lemmas.Grind.{common_steps}
 use Rattle.std.proofs.Common.{◌≡◌, ◌<◌, ◌||◌, ℕ, zero, suc, Bool, true, false, cond, List, [], ◌∷◌, ◌++◌, map}
 use Rattle.std.proofs.Common.{length, take, drop, slice_get, get_or, set, replicate, Option, Some, None}
 use Rattle.std.proofs.Common.{Result, Ok, Err, is_some, option_map, unwrap_or, refl, sym, ap, subst, ◌∙◌}
-use Rattle.std.proofs.Common.{true≢false, arith, append_assoc, length-append, length-drop}
+use Rattle.std.proofs.Common.{true≢false, arith, length-append, length-drop}
 use Rattle.std.specs.Prelude.{IfOk, OnOk, OnErr}
 use Rattle.std.specs.List.{AllByRecursion, list_any}
-use Rattle.std.proofs.Math.Bool.{or_assoc, or_comm}
+use Rattle.std.proofs.Math.Bool.{or_assoc}
 use Rattle.std.proofs.Math.Seq.{drop-length, take-length}
 use Rattle.std.proofs.lemmas.List.{append-nil, drop-append-le, length-replicate, length-set, map-set}
 use Rattle.std.proofs.lemmas.List.{take-append-drop, take-append-le}
 use Rattle.std.proofs.lemmas.List.Folds.{list_any-append}
 use Rattle.std.proofs.lemmas.Option.{slice_get-map}
-use Rattle.nj_names.proofs.ListLemmas.{slice_range-append, slice_range-rest}
+use Rattle.nj_names.proofs.ListLemmas.{slice_range-rest}
 use Rattle.nj_edges.proofs.EdgeLemmas.{all-of, some-in}
 use Rattle.nj_edges.specs.declared.edges.Span.{Span}
 use Rattle.nj_edges.specs.declared.joined_edges.AddedSpans.{AddedSpans}
@@ -36,15 +37,8 @@ any-same P f g same (x ∷ xs) all = let here = same x all.0 in let more = any-s
 any-set : {X : Type 0} (f : X → Bool) (xs : List X) (i : ℕ) (x y : X) → slice_get xs i ≡ Some x → f x ≡ false
     → list_any f (set xs i y) ≡ (list_any f xs || f y)
 any-set f [] i x y here fails = absurd (true≢false (sym (ap is_some here)))
-any-set f (z ∷ xs) zero x y here fails =
-    let first : f z ≡ false = ap f (ap (λ o. unwrap_or o z) here) ∙ fails in
-    or_comm (f y) (list_any f xs) ∙ ap (λ b. (b || list_any f xs) || f y) (sym first)
-any-set f (z ∷ xs) (suc i) x y here fails = by (f z) (any-set f xs i x y here fails)
-  where
-    by : (b : Bool) → list_any f (set xs i y) ≡ (list_any f xs || f y)
-        → (b || list_any f (set xs i y)) ≡ ((b || list_any f xs) || f y)
-    by true more = refl
-    by false more = more
+any-set f (z ∷ xs) zero x y here fails = grind (arith, common_steps)
+any-set f (z ∷ xs) (suc i) x y here fails = grind (arith, common_steps, (any-set f xs i x y here fails))
 
 all-set : {X : Type 0} (P Q : X → Type 0) → ((x : X) → P x → Q x) → (xs : List X) (i : ℕ) (y : X)
     → AllByRecursion P xs → Q y → AllByRecursion Q (set xs i y)
@@ -76,9 +70,7 @@ no-parts count = record { ends = omega arith; spans_within = inside count; whole
 module _ (paths : List (List ℕ)) (end : ℕ) (spans : List Span) (parts : ArePartsOf paths end spans) where
   same-part : (more : List (List ℕ)) (span : Span) → IsWithin span end
       → within (paths ++ more) span ≡ within paths span
-  same-part more span inside =
-      let ends = parts.ends in let rises = inside.rises in let below = inside.ends in
-      slice_range-append paths more span.start span.end (omega arith) (omega arith)
+  same-part more span inside = grind (arith, common_steps)
 
   parts-more : (path : List ℕ) → ArePartsOf (paths ++ path ∷ []) end spans
   parts-more path =
@@ -132,9 +124,7 @@ any-joined all f g each [] [] count = refl
 any-joined all f g each [] (found ∷ added) count = absurd (omega arith)
 any-joined all f g each (e ∷ edges) [] count = absurd (omega arith)
 any-joined all f g each (e ∷ edges) (found ∷ added) count =
-    ap (λ b. b || list_any f (joined_by all edges added)) (each (spans_of found) e)
-    ∙ ap (λ b. (f e || g (spans_of found)) || b) (any-joined all f g each edges added (omega arith))
-    ∙ or-cross (f e) (g (spans_of found)) (list_any f edges) (list_any (λ found. g (spans_of found)) added)
+    grind (arith, common_steps, (any-joined all f g each edges added (omega arith)))
 
 any-map : {X Y : Type 0} (f : Y → Bool) (h : X → Y) (xs : List X)
     → list_any (λ x. f (h x)) xs ≡ list_any f (map h xs)
@@ -144,53 +134,21 @@ any-map f h (x ∷ xs) = ap (λ b. f (h x) || b) (any-map f h xs)
 any-or : {X : Type 0} (f g : X → Bool) (xs : List X) → list_any (λ x. f x || g x) xs
     ≡ (list_any f xs || list_any g xs)
 any-or f g [] = refl
-any-or f g (x ∷ xs) = ap (λ b. (f x || g x) || b) (any-or f g xs)
-    ∙ or-cross (f x) (g x) (list_any f xs) (list_any g xs)
+any-or f g (x ∷ xs) = grind (arith, common_steps, (any-or f g xs))
 
 module _ (all : OpenEdge) (path : List ℕ) where
   outputs-joined : (spans : AddedSpans) (e : EdgePaths) → is_among (outputs_of (joined_edge all spans e)) path
       ≡ (is_among (outputs_of e) path || is_among (within all.outputs spans.outputs) path)
-  outputs-joined spans e =
-      ap (λ ps. is_among ps path) (sym (append_assoc e.explicit_outputs e.implicit_outputs
-      (within all.outputs spans.outputs)))
-      ∙ list_any-append _ (outputs_of e) (within all.outputs spans.outputs)
+  outputs-joined spans e = grind (arith, common_steps)
 
   inputs-joined : (spans : AddedSpans) (e : EdgePaths) → is_among (inputs_of (joined_edge all spans e)) path
       ≡ (is_among (inputs_of e) path || is_among (within all.inputs spans.inputs) path)
-  inputs-joined spans e =
-      simp list_any-append
-      (shuffle (is_among e.explicit_inputs path) (is_among e.implicit_inputs path)
-      (is_among e.order_only_inputs path) (is_among (within all.inputs spans.inputs) path))
-    where
-      shuffle : (a b c x : Bool) → ((a || (b || x)) || c) ≡ (((a || b) || c) || x)
-      shuffle true b c x = refl
-      shuffle false true c x = refl
-      shuffle false false c x = or_comm x c
+  inputs-joined spans e = grind (arith, common_steps)
 
   names-joined : (spans : AddedSpans) (e : EdgePaths) → names (joined_edge all spans e) path
       ≡ (names e path || (is_among (within all.outputs spans.outputs) path || is_among
       (within all.inputs spans.inputs) path))
-  names-joined spans e =
-      ap (λ b. b || is_among (inputs_of (joined_edge all spans e)) path || is_among e.validations path)
-      (outputs-joined spans e)
-      ∙ ap (λ b. (is_among (outputs_of e) path || is_among (within all.outputs spans.outputs) path) || b ||
-      is_among e.validations path) (inputs-joined spans e)
-      ∙ shuffle (is_among (outputs_of e) path) (is_among (within all.outputs spans.outputs) path)
-      (is_among (inputs_of e) path) (is_among (within all.inputs spans.inputs) path)
-      (is_among e.validations path)
-    where
-      shuffle : (a x b y c : Bool) → ((a || x) || (b || y) || c) ≡ ((a || b || c) || (x || y))
-      shuffle true x b y c = refl
-      shuffle false true true y c = refl
-      shuffle false true false true true = refl
-      shuffle false true false true false = refl
-      shuffle false true false false true = refl
-      shuffle false true false false false = refl
-      shuffle false false true y c = refl
-      shuffle false false false true true = refl
-      shuffle false false false true false = refl
-      shuffle false false false false true = refl
-      shuffle false false false false false = refl
+  names-joined spans e = grind (arith, common_steps)
 
 nothing-joined : (all : OpenEdge) (e : EdgePaths) → joined_edge all (spans_of None) e ≡ e
 nothing-joined all e = rw (append-nil e.implicit_outputs, append-nil e.implicit_inputs) refl
@@ -221,10 +179,7 @@ module _ (t : EdgeTable) (added : List (Option AddedSpans)) (open_outputs open_i
   outputs-stay path [] found inside = refl
   outputs-stay path (e ∷ edges) [] inside = refl
   outputs-stay path (e ∷ edges) (one ∷ found) inside =
-      let first = same-part t.«open».outputs open_outputs (output_spans added) held.outputs (path ∷ [])
-      (spans_of one).outputs inside.0 in
-      let more = outputs-stay path edges found inside.1 in
-      rw (first, more) refl
+      grind (arith, common_steps, (outputs-stay path edges found inside.1))
 
   inputs-stay : (path : List ℕ) (edges : List EdgePaths) (found : List (Option AddedSpans))
       → AllByRecursion (λ span. IsWithin span open_inputs) (input_spans found)
@@ -233,36 +188,19 @@ module _ (t : EdgeTable) (added : List (Option AddedSpans)) (open_outputs open_i
   inputs-stay path [] found inside = refl
   inputs-stay path (e ∷ edges) [] inside = refl
   inputs-stay path (e ∷ edges) (one ∷ found) inside =
-      let first = same-part t.«open».inputs open_inputs (input_spans added) held.inputs (path ∷ [])
-      (spans_of one).inputs inside.0 in
-      let more = inputs-stay path edges found inside.1 in
-      rw (first, more) refl
+      grind (arith, common_steps, (inputs-stay path edges found inside.1))
 
   with-output : (path : List ℕ) → Held (with_output t path)
-  with-output path = record {
-    count = held.count;
-    outputs = parts-more t.«open».outputs open_outputs (output_spans added) held.outputs path;
-    inputs = held.inputs;
-    validations = held.validations;
-  }
+  with-output path = grind (arith, common_steps, parts-more)
 
   with-input : (path : List ℕ) → Held (with_input t path)
-  with-input path = record {
-    count = held.count;
-    outputs = held.outputs;
-    inputs = parts-more t.«open».inputs open_inputs (input_spans added) held.inputs path;
-    validations = held.validations;
-  }
+  with-input path = grind (arith, common_steps, parts-more)
 
   table-output : (path : List ℕ) → table (with_output t path) ≡ with_added_output (table t) path
-  table-output path =
-      let edges = outputs-stay path t.edges added held.outputs.spans_within in
-      rw (edges, drop-append-le open_outputs t.«open».outputs (path ∷ []) held.outputs.ends) refl
+  table-output path = grind (arith, drop-append-le, outputs-stay)
 
   table-input : (path : List ℕ) → table (with_input t path) ≡ with_added_input (table t) path
-  table-input path =
-      let edges = inputs-stay path t.edges added held.inputs.spans_within in
-      rw (edges, drop-append-le open_inputs t.«open».inputs (path ∷ []) held.inputs.ends) refl
+  table-input path = grind (arith, drop-append-le, inputs-stay)
 
   -- ---- after a call that adds a file
 
@@ -445,14 +383,7 @@ module _ (g : EdgeGraph) (count : ℕ) (as-many : count ≡ length g.edges) wher
   nothing = replicate count None
 
   pub start-held : JoinIsHeld start nothing 0 0
-  start-held = record {
-    count = length-replicate count None ∙ as-many;
-    outputs = subst (ArePartsOf [] 0) (sym (map-same (λ found. (spans_of found).outputs) count None))
-        (no-parts count);
-    inputs = subst (ArePartsOf [] 0) (sym (map-same (λ found. (spans_of found).inputs) count None))
-        (no-parts count);
-    validations = refl;
-  }
+  start-held = grind (arith, length-replicate, map-same, no-parts)
 
   pub start-table : join_held start nothing 0 0 ≡ join_of g
   start-table =

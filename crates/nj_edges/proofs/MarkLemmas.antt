@@ -79,13 +79,7 @@ no-option (Some x) none = absurd (none x refl)
 -- a file keeps its number
 pub added-number : (t : InputTable) (path : List ℕ) (n : ℕ) → slice_get t.table.files n ≡ Some path
     → slice_get (with_new_input t path).table.files n ≡ Some path
-added-number t path n here = by (is_among (inputs_so_far t) path)
-  where
-    by : (b : Bool) → slice_get (cond b t (record t { table = with_added_input t.table path })).table.files n
-        ≡ Some path
-    by true = here
-    by false = ap (λ b. slice_get (cond b t.table.files (t.table.files ++ path ∷ [])) n)
-        (among-get t.table.files n path here) ∙ here
+added-number t path n here = grind (arith, among-get)
 
 -- ---- the next edge
 

@@ -1,9 +1,10 @@
 -- The edges that files need, nearest first.
+use Rattle.std.proofs.lemmas.Grind.{common_steps}
 use Rattle.std.proofs.Common.{◌≡◌, ◌<◌, ◌≤◌, ◌+◌, ◌↔◌, inl, inr, ℕ, zero, suc, List, [], ◌∷◌, ◌++◌, map}
 use Rattle.std.proofs.Common.{length, take, get_or, Option, Some, None, refl, sym, ap, subst, ◌∙◌, arith}
 use Rattle.std.specs.Prelude.{Contains, slice_index}
 use Rattle.std.specs.List.{All}
-use Rattle.std.proofs.lemmas.List.{get_or-map, length-map, map_push, take_more}
+use Rattle.std.proofs.lemmas.List.{get_or-map, length-map}
 use Rattle.std.proofs.lemmas.List.Elements.{Contains-append_left, Contains-push, Contains-push_cases}
 use Rattle.nj_names.specs.NumberSets.{NumberSetModel}
 use Rattle.nj_cycles.specs.Cycles.{Needs, NeedsByChain}
@@ -62,10 +63,7 @@ module _ (edges : List EdgePaths) (files : List (List ℕ)) where
 
   makers-more : (ns : List FileNo) (i : ℕ) (d : FileNo) → i < length ns
       → makers (take (i + 1) ns) ≡ makers (take i ns) ++ maker_of edges (path_at files (get_or ns i d)) ∷ []
-  makers-more ns i d below =
-      ap makers (take_more ns i d below)
-      ∙ ap (map (maker_of edges)) (map_push (path_at files) (take i ns) (get_or ns i d))
-      ∙ map_push (maker_of edges) (map (path_at files) (take i ns)) (path_at files (get_or ns i d))
+  makers-more ns i d below = grind (arith, common_steps)
 
   module _ (first old new : NumberSetModel) (ns : List FileNo) (i : ℕ) (d : FileNo) (below : i < length ns)
       (a : FindsMore (MakesOneOf edges (map (path_at files) (take i ns))) first old) where

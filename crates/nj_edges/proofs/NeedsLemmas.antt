@@ -1,10 +1,11 @@
 -- Lemmas on the search for the edges that an edge needs.
+use Rattle.std.proofs.lemmas.Grind.{common_steps}
 use Rattle.std.proofs.Common.{◌≡◌, ◌<◌, ◌≤◌, ◌+◌, ◌↔◌, inl, inr, ℕ, Bool, true, false, Option, Some, None}
 use Rattle.std.proofs.Common.{List, [], ◌∷◌, ◌++◌, map, length, take, get_or, refl, sym, ap, subst, ◌∙◌}
 use Rattle.std.proofs.Common.{arith}
 use Rattle.std.specs.Prelude.{Contains, slice_index}
 use Rattle.std.proofs.lemmas.Bool.{both_ways, cases_lt}
-use Rattle.std.proofs.lemmas.List.{map_push, take_more}
+use Rattle.std.proofs.lemmas.List.{take_more}
 use Rattle.std.proofs.lemmas.List.Elements.{All-push, Contains-append_left, Contains-push}
 use Rattle.std.proofs.lemmas.List.Elements.{Contains-push_cases}
 use Rattle.std.proofs.lemmas.Option.{same_Some}
@@ -52,16 +53,6 @@ module _ (edges : List EdgePaths) where
   step-on s e f (inr chain) step = inr (chain_push Step s e f chain step)
 
   -- ---- turn by turn
-
-  pub searched-none : (found : NumberSetModel) → found ≡ record { limit = length edges; numbers = [] }
-      → IsSearched edges [] found 0
-  searched-none found empty = record {
-    limit = ap (λ (s : NumberSetModel). s.limit) empty;
-    within = omega arith;
-    sound = λ e is. absurd (contains-none e (subst (λ (s : NumberSetModel). Contains s.numbers e) empty is));
-    begun = λ e is. absurd (contains-none e is);
-    closed = λ i e below. absurd (omega (arith, below));
-  }
 
   pub searched-starts : (starts : List ℕ) (none new : NumberSetModel)
       → none ≡ record { limit = length edges; numbers = [] } → FindsMore (Contains starts) none new
@@ -217,10 +208,7 @@ module _ (g : EdgeGraph) where
 
   made-more : (ns : List FileNo) (i : ℕ) (d : FileNo) → i < length ns
       → made (take (i + 1) ns) ≡ made (take i ns) ++ maker_of g.edges (path_at g.files (get_or ns i d)) ∷ []
-  made-more ns i d below =
-      ap made (take_more ns i d below)
-      ∙ ap (map (maker_of g.edges)) (map_push (path_at g.files) (take i ns) (get_or ns i d))
-      ∙ map_push (maker_of g.edges) (map (path_at g.files) (take i ns)) (path_at g.files (get_or ns i d))
+  made-more ns i d below = grind (arith, common_steps)
 
   module _ (found : List ℕ) (ns : List FileNo) (i : ℕ) (d : FileNo) (below : i < length ns)
       (are : AreMakers g (take i ns) found) where

@@ -1,13 +1,12 @@
 -- The numbers of the edges that pass a test.
+use Rattle.std.proofs.lemmas.Grind.{common_steps}
 use Rattle.std.proofs.Common.{◌≡◌, ◌<◌, ◌≤◌, ◌+◌, ◌⊎◌, inl, inr, ℕ, zero, suc, Bool, true, false, cond, List}
 use Rattle.std.proofs.Common.{[], ◌∷◌, ◌++◌, length, take, get_or, refl, sym, ap, subst, ◌∙◌, true≢false}
 use Rattle.std.proofs.Common.{arith}
 use Rattle.std.specs.Prelude.{Contains}
-use Rattle.std.specs.Cmp.{nat_cmp_is}
 use Rattle.std.specs.List.{AllByRecursion}
 use Rattle.std.specs.List.Sorted.{IsStrictlySortedBy, IsStrictlyIncreasing}
 use Rattle.std.specs.Ordering.{nat_cmp}
-use Rattle.std.specs.declared.cmp.Ordering.TheVariants.{Less}
 use Rattle.std.proofs.lemmas.List.{length-take-le, take_more}
 use Rattle.std.proofs.lemmas.Map.Keys.{IsStrictlyIncreasing-from_sorted}
 use Rattle.nj_edges.specs.Edges.{edges_from}
@@ -73,17 +72,7 @@ module _ {E : Type 0} (test : E → Bool) where
   from-sorted : (es : List E) (k : ℕ) → IsStrictlySortedBy nat_cmp (edges_from k test es)
   unfolding IsStrictlySortedBy
   from-sorted [] k = tt
-  from-sorted (x ∷ es) k = by (test x) (from-sorted es (k + 1))
-    where
-      by : (b : Bool) → IsStrictlySortedBy nat_cmp (edges_from (k + 1) test es)
-          → IsStrictlySortedBy nat_cmp (cond b (k ∷ edges_from (k + 1) test es) (edges_from (k + 1) test es))
-      by true rest = (
-        all-of (λ n. k + 1 ≤ n) (λ n. nat_cmp k n ≡ Less)
-            (λ n above. sym (nat_cmp_is k n Less (omega (arith, above)))) (edges_from (k + 1) test es)
-            (from-above es (k + 1) (k + 1) (omega arith)),
-        rest,
-      )
-      by false rest = rest
+  from-sorted (x ∷ es) k = grind (arith, all-of, from-above, (from-sorted es (k + 1)))
 
   pub from-rises : (es : List E) (k : ℕ) → IsStrictlyIncreasing (edges_from k test es)
   from-rises es k = IsStrictlyIncreasing-from_sorted (edges_from k test es) (from-sorted es k)
@@ -109,9 +98,4 @@ module _ {E : Type 0} (test : E → Bool) where
 
   pub from-more : (es : List E) (i : ℕ) (d : E) (b : Bool) → i < length es → test (get_or es i d) ≡ b
       → edges_from 0 test (take (i + 1) es) ≡ edges_from 0 test (take i es) ++ cond b (i ∷ []) []
-  from-more es i d b below is =
-      let count : 0 + length (take i es) ≡ i = omega (arith, length-take-le i es (omega (arith, below))) in
-      ap (edges_from 0 test) (take_more es i d below)
-      ∙ from-push (take i es) 0 (get_or es i d)
-      ∙ ap (λ n. edges_from 0 test (take i es) ++ cond (test (get_or es i d)) (n ∷ []) []) count
-      ∙ ap (λ c. edges_from 0 test (take i es) ++ cond c (i ∷ []) []) is
+  from-more es i d b below is = grind (arith, common_steps, from-push, length-take-le, take_more)

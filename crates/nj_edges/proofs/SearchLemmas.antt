@@ -1,4 +1,5 @@
 -- How edges are found, nearest first.
+use Rattle.std.proofs.lemmas.Grind.{common_steps}
 use Rattle.std.proofs.Common.{◌≡◌, ◌<◌, ◌≤◌, ◌+◌, ◌⊎◌, inl, inr, ℕ, zero, suc, Bool, true, false, cond, List}
 use Rattle.std.proofs.Common.{[], length, refl, sym, ap, subst, ◌∙◌, arith}
 use Rattle.std.specs.Prelude.{Contains, slice_index}
@@ -20,11 +21,7 @@ module _ (distance : ℕ → ℕ) (before : List ℕ) (from e : ℕ) where
   farther-known is = ap (λ b. cond b (distance e) (suc (distance from))) (contains-has before e is)
 
   pub farther-new : (Contains before e → ⊥) → farther distance before from e ≡ suc (distance from)
-  farther-new new = by (has before e) refl
-    where
-      by : (b : Bool) → has before e ≡ b → cond b (distance e) (suc (distance from)) ≡ suc (distance from)
-      by true is = absurd (new (has-contains before e is))
-      by false is = refl
+  farther-new new = grind (arith, has-contains)
 
   pub known-or-new : Contains before e ⊎ (Contains before e → ⊥)
   known-or-new = by (has before e) refl
@@ -37,20 +34,7 @@ module _ (begins : ℕ → Type 0) (step : ℕ → ℕ → Type 0) where
   -- the edges where steps begin were found
   pub search-begins : (none new : NumberSetModel) → none.numbers ≡ [] → FindsMore begins none new
       → IsSearched begins step (λ e. 0) new.numbers 0
-  search-begins none new empty finds = record {
-    within = omega arith;
-    sound = λ e is. elim (finds.fresh e is) [
-      | inl before ↦ absurd (contains-none e (subst (λ (ns : List ℕ). Contains ns e) empty before))
-      | inr begun ↦ begun
-    ];
-    rises = λ i j le below. omega arith;
-    near = λ i j within past below. omega arith;
-    begun = λ e is. (finds.all e is, refl);
-    closed = λ i e below. absurd (omega (arith, below));
-  }
-    where
-      contains-none : (e : ℕ) → Contains [] e → ⊥
-      contains-none e is = absurd (omega (arith, is.1))
+  search-begins none new empty finds = grind (arith, common_steps)
 
   -- the edges to which the one at the place leads were found
   module _ (distance : ℕ → ℕ) (old new : NumberSetModel) (place : ℕ) (below : place < length old.numbers)

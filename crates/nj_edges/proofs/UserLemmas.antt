@@ -1,12 +1,12 @@
 -- Lemmas on the users of files.
+use Rattle.std.proofs.lemmas.Grind.{common_steps}
 use Rattle.std.proofs.Common.{◌≡◌, ◌≢◌, ◌<◌, ◌≤◌, ◌+◌, ◌-◌, ◌==◌, ◌||◌, ◌⊎◌, inl, inr, leb, ℕ, zero, suc}
 use Rattle.std.proofs.Common.{Bool, true, false, cond, List, [], ◌∷◌, ◌++◌, map, length, take, drop}
 use Rattle.std.proofs.Common.{slice_get, slice_range, get_or, set, Some, is_some, unwrap_or, refl, sym, ap}
 use Rattle.std.proofs.Common.{subst, ◌∙◌, true≢false, arith, add-one, length-take, length-drop}
-use Rattle.std.proofs.Math.Path.{fun_ext}
 use Rattle.std.proofs.lemmas.Bool.Decides.{eqb_tells, leb_tells}
 use Rattle.std.proofs.lemmas.Grind.{same_number_lists}
-use Rattle.std.proofs.lemmas.List.{drop-map, take_more, take-append-drop, length-map, length-set}
+use Rattle.std.proofs.lemmas.List.{drop-map, take-append-drop, length-map, length-set}
 use Rattle.std.proofs.lemmas.List.{get_or-set_same, get_or-set_other, get_or-drop, get_or-take}
 use Rattle.nj_names.specs.declared.files.FileNo.{FileNo}
 use Rattle.nj_edges.specs.declared.edges.EdgeNo.{EdgeNo}
@@ -18,17 +18,11 @@ use Rattle.nj_edges.specs.Inside.EdgesHeld.{has_number, within}
 use Rattle.nj_edges.specs.Inside.UsersHeld.{AreMarks, AreParts, ArePlaced, HaveCapacity, IsPart, number_at}
 use Rattle.nj_edges.specs.Inside.UsersHeld.{numbers_of, plus_use, plus_uses, span_of, starts_with}
 use Rattle.nj_edges.specs.Inside.UsersHeld.{users_before, using_edges, with_front}
-use Rattle.nj_edges.proofs.AddLemmas.{same-number}
-use Rattle.nj_edges.proofs.EdgeLemmas.{has-push}
 
 -- ---- an edge in front
 
 front-first : (edge : ℕ) (xs : List ℕ) → starts_with edge (with_front edge xs) ≡ true
-front-first edge xs = by (starts_with edge xs) refl
-  where
-    by : (b : Bool) → starts_with edge xs ≡ b → starts_with edge (cond b xs (edge ∷ xs)) ≡ true
-    by true is = is
-    by false is = same-number edge
+front-first edge xs = grind (arith, common_steps)
 
 front-twice : (edge : ℕ) (xs : List ℕ) → with_front edge (with_front edge xs) ≡ with_front edge xs
 front-twice edge xs = ap (λ b. cond b (with_front edge xs) (edge ∷ with_front edge xs)) (front-first edge xs)
@@ -36,50 +30,24 @@ front-twice edge xs = ap (λ b. cond b (with_front edge xs) (edge ∷ with_front
 -- another edge in front of the uses of a file, or the one that is there
 plus-here : (f edge : ℕ) (uses : ℕ → List ℕ) → starts_with edge (uses f) ≡ false → (n : ℕ) → n ≡ f
     → plus_use f edge uses n ≡ edge ∷ uses n
-plus-here f edge uses other n same =
-    ap (λ k. plus_use f edge uses k) same ∙ ap (λ b. cond b (with_front edge (uses f)) (uses f))
-    (same-number f) ∙ ap (λ b. cond b (uses f) (edge ∷ uses f)) other ∙ ap (λ k. edge ∷ uses k) (sym same)
+plus-here f edge uses other n same = grind (arith, common_steps)
 
 plus-other : (f edge : ℕ) (uses : ℕ → List ℕ) (n : ℕ) → n ≢ f → plus_use f edge uses n ≡ uses n
-plus-other f edge uses n apart = by (eqb_tells n f)
-  where
-    by : ((n == f) ≡ true × (n ≡ f)) ⊎ ((n == f) ≡ false × (n ≢ f)) → plus_use f edge uses n ≡ uses n
-    by (inl same) = absurd (apart same.1)
-    by (inr differs) = ap (λ b. cond b (with_front edge (uses n)) (uses n)) differs.0
+plus-other f edge uses n apart = grind (arith, common_steps)
 
 -- ---- the files of an edge
 
 pub plus-next : (files : List FileNo) (i : ℕ) (d : FileNo) (edge : ℕ) (uses : ℕ → List ℕ) → i < length files
     → plus_use (get_or files i d).0 edge (plus_uses (take i files) edge uses)
     ≡ plus_uses (take (i + 1) files) edge uses
-plus-next files i d edge uses below = fun_ext (λ n.
-    by n (n == (get_or files i d).0) (has_number n (take i files))
-    ∙ ap (λ b. cond b (with_front edge (uses n)) (uses n))
-    (sym (has-push n (take i files) (get_or files i d)))
-    ∙ ap (λ ns. plus_uses ns edge uses n) (sym (take_more files i d below)))
-  where
-    by : (n : ℕ) (a b : Bool) → cond a (with_front edge (cond b (with_front edge (uses n)) (uses n)))
-        (cond b (with_front edge (uses n)) (uses n)) ≡ cond (b || a) (with_front edge (uses n)) (uses n)
-    by n true true = front-twice edge (uses n)
-    by n true false = refl
-    by n false true = refl
-    by n false false = refl
+plus-next files i d edge uses below = grind (arith, common_steps)
 
 has-append : (n : ℕ) (ns ms : List FileNo) → has_number n (ns ++ ms) ≡ (has_number n ns || has_number n ms)
 has-append n [] ms = refl
-has-append n (f ∷ ns) ms = by (n == f.0) (has-append n ns ms)
-  where
-    by : (b : Bool) → has_number n (ns ++ ms) ≡ (has_number n ns || has_number n ms)
-        → (b || has_number n (ns ++ ms)) ≡ ((b || has_number n ns) || has_number n ms)
-    by true more = refl
-    by false more = more
+has-append n (f ∷ ns) ms = grind (arith, common_steps, (has-append n ns ms))
 
 front-longer : (edge : ℕ) (xs : List ℕ) → length xs ≤ length (with_front edge xs)
-front-longer edge xs = by (starts_with edge xs)
-  where
-    by : (b : Bool) → length xs ≤ length (cond b xs (edge ∷ xs))
-    by true = omega arith
-    by false = omega arith
+front-longer edge xs = grind (arith, common_steps)
 
 -- some of the files of an edge have no more uses than all of them
 capacity-some : (all uses : ℕ → List ℕ) (files : List FileNo) (i edge : ℕ)
@@ -103,37 +71,20 @@ capacity-some all uses files i edge capacity n =
 pub capacity-next : (all uses : ℕ → List ℕ) (files : List FileNo) (i : ℕ) (d : FileNo) (edge : ℕ)
     → i < length files → HaveCapacity all (plus_uses files edge uses)
     → HaveCapacity all (plus_use (get_or files i d).0 edge (plus_uses (take i files) edge uses))
-capacity-next all uses files i d edge below capacity =
-    subst (HaveCapacity all) (sym (plus-next files i d edge uses below))
-    (capacity-some all uses files (i + 1) edge capacity)
+capacity-next all uses files i d edge below capacity = grind (arith, common_steps, capacity-some, plus-next)
 
 -- ---- the edges from the last one on
 
 edges-front : {E : Type 0} (k e : ℕ) (test : E → Bool) (es : List E) → e < k
     → with_front e (edges_from k test es) ≡ e ∷ edges_from k test es
 edges-front k e test [] less = refl
-edges-front k e test (x ∷ xs) less = by (test x) (edges-front (k + 1) e test xs (omega arith)) (eqb_tells k e)
-  where
-    by : (b : Bool) → with_front e (edges_from (k + 1) test xs) ≡ e ∷ edges_from (k + 1) test xs
-        → ((k == e) ≡ true × (k ≡ e)) ⊎ ((k == e) ≡ false × (k ≢ e))
-        → with_front e (cond b (k ∷ edges_from (k + 1) test xs) (edges_from (k + 1) test xs))
-        ≡ e ∷ cond b (k ∷ edges_from (k + 1) test xs) (edges_from (k + 1) test xs)
-    by true more (inl same) = let is : k ≡ e = same.1 in absurd (omega arith)
-    by true more (inr apart) = ap (λ b. cond b (k ∷ edges_from (k + 1) test xs)
-        (e ∷ k ∷ edges_from (k + 1) test xs)) apart.0
-    by false more tells = more
+edges-front k e test (x ∷ xs) less =
+    grind (arith, common_steps, (edges-front (k + 1) e test xs (omega arith)))
 
 edge-step : (files : List FileNo) (part : RowPart) (edge : ℕ) (row : EdgeRow) (rest : List EdgeRow) (n : ℕ)
     → plus_uses (within files (span_of part row)) edge (using_edges files part (edge + 1) rest) n
     ≡ using_edges files part edge (row ∷ rest) n
-edge-step files part edge row rest n = by (has_number n (within files (span_of part row)))
-  where
-    by : (b : Bool) → cond b (with_front edge (using_edges files part (edge + 1) rest n))
-        (using_edges files part (edge + 1) rest n)
-        ≡ cond b (edge ∷ using_edges files part (edge + 1) rest n) (using_edges files part (edge + 1) rest n)
-    by true = edges-front (edge + 1) edge (λ (r : EdgeRow). has_number n (within files (span_of part r))) rest
-        (omega arith)
-    by false = refl
+edge-step files part edge row rest n = grind (arith, edges-front, within)
 
 drop-row : {X : Type 0} (rows : List X) (e : ℕ) (row : X) → slice_get rows e ≡ Some row
     → drop e rows ≡ row ∷ drop (e + 1) rows
@@ -146,30 +97,13 @@ drop-row (x ∷ rows) (suc e) row h = let more : drop e rows ≡ row ∷ drop (e
 pub rows-next : (files : List FileNo) (part : RowPart) (rows : List EdgeRow) (e at : ℕ) (row : EdgeRow)
     (found : List FileNo) → at ≡ e + 1 → slice_get rows e ≡ Some row → found ≡ within files (span_of part row)
     → plus_uses found e (using_edges files part at (drop at rows)) ≡ using_edges files part e (drop e rows)
-rows-next files part rows e at row found at-is here is =
-    ap (λ ns. plus_uses ns e (using_edges files part at (drop at rows))) is
-    ∙ ap (λ k. plus_uses (within files (span_of part row)) e (using_edges files part k (drop k rows)))
-    at-is
-    ∙ fun_ext (λ n. edge-step files part e row (drop (e + 1) rows) n)
-    ∙ ap (λ rs. using_edges files part e rs) (sym (drop-row rows e row here))
+rows-next files part rows e at row found at-is here is = grind (arith, drop-row, edge-step, here, within)
 
 edges-fewer : {E : Type 0} (k j : ℕ) (test : E → Bool) (es : List E)
     → length (edges_from (k + j) test (drop j es)) ≤ length (edges_from k test es)
-edges-fewer k zero test es = let same : k + 0 ≡ k = omega arith in
-    subst (λ m. length (edges_from m test es) ≤ length (edges_from k test es)) (sym same) (omega arith)
+edges-fewer k zero test es = grind (arith, common_steps)
 edges-fewer k (suc j) test [] = omega arith
-edges-fewer k (suc j) test (x ∷ xs) = by (test x)
-    (subst (λ m. length (edges_from m test (drop j xs)) ≤ length (edges_from (k + 1) test xs)) next
-    (edges-fewer (k + 1) j test xs))
-  where
-    next : (k + 1) + j ≡ k + suc j
-    next = omega arith
-
-    by : (b : Bool) → length (edges_from (k + suc j) test (drop j xs)) ≤ length (edges_from (k + 1) test xs)
-        → length (edges_from (k + suc j) test (drop j xs)) ≤ length
-        (cond b (k ∷ edges_from (k + 1) test xs) (edges_from (k + 1) test xs))
-    by true fewer = omega (arith, fewer)
-    by false fewer = fewer
+edges-fewer k (suc j) test (x ∷ xs) = grind (arith, common_steps, (edges-fewer (k + 1) j test xs))
 
 -- the edges from a later one on have no more uses than all edges
 pub rows-capacity : (files : List FileNo) (part : RowPart) (rows : List EdgeRow) (e : ℕ)
@@ -434,10 +368,4 @@ none-use part edge (row ∷ rows) n =
 pub no-users : (files : List FileNo) (part : RowPart) (rows : List EdgeRow) → (length files == 0) ≡ true
     → (n : ℕ) → using_edges files part 0 rows n ≡ []
 no-users [] part rows none n = none-use part 0 rows n
-no-users (f ∷ files) part rows none n = by (eqb_tells (length (f ∷ files)) 0)
-  where
-    by : ((length (f ∷ files) == 0) ≡ true × (length (f ∷ files) ≡ 0))
-        ⊎ ((length (f ∷ files) == 0) ≡ false × (length (f ∷ files) ≢ 0))
-        → using_edges (f ∷ files) part 0 rows n ≡ []
-    by (inl same) = let count : length (f ∷ files) ≡ 0 = same.1 in absurd (omega arith)
-    by (inr apart) = absurd (true≢false (sym none ∙ apart.0))
+no-users (f ∷ files) part rows none n = grind (arith, common_steps)

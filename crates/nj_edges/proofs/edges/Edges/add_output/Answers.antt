@@ -21,7 +21,8 @@ invariant_of-self-then-is_some c =
     c.maker.ensures.maker (sym c.is_some.ensures ∙ c.if-is_some.true))
 
 pub set-requires-clause-file : goal.set-requires-clause-file
-set-requires-clause-file c = within-all _ _ c.self.invariant _ _ _ _ c.in_ok-file.ensures.named _ c.self.view_is
+set-requires-clause-file c = within-all _ _ c.self.invariant _ _ _ _ c.in_ok-file.ensures.named _
+    c.self.view_is
 
 pub invariant_of-self-2 : goal.invariant_of-self-2
 invariant_of-self-2 c =
