@@ -1,14 +1,11 @@
 //! The subcommand `json`: the edges as objects of JSON.
 
-ghost use Rattle.std.specs.Prelude.{◌<◌, length};
-ghost use Rattle.ninja_graph.specs.Cited.{edges_of};
-
 use crate::failure::Failure;
 use clap::Command;
 use nj_ask::Status;
-use nj_graph::{Cause, EdgeNo, Graph, GraphFault};
-use nj_tools::{Error, ToolFault, WriteSink, write_edge_objects};
-use std::alloc::{AllocError, Global};
+use nj_graph::Graph;
+use nj_tools::{WriteSink, write_edge_objects};
+use std::alloc::Global;
 
 const NAME: &str = "json";
 
@@ -34,22 +31,6 @@ pub fn answer(rt: HostRuntime, graph: &Graph) -> Result<Status, Failure> {
     let mut out = WriteSink::new(rt.stdout());
     match write_edge_objects(rt.alloc(), graph, &mut out) {
         Ok(()) => Ok(Status::Done),
-        Err(ToolFault::TextNotUtf8(edge)) => {
-            let fault = not_utf8(rt.alloc(), graph, edge)?;
-            Err(fault.into())
-        }
-        Err(ToolFault::Write) => Err(Failure::Graph(Error::Write)),
-        Err(ToolFault::OutOfMemory) => Err(Failure::Graph(Error::OutOfMemory)),
+        Err(fault) => Err(Failure::Graph(fault.into())),
     }
-}
-
-/// The fault of an edge that JSON cannot contain.
-fn not_utf8(alloc: Global, graph: &Graph, edge: EdgeNo) -> Result<GraphFault, AllocError>
-    requires { edge.0 < length (edges_of graph.now) }
-{
-    let place = graph.edge_place(edge).to_place(alloc)?;
-    Ok(GraphFault {
-        place: Some(place),
-        cause: Cause::TextNotUtf8,
-    })
 }

@@ -56,4 +56,3 @@ WritesChain IsPath lines out new (Err (error.Graph fault)) = ⊥
 WritesChain IsPath lines out new (Err error.EmptyPath) = ⊥
 WritesChain IsPath lines out new (Err error.BadMark) = ⊥
 WritesChain IsPath lines out new (Err error.MarkOutOfRange) = ⊥
-WritesChain IsPath lines out new (Err (error.TextNotUtf8 edge)) = ⊥

@@ -1,11 +1,11 @@
 -- The outcome of a run, by the graph of its files.
 use Rattle.std.proofs.Common.{◌≡◌, ◌≢◌, ◌⊎◌, inl, inr, ℕ, Bool, true, false, if◌then◌else◌, Option, Some}
-use Rattle.std.proofs.Common.{None, Result, Ok, Err, IsErrAnd, List, [], length, map, filter, not, refl, sym}
+use Rattle.std.proofs.Common.{None, option_map, Result, Ok, Err, IsErrAnd, List, [], length, map, filter, not}
+use Rattle.std.proofs.Common.{refl, sym}
 use Rattle.std.proofs.Common.{ap, subst, ◌∙◌}
 use Rattle.std.specs.Prelude.{nat_eq}
 use Rattle.std.specs.List.{flat_map}
 use Rattle.std.specs.Option.{option_map_or}
-use Rattle.std.specs.Prelude.{slice_get}
 use Rattle.nj_manifest.specs.LineSteps.{◌>>=◌}
 use Rattle.nj_scope.specs.ReadingList.{ReadStatement}
 use Rattle.nj_names.specs.declared.files.FileNo.{FileNo}
@@ -13,7 +13,7 @@ use Rattle.nj_edges.specs.EdgeGraphs.{EdgeGraph}
 use Rattle.nj_edges.specs.Edges.{EdgePaths}
 use Rattle.nj_names.specs.Files.{AreFiles, path_at}
 use Rattle.nj_statements.specs.Built.{defaults_in_force}
-use Rattle.nj_statements.specs.EdgeList.{defaults_read, edges_read}
+use Rattle.nj_statements.specs.EdgeList.{defaults_read}
 use Rattle.nj_faults.specs.declared.fault.GraphFault.{GraphFault}
 use Rattle.nj_faults.specs.FaultLines.{fault_line}
 use Rattle.nj_faults.specs.Faults.{no_memory}
@@ -37,10 +37,13 @@ use Rattle.nj_needs.specs.PageWalks.{written, left_after, StopsAt}
 use Rattle.nj_tools.specs.CommandStrings.{command_lines, own_commands_in, own_commands}
 use Rattle.nj_tools.specs.Inside.Collections.{single}
 use Rattle.nj_tools.specs.Sinks.{SinkState, Takes}
-use Rattle.nj_tools.specs.Compdb.{compdb_text, unheld_edge}
+use Rattle.nj_tools.specs.Compdb.{compdb_text, text_fault, unheld_edge, WritesCompdb}
 use Rattle.nj_tools.specs.Listings.{inputs_text}
 use Rattle.nj_tools.specs.Queries.{query_text}
 use Rattle.nj_tools.specs.Texts.{StopsWithin, TakesFront}
+use Rattle.nj_tools.specs.Errors.{TakesGraphFault, error_of_mark, error_of_tool}
+use Rattle.nj_tools.specs.declared.error.Error.{Error}
+use Rattle.nj_tools.specs.declared.error.Error.TheVariants as error
 use Rattle.nj_tools.specs.declared.tool_fault.ToolFault.{ToolFault}
 use Rattle.nj_requests.specs.declared.style.InputsStyle.{InputsStyle}
 use Rattle.nj_tools.specs.declared.tool_fault.ToolFault.TheVariants as tool
@@ -48,11 +51,9 @@ use Rattle.nj_tools.proofs.SinkLemmas.{Takes-nil}
 use Rattle.nj_graph.specs.Targets.{targets_named, targets_or}
 use Rattle.nj_cli.specs.Targets.{edges_by_path, NoEdgeNeedsItself, targets_of}
 use Rattle.nj_cli.specs.Answers.{leads, commands_left, IsMarkOf, output_for, output_of, Ending, finished}
-use Rattle.nj_cli.specs.Answers.{stopped, faulty, PageEnds, text_fault, EndsWith}
+use Rattle.nj_cli.specs.Answers.{stopped, faulty, PageEnds, asked_targets, EndsFor, EndsWith}
 use Rattle.nj_cli.specs.Inside.RunSteps.{with_validations, for_targets, EndsOr, Finishes, out_of_range}
-use Rattle.nj_cli.specs.Inside.RunSteps.{ReturnsFor, fault_of_mark, fault_of_tool}
-use Rattle.nj_cli.specs.declared.run_fault.RunFault.{RunFault}
-use Rattle.nj_cli.specs.declared.run_fault.RunFault.TheVariants as fault
+use Rattle.nj_cli.specs.Inside.RunSteps.{ReturnsFor}
 
 -- the targets of a run, by those that its arguments name
 abbrev targets_from : List ReadStatement → (validations : Bool) → Result (List (List ℕ)) GraphFault
@@ -60,10 +61,9 @@ abbrev targets_from : List ReadStatement → (validations : Bool) → Result (Li
 targets_from entries validations named =
     named >>= (λ targets. Ok (with_validations validations (edges_by_path entries) targets))
 
--- how `compdb` ends, by the first edge that JSON cannot contain
-abbrev compdb_ending : List ReadStatement → (unheld : Option ℕ) → Ending
-compdb_ending entries unheld = option_map_or
-    (λ edge. faulty (fault_line (text_fault (slice_get (edges_read entries) edge)))) unheld finished
+-- how `compdb` ends, by the fault of the first edge that JSON cannot contain
+abbrev compdb_ending : (refused : Option GraphFault) → Ending
+compdb_ending refused = option_map_or (λ f. faulty (fault_line f)) refused finished
 
 -- nothing was taken yet
 pub TakesFront-none : (s : SinkState) (text : List ℕ) → TakesFront s s text
@@ -71,12 +71,12 @@ TakesFront-none s text = ([], (text, refl), Takes-nil s)
 
 -- the outcome is a fault
 pub ReturnsFor-err : (entries : List ReadStatement) (action : ActionModel) (old new : SinkState)
-    (result : Result (Option (List ℕ)) RunFault) (f : RunFault)
+    (result : Result (Option (List ℕ)) Error) (f : Error)
     → IsErrAnd result (λ e. e ≡ f) → ReturnsFor entries action old new (Err f)
     → ReturnsFor entries action old new result
 ReturnsFor-err entries action old new (Ok mark) f is outcomes = absurd is
 ReturnsFor-err entries action old new (Err e) f is outcomes =
-    subst (λ (r : RunFault). ReturnsFor entries action old new (Err r)) (sym is) outcomes
+    subst (λ (r : Error). ReturnsFor entries action old new (Err r)) (sym is) outcomes
 
 module _ (entries : List ReadStatement) (g : GraphModel) (is : IsGraphOf g entries) where
   edges-are : edges_of g ≡ edges_by_path entries
@@ -140,53 +140,37 @@ module _ (entries : List ReadStatement) (g : GraphModel) (is : IsGraphOf g entri
       subst (AreFiles (files_of g) grown) paths is_grown
 
   -- no target: the outcome is the fault
-  pub commands-refused : (words : List (List ℕ)) (validations : Bool) (take : Option ℕ) (start : List ℕ)
-      (f : GraphFault) (s : SinkState)
-      → (f ≡ no_memory) ⊎ (targets_of entries validations words ≡ Err f)
-      → ReturnsFor entries (commands words validations take start) s s (Err (fault.Graph f))
-  commands-refused words validations take start f s (inl none) = inl (none, refl)
-  commands-refused words validations take start f s (inr named) =
-      inr (subst (λ (ts : Result (List (List ℕ)) GraphFault). EndsOr (PageEnds entries validations take start)
-      ts (faulty (fault_line f)) × Takes s s
-      (for_targets (output_for entries (commands words validations take start)) ts))
+  refused-by : (action : ActionModel) (f : GraphFault) (s : SinkState) (e : Error) → TakesGraphFault f e
+      → (f ≡ no_memory) ⊎ (asked_targets entries action ≡ Err f)
+      → ReturnsFor entries action s s (Err e)
+  refused-by action f s e (taken, inl (lack, was), is) why =
+      rw (is, was) (TakesFront-none s (output_of entries action))
+  refused-by action f s e (taken, inr (other, was), is) (inl none) =
+      absurd (other (ap (λ (g : GraphFault). g.cause) none))
+  refused-by action f s e (taken, inr (other, was), is) (inr named) =
+      rw (is, was)
+      (subst (λ (ts : Result (List (List ℕ)) GraphFault). EndsOr
+      (λ targets ending. EndsFor entries action targets ending)
+      ts (faulty (fault_line f)) × Takes s s (for_targets (output_for entries action) ts))
       (sym named) (refl, Takes-nil s))
 
-  for_targets-refused : (text : List (List ℕ) → List ℕ) (ts : Result (List (List ℕ)) GraphFault)
-      (f : GraphFault) (s : SinkState) → ts ≡ Err f
-      → EndsOr Finishes ts (faulty (fault_line f)) × Takes s s (for_targets text ts)
-  for_targets-refused text ts f s is =
-      subst (λ (t : Result (List (List ℕ)) GraphFault). EndsOr Finishes t (faulty (fault_line f))
-      × Takes s s (for_targets text t)) (sym is) (refl, Takes-nil s)
-
-  pub singles-refused : (words : List (List ℕ)) (f : GraphFault) (s : SinkState)
-      → (f ≡ no_memory) ⊎ (targets_of entries false words ≡ Err f)
-      → ReturnsFor entries (single_commands words) s s (Err (fault.Graph f))
-  singles-refused words f s (inl none) = inl (none, refl)
-  singles-refused words f s (inr named) =
-      inr (for_targets-refused (output_for entries (single_commands words)) (targets_of entries false words) f
-      s named)
-
-  pub inputs-refused : (words : List (List ℕ)) (validations : Bool) (style : InputsStyle) (f : GraphFault)
-      (s : SinkState)
-      → (f ≡ no_memory) ⊎ (targets_of entries validations words ≡ Err f)
-      → ReturnsFor entries (ask.inputs words validations style) s s (Err (fault.Graph f))
-  inputs-refused words validations style f s (inl none) = inl (none, refl)
-  inputs-refused words validations style f s (inr named) =
-      inr (for_targets-refused (output_for entries (ask.inputs words validations style))
-      (targets_of entries validations words) f s named)
+  pub refused : (action : ActionModel) (f : GraphFault) (s : SinkState)
+      (result : Result (Option (List ℕ)) Error) → IsErrAnd result (TakesGraphFault f)
+      → (f ≡ no_memory) ⊎ (asked_targets entries action ≡ Err f)
+      → ReturnsFor entries action s s result
+  refused action f s (Ok mark) takes why = absurd takes
+  refused action f s (Err e) takes why = refused-by action f s e takes why
 
   files-are : (words : List (List ℕ)) (outcome : Result (List (List ℕ)) GraphFault)
       → targets_named (edges_of g) words ≡ outcome
       → targets_named (edges_by_path entries) words ≡ outcome
   files-are words outcome named = ap (λ (es : List EdgePaths). targets_named es words) (sym edges-are) ∙ named
 
-  pub query-refused : (words : List (List ℕ)) (f : GraphFault) (s : SinkState)
+  pub query-refused : (words : List (List ℕ)) (f : GraphFault)
       → (f ≡ no_memory) ⊎ (targets_named (edges_of g) words ≡ Err f)
-      → ReturnsFor entries (ask.query words) s s (Err (fault.Graph f))
-  query-refused words f s (inl none) = inl (none, refl)
-  query-refused words f s (inr named) = inr
-      (for_targets-refused (output_for entries (ask.query words))
-      (targets_named (edges_by_path entries) words) f s (files-are words (Err f) named))
+      → (f ≡ no_memory) ⊎ (targets_named (edges_by_path entries) words ≡ Err f)
+  query-refused words f (inl none) = inl none
+  query-refused words f (inr named) = inr (files-are words (Err f) named)
 
   -- ---- tools without targets
 
@@ -199,10 +183,10 @@ module _ (entries : List ReadStatement) (g : GraphModel) (is : IsGraphOf g entri
   -- a tool that does not finish
   pub stops : (action : ActionModel) (old new : SinkState) (f : ToolFault)
       → StopsWithin old new (output_of entries action) f
-      → ReturnsFor entries action old new (Err (fault_of_tool f))
+      → ReturnsFor entries action old new (Err (error_of_tool f))
   stops action old new tool.Write stopped_so = stopped_so
   stops action old new tool.OutOfMemory stopped_so = stopped_so
-  stops action old new (tool.TextNotUtf8 edge) stopped_so = absurd stopped_so
+  stops action old new (tool.TextNotUtf8 f) stopped_so = absurd stopped_so
 
   -- ---- queried files
 
@@ -224,29 +208,26 @@ module _ (entries : List ReadStatement) (g : GraphModel) (is : IsGraphOf g entri
 
     pub query-failed : (old new : SinkState) (f : ToolFault)
         → StopsWithin old new (query_text entries (map (path_at (files_of g)) numbers)) f
-        → ReturnsFor entries (ask.query words) old new (Err (fault_of_tool f))
+        → ReturnsFor entries (ask.query words) old new (Err (error_of_tool f))
     query-failed old new f stopped_so = stops (ask.query words) old new f
         (subst (λ t. StopsWithin old new t f) query-text stopped_so)
 
   -- ---- a string that JSON cannot contain
 
-  pub compdb-unheld : (names : List (List ℕ)) (directory : List ℕ) (expand : Bool) (edge : ℕ) (f : GraphFault)
-      (old new : SinkState)
-      → unheld_edge entries names expand ≡ Some edge → f ≡ text_fault (slice_get (edges_read entries) edge)
-      → Takes old new (compdb_text entries directory names expand)
-      → ReturnsFor entries (ask.compdb names directory expand) old new (Err (fault.Graph f))
-  compdb-unheld names directory expand edge f old new unheld is took =
-      inr (
-        subst (λ (u : Option ℕ). faulty (fault_line f) ≡ compdb_ending entries u) (sym unheld)
-            (ap (λ (h : GraphFault). faulty (fault_line h)) is),
-        took,
-      )
+  module _ (names : List (List ℕ)) (directory : List ℕ) (expand : Bool) (old new : SinkState) where
+    pub compdb-failed : (f : ToolFault)
+        → WritesCompdb old new (compdb_text entries directory names expand)
+        (option_map (text_fault entries) (unheld_edge entries names expand)) (Err f)
+        → ReturnsFor entries (ask.compdb names directory expand) old new (Err (error_of_tool f))
+    compdb-failed (tool.TextNotUtf8 f) (some, took) =
+        (subst (λ r. faulty (fault_line f) ≡ compdb_ending r) (sym some) refl, took)
+    compdb-failed tool.Write stopped_so = stopped_so
+    compdb-failed tool.OutOfMemory stopped_so = stopped_so
 
-  pub compdb-answered : (names : List (List ℕ)) (directory : List ℕ) (expand : Bool) (old new : SinkState)
-      → unheld_edge entries names expand ≡ None → Takes old new (compdb_text entries directory names expand)
-      → ReturnsFor entries (ask.compdb names directory expand) old new (Ok None)
-  compdb-answered names directory expand old new unheld took =
-      (subst (λ (u : Option ℕ). finished ≡ compdb_ending entries u) (sym unheld) refl, took)
+    pub compdb-answered : option_map (text_fault entries) (unheld_edge entries names expand) ≡ None
+        → Takes old new (compdb_text entries directory names expand)
+        → ReturnsFor entries (ask.compdb names directory expand) old new (Ok None)
+    compdb-answered none took = (subst (λ r. finished ≡ compdb_ending r) (sym none) refl, took)
 
   module _ (targets : List (List ℕ)) (numbers : List FileNo) (are : AreFiles (files_of g) numbers targets)
     where
@@ -280,7 +261,7 @@ module _ (entries : List ReadStatement) (g : GraphModel) (is : IsGraphOf g entri
 
         pub singles-failed : (old new : SinkState) (f : ToolFault)
             → StopsWithin old new (command_lines entries (own_commands g.built.graph numbers)) f
-            → ReturnsFor entries (single_commands words) old new (Err (fault_of_tool f))
+            → ReturnsFor entries (single_commands words) old new (Err (error_of_tool f))
         singles-failed old new f stopped_so =
             stops (single_commands words) old new f
             (subst (λ t. StopsWithin old new t f) singles-text stopped_so)
@@ -307,7 +288,7 @@ module _ (entries : List ReadStatement) (g : GraphModel) (is : IsGraphOf g entri
 
           pub inputs-failed : (old new : SinkState) (f : ToolFault)
               → StopsWithin old new (inputs_text style (edges_of g) (map (path_at (files_of g)) numbers)) f
-              → ReturnsFor entries (ask.inputs words validations style) old new (Err (fault_of_tool f))
+              → ReturnsFor entries (ask.inputs words validations style) old new (Err (error_of_tool f))
           inputs-failed old new f stopped_so =
               stops (ask.inputs words validations style) old new f
               (subst (λ t. StopsWithin old new t f) inputs-are stopped_so)
@@ -345,7 +326,7 @@ module _ (entries : List ReadStatement) (g : GraphModel) (is : IsGraphOf g entri
           -- the mark leads to no edge
           commands-out_of_range : (s : SinkState)
               → is_valid (makers_of g.built.graph) (row_of g.built.graph numbers) start ≡ false
-              → ReturnsFor entries (commands words validations take start) s s (Err fault.MarkOutOfRange)
+              → ReturnsFor entries (commands words validations take start) s s (Err error.MarkOutOfRange)
           commands-out_of_range s invalid =
               let misled : leads entries targets start ≡ false = sym leads-is ∙ invalid in (
                 ends-so (faulty out_of_range) (misled, refl),
@@ -359,7 +340,7 @@ module _ (entries : List ReadStatement) (g : GraphModel) (is : IsGraphOf g entri
 
           pub commands-not_resumed : (s : SinkState) (f : MarkFault)
               → ResumeIs g.built.graph numbers start (Err f)
-              → ReturnsFor entries (commands words validations take start) s s (Err (fault_of_mark f))
+              → ReturnsFor entries (commands words validations take start) s s (Err (error_of_mark f))
           commands-not_resumed s mark.BadMark never = absurd never
           commands-not_resumed s mark.MarkOutOfRange invalid = commands-out_of_range s invalid
           commands-not_resumed s mark.OutOfMemory valid =
@@ -420,7 +401,7 @@ module _ (entries : List ReadStatement) (g : GraphModel) (is : IsGraphOf g entri
 
             pub commands-failed : (old new : SinkState) (f : ToolFault)
                 → StopsWithin old new (command_lines entries (written take w.left)) f
-                → ReturnsFor entries (commands words validations take start) old new (Err (fault_of_tool f))
+                → ReturnsFor entries (commands words validations take start) old new (Err (error_of_tool f))
             commands-failed old new f stopped_so =
                 stops (commands words validations take start) old new f
                 (subst (λ t. StopsWithin old new t f) text-is stopped_so)

@@ -6,7 +6,6 @@ use Rattle.nj_scope.specs.Readings.{Reading}
 use Rattle.nj_scope.specs.ReadingList.{ReadStatement}
 use Rattle.nj_faults.specs.declared.fault.GraphFault.{GraphFault}
 use Rattle.nj_faults.specs.FaultLines.{fault_line}
-use Rattle.nj_faults.specs.Faults.{no_memory}
 use Rattle.nj_graph.specs.Graph.{IsGraphOf}
 use Rattle.nj_graph.specs.Loads.{LoadedModel}
 use Rattle.nj_graph.specs.Runs.{IsRead}
@@ -15,8 +14,7 @@ use Rattle.nj_args.specs.Requests.{request_of}
 use Rattle.nj_args.specs.RunMarks.{run_mark_text}
 use Rattle.nj_args.specs.declared.usage_fault.UsageFault.{UsageFault}
 use Rattle.nj_tools.specs.Lines.{line}
-use Rattle.nj_tools.specs.Sinks.{SinkState, Takes}
-use Rattle.nj_tools.specs.Texts.{TakesFront}
+use Rattle.nj_tools.specs.Sinks.{Takes}
 use Rattle.nj_cli.specs.Answers.{output_of, Ending, finished, stopped, faulty, EndsWith}
 use Rattle.nj_cli.specs.Reported.{Reported}
 use Rattle.nj_cli.specs.Inside.RunSteps.{follows_validations, out_of_range, ReturnsFor, ReportsLine}
@@ -24,24 +22,15 @@ use Rattle.nj_cli.specs.Inside.RunSteps.{ReportsMark, Concludes}
 use Rattle.nj_cli.specs.Runs.{Around, out_of_memory, RunEnds, AreStatements, HaveFault, IsAnswered, RunsAs}
 use Rattle.nj_cli.specs.Runs.{RunsWith, RunsWords, RunsAsAndKeeps, RunsAndKeepsWith, RunsAndKeeps}
 use Rattle.nj_cli.specs.Runs.RunEnds.{reported, output_fails, memory_fails}
-use Rattle.nj_cli.specs.declared.run_fault.RunFault.{RunFault}
-use Rattle.nj_cli.specs.declared.run_fault.RunFault.TheVariants as fault
+use Rattle.nj_tools.specs.declared.error.Error.{Error}
+use Rattle.nj_tools.specs.declared.error.Error.TheVariants as error
 use Rattle.nj_cli.specs.declared.status.Status.{Status}
 use Rattle.nj_cli.specs.declared.status.Status.TheVariants.{Done, Fault, Usage, Stopped, OutputFailed}
-use Rattle.nj_cli.proofs.ReturnLemmas.{NoEdgeNeedsItself-stated, TakesFront-none}
+use Rattle.nj_cli.proofs.ReturnLemmas.{NoEdgeNeedsItself-stated}
 
 -- ---- the ends
 
 module _ (entries : List ReadStatement) (action : ActionModel) (old new : Around) where
-  -- memory ran out before anything was output
-  early : new.output ≡ old.output → Reported old.error new.error (line out_of_memory)
-      → RunEnds entries action old new Fault
-  early same known =
-      memory_fails
-      (subst (λ (s : SinkState). TakesFront old.output s (output_of entries action)) (sym same)
-      (TakesFront-none old.output (output_of entries action)))
-      known
-
   -- the line of a fault was reported
   reported-fault : (text : List ℕ) → EndsWith entries action (faulty text)
       → Takes old.output new.output (output_of entries action)
@@ -57,17 +46,12 @@ module _ (entries : List ReadStatement) (action : ActionModel) (old new : Around
     took,
   ) known
 
-  graph-fault : (f : GraphFault)
-      → ((f ≡ no_memory) × (new.output ≡ old.output))
-      ⊎ (EndsWith entries action (faulty (fault_line f))
-      × Takes old.output new.output (output_of entries action))
+  graph-fault : (f : GraphFault) → EndsWith entries action (faulty (fault_line f))
+      → Takes old.output new.output (output_of entries action)
       → Reported old.error new.error (line (fault_line f)) ⊎ Reported old.error new.error (line out_of_memory)
       → RunEnds entries action old new Fault
-  graph-fault f (inl (none, same)) (inl known) =
-      early same (subst (λ (k : GraphFault). Reported old.error new.error (line (fault_line k))) none known)
-  graph-fault f (inl (none, same)) (inr known) = early same known
-  graph-fault f (inr (ends, took)) (inl known) = reported-fault (fault_line f) ends took known
-  graph-fault f (inr (ends, took)) (inr known) = late took known
+  graph-fault f ends took (inl known) = reported-fault (fault_line f) ends took known
+  graph-fault f ends took (inr known) = late took known
 
   abbrev stop : (mark : List ℕ) → Ending
   stop mark = stopped (run_mark_text (follows_validations action) mark)
@@ -82,21 +66,24 @@ module _ (entries : List ReadStatement) (action : ActionModel) (old new : Around
   stopped-at mark Done ends took known = absurd known
   stopped-at mark Usage ends took known = absurd known
 
-  pub Answers-from : (status : Status) (result : Result (Option (List ℕ)) RunFault)
+  pub Answers-from : (status : Status) (result : Result (Option (List ℕ)) Error)
       → ReturnsFor entries action old.output new.output result
       → Concludes (follows_validations action) old.error new.error result status
       → RunEnds entries action old new status
   Answers-from status (Ok None) outcomes concludes = reported finished outcomes.0 outcomes.1 concludes
   Answers-from status (Ok (Some mark)) outcomes concludes =
       stopped-at mark status outcomes.0 outcomes.1 concludes
-  Answers-from status (Err (fault.Graph f)) outcomes concludes =
-      subst (RunEnds entries action old new) (sym concludes.1) (graph-fault f outcomes concludes.0)
-  Answers-from status (Err fault.MarkOutOfRange) outcomes concludes =
+  Answers-from status (Err (error.Graph f)) outcomes concludes =
+      subst (RunEnds entries action old new) (sym concludes.1)
+      (graph-fault f outcomes.0 outcomes.1 concludes.0)
+  Answers-from status (Err error.EmptyPath) outcomes concludes = absurd outcomes
+  Answers-from status (Err error.BadMark) outcomes concludes = absurd outcomes
+  Answers-from status (Err error.MarkOutOfRange) outcomes concludes =
       subst (RunEnds entries action old new) (sym concludes.1)
       (reported-fault out_of_range outcomes.0 outcomes.1 concludes.0)
-  Answers-from status (Err fault.Write) outcomes concludes =
+  Answers-from status (Err error.Write) outcomes concludes =
       subst (RunEnds entries action old new) (sym concludes.1) (output_fails outcomes concludes.0)
-  Answers-from status (Err fault.OutOfMemory) outcomes concludes =
+  Answers-from status (Err error.OutOfMemory) outcomes concludes =
       subst (RunEnds entries action old new) (sym concludes.1) (memory_fails outcomes concludes.0)
 
 -- all files were read, and this is the graph of their statements: it is kept

@@ -1,12 +1,9 @@
 -- The outcome of a run, by the statements of its files and by its action: its output, and how it ends.
-use Rattle.std.specs.Prelude.{◌≡◌, ◌≢◌, ℕ, Bool, true, false, if◌then◌else◌, Option, Some, None, Result, Ok, MatchResult, List, [], length, slice_get, codes}
+use Rattle.std.specs.Prelude.{◌≡◌, ◌≢◌, ℕ, Bool, true, false, if◌then◌else◌, Option, option_map, Result, Ok, MatchResult, List, [], length, codes}
 use Rattle.std.specs.Option.{option_map_or}
 use Rattle.std.specs.Result.{result_ok}
 use Rattle.nj_scope.specs.ReadingList.{ReadStatement}
-use Rattle.nj_statements.specs.EdgeList.{EdgeModel, edges_read}
-use Rattle.nj_faults.specs.declared.fault.Cause.TheVariants.{TextNotUtf8}
 use Rattle.nj_faults.specs.declared.fault.GraphFault.{GraphFault}
-use Rattle.nj_faults.specs.Faults.{fault_at, unplaced}
 use Rattle.nj_faults.specs.FaultLines.{fault_line}
 use Rattle.nj_needs.specs.MarkTexts.{ReadsBack}
 use Rattle.nj_edges.specs.Needs.{makers_of_inputs}
@@ -15,7 +12,7 @@ use Rattle.nj_needs.specs.Marks.{is_valid, rest}
 use Rattle.nj_needs.specs.Pages.{IsMarkAfter}
 use Rattle.nj_needs.specs.PageWalks.{written, left_after}
 use Rattle.nj_tools.specs.CommandStrings.{command_lines, own_commands_in}
-use Rattle.nj_tools.specs.Compdb.{compdb_text, unheld_edge}
+use Rattle.nj_tools.specs.Compdb.{compdb_text, text_fault, unheld_edge}
 use Rattle.nj_tools.specs.Listings.{inputs_text, targets_text}
 use Rattle.nj_tools.specs.Queries.{query_text}
 use Rattle.nj_tools.specs.RuleLists.{rules_text}
@@ -91,16 +88,11 @@ PageEnds entries validations take start targets (stopped text) =
 PageEnds entries validations take start targets (faulty text) =
     (leads entries targets start ≡ false) × (text ≡ codes "ninja-explain: mark out of range")
 
--- JSON cannot contain a string of an edge: the fault is at its build statement
-abbrev pub text_fault : Option EdgeModel → GraphFault
-text_fault edge = option_map_or (λ e. fault_at e.file e.spot TextNotUtf8) edge (unplaced TextNotUtf8)
-
 -- how a run ends for targets; `compdb` ends at the first edge that JSON cannot contain, and the others finish
 abbrev pub EndsFor : List ReadStatement → ActionModel → (targets : List (List ℕ)) → Ending → Type 0
 EndsFor entries (commands words validations take start) targets ending = PageEnds entries validations take start targets ending
 EndsFor entries (ask.compdb names directory expand) targets ending =
-    let refused : ℕ → Ending = λ edge. faulty (fault_line (text_fault (slice_get (edges_read entries) edge))) in
-    ending ≡ option_map_or refused (unheld_edge entries names expand) finished
+    ending ≡ option_map_or (λ fault. faulty (fault_line fault)) (option_map (text_fault entries) (unheld_edge entries names expand)) finished
 EndsFor entries other targets ending = ending ≡ finished
 
 -- The ending of a run. The faults of targets, from the left, come before the fault of the mark.

@@ -1,10 +1,8 @@
 -- What the contracts of this crate cite: each name comes from the module in its line.
 pub use Rattle.nj_cli.specs.Headline.{WritesTheNeeded, PageStringsJoin, StoppedRunsContinue, OneEnding}
 pub use Rattle.nj_scope.specs.ReadingList.{ReadStatement}
-pub use Rattle.nj_statements.specs.EdgeList.{edges_read}
-pub use Rattle.nj_graph.specs.Graph.{edges_of, IsGraphOf, files_of}
+pub use Rattle.nj_graph.specs.Graph.{IsGraphOf, files_of}
 pub use Rattle.nj_requests.specs.Actions.{action_model, commands, single_commands, request_model}
-pub use Rattle.nj_cli.specs.Answers.{text_fault}
 pub use Rattle.nj_cli.specs.Inside.RunSteps.{follows_validations, ReturnsFor, mark_line, Concludes, ReportsLine, ReportsMark, ReportsMisuse}
 pub use Rattle.nj_cli.specs.Inside.RunSteps.{ReadsGraph}
 pub use Rattle.nj_faults.specs.FaultLines.{fault_line}

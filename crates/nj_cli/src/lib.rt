@@ -5,7 +5,6 @@ mod laws;
 mod perform;
 mod report;
 mod run;
-mod run_fault;
 mod run_targets;
 mod status;
 

@@ -1,19 +1,18 @@
 //! Performs a run's action on the graph of its files.
 
-ghost use Rattle.std.specs.Prelude.{◌≡◌, ℕ, ◌<◌, List, length, map, slice_get, string_bytes, IfOk};
-ghost use Rattle.nj_cli.specs.Cited.{ReadStatement, edges_read, edges_of, IsGraphOf, action_model, commands, single_commands, text_fault, follows_validations, ReturnsFor};
+ghost use Rattle.std.specs.Prelude.{◌≡◌, List, map, string_bytes};
+ghost use Rattle.nj_cli.specs.Cited.{ReadStatement, IsGraphOf, action_model, commands, single_commands, follows_validations, ReturnsFor};
 ghost use Rattle.nj_requests.specs.Actions as ask;
 
-use crate::run_fault::RunFault;
 use crate::run_targets::targets_of;
-use nj_graph::{Cause, EdgeNo, Graph, GraphFault};
+use nj_graph::Graph;
 use nj_needs::{Mark, Needs};
 use nj_requests::{Action, InputsStyle, TargetsView};
 use nj_tools::{
-    Sink, ToolFault, write_commands, write_compdb, write_inputs, write_query, write_rules,
+    Error, Sink, write_commands, write_compdb, write_inputs, write_query, write_rules,
     write_single_commands, write_targets,
 };
-use std::alloc::{AllocError, Global};
+use std::alloc::Global;
 
 /// Writes the requested output. Returns the mark at which the run stopped, if it did before its
 /// end.
@@ -22,7 +21,7 @@ pub(crate) fn perform<O: Sink>(
     graph: &Graph,
     action: &Action,
     out: &mut O,
-) -> Result<Option<Mark>, RunFault>
+) -> Result<Option<Mark>, Error>
     ensures { (entries : List ReadStatement) → IsGraphOf graph.now entries
         → ReturnsFor entries (action_model action.now) (O.state out.old) (O.state out.new) result }
 {
@@ -69,7 +68,7 @@ fn run_commands<O: Sink>(
     take: Option<u64>,
     start: &Mark,
     out: &mut O,
-) -> Result<Option<Mark>, RunFault>
+) -> Result<Option<Mark>, Error>
     ensures { (entries : List ReadStatement) → IsGraphOf graph.now entries
         → ReturnsFor entries (commands (map string_bytes words.now) validations take start.now)
         (O.state out.old) (O.state out.new) result }
@@ -86,7 +85,7 @@ fn run_single_commands<O: Sink>(
     graph: &Graph,
     words: &[String],
     out: &mut O,
-) -> Result<Option<Mark>, RunFault>
+) -> Result<Option<Mark>, Error>
     ensures { (entries : List ReadStatement) → IsGraphOf graph.now entries
         → ReturnsFor entries (single_commands (map string_bytes words.now))
         (O.state out.old) (O.state out.new) result }
@@ -104,7 +103,7 @@ fn run_inputs<O: Sink>(
     validations: bool,
     style: InputsStyle,
     out: &mut O,
-) -> Result<Option<Mark>, RunFault>
+) -> Result<Option<Mark>, Error>
     ensures { (entries : List ReadStatement) → IsGraphOf graph.now entries
         → ReturnsFor entries (ask.inputs (map string_bytes words.now) validations style)
         (O.state out.old) (O.state out.new) result }
@@ -120,7 +119,7 @@ fn run_targets<O: Sink>(
     graph: &Graph,
     view: &TargetsView,
     out: &mut O,
-) -> Result<Option<Mark>, RunFault>
+) -> Result<Option<Mark>, Error>
     ensures { (entries : List ReadStatement) → IsGraphOf graph.now entries
         → ReturnsFor entries (ask.targets view.now) (O.state out.old) (O.state out.new) result }
 {
@@ -134,7 +133,7 @@ fn run_query<O: Sink>(
     graph: &Graph,
     words: &[String],
     out: &mut O,
-) -> Result<Option<Mark>, RunFault>
+) -> Result<Option<Mark>, Error>
     ensures { (entries : List ReadStatement) → IsGraphOf graph.now entries
         → ReturnsFor entries (ask.query (map string_bytes words.now))
         (O.state out.old) (O.state out.new) result }
@@ -150,7 +149,7 @@ fn run_rules<O: Sink>(
     graph: &Graph,
     descriptions: bool,
     out: &mut O,
-) -> Result<Option<Mark>, RunFault>
+) -> Result<Option<Mark>, Error>
     ensures { (entries : List ReadStatement) → IsGraphOf graph.now entries
         → ReturnsFor entries (ask.rules descriptions) (O.state out.old) (O.state out.new) result }
 {
@@ -166,31 +165,11 @@ fn run_compdb<O: Sink>(
     directory: &str,
     expand: bool,
     out: &mut O,
-) -> Result<Option<Mark>, RunFault>
+) -> Result<Option<Mark>, Error>
     ensures { (entries : List ReadStatement) → IsGraphOf graph.now entries
         → ReturnsFor entries (ask.compdb (map string_bytes rules.now) directory.now expand)
         (O.state out.old) (O.state out.new) result }
 {
-    match write_compdb(alloc, graph, directory, rules, expand, out) {
-        Ok(()) => Ok(None),
-        Err(ToolFault::TextNotUtf8(edge)) => {
-            let fault = text_fault(alloc, graph, edge)?;
-            Err(RunFault::Graph(fault))
-        }
-        Err(ToolFault::Write) => Err(RunFault::Write),
-        Err(ToolFault::OutOfMemory) => Err(RunFault::OutOfMemory),
-    }
-}
-
-// The fault of an edge with a text that JSON cannot contain.
-fn text_fault(alloc: Global, graph: &Graph, edge: EdgeNo) -> Result<GraphFault, AllocError>
-    requires { edge.0 < length (edges_of graph.now) }
-    ensures { (entries : List ReadStatement) → IsGraphOf graph.now entries
-        → IfOk result (λ fault. fault ≡ text_fault (slice_get (edges_read entries) edge.0)) }
-{
-    let place = graph.edge_place(edge).to_place(alloc)?;
-    Ok(GraphFault {
-        place: Some(place),
-        cause: Cause::TextNotUtf8,
-    })
+    write_compdb(alloc, graph, directory, rules, expand, out)?;
+    Ok(None)
 }

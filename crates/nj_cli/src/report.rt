@@ -4,12 +4,11 @@ ghost use Rattle.std.specs.Prelude.{◌≡◌, ◌++◌, ◌∷◌, [], codes, I
 ghost use Rattle.nj_cli.specs.Cited.{fault_line, Unparsed, line, Reported, mark_line, Concludes, ReportsLine, ReportsMark, ReportsMisuse, out_of_memory};
 ghost use Rattle.nj_args.specs.FaultLines as usage;
 
-use crate::run_fault::RunFault;
 use crate::status::Status;
 use nj_args::UsageFault;
 use nj_graph::GraphFault;
 use nj_needs::Mark;
-use nj_tools::{Sink, write_whole};
+use nj_tools::{Error, Sink, write_whole};
 use std::alloc::{AllocError, Global};
 
 const OUT_OF_MEMORY: &[u8] = b"ninja-explain: out of memory\n";
@@ -24,20 +23,21 @@ pub(crate) fn conclude<E: Sink>(
     alloc: Global,
     err: &mut E,
     validations: bool,
-    outcome: Result<Option<Mark>, RunFault>,
+    outcome: Result<Option<Mark>, Error>,
 ) -> Status
     ensures { Concludes validations (E.state err.old) (E.state err.new) outcome result }
 {
     match outcome {
         Ok(None) => Status::Done,
         Ok(Some(mark)) => report_mark(alloc, err, validations, &mark),
-        Err(RunFault::Graph(fault)) => report_fault(alloc, err, &fault),
-        Err(RunFault::MarkOutOfRange) => {
+        Err(Error::Graph(fault)) => report_fault(alloc, err, &fault),
+        // A run cleans no path that may be empty, and its mark was read before.
+        Err(Error::EmptyPath | Error::BadMark | Error::MarkOutOfRange) => {
             report_line(err, OUT_OF_RANGE);
             Status::Fault
         }
-        Err(RunFault::Write) => Status::OutputFailed,
-        Err(RunFault::OutOfMemory) => report_out_of_memory(err),
+        Err(Error::Write) => Status::OutputFailed,
+        Err(Error::OutOfMemory) => report_out_of_memory(err),
     }
 }
 

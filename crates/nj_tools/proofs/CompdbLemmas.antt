@@ -1,8 +1,8 @@
 -- How the objects of a compilation database are written one after another.
 use Rattle.std.proofs.Common.{◌≡◌, ℕ, zero, suc, ◌+◌, ◌<◌, Bool, true, false, not, ◌&&◌, cond, Option, Some}
 use Rattle.std.proofs.Common.{None, option_map, unwrap_or, List, [], ◌∷◌, ◌++◌, map, length, take, drop, refl}
-use Rattle.std.proofs.Common.{sym, ap, subst, ◌∙◌, append_assoc, append-nil, codes, slice_get}
-use Rattle.std.proofs.Common.{take-append-drop, take_all, flat_map, Result, Ok, Err, is_ok, IfErr, OnOk}
+use Rattle.std.proofs.Common.{sym, ap, ◌∙◌, append_assoc, append-nil, codes, slice_get}
+use Rattle.std.proofs.Common.{take-append-drop, take_all, flat_map, Result, Ok, Err, is_ok, OnOk}
 use Rattle.std.proofs.Common.{arith}
 use Rattle.std.specs.Prelude.{find, take_while}
 use Rattle.std.specs.declared.alloc.AllocError.{AllocError}
@@ -16,21 +16,21 @@ use Rattle.nj_scope.specs.Readings.{IsPrefix}
 use Rattle.nj_scope.specs.ReadingList.{ReadStatement}
 use Rattle.nj_names.specs.declared.files.FileNo.{FileNo}
 use Rattle.nj_edges.specs.Edges.{inputs_of, edges_from}
+use Rattle.nj_faults.specs.declared.fault.GraphFault.{GraphFault}
 use Rattle.nj_names.specs.Files.{AreFiles}
 use Rattle.nj_statements.specs.EdgeList.{edges_read}
 use Rattle.nj_graph.specs.Graph.{GraphModel, edges_of, IsGraphOf, rule_name_of}
 use Rattle.nj_graph.proofs.Stated.{graph-edges}
 use Rattle.nj_tools.specs.declared.tool_fault.ToolFault.{ToolFault}
-use Rattle.nj_edges.specs.declared.edges.EdgeNo.{EdgeNo}
 use Rattle.nj_tools.specs.declared.tool_fault.ToolFault.TheVariants.{TextNotUtf8, Write, OutOfMemory}
-use Rattle.nj_tools.specs.Sinks.{SinkState}
+use Rattle.nj_tools.specs.Sinks.{SinkState, Takes}
 use Rattle.nj_tools.specs.Texts.{StopsWithin}
 use Rattle.nj_tools.specs.Lines.{line}
 use Rattle.nj_tools.specs.Compdb.{Compilation, is_chosen, has_object, listed_edges, compilation_of, is_text}
 use Rattle.nj_tools.specs.Compdb.{json_string, object_text, objects_text, held_before, unheld_edge}
-use Rattle.nj_tools.specs.Compdb.{compdb_text, NamesEdge, WritesCompdb}
+use Rattle.nj_tools.specs.Compdb.{compdb_text, text_fault, WritesCompdb}
 use Rattle.nj_tools.specs.Inside.CompdbHeld.{end_text, first_path, in_json, held_compilation, list_text}
-use Rattle.nj_tools.specs.Inside.CompdbHeld.{object_of_strings}
+use Rattle.nj_tools.specs.Inside.CompdbHeld.{object_of_strings, Refuses}
 use Rattle.nj_tools.proofs.SinkLemmas.{Takes-nil}
 
 -- ---- a path
@@ -377,23 +377,38 @@ module _ (entries : List ReadStatement) (rules : List (List ℕ)) (expand : Bool
 -- ---- the whole list
 
 -- a fault within the text, which is answered
-pub list-stops : (old new : SinkState) (text : List ℕ) (unheld : Option ℕ) (fault : ToolFault)
+pub list-stops : (old new : SinkState) (text : List ℕ) (refused : Option GraphFault) (fault : ToolFault)
     (result : Result Unit ToolFault)
     → IsErrAnd result (λ e. e ≡ fault) → StopsWithin old new text fault
-    → WritesCompdb old new text unheld result
-list-stops old new text unheld fault result err stops =
+    → WritesCompdb old new text refused result
+list-stops old new text refused fault result err stops =
     let (e, is, same) = err_from_is_err_and result err in rw (is, same) (by fault stops)
   where
-    by : (f : ToolFault) → StopsWithin old new text f → WritesCompdb old new text unheld (Err f)
+    by : (f : ToolFault) → StopsWithin old new text f → WritesCompdb old new text refused (Err f)
     by Write within = within
     by OutOfMemory within = within
-    by (TextNotUtf8 edge) within = absurd within
+    by (TextNotUtf8 f) within = absurd within
 
 -- memory ran out before anything was written
-pub list-no_memory : (s : SinkState) (text : List ℕ) (unheld : Option ℕ) (result : Result Unit ToolFault)
-    → IsErrAnd result (λ e. e ≡ OutOfMemory) → WritesCompdb s s text unheld result
-list-no_memory s text unheld result err =
-    list-stops s s text unheld OutOfMemory result err ([], (text, refl), Takes-nil s)
+pub list_no_memory : (s : SinkState) (text : List ℕ) (refused : Option GraphFault)
+    (result : Result Unit ToolFault)
+    → IsErrAnd result (λ e. e ≡ OutOfMemory) → WritesCompdb s s text refused result
+list_no_memory s text refused result err =
+    list-stops s s text refused OutOfMemory result err ([], (text, refl), Takes-nil s)
+
+-- all before an edge that is refused was written, or the whole text
+pub list-ends : (old new : SinkState) (text : List ℕ) (refused : Option GraphFault)
+    (result : Result Unit ToolFault)
+    → Takes old new text → Refuses refused result → WritesCompdb old new text refused result
+list-ends old new text refused (Ok done) took is = (is, took)
+list-ends old new text refused (Err (TextNotUtf8 f)) took is = (is, took)
+list-ends old new text refused (Err Write) took is = absurd is
+list-ends old new text refused (Err OutOfMemory) took is = (text, ([], sym (append-nil text)), took)
+
+-- there was no memory for the place of the edge
+pub refuses-none : (refused : Option GraphFault) (result : Result Unit ToolFault)
+    → IsErrAnd result (λ e. e ≡ OutOfMemory) → Refuses refused result
+refuses-none refused result err = let (e, is, same) = err_from_is_err_and result err in rw (is, same) tt
 
 module _ (entries : List ReadStatement) (directory : List ℕ) (chosen rules : List (List ℕ)) (expand : Bool)
     (same : (rule : List ℕ) → is_chosen chosen rule ≡ is_chosen rules rule) where
@@ -404,8 +419,12 @@ module _ (entries : List ReadStatement) (directory : List ℕ) (chosen rules : L
       (λ e. not e.paths.is_phony && not (is_empty (inputs_of e.paths)) && f (rule_name_of entries e))
       (edges_read entries)) (λ i rule. same rule i)
 
-  pub unheld-same : unheld_edge entries chosen expand ≡ unheld_edge entries rules expand
-  unheld-same = ap (λ ns. find (λ edge. not (is_text (compilation_of entries expand edge))) ns) listed-same
+  -- the edge that was refused has the fault
+  pub fault-is : (unheld : Option ℕ) → unheld ≡ unheld_edge entries chosen expand
+      → option_map (text_fault entries) unheld
+      ≡ option_map (text_fault entries) (unheld_edge entries rules expand)
+  fault-is unheld is = ap (option_map (text_fault entries))
+      (is ∙ ap (λ ns. find (λ edge. not (is_text (compilation_of entries expand edge))) ns) listed-same)
 
   pub list-is : (json : List ℕ) → json ≡ json_string directory
       → list_text entries json chosen expand ≡ compdb_text entries directory rules expand
@@ -416,19 +435,3 @@ module _ (entries : List ReadStatement) (directory : List ℕ) (chosen rules : L
       ∙ ap (λ ns. codes "[" ++ objects_text (json_string directory)
       (take_while is_text (map (compilation_of entries expand) ns))
       ++ end_text (find (λ edge. not (is_text (compilation_of entries expand edge))) ns)) listed-same
-
--- ---- the edge of a fault
-
--- a stop within a text names no edge
-pub stops-names : (count : ℕ) (old new : SinkState) (text : List ℕ) (fault : ToolFault)
-    → StopsWithin old new text fault → NamesEdge count fault
-stops-names count old new text (TextNotUtf8 edge) stops = absurd stops
-stops-names count old new text Write stops = tt
-stops-names count old new text OutOfMemory stops = tt
-
--- the fault that is answered
-pub names-with : {X : Type 0} (count : ℕ) (fault : ToolFault) (result : Result X ToolFault)
-    → IsErrAnd result (λ e. e ≡ fault)
-    → NamesEdge count fault → IfErr result (NamesEdge count)
-names-with count fault (Ok done) err names = tt
-names-with count fault (Err e) err names = subst (NamesEdge count) (sym err) names

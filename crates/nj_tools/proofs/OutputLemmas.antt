@@ -65,7 +65,7 @@ module _ (old new : SinkState) (text more : List ℕ) where
     ),
     Takes-trans _ _ _ _ _ taken sent_taken,
   )
-  stops-later between left (TextNotUtf8 edge) so_far stops = stops
+  stops-later between left (TextNotUtf8 refused) so_far stops = stops
 
   -- a stop within a text is one within any that it begins
   stops-sooner : (fault : ToolFault) → StopsWithin old new text fault
@@ -81,7 +81,7 @@ module _ (old new : SinkState) (text more : List ℕ) where
       some_more (b ∷ rest) some nil = absurd cc
   stops-sooner OutOfMemory (front, (rest, joined), taken) =
       (front, (rest ++ more, ap (λ t. t ++ more) joined ∙ append_assoc front rest more), taken)
-  stops-sooner (TextNotUtf8 edge) stops = stops
+  stops-sooner (TextNotUtf8 refused) stops = stops
 
 pub stops-front : (old new : SinkState) (text whole : List ℕ) (fault : ToolFault) → IsPrefix text whole
     → StopsWithin old new text fault → StopsWithin old new whole fault

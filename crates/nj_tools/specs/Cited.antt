@@ -1,6 +1,6 @@
 -- What the contracts of this crate cite: each name comes from the module in its line.
-pub use Rattle.nj_tools.specs.Compdb.{is_chosen, has_object, compilation_of, objects_text, held_before, compdb_text, unheld_edge, NamesEdge}
-pub use Rattle.nj_tools.specs.Compdb.{WritesCompdb, json_string}
+pub use Rattle.nj_tools.specs.Compdb.{is_chosen, text_fault, has_object, compilation_of, objects_text, held_before, compdb_text}
+pub use Rattle.nj_tools.specs.Compdb.{unheld_edge, WritesCompdb, json_string}
 pub use Rattle.nj_scope.specs.ReadingList.{ReadStatement}
 pub use Rattle.nj_graph.specs.Graph.{edges_of, files_of, IsGraphOf, main_rules, main_rule_at}
 pub use Rattle.nj_tools.specs.Inside.Outputs.{IsSame, PutsText}
@@ -12,9 +12,10 @@ pub use Rattle.nj_tools.specs.Inside.Collections.{single, own_makers, with_file,
 pub use Rattle.nj_tools.specs.Inside.Commands.{command_line}
 pub use Rattle.nj_tools.specs.Inside.Seen.{AreSeen, new_commands}
 pub use Rattle.nj_tools.specs.Texts.{WritesText}
+pub use Rattle.nj_tools.specs.Inside.CompdbHeld.{Refuses, command_text, first_path, held_compilation, list_text, object_of_strings}
+pub use Rattle.nj_tools.specs.Inside.CompdbHeld.{held_string}
 pub use Rattle.nj_names.specs.Files.{AreFiles, path_at}
 pub use Rattle.nj_statements.specs.EdgeList.{edges_read}
-pub use Rattle.nj_tools.specs.Inside.CompdbHeld.{command_text, first_path, held_compilation, list_text, object_of_strings, held_string}
 pub use Rattle.std.specs.List.{fold}
 pub use Rattle.json.specs.Print.{print}
 pub use Rattle.nj_edges.specs.Edges.{edge_at, maker_of}

@@ -1,6 +1,7 @@
 -- The output of `compdb`: a compilation database, which is a list of objects in JSON.
-use Rattle.std.specs.Prelude.{◌≡◌, ℕ, ◌<◌, Bool, ◌&&◌, ◌||◌, not, if◌then◌else◌, Option, Some, None, unwrap_or, is_some, List, [], ◌∷◌, ◌++◌}
+use Rattle.std.specs.Prelude.{◌≡◌, ℕ, Bool, ◌&&◌, ◌||◌, not, if◌then◌else◌, Option, Some, None, unwrap_or, is_some, List, [], ◌∷◌, ◌++◌}
 use Rattle.std.specs.Prelude.{map, find, take_while, flat_map, slice_get, codes, Result, Ok, Err}
+use Rattle.std.specs.Option.{option_map_or}
 use Rattle.std.specs.Str.{is_utf8}
 use Rattle.serde_json.specs.Data.{string}
 use Rattle.serde_json.specs.Written.{compact_text}
@@ -8,13 +9,16 @@ use Rattle.nj_text.specs.Calls.{is_empty}
 use Rattle.nj_scope.specs.ReadingList.{ReadStatement}
 use Rattle.nj_edges.specs.Edges.{edge_at, inputs_of, first_output, is_among, edges_from}
 use Rattle.nj_statements.specs.EdgeList.{EdgeModel, edges_read, paths_of_edges}
+use Rattle.nj_faults.specs.declared.fault.Cause.TheVariants as cause
+use Rattle.nj_faults.specs.declared.fault.GraphFault.{GraphFault}
+use Rattle.nj_faults.specs.Faults.{fault_at, unplaced}
 use Rattle.nj_graph.specs.Graph.{late_text_of, rule_name_of}
 use Rattle.nj_graph.specs.ResponseFiles.{command_with_rsp_of}
 use Rattle.nj_tools.specs.Lines.{line}
 use Rattle.nj_tools.specs.Sinks.{SinkState, Takes}
 use Rattle.nj_tools.specs.Texts.{StopsWithin}
 use Rattle.nj_tools.specs.declared.tool_fault.ToolFault.{ToolFault}
-use Rattle.nj_tools.specs.declared.tool_fault.ToolFault.TheVariants.{TextNotUtf8, Write, OutOfMemory}
+use Rattle.nj_tools.specs.declared.tool_fault.ToolFault.TheVariants.{TextNotUtf8}
 
 -- ---- which edges
 
@@ -90,15 +94,14 @@ compdb_text entries directory rules expand =
 
 -- ---- the tool and its sink
 
+-- the fault of an edge that JSON cannot contain is at its build statement
+abbrev pub text_fault : List ReadStatement → (edge : ℕ) → GraphFault
+text_fault entries edge =
+    option_map_or (λ e. fault_at e.file e.spot cause.TextNotUtf8) (slice_get (edges_read entries) edge) (unplaced cause.TextNotUtf8)
+
 -- The sink took the whole text; or JSON cannot contain a string of an edge, and the sink took all before that edge; or it failed within the
 -- text; or memory ran out after a prefix of it.
-abbrev pub WritesCompdb : (old new : SinkState) → (text : List ℕ) → (unheld : Option ℕ) → Result Unit ToolFault → Type 0
-WritesCompdb old new text unheld (Ok done) = (unheld ≡ None) × Takes old new text
-WritesCompdb old new text unheld (Err (TextNotUtf8 edge)) = (unheld ≡ Some edge.0) × Takes old new text
-WritesCompdb old new text unheld (Err fault) = StopsWithin old new text fault
-
--- the edge that a fault names is one of `count` edges
-abbrev pub NamesEdge : (count : ℕ) → ToolFault → Type 0
-NamesEdge count (TextNotUtf8 edge) = edge.0 < count
-NamesEdge count Write = Unit {0}
-NamesEdge count OutOfMemory = Unit {0}
+abbrev pub WritesCompdb : (old new : SinkState) → (text : List ℕ) → (refused : Option GraphFault) → Result Unit ToolFault → Type 0
+WritesCompdb old new text refused (Ok done) = (refused ≡ None) × Takes old new text
+WritesCompdb old new text refused (Err (TextNotUtf8 fault)) = (refused ≡ Some fault) × Takes old new text
+WritesCompdb old new text refused (Err fault) = StopsWithin old new text fault

@@ -11,11 +11,11 @@ use Rattle.nj_graph.specs.declared.error.Error.TheVariants as graph_error
 use Rattle.nj_tools.specs.declared.tool_fault.ToolFault.{ToolFault}
 use Rattle.nj_tools.specs.declared.tool_fault.ToolFault.TheVariants as tool
 use Rattle.nj_tools.specs.declared.error.Error.{Error}
-use Rattle.nj_tools.specs.declared.error.Error.TheVariants.{Graph, EmptyPath, BadMark, MarkOutOfRange, TextNotUtf8, Write, OutOfMemory}
+use Rattle.nj_tools.specs.declared.error.Error.TheVariants.{Graph, EmptyPath, BadMark, MarkOutOfRange, Write, OutOfMemory}
 
 -- how a fault of a tool is shown
 abbrev pub fault_text : ToolFault → List ℕ
-fault_text (tool.TextNotUtf8 edge) = codes "text is not UTF-8"
+fault_text (tool.TextNotUtf8 fault) = shown_line fault
 fault_text tool.Write = codes "the output could not be written"
 fault_text tool.OutOfMemory = out_of_memory_text
 
@@ -37,7 +37,7 @@ error_of_mark mark.OutOfMemory = OutOfMemory
 
 -- a tool's fault as an error
 abbrev pub error_of_tool : ToolFault → Error
-error_of_tool (tool.TextNotUtf8 edge) = TextNotUtf8 edge
+error_of_tool (tool.TextNotUtf8 fault) = Graph fault
 error_of_tool tool.Write = Write
 error_of_tool tool.OutOfMemory = OutOfMemory
 
@@ -47,6 +47,5 @@ error_text (Graph fault) = shown_line fault
 error_text EmptyPath = codes "empty path"
 error_text BadMark = codes "bad mark"
 error_text MarkOutOfRange = codes "mark out of range"
-error_text (TextNotUtf8 edge) = codes "text is not UTF-8"
 error_text Write = codes "the output could not be written"
 error_text OutOfMemory = out_of_memory_text

@@ -14,7 +14,7 @@ TakesFront old new text = (front : List ℕ) × IsPrefix front text × Takes old
 abbrev pub StopsWithin : (old new : SinkState) → (text : List ℕ) → ToolFault → Type 0
 StopsWithin old new text Write = FailsWithin old new text
 StopsWithin old new text OutOfMemory = TakesFront old new text
-StopsWithin old new text (TextNotUtf8 edge) = ⊥
+StopsWithin old new text (TextNotUtf8 fault) = ⊥
 
 -- The sink took the whole text, or this fault stopped it within.
 abbrev pub WritesText : {X : Type 0} → (old new : SinkState) → (text : List ℕ) → Result X ToolFault → Type 0

@@ -1,14 +1,14 @@
 //! Compilation databases.
 
-ghost use Rattle.std.specs.Prelude.{◌≡◌, ◌<◌, ◌++◌, ℕ, List, All, Some, length, map, option_map, slice_get, string_bytes, IfErr, IfOk, IfSome, OnOk};
-ghost use Rattle.nj_tools.specs.Cited.{ReadStatement, AreFiles, edges_read, edges_of, files_of, IsGraphOf, IsSame, PutsText, has_object, compilation_of, objects_text, held_before, compdb_text, unheld_edge, NamesEdge, WritesCompdb, command_text, first_path, held_compilation, list_text, object_of_strings};
+ghost use Rattle.std.specs.Prelude.{◌≡◌, ◌<◌, ◌++◌, ℕ, List, All, Some, length, map, option_map, slice_get, string_bytes, IfOk, IfSome, OnOk};
+ghost use Rattle.nj_tools.specs.Cited.{text_fault, Refuses, ReadStatement, AreFiles, edges_read, edges_of, files_of, IsGraphOf, IsSame, PutsText, has_object, compilation_of, objects_text, held_before, compdb_text, unheld_edge, WritesCompdb, command_text, first_path, held_compilation, list_text, object_of_strings};
 
 use crate::chosen_rules::ChosenRules;
 use crate::json_strings::{held_string, json_string};
 use crate::output::Output;
 use crate::sinks::Sink;
 use crate::tool_fault::ToolFault;
-use nj_graph::{EdgeNo, FileNo, Graph};
+use nj_graph::{Cause, EdgeNo, FileNo, Graph, GraphFault};
 use std::alloc::{AllocError, Global};
 use std::marker::Model;
 
@@ -22,6 +22,7 @@ use std::marker::Model;
 /// `TextNotUtf8` if the command, the first input or the first output of an edge is not UTF-8: the
 /// sink took the objects before it, without the end of the list. `Write` if the sink failed, and
 /// `OutOfMemory` if an allocation failed; the sink has then taken a prefix of the text.
+#[tactic(auto, using(crate::proofs::CompdbLemmas::list_no_memory))]
 pub fn write_compdb<S: Sink>(
     alloc: Global,
     graph: &Graph,
@@ -30,11 +31,11 @@ pub fn write_compdb<S: Sink>(
     expand: bool,
     out: &mut S,
 ) -> Result<(), ToolFault>
-    ensures writes { (entries : List ReadStatement) → IsGraphOf graph.now entries
+    ensures { (entries : List ReadStatement) → IsGraphOf graph.now entries
         → WritesCompdb (S.state out.old) (S.state out.new)
         (compdb_text entries directory.now (map string_bytes rules.now) expand)
-        (unheld_edge entries (map string_bytes rules.now) expand) result }
-    ensures known { IfErr result (NamesEdge (length (edges_of graph.now))) }
+        (option_map (text_fault entries) (unheld_edge entries (map string_bytes rules.now) expand))
+        result }
 {
     let chosen = ChosenRules::new(alloc, rules)?;
     let directory = json_string(alloc, directory)?;
@@ -42,10 +43,23 @@ pub fn write_compdb<S: Sink>(
     let mut output = Output::new(out, &mut text);
     let unheld = write_list(alloc, graph, &chosen, &directory, expand, &mut output)?;
     output.flush()?;
-    match unheld {
-        Some(edge) => Err(ToolFault::TextNotUtf8(edge)),
-        None => Ok(()),
-    }
+    refuse(alloc, graph, unheld)
+}
+
+/// Refuses an edge that JSON cannot contain, if there is one. The fault is at its build statement.
+pub(crate) fn refuse(alloc: Global, graph: &Graph, unheld: Option<EdgeNo>) -> Result<(), ToolFault>
+    requires { IfSome unheld (λ edge. edge.0 < length (edges_of graph.now)) }
+    ensures { (entries : List ReadStatement) → IsGraphOf graph.now entries → Refuses
+        (option_map (text_fault entries) (option_map (λ edge. edge.0) unheld)) result }
+{
+    let Some(edge) = unheld else {
+        return Ok(());
+    };
+    let place = graph.edge_place(edge).to_place(alloc)?;
+    Err(ToolFault::TextNotUtf8(GraphFault {
+        place: Some(place),
+        cause: Cause::TextNotUtf8,
+    }))
 }
 
 // Writes the list. Returns the first edge that JSON cannot contain, before which it stops; `None`
@@ -67,7 +81,6 @@ fn write_list<S: Sink>(
         ≡ unheld_edge entries chosen.now expand) }
     ensures known { IfOk result (λ edge.
         IfSome edge (λ edge. edge.0 < length (edges_of graph.now))) }
-    ensures faults { IfErr result (NamesEdge (length (edges_of graph.now))) }
 {
     out.text(b"[")?;
     match write_objects(alloc, graph, chosen, directory, expand, out)? {
@@ -98,7 +111,6 @@ fn write_objects<S: Sink>(
         ≡ unheld_edge entries chosen.now expand) }
     ensures known { IfOk result (λ edge.
         IfSome edge (λ edge. edge.0 < length (edges_of graph.now))) }
-    ensures faults { IfErr result (NamesEdge (length (edges_of graph.now))) }
 {
     let mut separator = b"\n".as_slice();
     'edges: for number in 0..graph.edge_count() {

@@ -1,8 +1,9 @@
 //! The edges of a graph as objects of JSON.
 
-ghost use Rattle.std.specs.Prelude.{◌≡◌, ◌<◌, List, IfErr, IfOk, IfSome, OnOk, length, option_map};
-ghost use Rattle.nj_tools.specs.Cited.{fold, print, ReadStatement, edge_at, edges_of, IsGraphOf, NamesEdge, WritesCompdb, edge_lines, edge_object, file_members, head_members, unwritable_edge, value_member, value_members, IsSame, PutsText, and_member, held_text};
+ghost use Rattle.std.specs.Prelude.{◌≡◌, ◌<◌, List, IfOk, IfSome, OnOk, length, option_map};
+ghost use Rattle.nj_tools.specs.Cited.{text_fault, fold, print, ReadStatement, edge_at, edges_of, IsGraphOf, WritesCompdb, edge_lines, edge_object, file_members, head_members, unwritable_edge, value_member, value_members, IsSame, PutsText, and_member, held_text};
 
+use crate::compdb::refuse;
 use crate::object_text::ObjectText;
 use crate::output::Output;
 use crate::sinks::Sink;
@@ -25,19 +26,15 @@ pub fn write_edge_objects<S: Sink>(
     graph: &Graph,
     out: &mut S,
 ) -> Result<(), ToolFault>
-    ensures writes { (entries : List ReadStatement) → IsGraphOf graph.now entries
+    ensures { (entries : List ReadStatement) → IsGraphOf graph.now entries
         → WritesCompdb (S.state out.old) (S.state out.new) (edge_lines entries)
-        (unwritable_edge entries) result }
-    ensures known { IfErr result (NamesEdge (length (edges_of graph.now))) }
+        (option_map (text_fault entries) (unwritable_edge entries)) result }
 {
     let mut text = Vec::new(alloc);
     let mut output = Output::new(out, &mut text);
     let unwritable = write_lines(alloc, graph, &mut output)?;
     output.flush()?;
-    match unwritable {
-        Some(edge) => Err(ToolFault::TextNotUtf8(edge)),
-        None => Ok(()),
-    }
+    refuse(alloc, graph, unwritable)
 }
 
 // Writes the lines of edges. Returns the first edge that JSON cannot contain, before which it
@@ -55,7 +52,6 @@ fn write_lines<S: Sink>(
         → IfOk result (λ edge. option_map (λ edge. edge.0) edge ≡ unwritable_edge entries) }
     ensures known { IfOk result (λ edge.
         IfSome edge (λ edge. edge.0 < length (edges_of graph.now))) }
-    ensures faults { IfErr result (NamesEdge (length (edges_of graph.now))) }
 {
     'edges: for number in 0..graph.edge_count() {
         let edge = EdgeNo(number);

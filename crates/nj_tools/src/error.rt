@@ -6,7 +6,7 @@ ghost use Rattle.nj_tools.specs.Cited.{error_of_text, TakesGraphFault, error_of_
 
 use crate::sinks::SinkFault;
 use crate::tool_fault::ToolFault;
-use nj_graph::{EdgeNo, GraphFault, TextFault};
+use nj_graph::{GraphFault, TextFault};
 use nj_needs::MarkFault;
 use nj_text::OUT_OF_MEMORY_TEXT;
 use std::alloc::{AllocError, AllocFailed};
@@ -24,8 +24,6 @@ pub enum Error {
     BadMark,
     /// A mark leads to no edge.
     MarkOutOfRange,
-    /// A text of this edge is not UTF-8, so that JSON cannot contain it.
-    TextNotUtf8(EdgeNo),
     /// The sink failed.
     Write,
     /// An allocation failed.
@@ -43,7 +41,6 @@ impl fmt::Display for Error {
             Error::EmptyPath => f.write_str("empty path"),
             Error::BadMark => f.write_str("bad mark"),
             Error::MarkOutOfRange => f.write_str("mark out of range"),
-            Error::TextNotUtf8(_) => f.write_str("text is not UTF-8"),
             Error::Write => f.write_str("the output could not be written"),
             Error::OutOfMemory => f.write_str(OUT_OF_MEMORY_TEXT),
         }
@@ -99,7 +96,7 @@ impl From<ToolFault> for Error {
 
     fn from(fault: ToolFault) -> Error {
         match fault {
-            ToolFault::TextNotUtf8(edge) => Error::TextNotUtf8(edge),
+            ToolFault::TextNotUtf8(fault) => Error::Graph(fault),
             ToolFault::Write => Error::Write,
             ToolFault::OutOfMemory => Error::OutOfMemory,
         }

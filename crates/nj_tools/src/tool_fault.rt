@@ -5,17 +5,18 @@ ghost use Rattle.std.specs.Prelude.{◌≡◌, Some};
 ghost use Rattle.nj_tools.specs.Cited.{fault_text};
 
 use crate::sinks::SinkFault;
-use nj_graph::EdgeNo;
+use nj_graph::GraphFault;
 use nj_text::OUT_OF_MEMORY_TEXT;
 use std::alloc::{AllocError, AllocFailed};
 use std::error::Error;
 use std::fmt;
 
 /// Why a tool stopped before the end of its text.
-#[derive(Clone, Copy, Debug, PartialEq, Eq)]
+#[derive(Debug, PartialEq, Eq, Drop)]
 pub enum ToolFault {
-    /// A text of this edge is not UTF-8, so that JSON cannot contain it; from `compdb` only.
-    TextNotUtf8(EdgeNo),
+    /// A text of an edge is not UTF-8, so that JSON cannot contain it: the fault is at the build
+    /// statement of the edge.
+    TextNotUtf8(GraphFault),
     /// The sink failed.
     Write,
     /// An allocation failed.
@@ -27,7 +28,7 @@ impl fmt::Display for ToolFault {
 
     fn fmt<W: fmt::Write>(&self, f: &mut fmt::Formatter<W>) -> fmt::Result {
         match self {
-            ToolFault::TextNotUtf8(_) => f.write_str("text is not UTF-8"),
+            ToolFault::TextNotUtf8(fault) => write!(f, "{fault}"),
             ToolFault::Write => f.write_str("the output could not be written"),
             ToolFault::OutOfMemory => f.write_str(OUT_OF_MEMORY_TEXT),
         }

@@ -7,8 +7,6 @@ use Rattle.nj_scope.specs.Sources.{SourceState}
 use Rattle.nj_scope.specs.ReadingList.{ReadStatement}
 use Rattle.nj_faults.specs.declared.fault.GraphFault.{GraphFault}
 use Rattle.nj_faults.specs.FaultLines.{fault_line}
-use Rattle.nj_faults.specs.declared.fault.Cause.TheVariants.{TextNotUtf8}
-use Rattle.nj_faults.specs.Faults.{no_memory, unplaced}
 use Rattle.nj_graph.specs.Graph.{IsGraphOf}
 use Rattle.nj_graph.specs.Loads.{LoadedModel}
 use Rattle.nj_graph.specs.Runs.{IsRead}
@@ -24,17 +22,10 @@ use Rattle.nj_args.specs.declared.usage_fault.UsageFault.TheVariants as usage
 use Rattle.nj_cli.specs.Answers.{output_of, Ending, finished, stopped, faulty, EndsWith}
 use Rattle.nj_cli.specs.Reported.{Reported}
 use Rattle.nj_cli.specs.Runs.{out_of_memory, AreStatements, HaveFault}
-use Rattle.nj_cli.specs.declared.run_fault.RunFault.{RunFault}
-use Rattle.nj_cli.specs.declared.run_fault.RunFault.TheVariants as fault
-use Rattle.nj_needs.specs.declared.mark_fault.MarkFault.{MarkFault}
-use Rattle.nj_needs.specs.declared.mark_fault.MarkFault.TheVariants as mark
-use Rattle.nj_tools.specs.declared.tool_fault.ToolFault.{ToolFault}
-use Rattle.nj_tools.specs.declared.tool_fault.ToolFault.TheVariants as tool
+use Rattle.nj_tools.specs.declared.error.Error.{Error}
+use Rattle.nj_tools.specs.declared.error.Error.TheVariants as error
 use Rattle.nj_cli.specs.declared.status.Status.{Status}
 use Rattle.nj_cli.specs.declared.status.Status.TheVariants.{Done, Fault, Usage, Stopped, OutputFailed}
-use Rattle.std.specs.Global.{Vec}
-use Rattle.nj_names.specs.declared.files.FileNo.{FileNo}
-use Rattle.nj_names.specs.Files.{AreFiles}
 use Rattle.nj_edges.specs.Edges.{EdgePaths}
 use Rattle.nj_needs.specs.Growing.{grown_targets}
 
@@ -48,16 +39,6 @@ GraphOr request before after files (Err fault) = HaveFault request.file request.
 -- these files were read, each path once
 abbrev pub ReadsGraph : RequestModel → (before after : SourceState) → Result LoadedModel GraphFault → Type 0
 ReadsGraph request before after result = (files : List Reading) × IsRead before after [] files × GraphOr request before after files result
-
-abbrev pub fault_of_mark : MarkFault → RunFault
-fault_of_mark mark.BadMark = fault.MarkOutOfRange
-fault_of_mark mark.MarkOutOfRange = fault.MarkOutOfRange
-fault_of_mark mark.OutOfMemory = fault.OutOfMemory
-
-abbrev pub fault_of_tool : ToolFault → RunFault
-fault_of_tool (tool.TextNotUtf8 edge) = fault.Graph (unplaced TextNotUtf8)
-fault_of_tool tool.Write = fault.Write
-fault_of_tool tool.OutOfMemory = fault.OutOfMemory
 
 -- with `--validations` the validations of the edges that the targets need come after them
 abbrev pub with_validations : (validations : Bool) → List EdgePaths → (targets : List (List ℕ)) → List (List ℕ)
@@ -88,17 +69,18 @@ out_of_range = codes "ninja-explain: mark out of range"
 abbrev pub mark_line : (validations : Bool) → (mark : List ℕ) → List ℕ
 mark_line validations mark = line (codes "mark " ++ run_mark_text validations mark)
 
--- the output so far, and how the run ends accordingly
-abbrev pub ReturnsFor : List ReadStatement → ActionModel → (old new : SinkState) → Result (Option (List ℕ)) RunFault → Type 0
+-- the output so far, and how the run ends accordingly; a run has no other errors
+abbrev pub ReturnsFor : List ReadStatement → ActionModel → (old new : SinkState) → Result (Option (List ℕ)) Error → Type 0
 ReturnsFor entries action old new (Ok None) = EndsWith entries action finished × Takes old new (output_of entries action)
 ReturnsFor entries action old new (Ok (Some mark)) =
     EndsWith entries action (stopped (run_mark_text (follows_validations action) mark)) × Takes old new (output_of entries action)
-ReturnsFor entries action old new (Err (fault.Graph f)) =
-    ((f ≡ no_memory) × (new ≡ old)) ⊎ (EndsWith entries action (faulty (fault_line f)) × Takes old new (output_of entries action))
-ReturnsFor entries action old new (Err fault.MarkOutOfRange) =
+ReturnsFor entries action old new (Err (error.Graph fault)) =
+    EndsWith entries action (faulty (fault_line fault)) × Takes old new (output_of entries action)
+ReturnsFor entries action old new (Err error.MarkOutOfRange) =
     EndsWith entries action (faulty out_of_range) × Takes old new (output_of entries action)
-ReturnsFor entries action old new (Err fault.Write) = FailsWithin old new (output_of entries action)
-ReturnsFor entries action old new (Err fault.OutOfMemory) = TakesFront old new (output_of entries action)
+ReturnsFor entries action old new (Err error.Write) = FailsWithin old new (output_of entries action)
+ReturnsFor entries action old new (Err error.OutOfMemory) = TakesFront old new (output_of entries action)
+ReturnsFor entries action old new (Err other) = ⊥
 
 -- the text was reported, or out of memory if there was no memory to make it
 abbrev pub ReportsLine : (old new : SinkState) → (text : List ℕ) → Type 0
@@ -112,13 +94,13 @@ ReportsMark validations old new mark Fault = Reported old new (line out_of_memor
 ReportsMark validations old new mark other = ⊥
 
 -- the report of an outcome
-abbrev pub Concludes : (validations : Bool) → (old new : SinkState) → Result (Option (List ℕ)) RunFault → Status → Type 0
+abbrev pub Concludes : (validations : Bool) → (old new : SinkState) → Result (Option (List ℕ)) Error → Status → Type 0
 Concludes validations old new (Ok None) status = (new ≡ old) × (status ≡ Done)
 Concludes validations old new (Ok (Some mark)) status = ReportsMark validations old new mark status
-Concludes validations old new (Err (fault.Graph f)) status = ReportsLine old new (line (fault_line f)) × (status ≡ Fault)
-Concludes validations old new (Err fault.MarkOutOfRange) status = Reported old new (line out_of_range) × (status ≡ Fault)
-Concludes validations old new (Err fault.Write) status = (new ≡ old) × (status ≡ OutputFailed)
-Concludes validations old new (Err fault.OutOfMemory) status = Reported old new (line out_of_memory) × (status ≡ Fault)
+Concludes validations old new (Err (error.Graph fault)) status = ReportsLine old new (line (fault_line fault)) × (status ≡ Fault)
+Concludes validations old new (Err error.Write) status = (new ≡ old) × (status ≡ OutputFailed)
+Concludes validations old new (Err error.OutOfMemory) status = Reported old new (line out_of_memory) × (status ≡ Fault)
+Concludes validations old new (Err other) status = Reported old new (line out_of_range) × (status ≡ Fault)
 
 -- the report of arguments that are not a valid request
 abbrev pub ReportsMisuse : (old new : SinkState) → UsageFault → Status → Type 0

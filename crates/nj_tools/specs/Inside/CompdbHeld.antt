@@ -1,10 +1,13 @@
 -- How the objects of a compilation database are written one after another.
-use Rattle.std.specs.Prelude.{ℕ, Bool, if◌then◌else◌, Option, Some, None, is_some, unwrap_or, List, [], ◌++◌, slice_get, codes}
+use Rattle.std.specs.Prelude.{◌≡◌, ℕ, Bool, if◌then◌else◌, Option, Some, None, is_some, unwrap_or, Result, Ok, Err, List, [], ◌++◌, slice_get, codes}
 use Rattle.std.specs.Str.{is_utf8}
 use Rattle.nj_scope.specs.ReadingList.{ReadStatement}
+use Rattle.nj_faults.specs.declared.fault.GraphFault.{GraphFault}
 use Rattle.nj_graph.specs.Graph.{late_text_of}
 use Rattle.nj_graph.specs.ResponseFiles.{command_with_rsp_of}
 use Rattle.nj_tools.specs.Lines.{line}
+use Rattle.nj_tools.specs.declared.tool_fault.ToolFault.{ToolFault}
+use Rattle.nj_tools.specs.declared.tool_fault.ToolFault.TheVariants.{TextNotUtf8, Write, OutOfMemory}
 use Rattle.nj_tools.specs.Compdb.{Compilation, held_before, is_text, json_string, objects_text, unheld_edge}
 
 -- the command of an edge, with the contents of its response file in place of the name if `expand` is set
@@ -33,6 +36,13 @@ in_json c = record { command = json_string c.command; file = json_string c.file;
 
 abbrev pub held_compilation : Compilation → Option Compilation
 held_compilation c = if is_text c then Some (in_json c) else None
+
+-- the edge with this fault is refused; or an allocation failed
+abbrev pub Refuses : (refused : Option GraphFault) → Result Unit ToolFault → Type 0
+Refuses refused (Ok done) = refused ≡ None
+Refuses refused (Err (TextNotUtf8 fault)) = refused ≡ Some fault
+Refuses refused (Err Write) = ⊥
+Refuses refused (Err OutOfMemory) = Unit {0}
 
 -- an object whose strings are in JSON already
 unfoldable pub object_of_strings : (directory : List ℕ) → Compilation → List ℕ

@@ -3,7 +3,7 @@ use Rattle.nj_names.specs.Files.{AreFiles}
 use Rattle.nj_graph.specs.Graph.{files_of}
 use Rattle.nj_needs.specs.Resuming.{ResumeIs}
 use Rattle.nj_requests.specs.Actions.{commands}
-use Rattle.nj_cli.specs.Inside.RunSteps.{fault_of_mark, fault_of_tool}
+use Rattle.nj_tools.specs.Errors.{error_of_mark, error_of_tool}
 use Rattle.nj_cli.proofs.ReturnLemmas.{ReturnsFor-err, commands-not_resumed, commands-failed}
 use Rattle.nj_cli.proofs.ReturnLemmas.{commands-answered}
 use Rattle.nj_cli.proofs.perform.run_commands.Goals as goal
@@ -17,7 +17,7 @@ returns-in_err-needs g c = λ entries is.
     c.edge_graph.ensures c.in_err-needs.ensures in
     ReturnsFor-err entries (commands (map string_bytes c.args.words.now) c.args.validations c.args.take
     c.args.start.now) (g.O.Sink.state c.args.out.now) (g.O.Sink.state c.args.out.now)
-    c.from_residual-in_err-needs.result (fault_of_mark c.in_err-needs.field-0.0)
+    c.from_residual-in_err-needs.result (error_of_mark c.in_err-needs.field-0.0)
     c.from_residual-in_err-needs.ensures.1
     (commands-not_resumed entries c.args.graph.now is picked.0 c.deref.result.now are
     (map string_bytes c.args.words.now) c.args.validations picked.1 c.args.take c.args.start.now
@@ -32,7 +32,7 @@ returns-in_err-mark g c = λ entries is.
     c.edge_graph.ensures c.in_ok-needs.ensures in
     ReturnsFor-err entries (commands (map string_bytes c.args.words.now) c.args.validations c.args.take
     c.args.start.now) (g.O.Sink.state c.args.out.now) (g.O.Sink.state c.write_commands.new.out)
-    c.from_residual-in_err-mark.result (fault_of_tool c.in_err-mark.field-0.0)
+    c.from_residual-in_err-mark.result (error_of_tool c.in_err-mark.field-0.0)
     c.from_residual-in_err-mark.ensures.1
     (commands-failed entries c.args.graph.now is picked.0 c.deref.result.now are
     (map string_bytes c.args.words.now) c.args.validations picked.1 c.args.take c.args.start.now resumes.0

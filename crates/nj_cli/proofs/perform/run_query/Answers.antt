@@ -3,7 +3,7 @@ use Rattle.nj_names.specs.Files.{AreFiles}
 use Rattle.nj_graph.specs.Graph.{files_of}
 use Rattle.nj_edges.proofs.GraphLemmas.{files-known}
 use Rattle.nj_requests.specs.Actions as ask
-use Rattle.nj_cli.specs.Inside.RunSteps.{fault_of_tool}
+use Rattle.nj_tools.specs.Errors.{error_of_tool}
 use Rattle.nj_cli.proofs.ReturnLemmas.{ReturnsFor-err, query-failed, query-answered}
 use Rattle.nj_cli.proofs.perform.run_query.Goals as goal
 
@@ -21,7 +21,7 @@ returns-in_err-write_query g c = λ entries is.
     picked.2 in
     ReturnsFor-err entries (ask.query (map string_bytes c.args.words.now)) (g.O.Sink.state c.args.out.now)
     (g.O.Sink.state c.write_query.new.out) c.from_residual-in_err-write_query.result
-    (fault_of_tool c.in_err-write_query.field-0.0) c.from_residual-in_err-write_query.ensures.1
+    (error_of_tool c.in_err-write_query.field-0.0) c.from_residual-in_err-write_query.ensures.1
     (query-failed entries c.args.graph.now is (map string_bytes c.args.words.now) picked.0 picked.1
     c.deref.result.now are (g.O.Sink.state c.args.out.now) (g.O.Sink.state c.write_query.new.out)
     c.in_err-write_query.field-0.0 (c.in_err-write_query.ensures entries is))

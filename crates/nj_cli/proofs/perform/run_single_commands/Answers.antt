@@ -2,7 +2,7 @@ use Rattle.std.proofs.Common.{map, string_bytes, subst, sym}
 use Rattle.nj_names.specs.Files.{AreFiles}
 use Rattle.nj_graph.specs.Graph.{files_of}
 use Rattle.nj_requests.specs.Actions.{single_commands}
-use Rattle.nj_cli.specs.Inside.RunSteps.{fault_of_tool}
+use Rattle.nj_tools.specs.Errors.{error_of_tool}
 use Rattle.nj_cli.proofs.ReturnLemmas.{ReturnsFor-err, singles-failed, singles-answered}
 use Rattle.nj_cli.proofs.perform.run_single_commands.Goals as goal
 
@@ -14,7 +14,7 @@ returns-in_err-write_single_commands g c = λ entries is.
     ReturnsFor-err entries (single_commands (map string_bytes c.args.words.now))
     (g.O.Sink.state c.args.out.now) (g.O.Sink.state c.write_single_commands.new.out)
     c.from_residual-in_err-write_single_commands.result
-    (fault_of_tool c.in_err-write_single_commands.field-0.0)
+    (error_of_tool c.in_err-write_single_commands.field-0.0)
     c.from_residual-in_err-write_single_commands.ensures.1
     (singles-failed entries c.args.graph.now is picked.0 c.deref.result.now are
     (map string_bytes c.args.words.now) picked.1 (g.O.Sink.state c.args.out.now)

@@ -1,11 +1,9 @@
-use Rattle.std.proofs.Common.{◌≡◌, ◌++◌, length, option_map, ap, sym, ◌∙◌, refl, append-nil}
+use Rattle.std.proofs.Common.{◌++◌, option_map, ap, sym, ◌∙◌, refl, append-nil}
 use Rattle.std.specs.Prelude.{codes}
 use Rattle.nj_edges.specs.declared.edges.EdgeNo.{EdgeNo}
-use Rattle.nj_graph.specs.Graph.{edges_of}
 use Rattle.nj_tools.specs.Compdb.{held_before, objects_text, unheld_edge}
 use Rattle.nj_tools.specs.Inside.CompdbHeld.{end_text}
 use Rattle.nj_tools.proofs.OutputLemmas.{adds-next, front-is, front-of, stops-before, stops-next, stops-with}
-use Rattle.nj_tools.proofs.CompdbLemmas.{names-with, stops-names}
 use Rattle.nj_tools.proofs.compdb.write_list.Goals as goal
 
 pub returns-in_err-text-clause-text : goal.returns-in_err-text-clause-text
@@ -47,19 +45,3 @@ returns-in_ok-text-in-None-clause-text g c entries graph =
     ∙ c.in_ok-edge.ensures.unheld entries graph in
     let so_far = adds-next _ refl c.in_ok-text.ensures.text (c.in_ok-edge.ensures.text entries graph) in
     adds-next _ (ap (λ u. codes "[" ++ objects ++ end_text u) none) so_far c.in_ok-text-in-None.ensures.text
-
-pub returns-in_err-text-clause-faults : goal.returns-in_err-text-clause-faults
-returns-in_err-text-clause-faults g c =
-    names-with (length (edges_of c.args.graph.now)) c.in_err-text.field-0.0 c.from_residual.result
-    c.from_residual.ensures.1 (stops-names _ _ _ _ _ c.in_err-text.ensures.text.within)
-
-pub returns-in_err-edge-clause-faults : goal.returns-in_err-edge-clause-faults
-returns-in_err-edge-clause-faults g c =
-    names-with (length (edges_of c.args.graph.now)) c.in_err-edge.field-0.0 c.from_residual-in_err-edge.result
-    c.from_residual-in_err-edge.ensures.1 c.in_err-edge.ensures.faults
-
-pub returns-in_err-text-in-None-clause-faults : goal.returns-in_err-text-in-None-clause-faults
-returns-in_err-text-in-None-clause-faults g c =
-    names-with (length (edges_of c.args.graph.now)) c.in_err-text-in-None.field-0.0
-    c.from_residual-in_err-text-in-None.result c.from_residual-in_err-text-in-None.ensures.1
-    (stops-names _ _ _ _ _ c.in_err-text-in-None.ensures.text.within)

@@ -1,15 +1,14 @@
-use Rattle.std.proofs.Common.{◌≡◌, ◌<◌, ◌+◌, Some, None, length, map, refl, ap, sym, subst, ◌∙◌, arith, rules}
+use Rattle.std.proofs.Common.{◌≡◌, ◌<◌, Some, None, length, map, refl, ap, sym, ◌∙◌, arith, rules}
 use Rattle.nj_statements.specs.EdgeList.{edges_read}
 use Rattle.nj_edges.specs.EdgeGraphs.{EdgeGraph}
 use Rattle.nj_graph.specs.Graph.{edges_of}
 use Rattle.nj_tools.specs.Compdb.{compilation_of, objects_text}
 use Rattle.nj_tools.specs.Inside.CompdbHeld.{held_compilation}
-use Rattle.nj_tools.specs.Inside.Outputs.{Adds}
 use Rattle.nj_tools.proofs.OutputLemmas.{adds-is, adds-next, adds-nothing, same-then, stops-here, stops-next}
 use Rattle.nj_tools.proofs.OutputLemmas.{stops-with}
 use Rattle.nj_tools.proofs.CompdbLemmas.{count-is, written-nothing, so_far-front, none-unheld, all-written}
 use Rattle.nj_tools.proofs.CompdbLemmas.{skipped, passed-edge, is-unheld, before-unheld, object-next}
-use Rattle.nj_tools.proofs.CompdbLemmas.{object-front, object-written, stops-names, names-with}
+use Rattle.nj_tools.proofs.CompdbLemmas.{object-front, object-written}
 use Rattle.nj_tools.proofs.compdb.write_objects.Goals as goal
 use Rattle.nj_tools.proofs.compdb.write_objects.Goals.{then-has_object+in_ok-strings+in-Some+in_ok-write_object}
 use Rattle.nj_tools.proofs.compdb.write_objects.Goals.{else-has_object}
@@ -119,9 +118,3 @@ returns-clause-unheld g c entries graph =
     c.edge_count-number-end.ensures.count ∙ ap (λ (v : EdgeGraph). length v.edges) c.deref.ensures in
     let all : c.edges.number ≡ length (edges_read entries) = omega (arith, count, counted) in
     none-unheld entries _ _ c.args.directory.now _ _ (c.edges.invariant.written entries graph).0 all
-
-pub returns-in_err-write_object-clause-faults : goal.returns-in_err-write_object-clause-faults
-returns-in_err-write_object-clause-faults g c =
-    names-with (length (edges_of c.args.graph.now)) c.in_err-write_object.field-0.0
-    c.from_residual-in_err-write_object.result c.from_residual-in_err-write_object.ensures.1
-    (stops-names _ _ _ _ _ c.in_err-write_object.ensures.text.within)

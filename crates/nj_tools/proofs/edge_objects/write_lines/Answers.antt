@@ -7,7 +7,7 @@ use Rattle.nj_graph.specs.Graph.{edges_of}
 use Rattle.nj_tools.specs.EdgeObjects.{edge_object}
 use Rattle.nj_tools.specs.Inside.ObjectTexts.{held_text}
 use Rattle.nj_tools.proofs.OutputLemmas.{adds-is, adds-next, adds-nothing, stops-here, stops-next, stops-with}
-use Rattle.nj_tools.proofs.CompdbLemmas.{count-is, names-with, stops-names}
+use Rattle.nj_tools.proofs.CompdbLemmas.{count-is}
 use Rattle.nj_tools.proofs.EdgeObjectLemmas.{is-unwritable, line-front, lines-all, lines-before, lines-front}
 use Rattle.nj_tools.proofs.EdgeObjectLemmas.{lines-next, none-unwritable, passed-next}
 use Rattle.nj_tools.proofs.edge_objects.write_lines.Goals as goal
@@ -88,9 +88,3 @@ returns-clause-unwritable g c entries graph =
     c.edge_count-number-end.ensures.count ∙ ap (λ (v : EdgeGraph). length v.edges) c.deref.ensures in
     let all : c.edges.number ≡ length (edges_read entries) = omega (arith, count, counted) in
     none-unwritable entries c.edges.number (c.edges.invariant.written entries graph).0 all
-
-pub returns-in_err-line-clause-faults : goal.returns-in_err-line-clause-faults
-returns-in_err-line-clause-faults g c =
-    names-with (length (edges_of c.args.graph.now)) c.in_err-line.field-0.0 c.from_residual-in_err-line.result
-    c.from_residual-in_err-line.ensures.1
-    (stops-names _ _ _ _ _ c.in_err-line.ensures.text.within)
