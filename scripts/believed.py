@@ -4,8 +4,8 @@
     believed.py [--most LINES] [NAME]
 
 NAME is `run_words` by default; `commands_law` for the headline, with the run that it is about;
-`run_words_and_keep`, which `main` of ninja-explain calls; `nj_c` for the exports of the library for
-C; or `ninja_graph` for its contracts, those of the calls that `nj_ask` exports, and those of the keys
+`run_read_words`, which `main` of ninja-explain calls; `nj_c` for the exports of the library for C;
+or `ninja_graph` for its contracts, those of the calls that `nj_ask` exports, and those of the keys
 and findings that it writes. `all` prints a line for each of these.
 
 It starts at the contract and follows each name in it to its definition, each name in that
@@ -32,7 +32,7 @@ RUN, LAWS = "nj_cli/src/run.rt", "nj_cli/src/laws.rt"
 STARTS = {
     "run_words": [(RUN, "run_words")],
     "commands_law": [(RUN, "run_words"), (LAWS, "commands_law")],
-    "run_words_and_keep": [(RUN, "run_words_and_keep")],
+    "run_read_words": [(RUN, "run_read_words")],
     "nj_c": [],
     "ninja_graph": [
         ("nj_keys/src/pages.rt", "page_from"),

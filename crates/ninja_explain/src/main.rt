@@ -2,10 +2,8 @@
 #![tactic(auto)]
 
 use nj_cli::{
-    DiskFiles, Status, UsageFault, WriteSink, read_words, refuse_words, report_out_of_memory,
-    run_words_and_keep,
+    DiskFiles, Status, WriteSink, read_words, refuse_words, report_out_of_memory, run_read_words,
 };
-use std::alloc::{AllocError, Global};
 use std::io::ErrorKind;
 use std::process::ExitCode;
 use std::{env, io, mem};
@@ -22,14 +20,17 @@ fn run(rt: HostRuntime) -> Status {
         Err(e) if e.kind() == ErrorKind::OutOfMemory => return report_out_of_memory(&mut err),
         Err(_) => return refuse_words(&mut err),
     };
-    let Ok(stdin_for) = stdin_for(rt.alloc(), &words) else {
-        return report_out_of_memory(&mut err);
+    let read = read_words(rt.alloc(), &words);
+    // The name of the file that is read from standard input, if the arguments request that.
+    let stdin_for = match &read {
+        Ok(request) if request.from_stdin => Some(request.file.as_str()),
+        _ => None,
     };
-    let Ok(mut files) = DiskFiles::new(rt, rt.alloc(), stdin_for.as_deref()) else {
+    let Ok(mut files) = DiskFiles::new(rt, rt.alloc(), stdin_for) else {
         return report_out_of_memory(&mut err);
     };
     let mut out = WriteSink::new(rt.stdout());
-    let ended = run_words_and_keep(rt.alloc(), &mut files, &words, &mut out, &mut err);
+    let ended = run_read_words(rt.alloc(), &mut files, &read, &mut out, &mut err);
     let status = ended.status;
     // The process ends here, and its memory with it.
     mem::forget(ended);
@@ -39,13 +40,4 @@ fn run(rt: HostRuntime) -> Status {
 /// The program's arguments, without its name. It fails if one of them is not UTF-8.
 fn words(rt: HostRuntime) -> io::Result<Vec<String>> {
     Ok(env::args(&rt)?.skip(1).collect(rt.alloc())?)
-}
-
-/// The name of the file that is read from standard input, if the arguments request that.
-fn stdin_for(alloc: Global, words: &[String]) -> Result<Option<String>, AllocError> {
-    match read_words(alloc, words) {
-        Ok(request) if request.from_stdin => Ok(Some(request.file)),
-        Err(UsageFault::OutOfMemory) => Err(AllocError),
-        _ => Ok(None),
-    }
 }

@@ -1,12 +1,12 @@
 //! A run of the program.
 
-ghost use Rattle.std.specs.Prelude.{◌≡◌, map, string_bytes};
-ghost use Rattle.nj_cli.specs.Cited.{request_model, ReadsGraph, RunsAs, RunsWords, RunsAsAndKeeps, RunsAndKeeps, around};
+ghost use Rattle.std.specs.Prelude.{◌≡◌, ◌⊎◌, ℕ, Ok, Err, IfOk, IfErr, List, map, string_bytes};
+ghost use Rattle.nj_cli.specs.Cited.{request_of, OutOfMemory, request_model, ReadsGraph, RunsAs, RunsWords, RunsAsAndKeeps, RunsAndKeeps, around};
 
 use crate::perform::{follows_validations, perform};
 use crate::report::{conclude, report_fault, report_misuse};
 use crate::status::Status;
-use nj_args::{Request, read_words};
+use nj_args::{Request, UsageFault, read_words};
 use nj_graph::{GraphFault, Loaded, join_dyndeps, load};
 use nj_scope::FileSource;
 use nj_tools::Sink;
@@ -50,10 +50,30 @@ pub fn run_words_and_keep<S: FileSource, O: Sink, E: Sink>(
         (around (S.state source.new) (O.state out.new) (E.state err.new))
         result.status result.loaded }
 {
-    match read_words(alloc, words) {
-        Ok(request) => run_tool_and_keep(alloc, source, &request, out, err),
+    let read = read_words(alloc, words);
+    run_read_words(alloc, source, &read, out, err)
+}
+
+/// The same as [`run_words_and_keep`] for arguments that [`read_words`] has read.
+pub fn run_read_words<S: FileSource, O: Sink, E: Sink>(
+    alloc: Global,
+    source: &mut S,
+    read: &Result<Request, UsageFault>,
+    out: &mut O,
+    err: &mut E,
+) -> Ended
+    ensures { (words : List (List ℕ))
+        → IfOk read.now (λ request. request_of words ≡ Ok (request_model request))
+        → IfErr read.now (λ fault. (fault ≡ OutOfMemory) ⊎ (request_of words ≡ Err fault))
+        → RunsAndKeeps words
+        (around (S.state source.old) (O.state out.old) (E.state err.old))
+        (around (S.state source.new) (O.state out.new) (E.state err.new))
+        result.status result.loaded }
+{
+    match read {
+        Ok(request) => run_tool_and_keep(alloc, source, request, out, err),
         Err(fault) => Ended {
-            status: report_misuse(alloc, err, &fault),
+            status: report_misuse(alloc, err, fault),
             loaded: None,
         },
     }
