@@ -23,6 +23,7 @@ pub use doubts::{Doubts, EdgeFault};
 pub use drawing::{Extent, draw_affected, draw_needed};
 pub use listing::{Listed, unknown_rule};
 pub use made_files::made_from;
+pub use manifest::is_set;
 pub use needed_faults::needed_fault;
 pub use pages::write_page;
 pub use report::{Change, report_law, write_answer};

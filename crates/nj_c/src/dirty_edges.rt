@@ -1,6 +1,6 @@
 //! The edges that are to be built again where files changed.
 
-ghost use Rattle.std.specs.Prelude.{◌≡◌, ◌<◌, length, map, slice_index_or, false, All, IfOk, MatchOption};
+ghost use Rattle.std.specs.Prelude.{◌≡◌, ◌<◌, length, map, All, IfOk, MatchOption};
 ghost use Rattle.nj_c.specs.Cited.{edges_of, flagged, AreDirty, ListsDirty, Changes, AreKnown, numbers_of};
 
 use crate::asking::change;
@@ -8,6 +8,7 @@ use crate::pages::{keep_edges, known_files};
 use crate::sealed_box::Seal;
 use crate::session::Session;
 use crate::status::Status;
+use nj_ask::is_set;
 use nj_graph::{EdgeNo, Graph};
 use std::alloc::{AllocError, Global};
 
@@ -73,14 +74,4 @@ fn flagged(alloc: Global, flags: &[bool], count: usize) -> Result<Vec<EdgeNo>, A
         }
     }
     Ok(edges)
-}
-
-// Whether the flag at an index is set; past the last one it is not.
-fn is_set(flags: &[bool], index: usize) -> bool
-    ensures { result ≡ slice_index_or flags.now index false }
-{
-    match flags.get(index) {
-        Some(flag) => *flag,
-        None => false,
-    }
 }

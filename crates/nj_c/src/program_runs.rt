@@ -10,13 +10,10 @@ use crate::sealed_box::Seal;
 use crate::session::Session;
 use crate::session_state::Kept;
 use crate::status::Status;
-use nj_cli::run_words;
+use nj_cli::{OUT_OF_MEMORY, run_words};
 use nj_tools::MemorySink;
 use std::alloc::Global;
 use std::mem;
-
-// The line of a run that lacked memory.
-const OUT_OF_MEMORY: &[u8] = b"ninja-explain: out of memory\n";
 
 /// Runs the program with the arguments of a text, over the supplied files: as `ninja-explain` does,
 /// with its exit status, but standard output and standard error are kept in the session. Each

@@ -17,6 +17,6 @@ pub use nj_graph::{Loaded, Name};
 pub use nj_needs::Mark;
 pub use nj_scope::{FileSource, FileTable, HashKeys, MemoryFiles, SourceFault};
 pub use nj_tools::{MemorySink, Sink, SinkFault, WriteSink};
-pub use report::{refuse_words, report_out_of_memory};
+pub use report::{OUT_OF_MEMORY, refuse_words, report_out_of_memory};
 pub use run::{Ended, run_read_words, run_tool, run_words, run_words_and_keep};
 pub use status::Status;

@@ -11,7 +11,8 @@ use nj_needs::Mark;
 use nj_tools::{Error, Sink, write_whole};
 use std::alloc::{AllocError, Global};
 
-const OUT_OF_MEMORY: &[u8] = b"ninja-explain: out of memory\n";
+/// The line of a run that lacked memory.
+pub const OUT_OF_MEMORY: &[u8] = b"ninja-explain: out of memory\n";
 
 const UNREADABLE: &[u8] = b"ninja-explain: cannot read the arguments\n";
 
