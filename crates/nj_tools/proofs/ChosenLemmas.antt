@@ -1,5 +1,5 @@
 -- How the requested rules are looked up by name.
-use Rattle.std.proofs.Common.{◌≡◌, ◌≢◌, ℕ, zero, suc, ◌<◌, ◌≤◌, Bool, true, false, not, ◌||◌, List, [], ◌∷◌}
+use Rattle.std.proofs.Common.{◌≡◌, ◌≢◌, ℕ, zero, suc, ◌<◌, ◌≤◌, Bool, true, false, ◌||◌, List, [], ◌∷◌}
 use Rattle.std.proofs.Common.{map, length, get_or, Result, Ok, Err, refl, sym, ap, ◌∙◌, ⊎_elim, bytes_eq}
 use Rattle.std.proofs.Common.{arith}
 use Rattle.std.specs.Prelude.{is_ok}

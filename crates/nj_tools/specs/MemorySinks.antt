@@ -1,5 +1,5 @@
 -- The known state of a sink in memory.
-use Rattle.std.specs.Prelude.{ℕ, ◌-◌, Bool, List, length, take, Option, Some, None}
+use Rattle.std.specs.Prelude.{ℕ, Bool, List, Option, Some}
 use Rattle.nj_tools.specs.Sinks.{SinkState}
 
 -- a sink in memory

@@ -3,7 +3,6 @@ use Rattle.nj_scope.specs.Readings.{IsPrefix}
 use Rattle.std.proofs.lemmas.List.{take_all, take_at, append-nil}
 use Rattle.nj_tools.specs.CommandStrings.{command_lines, own_commands}
 use Rattle.nj_tools.specs.Inside.Collections.{own_makers}
-use Rattle.nj_tools.specs.Inside.Outputs.{IsSame}
 use Rattle.nj_tools.specs.Inside.Seen.{AreSeen}
 use Rattle.nj_tools.proofs.OutputLemmas.{adds-is, adds-next, same-then, stops-next, text-stopped}
 use Rattle.nj_tools.proofs.OutputLemmas.{text-written}

@@ -1,15 +1,13 @@
 use Rattle.std.proofs.Common.{ℕ, List, [], ◌∷◌, ◌++◌, length, drop, sym, ap, ◌∙◌, append_assoc, refl, rules}
 use Rattle.std.proofs.Common.{arith}
-use Rattle.std.specs.Prelude.{bytes_eq, flat_map, map}
 use Rattle.std.proofs.lemmas.Grind.{common_steps}
 use Rattle.std.proofs.lemmas.List.{take_at}
-use Rattle.nj_names.specs.Files.{path_at}
 use Rattle.nj_edges.specs.Edges.{edge_at, inputs_of}
 use Rattle.nj_graph.specs.Graph.{edges_of, files_of}
 use Rattle.nj_needs.specs.Walks.{commands_of}
 use Rattle.nj_requests.specs.declared.style.InputsStyle.{InputsStyle}
 use Rattle.nj_tools.specs.Inside.Collections.{IsFlagged, with_files}
-use Rattle.nj_tools.specs.Listings.{each_once, needed_inputs, printed, terminated}
+use Rattle.nj_tools.specs.Listings.{printed, terminated}
 use Rattle.nj_tools.proofs.OutputLemmas.{adds-is, adds-next, adds-nothing, stops-here, stops-next, stops-with}
 use Rattle.nj_tools.proofs.CollectedLemmas.{AreOf-none}
 use Rattle.nj_tools.proofs.InputLemmas.{row-front, row-text, rows-are}

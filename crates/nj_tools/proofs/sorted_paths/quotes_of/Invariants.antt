@@ -1,7 +1,6 @@
 use Rattle.std.proofs.Common.{◌≡◌, List, ℕ, map, take, not}
 use Rattle.std.specs.Prelude.{filter}
 use Rattle.nj_text.specs.Quotes.{quoted}
-use Rattle.nj_names.specs.declared.files.FileNo.{FileNo}
 use Rattle.nj_names.specs.Files.{path_at}
 use Rattle.nj_graph.specs.Graph.{files_of}
 use Rattle.nj_tools.specs.Inside.QuotesHeld.{precedes_plain}

@@ -1,4 +1,4 @@
-use Rattle.std.proofs.Common.{ℕ, ◌<◌, length, rules, arith}
+use Rattle.std.proofs.Common.{◌<◌, length, rules, arith}
 use Rattle.nj_statements.specs.EdgeList.{edges_read}
 use Rattle.nj_graph.specs.Graph.{edges_of}
 use Rattle.nj_tools.proofs.OutputLemmas.{adds-is, adds-next, items-are, items-front, items-next, stops-next}

@@ -1,5 +1,5 @@
 use Rattle.std.proofs.Common.{◌≡◌, ◌<◌, ◌+◌, ◌-◌, ◌++◌, [], ◌∷◌, length, map, take, drop, slice_index_or, sym}
-use Rattle.std.proofs.Common.{ap, subst, ◌∙◌, arith, append_assoc, refl, rules}
+use Rattle.std.proofs.Common.{ap, subst, ◌∙◌, arith, refl, rules}
 use Rattle.std.proofs.lemmas.List.Elements.{All-drop, All-take}
 use Rattle.nj_edges.specs.Edges.{maker_of}
 use Rattle.nj_names.specs.Files.{path_at}
