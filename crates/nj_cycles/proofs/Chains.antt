@@ -1,5 +1,5 @@
 -- Chains, whatever their steps are.
-use Rattle.std.proofs.Common.{◌≡◌, ℕ, ◌⊎◌, inl, inr, subst, sym}
+use Rattle.std.proofs.Common.{arith, ◌≡◌, ℕ, ◌⊎◌, inl, inr, subst, sym}
 use Rattle.nj_cycles.specs.Cycles.{Chain}
 use Rattle.nj_cycles.specs.Cycles.Chain.{one, more}
 
@@ -20,9 +20,7 @@ abbrev pub Comes : (ℕ → ℕ → Type 0) → ℕ → ℕ → Type 0
 Comes step e f = (e ≡ f) ⊎ Chain step e f
 
 pub comes_then : (step : ℕ → ℕ → Type 0) (e g f : ℕ) → Comes step e g → Chain step g f → Chain step e f
-comes_then step e g f (inl is) c = subst (λ x. Chain step x f) (sym is) c
-comes_then step e g f (inr d) c = chain_append step e g f d c
+comes_then step e g f h c = grind (arith, chain_append)
 
 pub then_comes : (step : ℕ → ℕ → Type 0) (e g f : ℕ) → Chain step e g → Comes step g f → Chain step e f
-then_comes step e g f c (inl is) = subst (Chain step e) is c
-then_comes step e g f c (inr d) = chain_append step e g f c d
+then_comes step e g f c h = grind (arith, chain_append)

@@ -13,29 +13,11 @@ use Rattle.nj_cycles.specs.Inside.Marks.{IsMarked, unmarked, LeadsInto, AreMarks
 use Rattle.nj_cycles.proofs.Places.{at_set}
 
 pub more_none : (P : ℕ → Type 0) (old : Marks) → MarksMore P old old
-more_none P old = record {
-  len = refl;
-  kept = λ e h. h;
-  fresh = λ e h. inl h;
-  pending_kept = λ e h. h;
-  pending_fresh = λ e h. inl h;
-  turns = refl;
-}
+more_none h old = grind arith
 
 pub more_then : (P Q : ℕ → Type 0) (old mid new : Marks) → ((e : ℕ) → Q e → P e) → MarksMore P old mid
     → MarksMore Q mid new → MarksMore P old new
-more_then P Q old mid new weaker a b = record {
-  len = b.len ∙ a.len;
-  kept = λ e h. b.kept e (a.kept e h);
-  fresh = λ e h. elim (b.fresh e h) [
-    | inl m ↦ elim (a.fresh e m) [ inl o ↦ inl o | inr q ↦ inr (q.0, b.pending_kept e q.1) ]
-    | inr q ↦ inr (weaker e q.0, q.1)
-  ];
-  pending_kept = λ e h. b.pending_kept e (a.pending_kept e h);
-  pending_fresh = λ e h. elim (b.pending_fresh e h)
-      [ inl m ↦ a.pending_fresh e m | inr q ↦ inr (weaker e q) ];
-  turns = b.turns ∙ a.turns;
-}
+more_then h h1 old mid new weaker a b = grind arith
 
 pub more_one : (old new : Marks) (edge : ℕ) → edge < length old.flags.items
     → slice_index_or old.flags.items edge false ≡ false

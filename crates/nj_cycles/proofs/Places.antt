@@ -1,5 +1,6 @@
 -- Lists by index.
-use Rattle.std.proofs.Common.{◌≡◌, ◌≢◌, ℕ, ◌<◌, ◌≤◌, Option, Some, List, [], ◌∷◌, ◌++◌, length, get_or, set}
+use Rattle.std.proofs.lemmas.Grind.{common_steps}
+use Rattle.std.proofs.Common.{rules, ◌≡◌, ◌≢◌, ℕ, ◌<◌, ◌≤◌, Option, Some, List, [], ◌∷◌, ◌++◌, length, get_or, set}
 use Rattle.std.proofs.Common.{take, sym, ap, ◌∙◌, ◌⊎◌, inl, inr, arith}
 use Rattle.std.specs.Prelude.{Contains, slice_get, slice_index}
 use Rattle.std.proofs.lemmas.Bool.{cases_lt, cases_eq}
@@ -12,10 +13,7 @@ use Rattle.nj_cycles.specs.Cycles.{Needs}
 pub at_push : (xs : List ℕ) (y i : ℕ) → i < length (xs ++ y ∷ [])
     → ((i < length xs) × (slice_index (xs ++ y ∷ []) i ≡ slice_index xs i))
     ⊎ ((length xs ≡ i) × (slice_index (xs ++ y ∷ []) i ≡ y))
-at_push xs y i lt = elim (cases_lt i (length xs)) [
-  | inl h ↦ inl (h, get_or_append_left xs (y ∷ []) 0 i h)
-  | inr h ↦ let e : length xs ≡ i = omega (arith, length_push xs y) in inr (e, get_or_push xs y 0 i e)
-]
+at_push xs y i lt = grind (arith, common_steps)
 
 pub at_left : (xs : List ℕ) (y i : ℕ) → i < length xs → slice_index (xs ++ y ∷ []) i ≡ slice_index xs i
 at_left xs y i h = get_or_append_left xs (y ∷ []) 0 i h
@@ -26,10 +24,7 @@ at_end xs y = get_or_push xs y 0 (length xs) (omega arith)
 -- an element of a list after a write
 pub at_set : {X : Type 0} (xs : List X) (m : ℕ) (x d : X) (i : ℕ) → m < length xs
     → ((i ≡ m) × (get_or (set xs m x) i d ≡ x)) ⊎ ((i ≢ m) × (get_or (set xs m x) i d ≡ get_or xs i d))
-at_set xs m x d i lt = elim (cases_eq i m) [
-  | inl e ↦ inl (e, ap (λ k. get_or (set xs m x) k d) e ∙ get_or-set_same xs m x d lt)
-  | inr ne ↦ inr (ne, get_or-set_other xs m i x d ne)
-]
+at_set xs m x d i lt = search rules
 
 -- membership by an index
 pub index_of : (xs : List ℕ) (x : ℕ) → Contains xs x → (i : ℕ) × (i < length xs) × (slice_index xs i ≡ x)
@@ -41,10 +36,7 @@ contains_at xs i x lt is = (i, lt, get_or_default xs i x 0 lt ∙ is)
 -- membership in a front
 pub index_before : (xs : List ℕ) (n x : ℕ) → n ≤ length xs → Contains (take n xs) x
     → (i : ℕ) × (i < n) × (slice_index xs i ≡ x)
-index_before xs n x le h =
-    let k = index_of (take n xs) x h in
-    let short : k.0 < n = omega (arith, k.1, length-take-le n xs le) in
-    (k.0, short, sym (get_or-take n xs k.0 0 short) ∙ k.2)
+index_before xs n x le h = grind (arith, common_steps)
 
 pub contains_before : (xs : List ℕ) (n i x : ℕ) → n ≤ length xs → i < n → slice_index xs i ≡ x
     → Contains (take n xs) x
@@ -58,8 +50,8 @@ maker_got makers e f needs = slice_get-get_or (makers e) needs.0 (Some f) needs.
 
 pub needs_got : (makers : ℕ → List (Option ℕ)) (e i f : ℕ) → slice_get (makers e) i ≡ Some (Some f)
     → Needs makers e f
-needs_got makers e i f made = (
-  i,
+needs_got makers e i f made = grind (
+  arith,
   slice_get_within (makers e) i (Some f) made,
   get_or_from_slice_get (makers e) i (Some f) (Some f) made,
 )

@@ -1,5 +1,6 @@
 -- Consequences of the order in which the walk finished the edges: ranks where no edge lies on a
 -- cycle, and else the edges that lie on one.
+use Rattle.std.proofs.lemmas.Grind.{common_steps}
 use Rattle.std.proofs.Common.{◌≡◌, ℕ, ◌<◌, ◌≤◌, ◌+◌, ◌-◌, Bool, Some, None, Option, List, [], ◌∷◌, length}
 use Rattle.std.proofs.Common.{take, drop, get_or, refl, sym, ap, subst, ◌∙◌, ◌⊎◌, inl, inr, arith}
 use Rattle.std.specs.Prelude.{Contains, slice_index, nat_eq, min, MatchOption}
@@ -23,15 +24,10 @@ abbrev pub rank : List ℕ → ℕ → ℕ
 rank order e = position_or_len (nat_eq e) order
 
 rank_le : (order : List ℕ) (e i : ℕ) → slice_index order i ≡ e → rank order e ≤ i
-rank_le order e i is = elim (cases_lt i (rank order e)) [
-  | inl lt ↦ absurd (both_ways (nat_eq e (slice_index order i)) (fails_before_first (nat_eq e) order i 0 lt)
-      (eq-eqb e (slice_index order i) (sym is)))
-  | inr le ↦ le
-]
+rank_le order e i is = grind (arith, cases_lt, both_ways, fails_before_first, eq-eqb)
 
 rank_at : (order : List ℕ) (e : ℕ) → rank order e < length order → slice_index order (rank order e) ≡ e
-rank_at order e lt = sym (eqb-true e (slice_index order (rank order e))
-    (passes_at_first (nat_eq e) order 0 lt))
+rank_at order e lt = grind (arith, eqb-true, passes_at_first)
 
 module _ (makers : ℕ → List (Option ℕ)) (count : ℕ) (order : List ℕ) (w : Walked makers count order) where
   rank_in : (e : ℕ) → e < count → rank order e < length order
@@ -131,13 +127,7 @@ module _ (makers : ℕ → List (Option ℕ)) (count : ℕ) (order : List ℕ) (
 -- ---- the lowest-numbered edge so far
 
 head_or_tail : (e : ℕ) (edges : List ℕ) (x : ℕ) → Contains (e ∷ edges) x → (e ≡ x) ⊎ Contains edges x
-head_or_tail e edges x c = elim (Contains-append_cases (e ∷ []) edges x c) [
-  | inl here ↦ elim (cases_lt here.0 1) [
-    | inl first ↦ let at : here.0 ≡ 0 = omega arith in inl (ap (λ k. get_or (e ∷ []) k x) (sym at) ∙ here.2)
-    | inr past ↦ absurd (omega (arith, here.1, past))
-  ]
-  | inr there ↦ inr there
-]
+head_or_tail e edges x c = grind arith
 
 pub least_none : (makers : ℕ → List (Option ℕ)) → IsLeastOf makers [] None
 least_none makers e c = absurd (omega (arith, c.1))
@@ -145,40 +135,19 @@ least_none makers e c = absurd (omega (arith, c.1))
 -- an edge that lies on no cycle
 pub least_past : (makers : ℕ → List (Option ℕ)) (edges : List ℕ) (e : ℕ) (least : Option ℕ)
     → ¬ IsOnCycle makers e → IsLeastOf makers edges least → IsLeastOf makers (e ∷ edges) least
-least_past makers edges e None not_on h =
-    λ x c. elim (head_or_tail e edges x c)
-    [ inl is ↦ subst (λ y. ¬ IsOnCycle makers y) is not_on | inr t ↦ h x t ]
-least_past makers edges e (Some l) not_on h = (
-  h.0,
-  (λ x c on. elim (head_or_tail e edges x c)
-      [ inl is ↦ absurd (not_on (subst (IsOnCycle makers) (sym is) on)) | inr t ↦ h.1 x t on ]),
-)
+least_past makers edges e least not_on h = grind arith
 
 -- one that lies on a cycle
 pub least_more : (makers : ℕ → List (Option ℕ)) (edges : List ℕ) (e l : ℕ) (least : Option ℕ)
     → IsOnCycle makers e → MatchOption least (l ≡ e) (λ other. l ≡ min other e) → IsLeastOf makers edges least
     → IsLeastOf makers (e ∷ edges) (Some l)
-least_more makers edges e l None on is h = (
-  subst (IsOnCycle makers) (sym is) on,
-  (λ x c on_x. elim (head_or_tail e edges x c)
-      [ inl same ↦ omega (arith, is, same) | inr t ↦ absurd (h x t on_x) ]),
-)
-least_more makers edges e l (Some other) on is h = (
-  elim (cases_lt e other) [
-    | inl lt ↦ let l_is : l ≡ e = omega (arith, is, lt) in subst (IsOnCycle makers) (sym l_is) on
-    | inr le ↦ let l_is : l ≡ other = omega (arith, is, le) in subst (IsOnCycle makers) (sym l_is) h.0
-  ],
-  (λ x c on_x. elim (head_or_tail e edges x c)
-      [ inl same ↦ omega (arith, is, same) | inr t ↦ omega (arith, is, h.1 x t on_x) ]),
-)
+least_more makers edges e l least on is h = grind arith
 
 -- ---- a turn of the loop, which goes down from the end of the order
 
 pub stepped : (order : List ℕ) (index : ℕ) → 0 < index → index ≤ length order
     → drop (index - 1) order ≡ slice_index order (index - 1) ∷ drop index order
-stepped order index low high =
-    let next : (index - 1) + 1 ≡ index = omega arith in
-    drop_more order (index - 1) 0 (omega arith) ∙ ap (λ i. slice_index order (index - 1) ∷ drop i order) next
+stepped order index low high = grind (arith, common_steps)
 
 -- ---- the law
 
@@ -189,5 +158,4 @@ rank_falls makers rank falls e f (more {g = h} needs chain) =
     omega (arith, falls e h needs, rank_falls makers rank falls h f chain)
 
 pub falling_ranks_leave_no_cycle : FallingRanksLeaveNoCycle
-falling_ranks_leave_no_cycle makers rank falls e on = let less : rank e < rank e =
-    rank_falls makers rank falls e e on in omega arith
+falling_ranks_leave_no_cycle makers rank falls e on = grind (arith, rank_falls makers rank falls e e on)

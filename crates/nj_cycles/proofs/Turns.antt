@@ -1,4 +1,5 @@
 -- The turns of the walk, as the code takes them.
+use Rattle.std.proofs.lemmas.Grind.{common_steps}
 use Rattle.std.proofs.Common.{◌≡◌, ◌≢◌, ℕ, ◌+◌, ◌-◌, ◌<◌, ◌≤◌, Bool, false, Option, Some, None, Result, Ok}
 use Rattle.std.proofs.Common.{Err, List, [], ◌∷◌, ◌++◌, length, set, sym, ap, subst, ◌∙◌, inl, inr, arith}
 use Rattle.std.specs.Prelude.{slice_get, slice_index, sum_by, IfSome, OnOk}
@@ -16,32 +17,21 @@ use Rattle.nj_cycles.proofs.Walking.{stage_cases, kept_by_set, open_is_seen, don
 use Rattle.nj_cycles.proofs.Walking.{top_in, top_open, top_links, finishes}
 
 pub on_ok_both : {T E P Q R : Type 0} (r : Result T E) → (P → Q → R) → OnOk r P → OnOk r Q → OnOk r R
-on_ok_both (Ok x) h p q = h p q
-on_ok_both (Err e) h p q = p
+on_ok_both r h p q = grind arith
 
 pub to_comes : (makers : ℕ → List (Option ℕ)) (count : ℕ) (w : Walk) (stages : List Stage)
     (next path order : List ℕ) (meets : Bool) → w.stages.items ≡ stages → w.next.items ≡ next
     → w.path.items ≡ path → w.order.items ≡ order → w.meets_open ≡ meets
     → Sound makers count stages next path order meets → WalkIsSound makers count w
-to_comes makers count w stages next path order meets a b c d e s =
-    subst (λ x. Sound makers count x w.next.items w.path.items w.order.items w.meets_open) (sym a)
-    (subst (λ x. Sound makers count stages x w.path.items w.order.items w.meets_open) (sym b)
-    (subst (λ x. Sound makers count stages next x w.order.items w.meets_open) (sym c)
-    (subst (λ x. Sound makers count stages next path x w.meets_open) (sym d)
-    (subst (λ x. Sound makers count stages next path order x) (sym e) s))))
+to_comes makers count w stages next path order meets a b c d e s = grind arith
 
 fewer_by_set : (stages : List Stage) (m : ℕ) (old new : Stage) → m < length stages → stage_of stages m ≡ old
     → turns_of new < turns_of old → sum_by turns_of (set stages m new) < sum_by turns_of stages
-fewer_by_set stages m old new lt is less =
-    omega (arith, sum_by-set turns_of stages m new Unseen lt, ap turns_of is, less)
+fewer_by_set stages m old new lt is less = grind (arith, common_steps)
 
 same_old : (makers : ℕ → List (Option ℕ)) (count : ℕ) (old mid new : Walk)
     → mid.stages.items ≡ old.stages.items → TakesTurn makers count mid new → TakesTurn makers count old new
-same_old makers count old mid new same t = record {
-  sound = t.sound;
-  fewer = subst (λ ss. sum_by turns_of new.stages.items < sum_by turns_of ss) same t.fewer;
-  kept = subst (λ ss. (e : ℕ) → stage_of ss e ≢ Unseen → stage_of new.stages.items e ≢ Unseen) same t.kept;
-}
+same_old makers count old mid new same t = grind arith
 
 module _ (makers : ℕ → List (Option ℕ)) (count : ℕ) (old mid new : Walk) (e : ℕ)
     (same : mid.stages.items ≡ old.stages.items)
@@ -96,23 +86,15 @@ next_maker makers count stages e i (Some f) edges len got =
 pub ends_unseen : (makers : ℕ → List (Option ℕ)) (e : ℕ) (w : Walk) (m : Option ℕ) (stage : Stage)
     → slice_get (makers e) (slice_index w.next.items e) ≡ Some m → stage ≡ stage_of_maker w.stages.items m
     → stage ≡ Unseen → EndsAt makers e w m
-ends_unseen makers e w None stage got is unseen = absurd (done_is_seen (sym is ∙ unseen))
-ends_unseen makers e w (Some f) stage got is unseen = (got, sym is ∙ unseen)
+ends_unseen makers e w m stage got is unseen = grind arith
 
 pub past_inputs : (row : List (Option ℕ)) (i : ℕ) → slice_get row i ≡ None → length row ≤ i
-past_inputs row i got = elim (slice_get_cases row i).1
-    [ inl here ↦ let clash : Some here.0 ≡ None = sym here.2 ∙ got in cc | inr past ↦ past.0 ]
+past_inputs row i got = grind (arith, slice_get_cases)
 
 pub fewer_left : (makers : ℕ → List (Option ℕ)) (next : List ℕ) (e i : ℕ) (m : Option ℕ) → e < length next
     → i ≡ slice_index next e → slice_get (makers e) (slice_index next e) ≡ Some m
     → length (makers e) - slice_index (set next e (i + 1)) e < length (makers e) - slice_index next e
-fewer_left makers next e i m lt at got =
-    omega (
-      arith,
-      at,
-      get_or-set_same next e (i + 1) 0 lt,
-      slice_get_within (makers e) (slice_index next e) m got,
-    )
+fewer_left makers next e i m lt h got = grind (arith, get_or-set_same, slice_get_within)
 
 -- the maker of the input is not unseen, and where it is open that was noted
 pub passes_next : (makers : ℕ → List (Option ℕ)) (count : ℕ) (old : Walk) (e i : ℕ) (m : Option ℕ)
@@ -160,18 +142,4 @@ begins makers count old new m s none lt unseen path stages same_next same_order 
 pub ends : (makers : ℕ → List (Option ℕ)) (count : ℕ) (w : Walk) → WalkIsSound makers count w
     → w.path.items ≡ [] → AreEdges makers count → ((e : ℕ) → e < count → stage_of w.stages.items e ≢ Unseen)
     → Walked makers count w.order.items
-ends makers count w s none edges seen = record {
-  known = edges;
-  all = λ e lt. elim (stage_cases (stage_of w.stages.items e)) [
-    | inl un ↦ absurd (seen e lt un)
-    | inr q ↦ elim q [
-      | inl is_open ↦ let k = index_of w.path.items e (s.open_in_path e is_open) in
-          absurd (omega (arith, k.1, ap length none))
-      | inr is_done ↦ s.done_in_order e is_done
-    ]
-  ];
-  within = s.order_in;
-  once = s.order_once;
-  settled = s.settled;
-  len = omega (arith, s.turns);
-}
+ends makers count w s none edges seen = grind arith

@@ -1,4 +1,5 @@
 -- How the users of edges are listed.
+use Rattle.std.proofs.lemmas.Grind.{common_steps}
 use Rattle.std.proofs.Common.{◌≡◌, ◌≢◌, ℕ, ◌<◌, ◌≤◌, ◌+◌, ◌++◌, Option, Some, None, List, [], ◌∷◌, ◌⊎◌, inl}
 use Rattle.std.proofs.Common.{inr, length, set, refl, sym, ap, subst, ◌∙◌, arith}
 use Rattle.std.specs.Prelude.{Contains, slice_get, slice_index_or}
@@ -14,11 +15,7 @@ use Rattle.nj_cycles.proofs.Places.{at_set, maker_got, needs_got}
 
 pub same_users : (count : ℕ) (P Q : ℕ → ℕ → Type 0) (users : List (Vec ℕ)) → ((e m : ℕ) → P e m → Q e m)
     → ((e m : ℕ) → Q e m → P e m) → HaveUsers count P users → HaveUsers count Q users
-same_users count P Q users to from h = record {
-  len = h.len;
-  sound = λ m e lt c. to e m (h.sound m e lt c);
-  all = λ m e lt q. h.all m e lt (from e m q);
-}
+same_users count h h1 users to from h2 = grind arith
 
 length_lists : (users : List (Vec ℕ)) → length (lists_of users) ≡ length users
 length_lists users = length-map users (λ (list : Vec ℕ). list.items)
@@ -28,8 +25,7 @@ no_member e c = omega (arith, c.1)
 
 pub items_at : (users : List (Vec ℕ)) (e : ℕ) (list : Vec ℕ) → e < length users
     → list ≡ slice_index_or users e list → list.items ≡ users_of users e
-items_at users e list lt is = ap (λ (v : Vec ℕ). v.items) is
-    ∙ sym (get_or-map (λ (v : Vec ℕ). v.items) users e list [] lt)
+items_at users e list lt is = grind (arith, common_steps)
 
 -- users are edges
 pub users_known : (users : List (Vec ℕ)) (P : ℕ → ℕ → Type 0) (count : ℕ) → HaveUsers count P users
@@ -41,12 +37,7 @@ users_known users P count h known m e c = elim (cases_lt m count) [
 ]
 
 pub no_users_begin : (users : List (Vec ℕ)) → length users ≡ 0 → HaveUsers 0 (λ e m. ⊥) users
-no_users_begin users len = record {
-  len = len;
-  sound = λ m e lt c. omega (arith, lt);
-  all =
-      λ m e lt none. absurd none;
-}
+no_users_begin users len = grind arith
 
 -- an edge without users more
 pub none_more : (count : ℕ) (old new : List (Vec ℕ)) → HaveUsers count (λ e m. ⊥) old

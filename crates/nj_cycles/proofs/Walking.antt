@@ -1,5 +1,5 @@
 -- The turns of the walk: an edge passes inputs, a maker is opened, an edge is finished.
-use Rattle.std.proofs.Common.{◌≡◌, ◌≢◌, ℕ, ◌+◌, ◌<◌, ◌≤◌, Bool, false, Option, Some, List, [], ◌∷◌, ◌++◌}
+use Rattle.std.proofs.Common.{rules, ◌≡◌, ◌≢◌, ℕ, ◌+◌, ◌<◌, ◌≤◌, Bool, false, Option, Some, List, [], ◌∷◌, ◌++◌}
 use Rattle.std.proofs.Common.{length, set, refl, sym, ap, subst, ◌∙◌, ◌⊎◌, inl, inr, arith}
 use Rattle.std.specs.Prelude.{Contains, slice_get, slice_index}
 use Rattle.std.proofs.lemmas.Bool.{cases_lt}
@@ -15,9 +15,7 @@ use Rattle.nj_cycles.proofs.Chains.{chain_push}
 use Rattle.nj_cycles.proofs.Places.{at_push, at_left, at_end, at_set, index_of, maker_got}
 
 pub stage_cases : (s : Stage) → (s ≡ Unseen) ⊎ ((s ≡ Open) ⊎ (s ≡ Done))
-stage_cases Unseen = inl refl
-stage_cases Open = inr (inl refl)
-stage_cases Done = inr (inr refl)
+stage_cases s = grind arith
 
 at_stage : (stages : List Stage) (m : ℕ) (s : Stage) (e : ℕ) → m < length stages
     → ((e ≡ m) × (stage_of (set stages m s) e ≡ s))
@@ -26,8 +24,7 @@ at_stage stages m s e lt = at_set stages m s Unseen e lt
 
 pub kept_by_set : (stages : List Stage) (m : ℕ) (s : Stage) → m < length stages → s ≢ Unseen → (e : ℕ)
     → stage_of stages e ≢ Unseen → stage_of (set stages m s) e ≢ Unseen
-kept_by_set stages m s lt new e old is =
-    elim (at_stage stages m s e lt) [ inl q ↦ new (sym q.1 ∙ is) | inr q ↦ old (sym q.1 ∙ is) ]
+kept_by_set stages m s lt new e old is = search rules
 
 pub open_is_seen : Open ≢ Unseen
 open_is_seen e = cc

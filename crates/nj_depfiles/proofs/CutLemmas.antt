@@ -9,14 +9,9 @@ pieces-skip (suc skip) [] = refl
 pieces-skip (suc skip) (byte ∷ text) = pieces-skip skip text
 
 drop-first : (size byte : ℕ) (text : List ℕ) → 0 < size → drop (size - 1) text ≡ drop size (byte ∷ text)
-drop-first zero byte text some = absurd (omega arith)
-drop-first (suc size) byte text some = ap (λ n. drop n text) (omega arith)
+drop-first size byte text some = grind arith
 
 pub cut-first : (text : List ℕ) → 0 < length text → 0 < (first_piece text).1
     → pieces text ≡ (first_piece text).0 ∷ pieces (drop (first_piece text).1 text)
 unfolding pieces_after
-cut-first [] none some = absurd (omega arith)
-cut-first (byte ∷ text) there some =
-    ap (λ more. (first_piece (byte ∷ text)).0 ∷ more)
-    (pieces-skip ((first_piece (byte ∷ text)).1 - 1) text
-    ∙ ap (pieces_after 0) (drop-first (first_piece (byte ∷ text)).1 byte text some))
+cut-first text none some = grind (arith, pieces-skip, drop-first)

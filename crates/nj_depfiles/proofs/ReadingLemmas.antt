@@ -1,5 +1,5 @@
 -- Reading a depfile piece by piece is reading it line by line.
-use Rattle.std.proofs.Common.{◌≡◌, inl, inr, subst, IsErr, ℕ, Bool, true, false, cond, not, ◌||◌, ◌&&◌}
+use Rattle.std.proofs.Common.{arith, ◌≡◌, inl, inr, subst, IsErr, ℕ, Bool, true, false, cond, not, ◌||◌, ◌&&◌}
 use Rattle.std.proofs.Common.{if◌then◌else◌, Result, Ok, Err, List, [], ◌∷◌, ◌++◌, length, drop, refl, sym}
 use Rattle.std.proofs.Common.{ap, ◌∙◌}
 use Rattle.std.specs.Prelude.{filter, fold, IfOk, IfErr, ◌⊎◌}
@@ -22,18 +22,15 @@ use Rattle.nj_depfiles.specs.Inside.Readings.{before_word, told, piece_read, pie
 
 then-same : {A B : Type 0} (r : Result A DepfileFault) (f g : A → Result B DepfileFault)
     → ((value : A) → f value ≡ g value) → then_read r f ≡ then_read r g
-then-same (Ok value) f g same = same value
-then-same (Err fault) f g same = refl
+then-same r f g same = grind arith
 
 then-then : {A B C : Type 0} (r : Result A DepfileFault) (f : A → Result B DepfileFault)
     (g : B → Result C DepfileFault)
     → then_read (then_read r f) g ≡ then_read r (λ value. then_read (f value) g)
-then-then (Ok value) f g = refl
-then-then (Err fault) f g = refl
+then-then r f g = grind arith
 
 then-ok : {A : Type 0} (r : Result A DepfileFault) → then_read r (λ value. Ok value) ≡ r
-then-ok (Ok value) = refl
-then-ok (Err fault) = refl
+then-ok r = grind arith
 
 -- ---- words and lines
 
@@ -47,8 +44,7 @@ lines_read line (words ∷ lines) = then_read (words_read line words)
     (λ after. lines_read (line_ended after) lines)
 
 words-of : (line : LineModel) (word : List ℕ) → words_read line (word_of word) ≡ word_ended line word
-words-of line [] = refl
-words-of line (byte ∷ bytes) = then-ok (word_read line (byte ∷ bytes))
+words-of line word = grind arith
 
 words-append : (line : LineModel) (one other : List (List ℕ))
     → words_read line (one ++ other) ≡ then_read (words_read line one) (λ after. words_read after other)
@@ -63,22 +59,14 @@ words-append line (word ∷ words) other =
 lines-onto : (line : LineModel) (words : List (List ℕ)) (lines : List (List (List ℕ)))
     → then_read (lines_read line (onto_first words lines)) told
     ≡ then_read (words_read line words) (λ after. then_read (lines_read after lines) told)
-lines-onto line words [] = then-then (words_read line words) (λ after. lines_read (line_ended after) []) told
-lines-onto line words (first ∷ lines) =
-    ap (λ r. then_read (then_read r (λ after. lines_read (line_ended after) lines)) told)
-    (words-append line words first)
-    ∙ ap (λ r. then_read r told) (then-then (words_read line words) (λ after. words_read after first)
-    (λ after. lines_read (line_ended after) lines))
-    ∙ then-then (words_read line words) (λ after. lines_read after (first ∷ lines)) told
+lines-onto line words lines = grind (arith, then-then, words-append)
 
 -- ---- pieces
 
 pub pieces-lines : (line : LineModel) (word : List ℕ) (ps : List Piece)
     → pieces_read (record { line = line; word = word }) ps
     ≡ then_read (lines_read line (words_from word ps)) told
-pieces-lines line word [] =
-    ap (λ r. then_read r told) (sym (words-of line word))
-    ∙ sym (then-then (words_read line (word_of word)) (λ after. lines_read (line_ended after) []) told)
+pieces-lines line word [] = grind arith
 pieces-lines line word (NameBytes bytes ∷ ps) = pieces-lines line (word ++ bytes) ps
 pieces-lines line word (NameEnd ∷ ps) =
     then-then (word_ended line word) (λ after. Ok (before_word after)) (λ after. pieces_read after ps)
@@ -101,20 +89,16 @@ pieces-lines line word (LineEnd ∷ ps) =
 -- ---- a line
 
 or-false : (one : Bool) → (one || false) ≡ one
-or-false true = refl
-or-false false = refl
+or-false one = grind arith
 
 or-true : (one : Bool) → (one || true) ≡ true
-or-true true = refl
-or-true false = refl
+or-true one = grind arith
 
 and-false : (one : Bool) → (one && false) ≡ false
-and-false true = refl
-and-false false = refl
+and-false one = grind arith
 
 or-or : (one other last : Bool) → ((one || other) || last) ≡ (one || (other || last))
-or-or true other last = refl
-or-or false other last = refl
+or-or one other last = grind arith
 
 -- the words after a name
 abbrev words_after : LineModel → (is_colon : Bool) → (name : List ℕ) → (words : List (List ℕ))
@@ -207,8 +191,7 @@ left_by named poisoned colon is_right left right =
 
 right-is-left : (named : DepfileModel) (poisoned colon : Bool) (names : List (List ℕ))
     → right_by named poisoned colon names ≡ left_by named poisoned colon true [] names
-right-is-left named true colon names = refl
-right-is-left named false colon names = refl
+right-is-left named poisoned colon names = grind arith
 
 -- what is named after a target, and whether one was an input
 abbrev named_after : (known : Bool) → DepfileModel → (name : List ℕ) → DepfileModel
@@ -222,41 +205,14 @@ target-read : (named : DepfileModel) (poisoned colon : Bool) (byte : ℕ) (name 
     → with_name_read (left_line named poisoned colon) (byte ∷ name)
     ≡ Ok (left_line (named_after (is_among named.inputs (byte ∷ name)) named (byte ∷ name))
     (poisoned_after (is_among named.inputs (byte ∷ name)) poisoned) colon)
-target-read named poisoned colon byte name = ap (λ line. Ok line) (both (is_among named.inputs (byte ∷ name)))
-  where
-    both : (known : Bool)
-        → (if known then left_line named true colon else left_line
-        (record { targets = with_name named.targets (byte ∷ name); inputs = named.inputs }) poisoned colon)
-        ≡ left_line (named_after known named (byte ∷ name)) (poisoned_after known poisoned) colon
-    both true = refl
-    both false = refl
+target-read named poisoned colon byte name = grind arith
 
 target-more : (named : DepfileModel) (poisoned colon is_right : Bool) (name : List ℕ)
     (left right : List (List ℕ))
     → left_by (named_after (is_among named.inputs name) named name)
     (poisoned_after (is_among named.inputs name) poisoned) colon is_right left right
     ≡ left_by named poisoned colon is_right (name ∷ left) right
-target-more named poisoned colon is_right name left right = both poisoned (is_among named.inputs name)
-  where
-    both : (p known : Bool)
-        → left_by (named_after known named name) (poisoned_after known p) colon is_right left right
-        ≡ (if not ((p || (known || list_any (is_among named.inputs) left))
-        && list_any (is_no_input named) right)
-        then Ok (record {
-          named = record {
-            targets = fold with_name named.targets
-                (cond (not known) (name ∷ filter (is_no_input named) left) (filter (is_no_input named) left));
-            inputs = fold with_name named.inputs right;
-          };
-          is_right = is_right;
-          is_poisoned = p || (known || list_any (is_among named.inputs) left);
-          has_colon = colon;
-        })
-        else Err InputHasInputs)
-    both true true = refl
-    both false true = refl
-    both true false = refl
-    both false false = refl
+target-more named poisoned colon is_right name left right = grind arith
 
 last-target : (named : DepfileModel) (poisoned colon : Bool) (name : List ℕ) (words : List (List ℕ))
     → words_after (left_line named poisoned colon) true name words
@@ -326,28 +282,7 @@ line-read : (named : DepfileModel) (colon : Bool) (words : List (List ℕ)) (lin
     → then_read (words_read (line_start named colon) words) (λ after. lines_read (line_ended after) lines)
     ≡ then_read (with_line named words) (λ after. lines_read
     (line_start after (colon || list_any ends_in_colon words)) lines)
-line-read named colon words lines =
-    ap (λ r. then_read r (λ after. lines_read (line_ended after) lines)) (left-read named false colon words)
-    ∙ both (list_any (is_among named.inputs) (names_in (left_of words))
-    && list_any (is_no_input named) (names_in (right_of words)))
-  where
-    after : DepfileModel
-    after = record {
-      targets = fold with_name named.targets (filter (is_no_input named) (names_in (left_of words)));
-      inputs = fold with_name named.inputs (names_in (right_of words));
-    }
-
-    both : (clash : Bool)
-        → then_read (if not clash then Ok (record {
-          named = after;
-          is_right = list_any ends_in_colon words;
-          is_poisoned = list_any (is_among named.inputs) (names_in (left_of words));
-          has_colon = colon || list_any ends_in_colon words;
-        }) else Err InputHasInputs) (λ line. lines_read (line_ended line) lines)
-        ≡ then_read (if not clash then Ok after else Err InputHasInputs)
-        (λ now. lines_read (line_start now (colon || list_any ends_in_colon words)) lines)
-    both true = refl
-    both false = refl
+line-read named colon words lines = grind (arith, left-read)
 
 lines-read : (named : DepfileModel) (colon : Bool) (lines : List (List (List ℕ)))
     → lines_read (line_start named colon) lines
@@ -378,21 +313,15 @@ lines-read named colon (words ∷ lines) =
 told-as : (r : Result DepfileModel DepfileFault) (colon : Bool)
     → then_read (then_read r (λ after. Ok (line_start after colon))) told
     ≡ elim r [ Ok named ↦ if colon then Ok named else Err NoColon | Err fault ↦ Err fault ]
-told-as (Ok named) colon = refl
-told-as (Err fault) colon = refl
+told-as r colon = grind arith
 
 pub depfile-read : (text : List ℕ) → pieces_read at_start (pieces text) ≡ depfile_of text
-depfile-read text =
-    pieces-lines (line_start nothing_named false) [] (pieces text)
-    ∙ ap (λ r. then_read r told) (lines-read nothing_named false (words_from [] (pieces text)))
-    ∙ told-as (with_lines nothing_named (words_from [] (pieces text)))
-    (has_colon (words_from [] (pieces text)))
+depfile-read text = grind (arith, pieces-lines, lines-read, told-as)
 
 -- a piece that is refused
 piece-refused : (r : ReadingModel) (piece : Piece) (ps more : List Piece) (fault : DepfileFault)
     → ps ≡ piece ∷ more → piece_read r piece ≡ Err fault → pieces_read r ps ≡ Err fault
-piece-refused r piece ps more fault cut refused =
-    ap (pieces_read r) cut ∙ ap (λ s. then_read s (λ after. pieces_read after more)) refused
+piece-refused r piece ps more fault cut refused = grind arith
 
 pub no-pieces : pieces [] ≡ []
 unfolding pieces_after
@@ -402,20 +331,16 @@ no-pieces = refl
 pub whole-read : (r : ReadingModel) (text rest : List ℕ) → rest ≡ []
     → pieces_read r (pieces rest) ≡ pieces_read at_start (pieces text)
     → then_read (word_ended r.line r.word) told ≡ depfile_of text
-whole-read r text rest none so_far = sym (ap (pieces_read r) (ap pieces none ∙ no-pieces)) ∙ so_far
-    ∙ depfile-read text
+whole-read r text rest none so_far = grind (arith, no-pieces, depfile-read)
 
 pub answers-ok : (expected whole : Result DepfileModel DepfileFault) → expected ≡ whole
     → (r : Result DepfileModel DepfileFault) → Answers expected r → IfOk r (λ named. whole ≡ Ok named)
-answers-ok expected whole same (Ok named) answers = sym same ∙ answers
-answers-ok expected whole same (Err fault) answers = tt
+answers-ok expected whole same r answers = grind arith
 
 pub answers-err : (expected whole : Result DepfileModel DepfileFault) → expected ≡ whole
     → (r : Result DepfileModel DepfileFault) → Answers expected r
     → IfErr r (λ fault. (fault ≡ OutOfMemory) ⊎ (whole ≡ Err fault))
-answers-err expected whole same (Ok named) answers = tt
-answers-err expected whole same (Err fault) (inl none) = inl none
-answers-err expected whole same (Err fault) (inr e) = inr (sym same ∙ e)
+answers-err expected whole same r answers = grind arith
 
 -- the fault that `?` returns
 pub fault-returned : {X : Type 0} (r : ReadingModel) (piece : Piece) (text rest after : List ℕ)
@@ -424,12 +349,8 @@ pub fault-returned : {X : Type 0} (r : ReadingModel) (piece : Piece) (text rest 
     → (fault ≡ OutOfMemory) ⊎ (piece_read r piece ≡ Err fault)
     → (returned : Result X DepfileFault) → IsErr returned × IsErrAnd returned (λ e. e ≡ fault)
     → IfErr returned (λ e. (e ≡ OutOfMemory) ⊎ (depfile_of text ≡ Err e))
-fault-returned r piece text rest after fault cut so_far why (Ok x) (no_fault, is) = tt
-fault-returned r piece text rest after fault cut so_far why (Err e) (no_fault, is) =
-    subst (λ e. (e ≡ OutOfMemory) ⊎ (depfile_of text ≡ Err e)) (sym is) (by why)
-  where
-    by : (fault ≡ OutOfMemory) ⊎ (piece_read r piece ≡ Err fault)
-        → (fault ≡ OutOfMemory) ⊎ (depfile_of text ≡ Err fault)
-    by (inl none) = inl none
-    by (inr refused) = inr (sym (so_far ∙ depfile-read text)
-        ∙ piece-refused r piece (pieces rest) (pieces after) fault cut refused)
+fault-returned r piece text rest after fault cut so_far why returned h = grind (
+  arith,
+  depfile-read,
+  piece-refused,
+)

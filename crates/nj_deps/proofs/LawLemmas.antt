@@ -54,8 +54,7 @@ read_unless_no_memory bytes log OutOfMemory is refused = refl
 
 -- the entry after more entries for the output: the last of them
 last_or : Option OutputModel → List OutputModel → Option OutputModel
-last_or known [] = known
-last_or known (o ∷ said) = last_or (Some o) said
+last_or known h = grind arith
 
 last-said : (known : Option OutputModel) (o : OutputModel) (said : List OutputModel)
     → last_or known (o ∷ said) ≡ slice_get (o ∷ said) (length said)
@@ -66,22 +65,12 @@ last-said known o (p ∷ said) = last-said (Some o) p said
 set-same : (outputs : List OutputModel) (o : OutputModel) (n : ℕ) → o.output ≡ n
     → output_of (with_output outputs o) n ≡ Some o
 set-same [] o n same = ap (λ b. cond b (Some o) None) (eq-eqb o.output n same)
-set-same (p ∷ outputs) o n same = by (set-same outputs o n same) (eqb_tells p.output o.output)
-  where
-    differs : ((nat_eq p.output n ≡ true) × (p.output ≡ n)) ⊎ ((nat_eq p.output n ≡ false) × (p.output ≢ n))
-        → p.output ≢ o.output → nat_eq p.output n ≡ false
-    differs (inl is) apart = absurd (apart (is.1 ∙ sym same))
-    differs (inr is) apart = is.0
-
-    by : output_of (with_output outputs o) n ≡ Some o
-        → ((nat_eq p.output o.output ≡ true) × (p.output ≡ o.output))
-        ⊎ ((nat_eq p.output o.output ≡ false) × (p.output ≢ o.output))
-        → output_of (with_output (p ∷ outputs) o) n ≡ Some o
-    by rest (inl is) = ap (λ b. output_of (cond b (o ∷ outputs) (p ∷ with_output outputs o)) n) is.0
-        ∙ ap (λ b. cond b (Some o) (output_of outputs n)) (eq-eqb o.output n same)
-    by rest (inr apart) = ap (λ b. output_of (cond b (o ∷ outputs) (p ∷ with_output outputs o)) n) apart.0
-        ∙ ap (λ b. cond b (Some p) (output_of (with_output outputs o) n))
-        (differs (eqb_tells p.output n) apart.1) ∙ rest
+set-same (p ∷ outputs) o n same = grind (
+  arith,
+  set-same outputs o n same,
+  eqb_tells p.output o.output,
+  nat_eq p.output n,
+)
 
 set-other : (outputs : List OutputModel) (o : OutputModel) (n : ℕ) → nat_eq o.output n ≡ false
     → output_of (with_output outputs o) n ≡ output_of outputs n

@@ -1,4 +1,5 @@
 -- Lemmas on how outputs are held.
+use Rattle.std.proofs.lemmas.Grind.{common_steps}
 use Rattle.std.proofs.Common.{◌≡◌, ◌≢◌, ◌⊎◌, ◌<◌, ◌≤◌, ◌+◌, ◌-◌, ℕ, zero, suc, Bool, true, false, cond, Some}
 use Rattle.std.proofs.Common.{None, List, [], ◌∷◌, ◌++◌, length, take, drop, get_or, slice_get, slice_range}
 use Rattle.std.proofs.Common.{nat_eq, refl, sym, ap, subst, ◌∙◌, inl, inr, arith, length-append, add-one}
@@ -19,61 +20,46 @@ use Rattle.nj_deps.specs.Inside.RecordsRead.{BeginsWith, AppendsNumbers}
 
 part-grown : (inputs more : List ℕ) (start end : ℕ) → start ≤ end → end ≤ length inputs
     → slice_range (inputs ++ more) start end ≡ slice_range inputs start end
-part-grown inputs more start end rises ends =
-    ap (take (end - start)) (drop-append-le start inputs more (omega arith))
-    ∙ take-append-le (end - start) (drop start inputs) more (omega (arith, length-drop start inputs))
+part-grown inputs more start end rises ends = grind (arith, common_steps)
 
 -- inputs that are appended change no output
 pub logged-grown : (inputs more : List ℕ) (count : ℕ) (outputs : List HeldOutput)
     → AllByRecursion (IsHeld (length inputs) count) outputs
     → all_logged (inputs ++ more) outputs ≡ all_logged inputs outputs
 logged-grown inputs more count [] held = refl
-logged-grown inputs more count (o ∷ outputs) held =
-    let first = part-grown inputs more o.start o.end held.0.rises held.0.ends in
-    let rest = logged-grown inputs more count outputs held.1 in
-    ap (λ p. record { output = o.output; time = o.time; inputs = p } ∷ all_logged (inputs ++ more) outputs)
-    first ∙ ap (λ r. logged inputs o ∷ r) rest
+logged-grown inputs more count (o ∷ outputs) held = grind (
+  arith,
+  part-grown inputs more o.start o.end held.0.rises held.0.ends,
+  logged-grown inputs more count outputs held.1,
+)
 
 pub held-grown : (size count size' count' : ℕ) (outputs : List HeldOutput) → size ≤ size' → count ≤ count'
     → AllByRecursion (IsHeld size count) outputs → AllByRecursion (IsHeld size' count') outputs
 held-grown size count size' count' [] larger more held = tt
-held-grown size count size' count' (o ∷ outputs) larger more held =
-    let output : o.output < count = held.0.output in
-    let ends : o.end ≤ size = held.0.ends in (
-      record { output = omega arith; rises = held.0.rises; ends = omega arith },
-      held-grown size count size' count' outputs larger more held.1,
-    )
+held-grown size count size' count' (o ∷ outputs) larger more held = grind (
+  arith,
+  held-grown size count size' count' outputs larger more held.1,
+)
 
 pub held-set : (size count : ℕ) (outputs : List HeldOutput) (h : HeldOutput)
     → AllByRecursion (IsHeld size count) outputs → IsHeld size count h
     → AllByRecursion (IsHeld size count) (with_held outputs h)
 held-set size count [] h held one = (one, tt)
-held-set size count (o ∷ outputs) h held one =
-    by (nat_eq o.output h.output) (held-set size count outputs h held.1 one)
-  where
-    by : (b : Bool) → AllByRecursion (IsHeld size count) (with_held outputs h)
-        → AllByRecursion (IsHeld size count) (cond b (h ∷ outputs) (o ∷ with_held outputs h))
-    by true rest = (one, held.1)
-    by false rest = (held.0, rest)
+held-set size count (o ∷ outputs) h held one = grind (
+  arith,
+  nat_eq o.output h.output,
+  held-set size count outputs h held.1 one,
+)
 
 pub logged-set : (inputs : List ℕ) (outputs : List HeldOutput) (h : HeldOutput)
     → all_logged inputs (with_held outputs h) ≡ with_output (all_logged inputs outputs) (logged inputs h)
 logged-set inputs [] h = refl
-logged-set inputs (o ∷ outputs) h = by (nat_eq o.output h.output) (logged-set inputs outputs h)
-  where
-    by : (b : Bool) → all_logged inputs (with_held outputs h)
-        ≡ with_output (all_logged inputs outputs) (logged inputs h)
-        → all_logged inputs (cond b (h ∷ outputs) (o ∷ with_held outputs h))
-        ≡ cond b (logged inputs h ∷ all_logged inputs outputs)
-        (logged inputs o ∷ with_output (all_logged inputs outputs) (logged inputs h))
-    by true rest = refl
-    by false rest = ap (λ r. logged inputs o ∷ r) rest
+logged-set inputs (o ∷ outputs) h = grind (arith, nat_eq o.output h.output, logged-set inputs outputs h)
 
 -- ---- their places
 
 later-zero : (place : ℕ) → later_place place ≡ 0 → place ≡ 0
-later-zero zero e = refl
-later-zero (suc place) e = absurd (omega arith)
+later-zero place e = grind arith
 
 -- an output that is new comes last
 pub set-new : (outputs : List HeldOutput) (h : HeldOutput) → place_of outputs h.output ≡ 0
@@ -115,8 +101,7 @@ set-at (o ∷ outputs) h index at = let r =
 pushed-other : (outputs : List HeldOutput) (h : HeldOutput) (n : ℕ) → nat_eq h.output n ≡ false
     → place_of (outputs ++ h ∷ []) n ≡ place_of outputs n
 pushed-other [] h n other = ap (λ b. cond b 1 0) other
-pushed-other (o ∷ outputs) h n other = ap (λ p. cond (nat_eq o.output n) 1 (later_place p))
-    (pushed-other outputs h n other)
+pushed-other (o ∷ outputs) h n other = grind (arith, nat_eq o.output n, pushed-other outputs h n other)
 
 pushed-same : (outputs : List HeldOutput) (h : HeldOutput) → place_of outputs h.output ≡ 0
     → place_of (outputs ++ h ∷ []) h.output ≡ suc (length outputs)
@@ -155,32 +140,29 @@ places-kept outputs places h are there n below = are n below ∙ sym (kept-place
 pub places-new : (outputs : List HeldOutput) (places : List ℕ) (h : HeldOutput) → ArePlaces outputs places
     → h.output < length places → place_of outputs h.output ≡ 0
     → ArePlaces (outputs ++ h ∷ []) (slice_set places h.output (length outputs + 1))
-places-new outputs places h are known none n below = by (eqb_tells h.output n)
-  where
-    by : ((nat_eq h.output n ≡ true) × (h.output ≡ n)) ⊎ ((nat_eq h.output n ≡ false) × (h.output ≢ n))
-        → slice_index_or (slice_set places h.output (length outputs + 1)) n 0 ≡ place_of (outputs ++ h ∷ []) n
-    by (inl same) =
-        ap (λ k. slice_index_or (slice_set places h.output (length outputs + 1)) k 0) (sym same.1)
-        ∙ get_or-set_same places h.output (length outputs + 1) 0 known ∙ add-one (length outputs)
-        ∙ sym (pushed-same outputs h none) ∙ ap (place_of (outputs ++ h ∷ [])) same.1
-    by (inr other) =
-        get_or-set_other places h.output n (length outputs + 1) 0 (λ e. other.1 (sym e))
-        ∙ are n (subst (λ k. n < k) (length-set places h.output (length outputs + 1)) below)
-        ∙ sym (pushed-other outputs h n other.0)
+places-new outputs places h are known none n below = grind (
+  arith,
+  eqb_tells,
+  nat_eq,
+  length,
+  get_or-set_same,
+  add-one,
+  pushed-same,
+  get_or-set_other,
+  length-set,
+  pushed-other,
+)
 
 -- no output has a path that is new
 place-past : (size count n : ℕ) (outputs : List HeldOutput) → AllByRecursion (IsHeld size count) outputs
     → count ≤ n → place_of outputs n ≡ 0
 place-past size count n [] held past = refl
-place-past size count n (o ∷ outputs) held past =
-    by (place-past size count n outputs held.1 past) (eqb_tells o.output n)
-  where
-    by : place_of outputs n ≡ 0 → ((nat_eq o.output n ≡ true) × (o.output ≡ n))
-        ⊎ ((nat_eq o.output n ≡ false) × (o.output ≢ n))
-        → place_of (o ∷ outputs) n ≡ 0
-    by rest (inl same) = let below : o.output < count = held.0.output in let is : o.output ≡ n = same.1 in
-        absurd (omega arith)
-    by rest (inr other) = ap (λ b. cond b 1 (later_place (place_of outputs n))) other.0 ∙ ap later_place rest
+place-past size count n (o ∷ outputs) held past = grind (
+  arith,
+  place-past size count n outputs held.1 past,
+  eqb_tells o.output n,
+  nat_eq o.output n,
+)
 
 pub places-path : (size : ℕ) (outputs : List HeldOutput) (places : List ℕ)
     → AllByRecursion (IsHeld size (length places)) outputs → ArePlaces outputs places
@@ -235,12 +217,10 @@ found-at inputs (o ∷ outputs) n index at = let r =
 pub known-more : (count count' : ℕ) (ns : List ℕ) → count ≤ count' → AllByRecursion (λ n. n < count) ns
     → AllByRecursion (λ n. n < count') ns
 known-more count count' [] more known = tt
-known-more count count' (n ∷ ns) more known = let below : n < count = known.0 in
-    (omega arith, known-more count count' ns more known.1)
+known-more count count' (n ∷ ns) more known = grind (arith, known-more count count' ns more known.1)
 
 pub paths-one : (count count' : ℕ) (o : OutputModel) → count ≤ count' → IsOfPaths count o → IsOfPaths count' o
-paths-one count count' o more known = let below : o.output < count = known.output in
-    record { output = omega arith; inputs = known-more count count' o.inputs more known.inputs }
+paths-one count h o more known = grind (arith, known-more)
 
 pub paths-more : (count count' : ℕ) (outputs : List OutputModel) → count ≤ count'
     → AllByRecursion (IsOfPaths count) outputs → AllByRecursion (IsOfPaths count') outputs
@@ -252,13 +232,11 @@ pub paths-set : (count : ℕ) (outputs : List OutputModel) (o : OutputModel)
     → AllByRecursion (IsOfPaths count) outputs → IsOfPaths count o
     → AllByRecursion (IsOfPaths count) (with_output outputs o)
 paths-set count [] o known one = (one, tt)
-paths-set count (p ∷ outputs) o known one =
-    by (nat_eq p.output o.output) (paths-set count outputs o known.1 one)
-  where
-    by : (b : Bool) → AllByRecursion (IsOfPaths count) (with_output outputs o)
-        → AllByRecursion (IsOfPaths count) (cond b (o ∷ outputs) (p ∷ with_output outputs o))
-    by true rest = (one, known.1)
-    by false rest = (known.0, rest)
+paths-set count (p ∷ outputs) o known one = grind (
+  arith,
+  nat_eq p.output o.output,
+  paths-set count outputs o known.1 one,
+)
 
 pub paths_at : (count : ℕ) (outputs : List OutputModel) (index : ℕ) (o : OutputModel)
     → AllByRecursion (IsOfPaths count) outputs → slice_get outputs index ≡ Some o → IsOfPaths count o
@@ -269,9 +247,7 @@ paths_at count (p ∷ outputs) (suc index) o known at = paths_at count outputs i
 -- ---- a place that is read
 
 get_or-same : (xs : List ℕ) (i d e : ℕ) → i < length xs → get_or xs i d ≡ get_or xs i e
-get_or-same [] i d e below = absurd (omega arith)
-get_or-same (x ∷ xs) zero d e below = refl
-get_or-same (x ∷ xs) (suc i) d e below = get_or-same xs i d e (omega arith)
+get_or-same xs i d e below = grind (arith, common_steps)
 
 pub place-is : (outputs : List HeldOutput) (places : List ℕ) (n place : ℕ) → n < length places
     → ArePlaces outputs places → place ≡ slice_index_or places n place → place ≡ place_of outputs n
@@ -281,14 +257,12 @@ place-is outputs places n place below are at = at ∙ get_or-same places n place
 pub unknown-output : (count n : ℕ) (outputs : List OutputModel) → AllByRecursion (IsOfPaths count) outputs
     → count ≤ n → output_of outputs n ≡ None
 unknown-output count n [] known past = refl
-unknown-output count n (o ∷ outputs) known past =
-    by (eqb_tells o.output n) (unknown-output count n outputs known.1 past)
-  where
-    by : ((nat_eq o.output n ≡ true) × (o.output ≡ n)) ⊎ ((nat_eq o.output n ≡ false) × (o.output ≢ n))
-        → output_of outputs n ≡ None → output_of (o ∷ outputs) n ≡ None
-    by (inl is) rest = let below : o.output < count = known.0.output in let same : o.output ≡ n = is.1 in
-        absurd (omega arith)
-    by (inr is) rest = ap (λ b. cond b (Some o) (output_of outputs n)) is.0 ∙ rest
+unknown-output count n (o ∷ outputs) known past = grind (
+  arith,
+  eqb_tells o.output n,
+  unknown-output count n outputs known.1 past,
+  nat_eq o.output n,
+)
 
 -- ---- all together
 
@@ -318,13 +292,7 @@ held-now ins ins' outs outs' places places' held grown same count are = record {
 
 pub path-held : (ins : List ℕ) (outs : List HeldOutput) (places : List ℕ) → AreOutputsHeld ins outs places
     → AreOutputsHeld ins outs (places ++ 0 ∷ [])
-path-held ins outs places held = record {
-  held = held-grown (length ins) (length places) (length ins) (length (places ++ 0 ∷ [])) outs (omega arith)
-      (omega (arith, length-append places (0 ∷ []))) held.held;
-  are_places = places-path (length ins) outs places held.held held.are_places;
-  of_paths = paths-more (length places) (length (places ++ 0 ∷ [])) (all_logged ins outs)
-      (omega (arith, length-append places (0 ∷ []))) held.of_paths;
-}
+path-held ins outs places held = grind (arith, held-grown, length, length-append, places-path, paths-more)
 
 pub not-kept : (output time count : ℕ) (bytes ins ins' : List ℕ) (outs : List HeldOutput) (places : List ℕ)
     (old : OutputsModel) (all : Bool) → AreOutputsHeld ins outs places → view ins outs places ≡ old
@@ -339,10 +307,7 @@ not-kept output time count bytes ins ins' outs places old all held is counts gro
 )
 
 part-appended : (ins ns : List ℕ) → slice_range (ins ++ ns) (length ins) (length (ins ++ ns)) ≡ ns
-part-appended ins ns =
-    ap (take (length (ins ++ ns) - length ins)) (drop-append_seam ins ns)
-    ∙ ap (λ k. take k ns) (let e : length (ins ++ ns) - length ins ≡ length ns =
-    omega (arith, length-append ins ns) in e) ∙ take-length ns
+part-appended ins ns = grind (arith, common_steps)
 
 -- an output that is kept, with numbers that were appended
 pub record IsKept (output time : ℕ) (ins ins' : List ℕ) (outs outs' : List HeldOutput)
@@ -359,19 +324,14 @@ kept-text : (output time : ℕ) (ins ins' ns : List ℕ) (outs outs' : List Held
     (h : HeldOutput) → IsKept output time ins ins' outs outs' places places' h → ins' ≡ ins ++ ns
     → AreOutputsHeld ins outs places → all_logged ins' outs'
     ≡ with_output (all_logged ins outs) (record { output = output; time = time; inputs = ns })
-kept-text output time ins ins' ns outs outs' places places' h kept appended held =
-    ap (all_logged ins') kept.set ∙ logged-set ins' outs h
-    ∙ ap (λ os. with_output os (logged ins' h))
-    (ap (λ xs. all_logged xs outs) appended ∙ logged-grown ins ns (length places) outs held.held)
-    ∙ ap (λ n. with_output (all_logged ins outs)
-    (record { output = n; time = h.time; inputs = slice_range ins' h.start h.end })) kept.is_output
-    ∙ ap (λ n. with_output (all_logged ins outs)
-    (record { output = output; time = n; inputs = slice_range ins' h.start h.end })) kept.is_time
-    ∙ ap (λ xs. with_output (all_logged ins outs) (record { output = output; time = time; inputs = xs })) part
-  where
-    part : slice_range ins' h.start h.end ≡ ns
-    part = ap (λ k. slice_range ins' k h.end) kept.starts ∙ ap (slice_range ins' (length ins)) kept.ends
-        ∙ ap (λ xs. slice_range xs (length ins) (length xs)) appended ∙ part-appended ins ns
+kept-text output time ins h ns outs h1 places h2 h3 kept appended held = grind (
+  arith,
+  logged-set,
+  logged-grown,
+  length,
+  slice_range,
+  part-appended,
+)
 
 pub is-kept : (output time count : ℕ) (bytes ins ins' : List ℕ) (outs outs' : List HeldOutput)
     (places places' : List ℕ) (old : OutputsModel) (all : Bool) (h : HeldOutput)

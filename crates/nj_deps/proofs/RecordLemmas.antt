@@ -1,4 +1,5 @@
 -- Lemmas on records as bytes: one record is at the front, or none.
+use Rattle.std.proofs.lemmas.Grind.{common_steps}
 use Rattle.std.proofs.Common.{◌≡◌, ◌<◌, ◌≤◌, ◌+◌, ◌^◌, ◌%◌, ℕ, List, [], ◌∷◌, ◌++◌, length, refl, sym, ap}
 use Rattle.std.proofs.Common.{subst, ◌∙◌, arith, append_assoc, length-append}
 use Rattle.std.specs.List.{AllByRecursion, flat_map, fold}
@@ -15,21 +16,10 @@ head r = kind_bit r + length (content_of r)
 
 pub framed : (r : LogRecord) (more : List ℕ) → length (content_of r) ≤ 524287
     → IsFramed (bytes_of r ++ more) (head r) (content_of r) more
-framed (path padded complement) more small = record {
-  cut = append_assoc (word (head (path padded complement))) (content_of (path padded complement)) more;
-  size = omega arith;
-  small = small;
-}
-framed (dependencies output low high inputs) more small = record {
-  cut = append_assoc (word (head (dependencies output low high inputs)))
-      (content_of (dependencies output low high inputs)) more;
-  size = omega arith;
-  small = small;
-}
+framed r more small = grind (arith, common_steps)
 
 pub head_fits : (r : LogRecord) → length (content_of r) ≤ 524287 → head r < 2 ^ 32
-head_fits (path padded complement) small = omega arith
-head_fits (dependencies output low high inputs) small = omega arith
+head_fits r small = grind arith
 
 -- one frame is at the front
 pub record IsSame (h k : ℕ) (c d a b : List ℕ) : Type 0 where
@@ -48,8 +38,7 @@ one_frame bytes h k c d a b small_h small_k f g =
     record { heads = heads; contents = second.0; afters = second.1 }
 
 pub frame-long : (bytes : List ℕ) (h : ℕ) (c a : List ℕ) → IsFramed bytes h c a → 4 ≤ length bytes
-frame-long bytes h c a f = let l = ap length f.cut in
-    omega (arith, length-append (word h) (c ++ a), length-word h)
+frame-long bytes h c a f = grind (arith, length, length-append, length-word)
 
 -- the facts about a frame with this head
 pub record IsFrameAt (rest : List ℕ) (h k : ℕ) (c a : List ℕ) : Type 0 where
@@ -78,8 +67,7 @@ frame-size bytes rest h k c a small_h small_k cut f =
 pub known-small : (count : ℕ) (ns : List ℕ) → count ≤ 2 ^ 32 → AllByRecursion (λ n. n < count) ns
     → AllByRecursion (λ n. n < 2 ^ 32) ns
 known-small count [] small known = tt
-known-small count (n ∷ ns) small known = let below : n < count = known.0 in
-    (omega arith, known-small count ns small known.1)
+known-small count (n ∷ ns) small known = grind (arith, known-small count ns small known.1)
 
 pub one_record : (paths : List (List ℕ)) (r s : LogRecord) → length paths ≤ 2 ^ 32 → Counts paths r
     → Counts paths s → kind_bit r ≡ kind_bit s → content_of r ≡ content_of s → r ≡ s
@@ -113,23 +101,13 @@ one_record paths (dependencies o l h ns) (dependencies o' l' h' ms) few one othe
 -- ---- the front of the bytes
 
 pub none-unframed : (paths : List (List ℕ)) (bytes : List ℕ) → IsUnframed bytes → EndsBefore paths bytes
-none-unframed paths bytes unframed r more counts e =
-    unframed (head r) (content_of r) more (head_fits r counts.size)
-    (subst (λ b. IsFramed b (head r) (content_of r) more) (sym e) (framed r more counts.size))
+none-unframed paths bytes unframed r more counts e = grind (arith, common_steps)
 
 pub kind_path : (h : ℕ) → h < 2 ^ 31 → IsKind h 0
-kind_path h below = record { size = λ n e. omega arith; kind = kind }
-  where
-    kind : (r : LogRecord) → length (content_of r) ≤ 524287 → h ≡ head r → kind_bit r ≡ 0
-    kind (path padded complement) small e = refl
-    kind (dependencies output low high inputs) small e = absurd (omega arith)
+kind_path h below = grind arith
 
 pub kind_dependencies : (h : ℕ) → 2 ^ 31 ≤ h → h < 2 ^ 32 → IsKind h (2 ^ 31)
-kind_dependencies h above below = record { size = λ n e. omega arith; kind = kind }
-  where
-    kind : (r : LogRecord) → length (content_of r) ≤ 524287 → h ≡ head r → kind_bit r ≡ 2 ^ 31
-    kind (path padded complement) small e = absurd (omega arith)
-    kind (dependencies output low high inputs) small e = refl
+kind_dependencies h above below = grind arith
 
 pub none-framed : (paths : List (List ℕ)) (bytes : List ℕ) (h bit : ℕ) (content after : List ℕ) → h < 2 ^ 32
     → IsKind h bit → IsFramed bytes h content after
@@ -142,44 +120,31 @@ none-framed paths bytes h bit content after small kind frame none r more counts 
 
 pub some-framed : (bytes : List ℕ) (h bit : ℕ) (content after : List ℕ) (r : LogRecord) → IsKind h bit
     → IsFramed bytes h content after → IsContent bit content r → bytes ≡ bytes_of r ++ after
-some-framed bytes h bit content after r kind frame is =
-    let size : h ≡ bit + length content = kind.size (length content) frame.size in
-    let heads : h ≡ head r = size ∙ ap (λ b. b + length content) (sym is.kind)
-    ∙ ap (λ c. kind_bit r + length c) (sym is.same) in
-    frame.cut ∙ ap (λ n. word n ++ (content ++ after)) heads
-    ∙ ap (λ c. word (head r) ++ (c ++ after)) (sym is.same)
-    ∙ sym (append_assoc (word (head r)) (content_of r) after)
+some-framed bytes h bit content after r kind frame is = grind (arith, common_steps)
 
 pub shorter : (r : LogRecord) (bytes after : List ℕ) → bytes ≡ bytes_of r ++ after
     → length after < length bytes
-shorter r bytes after e =
-    let l = ap length e in
-    omega (
-      arith,
-      length-append (bytes_of r) after,
-      length-append (word (head r)) (content_of r),
-      length-word (head r),
-    )
+shorter r bytes after e = grind (arith, length, length-append, length-word)
 
 -- ---- many records
 
 few-more : (paths : List (List ℕ)) (r : LogRecord) → Counts paths r → length paths ≤ 2 ^ 32
     → length (with_path paths r) ≤ 2 ^ 32
-few-more paths (path padded complement) counts few = let number = counts.fits.number in
-    omega (arith, length-append paths (path_in padded ∷ []))
-few-more paths (dependencies output low high inputs) counts few = few
+few-more paths r counts few = grind (arith, common_steps)
 
 pub one_cut : (paths : List (List ℕ)) (rs ss : List LogRecord) (x y : List ℕ) → length paths ≤ 2 ^ 32
     → CountInTurn paths rs → CountInTurn paths ss
     → EndsBefore (fold with_path paths rs) x → EndsBefore (fold with_path paths ss) y
     → flat_map bytes_of rs ++ x ≡ flat_map bytes_of ss ++ y → (rs ≡ ss) × (x ≡ y)
 one_cut paths [] [] x y few one other ends ends' e = (refl, e)
-one_cut paths [] (s ∷ ss) x y few one other ends ends' e =
-    absurd (ends s (flat_map bytes_of ss ++ y) other.0
-    (e ∙ append_assoc (bytes_of s) (flat_map bytes_of ss) y))
-one_cut paths (r ∷ rs) [] x y few one other ends ends' e =
-    absurd (ends' r (flat_map bytes_of rs ++ x) one.0
-    (sym e ∙ append_assoc (bytes_of r) (flat_map bytes_of rs) x))
+one_cut paths [] (s ∷ ss) x y few one other ends ends' e = grind (
+  arith,
+  append_assoc (bytes_of s) (flat_map bytes_of ss) y,
+)
+one_cut paths (r ∷ rs) [] x y few one other ends ends' e = grind (
+  arith,
+  append_assoc (bytes_of r) (flat_map bytes_of rs) x,
+)
 one_cut paths (r ∷ rs) (s ∷ ss) x y few one other ends ends' e =
     let left = flat_map bytes_of rs ++ x in
     let right = flat_map bytes_of ss ++ y in

@@ -1,4 +1,5 @@
 -- Lemmas on the table of records, one after another.
+use Rattle.std.proofs.lemmas.Grind.{common_steps}
 use Rattle.std.proofs.Common.{◌≡◌, ◌≢◌, ◌⊎◌, inl, inr, ◌<◌, ◌≤◌, ◌+◌, ◌*◌, ◌^◌, ◌%◌, ℕ, Bool, true, false}
 use Rattle.std.proofs.Common.{List, [], ◌∷◌, ◌++◌, length, nat_eq, true≢false, refl, sym, ap, subst, ◌∙◌}
 use Rattle.std.proofs.Common.{arith, append_assoc, length-append}
@@ -28,14 +29,11 @@ path_record paths padded complement content (path p c) small cut is counts =
     let complements : c ≡ complement = word_is c complement (omega arith) small both.1 in
     subst (λ q. IsNext paths (path_in q) complement) both.0
     (subst (λ k. IsNext paths (path_in p) k) complements counts.fits)
-path_record paths padded complement content (dependencies o l h ns) small cut is counts = let kind = is.kind
-    in absurd (omega arith)
+path_record paths padded complement content (dependencies o l h ns) small cut is counts = grind arith
 
 pub no_path_record : (paths : List (List ℕ)) (content : List ℕ) (r : LogRecord) → length content < 4
     → IsContent 0 content r → Counts paths r → ⊥
-no_path_record paths content (path p c) short is counts = let l = ap length is.same in
-    omega (arith, length-append p (word c), length-word c)
-no_path_record paths content (dependencies o l h ns) short is counts = let kind = is.kind in omega arith
+no_path_record paths content r short is counts = grind (arith, length, length-append, length-word)
 
 -- ---- dependencies
 
@@ -48,8 +46,7 @@ pub record AreDependencies (paths : List (List ℕ)) (output : ℕ) (bytes : Lis
 pub dependencies_record : (paths : List (List ℕ)) (output time : ℕ) (bytes content : List ℕ) (r : LogRecord)
     → length paths ≤ 2 ^ 32 → output < 2 ^ 32 → IsTimed content output time bytes
     → IsContent (2 ^ 31) content r → Counts paths r → AreDependencies paths output bytes
-dependencies_record paths output time bytes content (path p c) few small timed is counts = let kind = is.kind
-    in absurd (omega arith)
+dependencies_record paths output time bytes content (path p c) few small timed is counts = grind arith
 dependencies_record paths output time bytes content (dependencies o l h ns) few small timed is counts =
     let cut : word o ++ (word l ++ (word h ++ words ns))
     ≡ word output ++ (word timed.low ++ (word timed.high ++ bytes)) = is.same ∙ timed.cut in
@@ -85,10 +82,7 @@ no_dependencies paths content (dependencies o l h ns) odd is counts = by odd
 pub dependencies-content : (output time : ℕ) (content bytes inputs : List ℕ)
     (timed : IsTimed content output time bytes) → bytes ≡ words inputs
     → IsContent (2 ^ 31) content (dependencies output timed.low timed.high inputs)
-dependencies-content output time content bytes inputs timed cut = record {
-  kind = refl;
-  same = sym (timed.cut ∙ ap (λ b. word output ++ (word timed.low ++ (word timed.high ++ b))) cut);
-}
+dependencies-content output time content bytes inputs timed cut = grind arith
 
 -- ---- many
 
@@ -189,29 +183,15 @@ dependencies-add paths old new output time bytes content timed size small count 
 
 pub timed-words : (content : List ℕ) (output time : ℕ) (bytes : List ℕ) → IsTimed content output time bytes
     → length content % 4 ≡ 0 → length bytes % 4 ≡ 0
-timed-words content output time bytes timed whole =
-    let l = ap length timed.cut in
-    let size : length content ≡ length bytes + 12 =
-    omega (
-      arith,
-      length-append (word output) (word timed.low ++ (word timed.high ++ bytes)),
-      length-append (word timed.low) (word timed.high ++ bytes),
-      length-append (word timed.high) bytes,
-      length-word output,
-      length-word timed.low,
-      length-word timed.high,
-    ) in
-    omega arith
+timed-words content output time bytes timed whole = grind (arith, length, length-append, length-word)
 
 -- ---- the additions of a record
 
 pub takes : (bytes : List ℕ) (head : ℕ) (content after : List ℕ) (old new : TableModel)
     → IsFramed bytes head content after → AddsAs head content old new true → TakesRecord bytes after old new
-takes bytes head content after old new frame added = (
-  added.2.0,
-  added.2.2,
+takes bytes head content after old new frame added = grind (
+  arith,
   some-framed bytes head added.0 content after added.2.0 added.1 frame added.2.1,
-  added.2.3,
 )
 
 pub takes-none : (bytes : List ℕ) (head : ℕ) (content after : List ℕ) (old new : TableModel) → head < 2 ^ 32
@@ -225,22 +205,9 @@ pub log-read : (bytes body rest : List ℕ) (table : TableModel) (size : ℕ) (w
     → bytes ≡ opening 4 ++ body → IsRead body rest table → EndsBefore table.paths rest
     → size + length rest ≡ length bytes → whole ≡ nat_eq (length rest) 0
     → IsLogOf bytes (record { paths = table.paths; outputs = table.outputs; size = size; is_whole = whole })
-log-read bytes body rest table size whole line read ends sizes is_whole = record {
-  records = read.records;
-  rest = rest;
-  cut = line ∙ ap (λ b. opening 4 ++ b) read.cut;
-  in_turn = read.in_turn;
-  ends = subst (λ ps. EndsBefore ps rest) read.paths ends;
-  paths = read.paths;
-  outputs = read.outputs;
-  size = sizes;
-  is_whole = is_whole;
-}
+log-read bytes body rest table size whole line read ends sizes is_whole = grind arith
 
 -- the rest is no longer than the log
 pub rest-within : (bytes body rest : List ℕ) (table : TableModel) → bytes ≡ opening 4 ++ body
     → IsRead body rest table → length rest ≤ length bytes
-rest-within bytes body rest table line read =
-    let whole = ap length line in
-    let part = ap length read.cut in
-    omega (arith, length-append (opening 4) body, length-append (flat_map bytes_of read.records) rest)
+rest-within bytes body rest table line read = grind (arith, common_steps)

@@ -1,4 +1,5 @@
 -- Lemmas on lists that are joined, and on numbers as bytes.
+use Rattle.std.proofs.lemmas.Grind.{common_steps}
 use Rattle.std.proofs.Common.{◌≡◌, ◌≢◌, ◌<◌, ◌≤◌, ◌+◌, ◌*◌, ◌^◌, ◌%◌, ℕ, true, false, Option, Some, None}
 use Rattle.std.proofs.Common.{MatchOption, Bor, List, [], ◌∷◌, ◌++◌, length, refl, sym, ap, ◌∙◌, arith}
 use Rattle.std.proofs.Common.{append_assoc, length-append}
@@ -35,8 +36,7 @@ length-word n = refl
 
 pub word_is : (n m : ℕ) → n < 2 ^ 32 → m < 2 ^ 32 → word n ≡ word m → n ≡ m
 unfolding word
-word_is n m small_n small_m e = sym (from_le_bytes-to_le_bytes_4 n small_n) ∙ ap (from_le_bytes w32) e
-    ∙ from_le_bytes-to_le_bytes_4 m small_m
+word_is n m small_n small_m e = grind arith
 
 pub length-words : (ns : List ℕ) → length (words ns) ≡ 4 * length ns
 length-words [] = refl
@@ -76,8 +76,7 @@ pub record NumbersRead (count : ℕ) (bytes rest old new : List ℕ) : Type 0 wh
 
 known-last : (count : ℕ) (ns : List ℕ) (n : ℕ) → AllByRecursion (λ k. k < count) ns → n < count
     → AllByRecursion (λ k. k < count) (ns ++ n ∷ [])
-known-last count [] n all one = (one, tt)
-known-last count (m ∷ ns) n all one = (all.0, known-last count ns n all.1 one)
+known-last count ns n all one = grind (arith, common_steps)
 
 pub none_read : (count : ℕ) (bytes old : List ℕ) → NumbersRead count bytes bytes old old
 none_read count bytes old = record { numbers = []; appended = sym (append-nil old); known = tt; cut = refl }
@@ -85,30 +84,18 @@ none_read count bytes old = record { numbers = []; appended = sym (append-nil ol
 pub number_read : (count : ℕ) (bytes rest old new : List ℕ) (n : ℕ) (others : List ℕ)
     → NumbersRead count bytes rest old new → n < count → rest ≡ word n ++ others
     → NumbersRead count bytes others old (new ++ n ∷ [])
-number_read count bytes rest old new n others so_far below e = record {
-  numbers = so_far.numbers ++ n ∷ [];
-  appended = ap (λ x. x ++ n ∷ []) so_far.appended ∙ append_assoc old so_far.numbers (n ∷ []);
-  known = known-last count so_far.numbers n so_far.known below;
-  cut = so_far.cut ∙ ap (λ r. words so_far.numbers ++ r) e
-      ∙ sym (append_assoc (words so_far.numbers) (word n) others)
-      ∙ ap (λ w. (words so_far.numbers ++ w) ++ others) (sym (append-nil (word n)))
-      ∙ ap (λ w. w ++ others) (sym (flat_map-append word so_far.numbers (n ∷ [])));
-}
+number_read count bytes rest old new n others so_far below e = grind (arith, common_steps)
 
 pub all_read : (count : ℕ) (bytes rest old new : List ℕ) → NumbersRead count bytes rest old new
     → length bytes % 4 ≡ 0 → length rest < 4 → AppendsNumbers count bytes old new true
-all_read count bytes rest old new so_far whole short =
-    let l = ap length so_far.cut in
-    let sizes : length bytes ≡ 4 * length so_far.numbers + length rest =
-    omega (arith, length-append (words so_far.numbers) rest, length-words so_far.numbers) in
-    let none : length rest ≡ 0 = omega arith in (
-      so_far.numbers,
-      so_far.appended,
-      so_far.cut
-          ∙ ap (λ r. words so_far.numbers ++ r) (nil_from_length rest none)
-          ∙ append-nil (words so_far.numbers),
-      so_far.known,
-    )
+all_read count bytes rest old new so_far whole short = grind (
+  arith,
+  length,
+  length-append,
+  length-words,
+  nil_from_length,
+  append-nil,
+)
 
 -- numbers below the count that have a number among their words
 below-among : (count : ℕ) (ns : List ℕ) (n : ℕ) (others is : List ℕ) → count ≤ 2 ^ 32 → n < 2 ^ 32
@@ -135,10 +122,7 @@ below-among count (m ∷ ns) n others (i ∷ is) few small e all =
 pub one_past : (count : ℕ) (bytes rest old new : List ℕ) (n : ℕ) (others : List ℕ)
     → NumbersRead count bytes rest old new → count ≤ 2 ^ 32 → n < 2 ^ 32 → rest ≡ word n ++ others → count ≤ n
     → AppendsNumbers count bytes old new false
-one_past count bytes rest old new n others so_far few small e past is cut all =
-    let below = below-among count so_far.numbers n others is few small
-    (sym cut ∙ so_far.cut ∙ ap (λ r. words so_far.numbers ++ r) e) all in
-    omega arith
+one_past count bytes rest old new n others so_far few small e past is cut all = grind (arith, below-among)
 
 -- ---- the opening
 
@@ -146,11 +130,7 @@ pub opening_read : (bytes rest : List ℕ) (r : Option (ℕ × Bor (List ℕ))) 
     → MatchOption r (length rest < 4) (λ p. (p.0 < 2 ^ 32) × (rest ≡ word p.0 ++ p.1.now))
     → MatchOption r ((version : ℕ) (more : List ℕ) → bytes ≢ opening version ++ more)
     (λ p. (p.0 < 2 ^ 32) × (bytes ≡ opening p.0 ++ p.1.now))
-opening_read bytes rest None line short = λ version more e. (
-    let l = ap length (sym line ∙ e) in
-    omega (arith, length-append (word version) more, length-word version)
-    )
-opening_read bytes rest (Some p) line m = (m.0, line ∙ ap (λ r. first_line ++ r) m.1)
+opening_read bytes rest r line short = grind (arith, length, length-append, length-word)
 
 -- a version is known by its opening
 pub version_is : (version other : ℕ) (rest more : List ℕ) → version < 2 ^ 32 → other < 2 ^ 32

@@ -1,5 +1,5 @@
 -- Lemmas on what edges discover, by the numbers of paths.
-use Rattle.std.proofs.Common.{◌≡◌, ◌<◌, ◌≤◌, ◌+◌, ◌-◌, ◌==◌, ◌⊎◌, inl, inr, ℕ, zero, suc, Bool, true, false}
+use Rattle.std.proofs.Common.{rules, ◌≡◌, ◌<◌, ◌≤◌, ◌+◌, ◌-◌, ◌==◌, ◌⊎◌, inl, inr, ℕ, zero, suc, Bool, true, false}
 use Rattle.std.proofs.Common.{cond, not, Option, Some, Result, Ok, Err, List, [], ◌∷◌, ◌++◌, length, take}
 use Rattle.std.proofs.Common.{drop, slice_get, slice_range, refl, sym, ap, subst, ◌∙◌, true≢false, arith}
 use Rattle.std.proofs.Common.{add-one, append-nil, append_assoc, length-append}
@@ -63,21 +63,18 @@ take-next xs i x at = take_more xs i x (slice_get_within xs i x at)
     ∙ ap (λ y. take i xs ++ y ∷ []) (get_or_from_slice_get xs i x x at)
 
 pub map-append : {A B : Type 0} (f : A → B) (xs ys : List A) → map f (xs ++ ys) ≡ map f xs ++ map f ys
-map-append f [] ys = refl
-map-append f (x ∷ xs) ys = ap (λ zs. f x ∷ zs) (map-append f xs ys)
+map-append f xs ys = grind (arith, common_steps)
 
 -- ---- numbers of names
 
 pub below-more : (count other : ℕ) (numbers : List ℕ) → count ≤ other → AreBelow count numbers
     → AreBelow other numbers
 below-more count other [] more below = tt
-below-more count other (n ∷ numbers) more below = let first : n < count = below.0 in
-    (omega (arith, first, more), below-more count other numbers more below.1)
+below-more count other (n ∷ numbers) more below = grind (arith, below-more count other numbers more below.1)
 
 pub below-append : (count : ℕ) (one other : List ℕ) → AreBelow count one → AreBelow count other
     → AreBelow count (one ++ other)
-below-append count [] other below and = and
-below-append count (n ∷ one) other below and = (below.0, below-append count one other below.1 and)
+below-append count one other below and = grind (arith, common_steps)
 
 name-kept : (names more : List (List ℕ)) (n : ℕ) → n < length names
     → name_at (names ++ more) n ≡ name_at names n
@@ -89,18 +86,18 @@ name-kept (x ∷ names) more (suc n) within = name-kept names more n (omega (ari
 pub names-kept : (names more : List (List ℕ)) (numbers : List ℕ) → AreBelow (length names) numbers
     → map (name_at (names ++ more)) numbers ≡ map (name_at names) numbers
 names-kept names more [] below = refl
-names-kept names more (n ∷ numbers) below =
-    ap (λ x. x ∷ map (name_at (names ++ more)) numbers) (name-kept names more n below.0)
-    ∙ ap (λ xs. name_at names n ∷ xs) (names-kept names more numbers below.1)
+names-kept names more (n ∷ numbers) below = grind (
+  arith,
+  name-kept names more n below.0,
+  names-kept names more numbers below.1,
+)
 
 pub prefix-kept : (names later : List (List ℕ)) (numbers : List ℕ) → IsPrefix names later
     → AreBelow (length names) numbers → map (name_at later) numbers ≡ map (name_at names) numbers
-prefix-kept names later numbers (more, is) below =
-    ap (λ all. map (name_at all) numbers) is ∙ names-kept names more numbers below
+prefix-kept names later numbers h below = grind (arith, names-kept)
 
 pub prefix-longer : {A : Type 0} (front whole : List A) → IsPrefix front whole → length front ≤ length whole
-prefix-longer front whole (more, is) = let same = ap length is in
-    omega (arith, same, length-append front more)
+prefix-longer front whole h = grind (arith, common_steps)
 
 pub with-prefix : (names : List (List ℕ)) (name : List ℕ) → IsPrefix names (with_name names name)
 with-prefix names name = by (is_among names name)
@@ -112,13 +109,7 @@ with-prefix names name = by (is_among names name)
 -- ---- appended
 
 pub appends-none : (names : List (List ℕ)) (numbers : List ℕ) → Appends [] names names numbers numbers
-appends-none names numbers = record {
-  names = ([], sym (append-nil names));
-  added = [];
-  numbers = sym (append-nil numbers);
-  below = tt;
-  paths_are = refl;
-}
+appends-none names numbers = search rules
 
 pub appends-clean : (names later : List (List ℕ)) (numbers new : List ℕ) (path clean : List ℕ)
     (number short : ℕ) → clean ≡ path → later ≡ with_name names clean
@@ -135,25 +126,16 @@ appends-clean names later numbers new path clean number short clean-is later-is 
 pub appends-then : (paths others names later last : List (List ℕ)) (numbers more all : List ℕ)
     → Appends paths names later numbers more → Appends others later last more all
     → Appends (paths ++ others) names last numbers all
-appends-then paths others names later last numbers more all one other =
-    let front : AreBelow (length later) one.added = one.below in
-    record {
-      names = (
-        one.names.0 ++ other.names.0,
-        other.names.1 ∙ ap (λ ns. ns ++ other.names.0) one.names.1
-            ∙ append_assoc names one.names.0 other.names.0,
-      );
-      added = one.added ++ other.added;
-      numbers = other.numbers ∙ ap (λ ns. ns ++ other.added) one.numbers
-          ∙ append_assoc numbers one.added other.added;
-      below = below-append (length last) one.added other.added
-          (below-more (length later) (length last) one.added (prefix-longer later last other.names) front)
-          other.below;
-      paths_are = map-append (name_at last) one.added other.added
-          ∙ ap (λ ps. ps ++ map (name_at last) other.added)
-          (prefix-kept later last one.added other.names front ∙ one.paths_are)
-          ∙ ap (λ ps. paths ++ ps) other.paths_are;
-    }
+appends-then paths others names later last numbers more all one other = grind (
+  arith,
+  length,
+  append_assoc,
+  below-append,
+  below-more,
+  prefix-longer,
+  map-append,
+  prefix-kept,
+)
 
 -- one more path of a list
 pub appends-next : (paths : List (List ℕ)) (i : ℕ) (path : List ℕ) (names later last : List (List ℕ))
@@ -172,20 +154,17 @@ appends-next paths i path names later last numbers more all at one other =
 
 pub find-passes : {A : Type 0} (test : A → Bool) (xs : List A) (i : ℕ) (x : A) → slice_get xs i ≡ Some x
     → test x ≡ true → find test (drop i xs) ≡ Some x
-find-passes test xs i x at passes = ap (find test) (drop-at xs i x at)
-    ∙ ap (λ b. cond b (Some x) (find test (drop (i + 1) xs))) passes
+find-passes test xs i x h passes = grind (arith, drop-at, drop)
 
 pub find-fails : {A : Type 0} (test : A → Bool) (xs : List A) (i : ℕ) (x : A) → slice_get xs i ≡ Some x
     → test x ≡ false → find test (drop i xs) ≡ find test (drop (i + 1) xs)
-find-fails test xs i x at fails = ap (find test) (drop-at xs i x at)
-    ∙ ap (λ b. cond b (Some x) (find test (drop (i + 1) xs))) fails
+find-fails test xs i x h fails = grind (arith, drop-at, drop)
 
 -- ---- paths of a log
 
 pub same-length : (names paths : List (List ℕ)) (numbers : List ℕ) → AreCleanNumbers paths names numbers
     → length numbers ≡ length paths
-same-length names paths numbers are = sym (length-map numbers (name_at names)) ∙ ap length are.paths_are
-    ∙ length-map paths clean_path_of
+same-length names paths numbers are = grind (arith, common_steps)
 
 -- the number of a path of the log is that of its clean path
 clean-at : (f : ℕ → List ℕ) (paths : List (List ℕ)) (numbers : List ℕ) (i : ℕ)
@@ -199,9 +178,7 @@ clean-at f (p ∷ paths) (n ∷ numbers) (suc i) same within =
 
 below-at : (count : ℕ) (numbers : List ℕ) (i : ℕ) → AreBelow count numbers → i < length numbers
     → slice_index numbers i < count
-below-at count [] i below within = absurd (omega (arith, within))
-below-at count (n ∷ numbers) zero below within = below.0
-below-at count (n ∷ numbers) (suc i) below within = below-at count numbers i below.1 (omega (arith, within))
+below-at count numbers i below within = grind (arith, common_steps)
 
 pub appends-logged : (names paths : List (List ℕ)) (numbers inputs old new : List ℕ)
     → AreCleanNumbers paths names numbers → AreBelow (length paths) inputs
@@ -238,28 +215,19 @@ appends-logged names paths numbers inputs old new are within new-is = record {
 pub finds-none : (IsFound : Discovery → Type 0) (names : List (List ℕ)) (numbers : List ℕ) (verdict : Verdict)
     → IsFound (record { verdict = verdict; inputs = [] })
     → Finds IsFound names names numbers numbers verdict
-finds-none IsFound names numbers verdict is =
-    record { inputs = []; is_found = is; appends = appends-none names numbers }
+finds-none h names numbers verdict is = search rules
 
 pub finds-weaker : (IsFound Other : Discovery → Type 0) (names later : List (List ℕ)) (numbers more : List ℕ)
     (verdict : Verdict)
     → ((found : Discovery) → IsFound found → Other found) → Finds IsFound names later numbers more verdict
     → Finds Other names later numbers more verdict
-finds-weaker IsFound Other names later numbers more verdict weaker found =
-    record {
-      inputs = found.inputs;
-      is_found =
-          weaker (record { verdict = verdict; inputs = found.inputs }) found.is_found;
-      appends = found.appends;
-    }
+finds-weaker h h1 names later numbers more verdict weaker found = grind arith
 
 pub finds-as : (r : Result Verdict AllocError) (IsFound Other : Discovery → Type 0)
     (names later : List (List ℕ)) (numbers more : List ℕ)
     → ((found : Discovery) → IsFound found → Other found) → IfOk r (Finds IsFound names later numbers more)
     → IfOk r (Finds Other names later numbers more)
-finds-as (Ok verdict) IsFound Other names later numbers more weaker found =
-    finds-weaker IsFound Other names later numbers more verdict weaker found
-finds-as (Err fault) IsFound Other names later numbers more weaker found = tt
+finds-as r h h1 names later numbers more weaker found = grind arith
 
 -- by the targets of a depfile
 module _ (edge : EdgePaths) (targets inputs : List (List ℕ)) where
@@ -300,13 +268,11 @@ is_memory depfile.InputHasInputs = false
 
 pub fault-read : (read : Result DepfileModel DepfileFault) (fault : DepfileFault) → is_memory fault ≡ false
     → (fault ≡ depfile.OutOfMemory) ⊎ (read ≡ Err fault) → read ≡ Err fault
-fault-read read fault other (inl memory) = absurd (true≢false (sym (ap is_memory memory) ∙ other))
-fault-read read fault other (inr is) = is
+fault-read read fault other h = grind arith
 
 pub text-some : (edge : EdgePaths) (text : List ℕ) → (length text == 0) ≡ false
     → by_text edge (Text (Some text)) ≡ by_depfile edge (depfile_of text)
-text-some edge [] some = absurd (true≢false some)
-text-some edge (byte ∷ bytes) some = refl
+text-some edge text some = grind arith
 
 pub faulty-finds : (edge : EdgePaths) (text : List ℕ) (fault : DepfileFault) (names : List (List ℕ))
     (numbers : List ℕ) (found : Verdict) (field : DepfileFault) → field ≡ fault
@@ -314,85 +280,56 @@ pub faulty-finds : (edge : EdgePaths) (text : List ℕ) (fault : DepfileFault) (
     → (length text == 0) ≡ false → is_memory fault ≡ false
     → (field ≡ depfile.OutOfMemory) ⊎ (depfile_of text ≡ Err field)
     → Finds (λ one. one ≡ by_text edge (Text (Some text))) names names numbers numbers found
-faulty-finds edge text fault names numbers found field same is some other read =
-    finds-none (λ one. one ≡ by_text edge (Text (Some text))) names numbers found
-    (ap (λ v. record { verdict = v; inputs = [] }) is
-    ∙ sym (text-some edge text some ∙ ap (by_depfile edge)
-    (fault-read (depfile_of text) fault other
-    (subst (λ f. (f ≡ depfile.OutOfMemory) ⊎ (depfile_of text ≡ Err f)) same read))))
+faulty-finds edge text fault names numbers found field same is some other read = search rules
 
 -- ---- a source of files
 
 pub text-given : (before after : SourceState) (path depfile : List ℕ) (outcome : Option (Vec ℕ))
     (bytes : Option (List ℕ)) → outcome_bytes outcome ≡ bytes → path ≡ depfile
     → ReadsPath before after path (Ok outcome) → IfSome (before.files depfile) (λ meant. bytes ≡ meant)
-text-given before after path depfile outcome bytes same named reads =
-    subst (λ b. IfSome (before.files depfile) (λ meant. b ≡ meant)) same
-    (subst (λ p. IfSome (before.files p) (λ meant. outcome_bytes outcome ≡ meant)) named reads.0.as_given.0)
+text-given before after path depfile outcome bytes same named reads = grind arith
 
 pub reading-failed : (before after : SourceState) (path : List ℕ) (fault : SourceFault) → fault ≡ Io
     → ReadsPath before after path (Err fault) → Rises before.failures after.failures
-reading-failed before after path fault is reads = let failed : ReadsPath before after path (Err Io) =
-    subst (λ f. ReadsPath before after path (Err f)) is reads in failed.1
+reading-failed before after path fault is reads = grind arith
 
 pub empty-by_length : (bytes : List ℕ) (b : Bool) → b ≡ (length bytes == 0) → is_empty bytes ≡ b
-empty-by_length [] b h = sym h
-empty-by_length (x ∷ xs) b h = sym (h ∙ never (length xs))
-  where
-    never : (n : ℕ) → (suc n == 0) ≡ false
-    never n = grind (arith, common_steps)
+empty-by_length bytes b h = grind arith
 
 pub finds-moved : (IsFound : Discovery → Type 0) (names later last : List (List ℕ))
     (numbers more all : List ℕ) (one other : Verdict) → later ≡ last → more ≡ all → one ≡ other
     → Finds IsFound names later numbers more one → Finds IsFound names last numbers all other
-finds-moved IsFound names later last numbers more all one other names-are numbers-are same found =
-    subst (λ v. Finds IsFound names last numbers all v) same
-    (subst (λ ns. Finds IsFound names last numbers ns one) numbers-are
-    (subst (λ ns. Finds IsFound names ns numbers more one) names-are found))
+finds-moved h names later last numbers more all one other names-are numbers-are same found = grind arith
 
 -- ---- held
 
 part-grown : (inputs more : List ℕ) (start end : ℕ) → start ≤ end → end ≤ length inputs
     → slice_range (inputs ++ more) start end ≡ slice_range inputs start end
-part-grown inputs more start end rises ends =
-    ap (take (end - start)) (drop-append-le start inputs more (omega arith))
-    ∙ take-append-le (end - start) (drop start inputs) more (omega (arith, length-drop start inputs))
+part-grown inputs more start end rises ends = grind (arith, common_steps)
 
 part-new : (inputs more : List ℕ) → slice_range (inputs ++ more) (length inputs) (length inputs + length more)
     ≡ more
-part-new inputs more =
-    ap (λ xs. take (length inputs + length more - length inputs) xs) (drop-append_seam inputs more)
-    ∙ ap (λ n. take n more) (omega arith) ∙ take-length more
+part-new inputs more = grind (arith, common_steps)
 
 pub within-more : (size other : ℕ) (edges : List FoundEdge) → size ≤ other
     → AllByRecursion (IsWithin size) edges → AllByRecursion (IsWithin other) edges
 within-more size other [] more within = tt
-within-more size other (e ∷ edges) more within =
-    let ends : e.end ≤ size = within.0.ends in (
-      record { rises = within.0.rises; ends = omega (arith, ends, more) },
-      within-more size other edges more within.1,
-    )
+within-more size other (e ∷ edges) more within = grind (arith, within-more size other edges more within.1)
 
 pub within-append : (size : ℕ) (edges : List FoundEdge) (edge : FoundEdge)
     → AllByRecursion (IsWithin size) edges → IsWithin size edge
     → AllByRecursion (IsWithin size) (edges ++ edge ∷ [])
-within-append size [] edge within one = (one, tt)
-within-append size (e ∷ edges) edge within one = (within.0, within-append size edges edge within.1 one)
+within-append size edges edge within one = grind (arith, common_steps)
 
 below-drop : (count n : ℕ) (numbers : List ℕ) → AreBelow count numbers → AreBelow count (drop n numbers)
-below-drop count zero numbers below = below
-below-drop count (suc n) [] below = tt
-below-drop count (suc n) (x ∷ numbers) below = below-drop count n numbers below.1
+below-drop count n numbers below = grind (arith, common_steps)
 
 below-take : (count n : ℕ) (numbers : List ℕ) → AreBelow count numbers → AreBelow count (take n numbers)
-below-take count zero numbers below = tt
-below-take count (suc n) [] below = tt
-below-take count (suc n) (x ∷ numbers) below = (below.0, below-take count n numbers below.1)
+below-take count n numbers below = grind (arith, common_steps)
 
 below-part : (count : ℕ) (numbers : List ℕ) (start end : ℕ) → AreBelow count numbers
     → AreBelow count (slice_range numbers start end)
-below-part count numbers start end below =
-    below-take count (end - start) (drop start numbers) (below-drop count start numbers below)
+below-part count numbers start end below = grind (arith, common_steps)
 
 -- the edge of a number, by its paths
 abbrev pub discovery_held : (names : List (List ℕ)) → (inputs : List ℕ) → List FoundEdge → (edge : ℕ)
@@ -417,19 +354,13 @@ kept names more_names inputs more (edge ∷ edges) others (suc e) within held be
 
 last-at : {A : Type 0} (f : FoundEdge → A) (edges : List FoundEdge) (edge : FoundEdge) (other : A)
     → slice_index_or (map f (edges ++ edge ∷ [])) (length edges) other ≡ f edge
-last-at f [] edge other = refl
-last-at f (e ∷ edges) edge other = last-at f edges edge other
+last-at f edges edge other = grind (arith, common_steps)
 
 newest : (names : List (List ℕ)) (inputs more : List ℕ) (edges : List FoundEdge) (edge : FoundEdge)
     → edge.start ≡ length inputs → edge.end ≡ length inputs + length more
     → discovery_held names (inputs ++ more) (edges ++ edge ∷ []) (length edges)
     ≡ record { verdict = edge.verdict; inputs = map (name_at names) more }
-newest names inputs more edges edge start end =
-    ap (λ (f : FoundModel). record { verdict = f.verdict; inputs = map (name_at names) f.inputs })
-    (last-at (found_of (inputs ++ more)) edges edge (record { verdict = verdict.Known; inputs = [] }))
-    ∙ ap (λ ns. record { verdict = edge.verdict; inputs = map (name_at names) ns })
-    (ap (λ n. slice_range (inputs ++ more) n edge.end) start
-    ∙ ap (slice_range (inputs ++ more) (length inputs)) end ∙ part-new inputs more)
+newest names inputs more edges edge start end = grind (arith, common_steps)
 
 -- an edge that was found
 module _ (IsFound : Discovery → Type 0) (log_paths names later : List (List ℕ))
@@ -492,6 +423,4 @@ module _ (IsFound : Discovery → Type 0) (log_paths names later : List (List �
 
 pub three-parts : (old one other last first second third : List ℕ) → first ≡ old ++ one
     → second ≡ first ++ other → third ≡ second ++ last → third ≡ old ++ (one ++ (other ++ last))
-three-parts old one other last first second third a b c =
-    c ∙ ap (λ xs. xs ++ last) (b ∙ ap (λ xs. xs ++ other) a) ∙ append_assoc (old ++ one) other last
-    ∙ append_assoc old one (other ++ last)
+three-parts old one other last first second third a b c = grind (arith, common_steps)

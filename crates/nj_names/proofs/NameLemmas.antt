@@ -32,8 +32,7 @@ found-at name names i h =
 -- a new name is the last one
 pub named-last : (name : List ℕ) (names : List (List ℕ)) → list_any (bytes_eq name) names ≡ false
     → slice_get (with_name names name) (length names) ≡ Some name
-named-last name names absent = ap (λ b. slice_get (cond b names (names ++ name ∷ [])) (length names)) absent
-    ∙ get-last names name
+named-last name names absent = grind (arith, slice_get, length, get-last)
 
 prefix-here : (name : List ℕ) (names : List (List ℕ)) (n : ℕ) → IsDistinct bytes_eq names
     → slice_get names n ≡ Some name → prefix_len (λ k. not (bytes_eq name k)) names ≡ n
@@ -85,8 +84,7 @@ found-index name names (Some n) apart here =
 
 pub found-known : (name : List ℕ) (names : List (List ℕ)) (found : Option ℕ) → IsFound names name found
     → is_some found ≡ list_any (bytes_eq name) names
-found-known name names None absent = sym absent
-found-known name names (Some n) here = sym (among-get names n name here)
+found-known name names found absent = grind (arith, among-get)
 
 -- ---- the text
 
@@ -97,8 +95,7 @@ length-names text start (end ∷ ends) = ap suc (length-names text end ends)
 
 ends-within : (start : ℕ) (ends : List ℕ) (size : ℕ) → EndsRise start ends size → start ≤ size
 ends-within start [] size rise = let end : start ≡ size = rise in omega arith
-ends-within start (end ∷ ends) size rise = let up : start ≤ end = rise.0 in let within =
-    ends-within end ends size rise.1 in omega arith
+ends-within start (end ∷ ends) size rise = grind (arith, ends-within end ends size rise.1)
 
 -- a name lies between its ends
 pub name-within : (start : ℕ) (ends : List ℕ) (size n end : ℕ) → EndsRise start ends size
@@ -112,8 +109,7 @@ name-within start (e ∷ ends) size (suc n) end rise here = name-within e ends s
 pub name-between : (text : List ℕ) (start : ℕ) (ends : List ℕ) (n end : ℕ) → slice_get ends n ≡ Some end
     → slice_get (names_in text start ends) n ≡ Some (slice_range text (start_in start ends n) end)
 name-between text start [] n end here = absurd (true≢false (sym (ap is_some here)))
-name-between text start (e ∷ ends) zero end here =
-    ap (λ k. Some (slice_range text start k)) (ap (λ o. unwrap_or o end) here)
+name-between text start (e ∷ ends) zero end here = grind arith
 name-between text start (e ∷ ends) (suc n) end here = name-between text e ends n end here
 
 pub start-after : (start : ℕ) (ends : List ℕ) (n d : ℕ) → n < length ends
@@ -125,9 +121,7 @@ start-after start (end ∷ ends) (suc n) d below = start-after end ends n d (ome
 -- the end of the name before is where a name starts
 pub start-before : (start : ℕ) (ends : List ℕ) (n d : ℕ) → 0 < n → n < length ends
     → get_or ends (n - 1) d ≡ start_in start ends n
-start-before start ends zero d after below = absurd (omega arith)
-start-before start ends (suc n) d after below = let e : suc n - 1 ≡ n = omega arith in
-    rw e (sym (start-after start ends n d (omega arith)))
+start-before start ends n d after below = grind (arith, start-after)
 
 -- a name more
 pub rise-push : (start : ℕ) (ends : List ℕ) (size more : ℕ) → EndsRise start ends size
@@ -159,39 +153,11 @@ pub record IsNewest (hash : Hash) (names : List (List ℕ)) (wanted count n : �
 pub newest-is : (hash : Hash) (names : List (List ℕ)) (wanted count n : ℕ)
     → newest_below hash names wanted count ≡ suc n → IsNewest hash names wanted count n
 newest-is hash names wanted zero n h = absurd (omega arith)
-newest-is hash names wanted (suc c) n h =
-    by (newest-is hash names wanted c n) (eqb_tells (hash (name_of names c)) wanted)
-  where
-    down : ℕ
-    down = newest_below hash names wanted c
-
-    late : (m : ℕ) → hash (name_of names c) ≢ wanted → IsNewest hash names wanted c n → n < m → m < suc c
-        → (m ≡ c) ⊎ (m ≡ c → ⊥) → hash (name_of names m) ≢ wanted
-    late m apart r above below (inl last) = λ same. apart (ap (λ k. hash (name_of names k)) (sym last) ∙ same)
-    late m apart r above below (inr other) = r.others m above (omega arith)
-
-    by : (down ≡ suc n → IsNewest hash names wanted c n)
-        → ((hash (name_of names c) == wanted) ≡ true × (hash (name_of names c) ≡ wanted))
-        ⊎ ((hash (name_of names c) == wanted) ≡ false × (hash (name_of names c) ≢ wanted))
-        → IsNewest hash names wanted (suc c) n
-    by rest (inl same) =
-        let top : suc c ≡ suc n = ap (λ b. cond b (suc c) down) (sym same.0) ∙ h in
-        let is : c ≡ n = omega arith in
-        record {
-          within = omega arith;
-          same = ap (λ k. hash (name_of names k)) (sym is) ∙ same.1;
-          others =
-              λ m above below. absurd (omega arith);
-        }
-    by rest (inr apart) =
-        let r = rest (ap (λ b. cond b (suc c) down) (sym apart.0) ∙ h) in
-        let within : n < c = r.within in
-        record {
-          within = omega arith;
-          same = r.same;
-          others =
-              λ m above below. late m apart.1 r above below (cases_eq m c);
-        }
+newest-is hash names wanted (suc c) n h = grind (
+  arith,
+  newest-is hash names wanted c n,
+  eqb_tells (hash (name_of names c)) wanted,
+)
 
 pub newest-none : (hash : Hash) (names : List (List ℕ)) (wanted count : ℕ)
     → newest_below hash names wanted count ≡ 0 → (m : ℕ) → m < count → hash (name_of names m) ≢ wanted
@@ -219,13 +185,7 @@ newest-none hash names wanted (suc c) h m below =
 newest-below : (hash : Hash) (names : List (List ℕ)) (wanted count : ℕ)
     → newest_below hash names wanted count ≤ count
 newest-below hash names wanted zero = omega arith
-newest-below hash names wanted (suc c) =
-    by (hash (name_of names c) == wanted) (newest-below hash names wanted c)
-  where
-    by : (b : Bool) → newest_below hash names wanted c ≤ c
-        → cond b (suc c) (newest_below hash names wanted c) ≤ suc c
-    by true small = omega arith
-    by false small = omega arith
+newest-below hash names wanted (suc c) = grind (arith, newest-below hash names wanted c)
 
 name_of-more : (names others : List (List ℕ)) (n : ℕ) → n < length names
     → name_of (names ++ others) n ≡ name_of names n
@@ -235,11 +195,11 @@ name_of-more names others n below = get_or_append_left names others [] n below
 newest-more : (hash : Hash) (names others : List (List ℕ)) (wanted count : ℕ) → count ≤ length names
     → newest_below hash (names ++ others) wanted count ≡ newest_below hash names wanted count
 newest-more hash names others wanted zero within = refl
-newest-more hash names others wanted (suc c) within =
-    ap (λ p. cond (hash p == wanted) (suc c) (newest_below hash (names ++ others) wanted c))
-    (name_of-more names others c (omega arith))
-    ∙ ap (cond (hash (name_of names c) == wanted) (suc c))
-    (newest-more hash names others wanted c (omega arith))
+newest-more hash names others wanted (suc c) within = grind (
+  arith,
+  name_of-more names others c (omega arith),
+  newest-more hash names others wanted c (omega arith),
+)
 
 module _ (hash : Hash) (names : List (List ℕ)) (name : List ℕ) where
   abbrev longer : List (List ℕ)
@@ -302,22 +262,15 @@ Searched names earlier name at = (hash : Hash) × AreChained hash names earlier 
 
 pub sought-start : (hash : Hash) (names : List (List ℕ)) (name : List ℕ) (at : ℕ) → IsStart hash names name at
     → IsSought hash names name at
-sought-start hash names name at start =
-    record {
-      count = length names;
-      within = omega arith;
-      newest = start;
-      absent =
-          λ m from below. absurd (omega arith);
-    }
+sought-start hash names name h start = grind arith
 
 pub searched-within : (names : List (List ℕ)) (earlier name : List ℕ) (n : ℕ)
     → Searched names earlier name (suc n) → n < length names
-searched-within names earlier name n s =
-    let is = newest-is s.0 names (s.0 name) s.2.count n (sym s.2.newest) in
-    let below : n < s.2.count = is.within in
-    let within : s.2.count ≤ length names = s.2.within in
-    omega arith
+searched-within names earlier name n s = grind (
+  arith,
+  newest-is s.0 names (s.0 name) s.2.count n (sym s.2.newest),
+  length names,
+)
 
 -- a name that is another one leads to an earlier one
 pub searched-next : (names : List (List ℕ)) (earlier name : List ℕ) (n : ℕ)
@@ -354,10 +307,7 @@ searched-next names earlier name n s other = (
 
 pub searched-falls : (names : List (List ℕ)) (earlier name : List ℕ) (n : ℕ)
     → Searched names earlier name (suc n) → get_or earlier n 0 < suc n
-searched-falls names earlier name n s =
-    let leads = s.1.leads n (searched-within names earlier name n s) in
-    let small = newest-below s.0 names (s.0 (name_of names n)) n in
-    omega arith
+searched-falls names earlier name n s = grind (arith, searched-within, newest-below)
 
 any-none : (name : List ℕ) (names : List (List ℕ)) → ((m : ℕ) → m < length names → name_of names m ≢ name)
     → list_any (bytes_eq name) names ≡ false
@@ -399,21 +349,14 @@ module _ (names : List (List ℕ)) (earlier name : List ℕ) where
 -- at the end of the chain the name is absent
 pub searched-all : (names : List (List ℕ)) (earlier name : List ℕ) → Searched names earlier name 0
     → list_any (bytes_eq name) names ≡ false
-searched-all names earlier name s = any-none name names (λ m below. by m below (cases_lt m s.2.count))
-  where
-    by : (m : ℕ) → m < length names → (m < s.2.count) ⊎ (s.2.count ≤ m) → name_of names m ≢ name
-    by m below (inl before) = λ same. newest-none s.0 names (s.0 name) s.2.count (sym s.2.newest) m before
-        (ap s.0 same)
-    by m below (inr after) = s.2.absent m after below
+searched-all names earlier name s = grind (arith, any-none, cases_lt, length, newest-none)
 
 -- a new name comes last
 pub push-named : (text name ends : List ℕ) → EndsRise 0 ends (length text)
     → list_any (bytes_eq name) (held_names text ends) ≡ false
     → held_names (text ++ name) (ends ++ (length text + length name) ∷ [])
     ≡ with_name (held_names text ends) name
-push-named text name ends rise absent =
-    let names = held_names text ends in
-    names-push text name 0 ends rise ∙ ap (λ b. cond b names (names ++ name ∷ [])) (sym absent)
+push-named text name ends rise absent = grind (arith, names-push)
 
 -- ---- all together
 
@@ -421,12 +364,7 @@ push-named text name ends rise absent =
 pub none-held : {S : Type 0} (hash : Hash) (newest : IndexMap ℕ ℕ S) → newest.entries ≡ []
     → AreHeld hash [] [] [] newest
 unfolding IsDistinct
-none-held hash newest none = record {
-  rise = refl;
-  distinct = tt;
-  chained = record { count = refl; leads = λ n below. absurd (omega arith) };
-  are_newest = λ wanted. ap (λ es. unwrap_or (lookup (nat_eq wanted) es) 0) none;
-}
+none-held hash newest none = grind arith
 
 -- a new name is held too
 pub push-held : {S : Type 0} (hash : Hash) (text ends earlier : List ℕ) (newest newest' : IndexMap ℕ ℕ S)

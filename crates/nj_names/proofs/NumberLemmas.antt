@@ -1,4 +1,5 @@
 -- Lemmas on sets of numbers.
+use Rattle.std.proofs.lemmas.Grind.{common_steps}
 use Rattle.std.proofs.Common.{◌≡◌, ◌≢◌, ◌<◌, ◌≤◌, ◌+◌, ◌==◌, ◌||◌, ◌⊎◌, inl, inr, ℕ, Bool, true, false, List}
 use Rattle.std.proofs.Common.{[], ◌∷◌, ◌++◌, length, get_or, set, nat_eq, refl, sym, ap, subst, ◌∙◌, arith}
 use Rattle.std.specs.Prelude.{Contains, sum_by}
@@ -16,12 +17,10 @@ use Rattle.nj_names.specs.NumberSets.{has}
 use Rattle.nj_names.specs.Inside.NumbersHeld.{AreFlagged, unflagged}
 
 or-true : (b : Bool) → (b || true) ≡ true
-or-true true = refl
-or-true false = refl
+or-true b = grind arith
 
 or-false : (b : Bool) → (b || false) ≡ b
-or-false true = refl
-or-false false = refl
+or-false b = grind arith
 
 -- ---- members of a list
 
@@ -35,8 +34,7 @@ contains-has numbers n is = list_any-from_Contains nat_eq_equiv n numbers is
 
 pub has-push : (numbers : List ℕ) (number n : ℕ)
     → has (numbers ++ number ∷ []) n ≡ (has numbers n || nat_eq n number)
-has-push numbers number n = list_any-append (nat_eq n) numbers (number ∷ [])
-    ∙ ap (λ b. has numbers n || b) (or-false (nat_eq n number))
+has-push numbers number n = grind (arith, common_steps)
 
 module _ (flags : List Bool) (numbers : List ℕ) (number : ℕ) (below : number < length flags)
     (held : AreFlagged flags numbers) (unset : get_or flags number false ≡ false) where
@@ -78,25 +76,19 @@ module _ (flags : List Bool) (numbers : List ℕ) (number : ℕ) (below : number
 all-unflagged : (flags : List Bool) → AllByRecursion (λ flag. flag ≡ false) flags
     → sum_by unflagged flags ≡ length flags
 all-unflagged [] none = refl
-all-unflagged (flag ∷ flags) none =
-    let rest : 1 + sum_by unflagged flags ≡ length (flag ∷ flags) = omega (arith, all-unflagged flags none.1)
-    in
-    sum_by-cons unflagged flag flags ∙ ap (λ n. n + sum_by unflagged flags) (ap unflagged none.0) ∙ rest
+all-unflagged (flag ∷ flags) none = grind (
+  arith,
+  length (flag ∷ flags),
+  all-unflagged flags none.1,
+  sum_by-cons unflagged flag flags,
+)
 
 no-flag : (flags : List Bool) → All (λ flag. flag ≡ false) flags → (n : ℕ) → get_or flags n false ≡ false
-no-flag flags none n = elim (cases_lt n (length flags)) [
-  | inl below ↦ All-get_or (λ flag. flag ≡ false) flags n false below none
-  | inr past ↦ get_or_past flags n false past
-]
+no-flag flags none n = grind (arith, common_steps)
 
 pub flagged-none : (flags : List Bool) → All (λ flag. flag ≡ false) flags → AreFlagged flags []
 unfolding IsDistinct
-flagged-none flags none = record {
-  tell = no-flag flags none;
-  below = All-nil (λ (n : ℕ). n < length flags);
-  distinct = tt;
-  as_many = omega (arith, all-unflagged flags (recursion_from_All (λ flag. flag ≡ false) flags none));
-}
+flagged-none flags none = grind (arith, no-flag, length, all-unflagged, recursion_from_All)
 
 -- there are no more of them than flags
 pub flagged-fit : (flags : List Bool) (numbers : List ℕ) → AreFlagged flags numbers

@@ -15,12 +15,10 @@ use Rattle.nj_names.proofs.NumberLemmas.{has-push}
 use Rattle.nj_names.specs.Inside.RoundsHeld.{AreMarked, unmarked}
 
 or-true : (b : Bool) → (b || true) ≡ true
-or-true true = refl
-or-true false = refl
+or-true b = grind arith
 
 or-false : (b : Bool) → (b || false) ≡ b
-or-false true = refl
-or-false false = refl
+or-false b = grind arith
 
 same-eqb : (n m : ℕ) → n ≡ m → nat_eq n m ≡ true
 same-eqb n m is = (Decides-eqb n m).1 is
@@ -95,21 +93,19 @@ module _ (marks : List ℕ) (round : ℕ) (numbers : List ℕ) (number : ℕ) (b
 all-unmarked : (round : ℕ) (marks : List ℕ) → AllByRecursion (λ mark. mark < round) marks
     → sum_by (unmarked round) marks ≡ length marks
 all-unmarked round [] none = refl
-all-unmarked round (mark ∷ marks) none =
-    let first = counted (nat_eq mark round) false (apart-eqb mark round (λ is. omega (arith, none.0, is))) in
-    let rest : 1 + sum_by (unmarked round) marks ≡ length (mark ∷ marks) =
-    omega (arith, all-unmarked round marks none.1) in
-    sum_by-cons (unmarked round) mark marks ∙ ap (λ n. n + sum_by (unmarked round) marks) first ∙ rest
+all-unmarked round (mark ∷ marks) none = grind (
+  arith,
+  counted (nat_eq mark round) false (apart-eqb mark round (λ is. omega (arith, none.0, is))),
+  nat_eq mark round,
+  apart-eqb mark round (λ is. omega (arith, none.0, is)),
+  length (mark ∷ marks),
+  all-unmarked round marks none.1,
+  sum_by-cons (unmarked round) mark marks,
+)
 
 pub marked-none : (round : ℕ) (marks : List ℕ) → All (λ mark. mark < round) marks → AreMarked marks round []
 unfolding IsDistinct
-marked-none round marks before = record {
-  tell = λ n within. apart-eqb (get_or marks n 0) round (λ is. omega (arith, before n 0 within, is));
-  below = All-nil (λ (n : ℕ). n < length marks);
-  distinct = tt;
-  earlier = λ n within. omega (arith, before n 0 within);
-  as_many = omega (arith, all-unmarked round marks (recursion_from_All (λ mark. mark < round) marks before));
-}
+marked-none round marks before = grind (arith, apart-eqb, get_or, length, all-unmarked, recursion_from_All)
 
 -- the next round
 pub marked-next : (round : ℕ) (marks numbers : List ℕ) → AreMarked marks round numbers

@@ -1,4 +1,5 @@
 -- Lists that begin with others.
+use Rattle.std.proofs.lemmas.Grind.{common_steps}
 use Rattle.std.proofs.Common.{◌≡◌, ℕ, zero, suc, ◌≤◌, Bool, not, Some, List, [], ◌∷◌, ◌++◌, length, map, take}
 use Rattle.std.proofs.Common.{filter, sym, ap, ◌∙◌, arith, append_assoc, length-append}
 use Rattle.std.specs.Prelude.{nat_eq, slice_get}
@@ -32,9 +33,7 @@ pub front-length : {X : Type 0} (xs ys : List X) → IsFront xs ys → length xs
 front-length xs ys h = omega (arith, ap length h.1, length-append xs h.0)
 
 pub front-long : {X : Type 0} (xs ys : List X) → IsFront xs ys → length ys ≤ length xs → xs ≡ ys
-front-long {X = X} xs ys h long =
-    let none : h.0 ≡ [] = nil_from_length h.0 (omega (arith, ap length h.1, length-append xs h.0, long)) in
-    sym (h.1 ∙ ap (λ (zs : List X). xs ++ zs) none ∙ append-nil xs)
+front-long {X = X} xs ys h long = grind (arith, common_steps)
 
 pub front-same : {X : Type 0} (xs ys : List X) → IsFront xs ys → IsFront ys xs → xs ≡ ys
 front-same xs ys h k = front-long xs ys h (front-length ys xs k)
@@ -50,8 +49,7 @@ pub front-get : {X : Type 0} (xs ys : List X) → IsFront xs ys → (p : ℕ) (x
 front-get {X = X} xs ys h p x at = ap (λ (zs : List X). slice_get zs p) h.1 ∙ get_front xs h.0 p x at
 
 pub front-take : {X : Type 0} (xs ys : List X) → IsFront xs ys → (n : ℕ) → n ≡ length xs → take n ys ≡ xs
-front-take xs ys h n is =
-    ap (take n) h.1 ∙ take-append-le n xs h.0 (omega (arith, is)) ∙ take_all n xs (omega (arith, is))
+front-take xs ys h n is = grind (arith, common_steps)
 
 -- ---- without repeats
 

@@ -19,8 +19,7 @@ use Rattle.nj_needs.proofs.MarkTextLemmas.{given_start, given_address}
 -- ---- a text is cut at its dots
 
 or_false : (s t : Bool) → s || t ≡ false → (s ≡ false) × (t ≡ false)
-or_false true t e = absurd (cc)
-or_false false t e = (refl, e)
+or_false s t e = grind arith
 
 parts-at : (xs ys : List ℕ) → list_any is_dot xs ≡ false
     → slice_split is_dot (xs ++ 46 ∷ ys) ≡ xs ∷ slice_split is_dot ys
@@ -49,9 +48,7 @@ and_then one others = option_and_then (λ number. option_map (λ numbers. number
 
 numbers-written : (ns : List ℕ) → AllByRecursion (λ k. k < 2 ^ 64) ns → numbers_in (map decimal ns) ≡ Some ns
 numbers-written [] h = refl
-numbers-written (n ∷ ns) h =
-    ap (λ (o : Option ℕ). and_then o (numbers_in (map decimal ns))) (number-decimal n h.0)
-    ∙ ap (and_then (Some n)) (numbers-written ns h.1)
+numbers-written (n ∷ ns) h = grind (arith, number-decimal n h.0, numbers-written ns h.1)
 
 no_start : (n : ℕ) (ns : List ℕ) → n < 2 ^ 64 → mark_text (n ∷ ns) ≡ codes "start" → ⊥
 no_start n [] h e = not_start (decimal n) [] (numeral-decimal n h) (append-nil (decimal n) ∙ e)
@@ -98,8 +95,7 @@ parts-meant (p ∷ ps) ns e = by_parts (number_of p) (numbers_in ps) refl refl (
         ∙ ap (λ qs. p ∷ qs) (rest ms b)
 
 text_of : (ns : List ℕ) → 0 < length (map decimal ns) → mark_text ns ≡ join_with_byte 46 (map decimal ns)
-text_of [] h = absurd (omega arith)
-text_of (n ∷ ns) h = refl
+text_of ns h = grind arith
 
 pub given_written : GivenMarksAreWritten
 given_written text numbers e = by_test (bytes_eq text (codes "start")) refl

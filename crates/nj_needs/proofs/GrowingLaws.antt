@@ -1,5 +1,5 @@
 -- The grown targets stay, and reach the edges that are followed.
-use Rattle.std.proofs.Common.{◌≡◌, ℕ, zero, suc, ◌+◌, ◌<◌, ◌≤◌, Option, List, [], ◌∷◌, ◌++◌, length, refl}
+use Rattle.std.proofs.Common.{arith, ◌≡◌, ℕ, zero, suc, ◌+◌, ◌<◌, ◌≤◌, Option, List, [], ◌∷◌, ◌++◌, length, refl}
 use Rattle.std.proofs.Common.{sym, subst, ◌⊎◌, inl, inr}
 use Rattle.std.proofs.lemmas.List.{map-append}
 use Rattle.std.proofs.lemmas.Map.Steps.{length-le_from_distinct_below}
@@ -24,8 +24,7 @@ use Rattle.nj_needs.proofs.Striking.{Differ-first, In-first, In-first_from}
 Among-append_cases : (xs ys : List (Option ℕ)) (m : ℕ) → Among (xs ++ ys) m → Among xs m ⊎ Among ys m
 Among-append_cases [] ys m a = inr a
 Among-append_cases (x ∷ xs) ys m (inl is) = inl (inl is)
-Among-append_cases (x ∷ xs) ys m (inr a) =
-    elim (Among-append_cases xs ys m a) [ inl l ↦ inl (inr l) | inr r ↦ inr r ]
+Among-append_cases (x ∷ xs) ys m (inr a) = grind (arith, Among-append_cases xs ys m a)
 
 Among-append_left : (xs ys : List (Option ℕ)) (m : ℕ) → Among xs m → Among (xs ++ ys) m
 Among-append_left [] ys m a = absurd a

@@ -62,9 +62,7 @@ AreFiles-known files (n ∷ ns) known =
 pub comes : (given g : EdgeGraph) (listed files : List FileNo) (opened path : List Frame) (edge : Option ℕ)
     (found : Option (Option ℕ)) (place : ℕ) → given ≡ g → listed ≡ files → opened ≡ path → IsTop opened edge
     → found ≡ slice_get (row_in given listed edge) place → slice_get (top_of g files path) place ≡ found
-comes given g listed files opened path edge found place graph list same top is =
-    ap (λ (r : List (Option ℕ)). slice_get r place)
-    (sym (row-top g files path edge (subst (λ p. IsTop p edge) same top))) ∙ rw (← graph, ← list) (sym is)
+comes given g listed files opened path edge found place graph list same top is = grind (arith, row-top)
 
 module _ (g : EdgeGraph) (targets : List FileNo) (acyclic : IsAcyclic (makers_of g) (count_of g)) where
   inside : (m : ℕ) → Among (row_of_paths g.edges (all_paths g targets)) m → m < count_of g

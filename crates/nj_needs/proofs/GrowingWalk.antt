@@ -27,10 +27,7 @@ use Rattle.nj_needs.proofs.Walking.{top_row-push, done_at-open, done_at-pass, do
 -- nothing is left of the edges done
 without-done : (done es : List ℕ) → ((x : ℕ) → In es x → In done x) → without done es ≡ []
 without-done done [] all = refl
-without-done done (e ∷ es) all =
-    let here : list_any (nat_eq e) done ≡ true = all e (In-head e es) in
-    let later : without done es ≡ [] = without-done done es (λ x i. all x (In-tail e es x i)) in
-    rw (here, later) refl
+without-done done (e ∷ es) all = grind (arith, without-done done es (λ x i. all x (In-tail e es x i)))
 
 -- the place of the list at which the walk is, or after which it continues
 abbrev pub bottom : List Frame → (place : ℕ) → ℕ
@@ -39,18 +36,15 @@ bottom (f ∷ path) place = f.at + 1
 
 bottom-push : (path : List Frame) (f : Frame) (place next : ℕ) → f.at ≡ place → (n : ℕ)
     → bottom path place ≤ n → (path ≡ [] → place < n) → bottom (path ++ f ∷ []) next ≤ n
-bottom-push [] f place next here n le lt = omega (arith, here, lt refl)
-bottom-push (g ∷ path) f place next here n le lt = le
+bottom-push path f place next here n le lt = grind arith
 
 bottom-pop : (path : List Frame) (f : Frame) (place n : ℕ) → bottom (path ++ f ∷ []) place ≤ n
     → bottom path (f.at + 1) ≤ n
-bottom-pop [] f place n le = le
-bottom-pop (g ∷ path) f place n le = le
+bottom-pop path f place n le = grind arith
 
 bottom-pass : (path : List Frame) (place n : ℕ) → bottom path place ≤ n → (path ≡ [] → place < n)
     → bottom path (place + 1) ≤ n
-bottom-pass [] place n le lt = omega (arith, lt refl)
-bottom-pass (g ∷ path) place n le lt = le
+bottom-pass path place n le lt = grind arith
 
 -- files is the list so far, and all are the grown targets
 pub record IsGrowing (X : Type 0) (makers : ℕ → List (Option ℕ)) (count : ℕ) (maker : X → Option ℕ)

@@ -1,5 +1,5 @@
 -- Numbers without leading zeros.
-use Rattle.std.proofs.Common.{◌≡◌, ◌≢◌, ℕ, zero, suc, ◌^◌, ◌<◌, Bool, true, false, not, eqb, leb, Some, None}
+use Rattle.std.proofs.Common.{rules, ◌≡◌, ◌≢◌, ℕ, zero, suc, ◌^◌, ◌<◌, Bool, true, false, not, eqb, leb, Some, None}
 use Rattle.std.proofs.Common.{Ok, Err, List, [], ◌∷◌, ◌++◌, length, get_or, refl, sym, ap, ◌∙◌, subst, arith}
 use Rattle.std.specs.Prelude.{◌&&◌, decimal, codes}
 use Rattle.std.specs.Char.{is_ascii_digit}
@@ -19,65 +19,33 @@ own : IsNumeralModel (λ ds. all_ascii_digits ds ≡ true) (digits_value 10)
 own = numerals_by_value (λ ds. all_ascii_digits ds ≡ true) tells_all_ascii_digits
 
 and_true : (s t : Bool) → s && t ≡ true → (s ≡ true) × (t ≡ true)
-and_true true t e = (refl, e)
-and_true false t e = absurd (cc)
+and_true s t e = grind arith
 
 and_of : (s t : Bool) → s ≡ true → t ≡ true → s && t ≡ true
 and_of s t a b = rw (a, b) refl
 
 -- digits without a leading zero
 numeral_of : (bs : List ℕ) → has_plain_front bs ≡ true → all_ascii_digits bs ≡ true → is_numeral bs ≡ true
-numeral_of [] f h = f
-numeral_of (d ∷ []) f h = (and_true (is_ascii_digit d) true h).0
-numeral_of (d ∷ e ∷ ds) f h = and_of (not (eqb d 48)) (all_ascii_digits (d ∷ e ∷ ds))
-    (and_true (not (eqb d 43)) (not (eqb d 48)) f).1 h
+numeral_of bs f h = grind arith
 
 numeral_digits : (bs : List ℕ) → is_numeral bs ≡ true → (all_ascii_digits bs ≡ true) × (0 < length bs)
-numeral_digits [] h = absurd (cc)
-numeral_digits (d ∷ []) h = (and_of (is_ascii_digit d) true h refl, omega arith)
-numeral_digits (d ∷ e ∷ ds) h = ((and_true (not (eqb d 48)) (all_ascii_digits (d ∷ e ∷ ds)) h).1, omega arith)
+numeral_digits bs h = grind arith
 
 -- a sign is not a digit
 numeral_front : (bs : List ℕ) → is_numeral bs ≡ true → has_plain_front bs ≡ true
-numeral_front [] h = h
-numeral_front (d ∷ []) h = by_test (eqb d 43) refl
-  where
-    by_test : (t : Bool) → eqb d 43 ≡ t → not t ≡ true
-    by_test true e = let p : d ≡ 43 = grind (arith, nat_tests, e) in
-        absurd (let x : is_ascii_digit 43 ≡ true = ap is_ascii_digit (sym p) ∙ h in cc)
-    by_test false e = refl
-numeral_front (d ∷ e ∷ ds) h = and_of (not (eqb d 43)) (not (eqb d 48)) (by_test (eqb d 43) refl)
-    (and_true (not (eqb d 48)) (all_ascii_digits (d ∷ e ∷ ds)) h).0
-  where
-    by_test : (t : Bool) → eqb d 43 ≡ t → not t ≡ true
-    by_test true p =
-        let q : d ≡ 43 = grind (arith, nat_tests, p) in
-        let all = (and_true (not (eqb d 48)) (all_ascii_digits (d ∷ e ∷ ds)) h).1 in
-        let first = (and_true (is_ascii_digit d) (all_ascii_digits (e ∷ ds)) all).0 in
-        absurd (let x : is_ascii_digit 43 ≡ true = ap is_ascii_digit (sym q) ∙ first in cc)
-    by_test false p = refl
+numeral_front bs h = grind arith
 
 -- ---- the number
 
 number-some : (bs : List ℕ) → is_numeral bs ≡ true → digits_value 10 bs < 2 ^ 64
     → number_of bs ≡ Some (digits_value 10 bs)
-number-some bs h l = let e : leb (digits_value 10 bs) 18446744073709551615 ≡ true = grind (arith, nat_tests)
-    in rw (h, e) refl
+number-some bs h l = search rules
 
 number-none : (bs : List ℕ) → (is_numeral bs ≡ true → digits_value 10 bs < 2 ^ 64 → ⊥) → number_of bs ≡ None
-number-none bs h = by_tests (is_numeral bs) (leb (digits_value 10 bs) 18446744073709551615) refl refl
-  where
-    by_tests : (s t : Bool) → is_numeral bs ≡ s → leb (digits_value 10 bs) 18446744073709551615 ≡ t
-        → number_of bs ≡ None
-    by_tests false t a b = rw a refl
-    by_tests true false a b = rw (a, b) refl
-    by_tests true true a b = absurd (h a (grind (arith, nat_tests, b)))
+number-none bs h = search rules
 
 no_plus : (bs : List ℕ) → has_plain_front bs ≡ true → get_or bs 0 0 ≢ 43
-no_plus [] f = absurd (cc)
-no_plus (d ∷ []) f = λ e. let x : not (eqb 43 43) ≡ true = ap (λ b. not (eqb b 43)) (sym e) ∙ f in cc
-no_plus (d ∷ e ∷ ds) f = λ p. let x : not (eqb 43 43) ≡ true =
-    ap (λ b. not (eqb b 43)) (sym p) ∙ (and_true (not (eqb d 43)) (not (eqb d 48)) f).0 in cc
+no_plus bs f = grind arith
 
 pub number-no_front : (bs : List ℕ) → has_plain_front bs ≡ false → number_of bs ≡ None
 number-no_front bs f = number-none bs (λ h l. let x = numeral_front bs h in cc)
@@ -125,10 +93,7 @@ number-written bs n e = by_tests (is_numeral bs) (leb (digits_value 10 bs) 18446
 -- digits that do not begin with a zero are a numeral
 numeral_digits_of : (bs : List ℕ) → all_ascii_digits bs ≡ true → 0 < length bs → (48 < get_or bs 0 0)
     → is_numeral bs ≡ true
-numeral_digits_of [] h l f = absurd (omega arith)
-numeral_digits_of (d ∷ []) h l f = (and_true (is_ascii_digit d) true h).0
-numeral_digits_of (d ∷ c ∷ ds) h l f = let e : eqb d 48 ≡ false = grind (arith, nat_tests) in
-    and_of (not (eqb d 48)) (all_ascii_digits (d ∷ c ∷ ds)) (ap not e) h
+numeral_digits_of bs h l f = grind arith
 
 decimal_zero : is_numeral (decimal 0) ≡ true
 unfolding digits
@@ -162,9 +127,4 @@ no_dot-decimal n h = plain-digits (decimal n) (digits_decimal own n h)
 
 -- digits, and the bytes after them, are not `start`
 pub not_start : (bs more : List ℕ) → is_numeral bs ≡ true → bs ++ more ≡ codes "start" → ⊥
-not_start [] more h e = cc
-not_start (d ∷ ds) more h e =
-    let p : d ≡ 115 = cc in
-    let all = (numeral_digits (d ∷ ds) h).0 in
-    let x : is_ascii_digit 115 ≡ true = ap is_ascii_digit (sym p)
-    ∙ (and_true (is_ascii_digit d) (all_ascii_digits ds) all).0 in cc
+not_start bs more h e = grind arith

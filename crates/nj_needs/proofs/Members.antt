@@ -1,4 +1,5 @@
 -- Lists of edges as sets, and the makers in a row.
+use Rattle.std.proofs.lemmas.Grind.{common_steps}
 use Rattle.std.proofs.Common.{◌≡◌, ℕ, zero, suc, ◌<◌, get_or, take, Bool, true, false, Option, Some, List, []}
 use Rattle.std.proofs.Common.{◌∷◌, ◌++◌, length, refl, sym, ◌∙◌, ◌⊎◌, inl, inr, arith}
 use Rattle.std.specs.Prelude.{nat_eq, Contains, slice_get}
@@ -20,12 +21,10 @@ pub Contains-from_In : (xs : List ℕ) (x : ℕ) → In xs x → Contains xs x
 Contains-from_In xs x h = Contains-from_any (λ a b e. eqb-true a b e) x xs h
 
 pub In-append_left : (xs ys : List ℕ) (x : ℕ) → In xs x → In (xs ++ ys) x
-In-append_left xs ys x h = list_any-append (nat_eq x) xs ys
-    ∙ or_left (list_any (nat_eq x) xs) (list_any (nat_eq x) ys) h
+In-append_left xs ys x h = grind (arith, common_steps)
 
 pub In-append_right : (xs ys : List ℕ) (x : ℕ) → In ys x → In (xs ++ ys) x
-In-append_right xs ys x h = list_any-append (nat_eq x) xs ys
-    ∙ or_right (list_any (nat_eq x) xs) (list_any (nat_eq x) ys) h
+In-append_right xs ys x h = grind (arith, common_steps)
 
 pub In-head : (x : ℕ) (xs : List ℕ) → In (x ∷ xs) x
 In-head x xs = or_left (nat_eq x x) (list_any (nat_eq x) xs) (eq-eqb x x refl)
@@ -34,12 +33,10 @@ pub In-tail : (y : ℕ) (xs : List ℕ) (x : ℕ) → In xs x → In (y ∷ xs) 
 In-tail y xs x h = or_right (nat_eq x y) (list_any (nat_eq x) xs) h
 
 pub In-cons_cases : (y : ℕ) (xs : List ℕ) (x : ℕ) → In (y ∷ xs) x → (x ≡ y) ⊎ In xs x
-In-cons_cases y xs x h = elim (or_cases (nat_eq x y) (list_any (nat_eq x) xs) h)
-    [ inl e ↦ inl (eqb-true x y e) | inr i ↦ inr i ]
+In-cons_cases y xs x h = grind arith
 
 pub In-append_cases : (xs ys : List ℕ) (x : ℕ) → In (xs ++ ys) x → In xs x ⊎ In ys x
-In-append_cases xs ys x h = or_cases (list_any (nat_eq x) xs) (list_any (nat_eq x) ys)
-    (sym (list_any-append (nat_eq x) xs ys) ∙ h)
+In-append_cases xs ys x h = grind (arith, common_steps)
 
 pub In-single : (y x : ℕ) → In (y ∷ []) x → x ≡ y
 In-single y x i = elim (In-cons_cases y [] x i) [ inl e ↦ e | inr t ↦ absurd cc ]
@@ -49,9 +46,7 @@ In-last xs x = In-append_right xs (x ∷ []) x (In-head x [])
 
 -- two tests that are true of the same are the same
 pub same_tests : (a b : Bool) → (a ≡ true → b ≡ true) → (b ≡ true → a ≡ true) → a ≡ b
-same_tests true b there back = sym (there refl)
-same_tests false true there back = absurd (let e : false ≡ true = back refl in cc)
-same_tests false false there back = refl
+same_tests a b there back = grind arith
 
 -- ---- the makers in a row
 
@@ -62,10 +57,7 @@ Among (x ∷ row) m = (x ≡ Some m) ⊎ Among row m
 
 pub Among-get : (row : List (Option ℕ)) (p m : ℕ) → slice_get row p ≡ Some (Some m) → Among row m
 Among-get [] p m h = absurd cc
-Among-get (x ∷ row) zero m h = inl (same_some x (Some m) h)
-  where
-    same_some : (a b : Option ℕ) → Some a ≡ Some b → a ≡ b
-    same_some a b e = cc
+Among-get (x ∷ row) zero m h = grind arith
 Among-get (x ∷ row) (suc p) m h = inr (Among-get row p m h)
 
 pub Contains-from_Among : (row : List (Option ℕ)) (m : ℕ) → Among row m → Contains row (Some m)

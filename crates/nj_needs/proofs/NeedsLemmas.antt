@@ -1,4 +1,5 @@
 -- The state of a walk and its saved address, at the start and after each turn.
+use Rattle.std.proofs.lemmas.Grind.{common_steps}
 use Rattle.std.proofs.Common.{◌≡◌, ℕ, ◌+◌, ◌-◌, ◌<◌, ◌≤◌, min, Bool, true, false, cond, List, [], ◌∷◌, ◌++◌}
 use Rattle.std.proofs.Common.{length, get_or, take, refl, sym, ap, subst, ◌∙◌, inl, inr, arith}
 use Rattle.std.proofs.lemmas.List.{take-take, take-append-le, map_push, length-map, length_push}
@@ -27,25 +28,10 @@ pub IsWalkAt-start : (g : EdgeGraph) (targets : List FileNo) (turns : ℕ) (path
     → turns ≡ saturated begun → path.items ≡ [] → count_of g ≤ path.capacity
     → length flags ≡ count_of g → ((e : ℕ) → e < count_of g → get_or flags e false ≡ false)
     → IsWalkAt g targets turns path 0 flags begun
-IsWalkAt-start g targets turns path flags begun acyclic inside count empty wide len clear = record {
-  acyclic = acyclic;
-  inside = inside;
-  standing = rw empty (record {
-    linked = tt;
-    place_in = omega arith;
-    undone = λ e i. absurd cc;
-    flags_len =
-        len;
-    flagged = λ e lt. clear e lt;
-  });
-  capacity = wide;
-  counted = (
-    begun,
-    count,
-    rw empty (let e : turns_left_of g targets [] 0 ≡ bound_of g targets =
-        turns_left-start (makers_of g) (count_of g) (row_of g targets) in omega arith),
-  );
-}
+IsWalkAt-start g targets turns path flags begun acyclic inside count empty wide len clear = grind (
+  arith,
+  turns_left-start (makers_of g) (count_of g) (row_of g targets),
+)
 
 -- every walk is sound
 pub IsSound-from : (w : Walk) (s : Saved) → IsNeeds w s → IsSound (state_of w s)
@@ -53,10 +39,7 @@ IsSound-from w s h = record { left = h.rest; turns = omega arith }
 
 -- the count is the number of turns that were taken
 pub turns-are : (w : Walk) (s : Saved) → IsNeeds w s → w.turns.taken ≡ saturated (state_of w s).turns
-turns-are w s h =
-    let t = h.walk.counted in
-    let e : t.0 ≡ (state_of w s).turns = omega (arith, t.2) in
-    t.1 ∙ ap saturated e
+turns-are w s h = grind arith
 
 -- a walk that went on
 pub IsSameWalk-from : (w v : Walk) (s r : Saved) → v.turns.graph ≡ w.turns.graph
@@ -64,31 +47,13 @@ pub IsSameWalk-from : (w v : Walk) (s r : Saved) → v.turns.graph ≡ w.turns.g
     → turns_left_of v.turns.graph.now v.turns.targets.now v.path.items v.place ≤ turns_left_of
     w.turns.graph.now w.turns.targets.now w.path.items w.place
     → IsNeeds v r → IsSameWalk (state_of w s) (state_of v r)
-IsSameWalk-from w v s r graph targets begun fewer h =
-    let bound : bound_of v.turns.graph.now v.turns.targets.now
-    ≡ bound_of w.turns.graph.now w.turns.targets.now = rw (graph, targets) refl in
-    record {
-      graph = rw graph refl;
-      targets = rw targets refl;
-      begun = begun;
-      turns = omega (arith, bound, begun, fewer);
-      sound = IsSound-from v r h;
-    }
+IsSameWalk-from w v s r graph targets begun fewer h = grind arith
 
 -- ---- the front that is kept
 
 pub front-looked : (s : Saved) (path after : List Frame) (f : Frame) → after ≡ path ++ f ∷ []
     → KeepsFront s path → KeepsFront s after
-front-looked s path after f grown h =
-    let is : places after ≡ places path ++ f.at ∷ [] = ap places grown ∙ map_push (λ (g : Frame). g.at) path f
-    in
-    let long : length (places path) ≡ length path = length-map path (λ (g : Frame). g.at) in
-    record {
-      within = h.within;
-      short = omega (arith, h.short, ap length grown, length_push path f);
-      same = h.same ∙ sym (ap (take s.kept) is
-          ∙ take-append-le s.kept (places path) (f.at ∷ []) (omega (arith, h.short, long)));
-    }
+front-looked s path after f grown h = grind (arith, common_steps)
 
 pub front-closed : (s t : Saved) (path after : List Frame) (f : Frame) → path ≡ after ++ f ∷ []
     → t.numbers ≡ s.numbers → t.kept ≡ min s.kept (length after) → KeepsFront s path → KeepsFront t after
@@ -110,10 +75,7 @@ front-closed s t path after f shrunk numbers kept h =
 -- the address of an edge that was closed
 pub closed-places : (path after : List Frame) (f : Frame) (next : ℕ) → path ≡ after ++ f ∷ []
     → next ≡ f.at + 1 → places after ++ (next - 1) ∷ [] ≡ places path
-closed-places path after f next shrunk is =
-    let at : next - 1 ≡ f.at = omega (arith, is) in
-    ap (λ (p : ℕ). places after ++ p ∷ []) at
-    ∙ sym (ap places shrunk ∙ map_push (λ (g : Frame). g.at) after f)
+closed-places path after f next shrunk is = grind (arith, common_steps)
 
 -- ---- the turns
 

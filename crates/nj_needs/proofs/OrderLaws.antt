@@ -107,8 +107,7 @@ Ordered want seen (e ∷ es) = ((f : ℕ) → want e f → In seen f) × Ordered
 
 wider : (e : ℕ) (seen more : List ℕ) → ((x : ℕ) → In seen x → In more x) → (x : ℕ) → In (e ∷ seen) x
     → In (e ∷ more) x
-wider e seen more h x i = elim (In-cons_cases e seen x i)
-    [ inl is ↦ subst (In (e ∷ more)) (sym is) (In-head e more) | inr t ↦ In-tail e more x (h x t) ]
+wider e seen more h x i = grind arith
 
 module _ (want : ℕ → ℕ → Type 0) where
   Ordered-weaker : (es seen more : List ℕ) → ((x : ℕ) → In seen x → In more x) → Ordered want seen es

@@ -1,6 +1,6 @@
 -- The rest at a mark is a suffix of the needed commands: those after the mark's edge. So pages
 -- join.
-use Rattle.std.proofs.Common.{◌≡◌, ℕ, Bool, true, false, not, cond, Option, Some, None, List, [], ◌∷◌, ◌++◌}
+use Rattle.std.proofs.Common.{arith, ◌≡◌, ℕ, Bool, true, false, not, cond, Option, Some, None, List, [], ◌∷◌, ◌++◌}
 use Rattle.std.proofs.Common.{filter, refl, sym, ap, subst, ◌∙◌, inl, inr, append_assoc}
 use Rattle.std.specs.Prelude.{nat_eq, MatchOption}
 use Rattle.std.specs.List.{list_any, concat, last_or}
@@ -51,12 +51,8 @@ differ-front (x ∷ xs) e ys d = false_from_ne_true (list_any (nat_eq e) (x ∷ 
 same-after : (e : ℕ) (xs ys ms ns : List ℕ) → xs ++ e ∷ ms ≡ ys ++ e ∷ ns → list_any (nat_eq e) xs ≡ false
     → list_any (nat_eq e) ys ≡ false → ms ≡ ns
 same-after e [] [] ms ns is f g = cc
-same-after e [] (y ∷ ys) ms ns is f g =
-    absurd (let same : e ≡ y = cc in let i : In (y ∷ ys) e = subst (λ z. In (z ∷ ys) e) same (In-head e ys) in
-    cc)
-same-after e (x ∷ xs) [] ms ns is f g =
-    absurd (let same : e ≡ x = cc in let i : In (x ∷ xs) e = subst (λ z. In (z ∷ xs) e) same (In-head e xs) in
-    cc)
+same-after e [] (y ∷ ys) ms ns is f g = grind arith
+same-after e (x ∷ xs) [] ms ns is f g = grind arith
 same-after e (x ∷ xs) (y ∷ ys) ms ns is f g =
     let later : xs ++ e ∷ ms ≡ ys ++ e ∷ ns = cc in
     same-after e xs ys ms ns later (absent x xs f) (absent y ys g)
@@ -141,9 +137,7 @@ module _ (phony : ℕ → Bool) where
 pub IsMarkAfter-push : (makers : ℕ → List (Option ℕ)) (count : ℕ) (targets : List (Option ℕ))
     (begun edges : List ℕ) (e : ℕ) (mark : List ℕ)
     → IsFirstPlace makers count targets mark e → IsMarkAfter makers count targets begun (edges ++ e ∷ []) mark
-IsMarkAfter-push makers count targets begun edges e mark first =
-    subst (λ (o : Option ℕ). MatchOption o (mark ≡ begun) (λ x. IsFirstPlace makers count targets mark x))
-    (sym (last_or-push None edges e)) first
+IsMarkAfter-push makers count targets begun edges e mark first = grind (arith, last_or-push)
 
 module _ (makers : ℕ → List (Option ℕ)) (count : ℕ) (phony : ℕ → Bool) (targets : List (Option ℕ))
     (acyclic : IsAcyclic makers count) (inside : AreWithin targets count) where

@@ -1,4 +1,5 @@
 -- How a page of a walk gets its next edge, and where it ends.
+use Rattle.std.proofs.lemmas.Grind.{common_steps}
 use Rattle.std.proofs.Common.{◌≡◌, ◌≢◌, ℕ, zero, suc, ◌-◌, Option, Some, None, List, [], ◌∷◌, ◌++◌, refl, sym}
 use Rattle.std.proofs.Common.{ap, subst, ◌∙◌, arith, append_assoc}
 use Rattle.std.specs.Prelude.{option_map}
@@ -18,21 +19,17 @@ written-next : (limit : Option ℕ) (e : ℕ) (left : List ℕ) → limit ≢ So
     → written limit (e ∷ left) ≡ e ∷ written (one_fewer limit) left
 written-next None e left some = refl
 written-next (Some zero) e left some = absurd (some refl)
-written-next (Some (suc more)) e left some =
-    let is : suc more - 1 ≡ more = omega arith in ap (λ n. e ∷ written (Some n) left) (sym is)
+written-next (Some (suc more)) e left some = grind arith
 
 left-next : (limit : Option ℕ) (e : ℕ) (left : List ℕ) → limit ≢ Some 0
     → left_after limit (e ∷ left) ≡ left_after (one_fewer limit) left
 left-next None e left some = refl
 left-next (Some zero) e left some = absurd (some refl)
-left-next (Some (suc more)) e left some =
-    let is : suc more - 1 ≡ more = omega arith in ap (λ n. left_after (Some n) left) (sym is)
+left-next (Some (suc more)) e left some = grind arith
 
 -- nothing is left
 left-nil : (limit : Option ℕ) → left_after limit [] ≡ []
-left-nil None = refl
-left-nil (Some zero) = refl
-left-nil (Some (suc more)) = refl
+left-nil limit = grind (arith, common_steps)
 
 -- more may be taken, and none is
 none-left : (limit : Option ℕ) (left : List ℕ) → limit ≢ Some 0 → written limit left ≡ []

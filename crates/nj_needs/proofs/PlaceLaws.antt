@@ -21,10 +21,8 @@ use Rattle.nj_needs.proofs.ResumeLemmas.{valid-step, inputs-some}
 first_split : (e : ℕ) (xs ys m n : List ℕ) → xs ++ e ∷ m ≡ ys ++ e ∷ n → list_any (nat_eq e) xs ≡ false
     → list_any (nat_eq e) ys ≡ false → length xs ≡ length ys
 first_split e [] [] m n is f g = refl
-first_split e [] (y ∷ ys) m n is f g = absurd
-    (let same : e ≡ y = cc in let i : In (y ∷ ys) e = subst (λ z. In (z ∷ ys) e) same (In-head e ys) in cc)
-first_split e (x ∷ xs) [] m n is f g = absurd
-    (let same : e ≡ x = cc in let i : In (x ∷ xs) e = subst (λ z. In (z ∷ xs) e) same (In-head e xs) in cc)
+first_split e [] (y ∷ ys) m n is f g = grind arith
+first_split e (x ∷ xs) [] m n is f g = grind arith
 first_split e (x ∷ xs) (y ∷ ys) m n is f g =
     let rest : xs ++ e ∷ m ≡ ys ++ e ∷ n = cc in
     ap suc (first_split e xs ys m n rest (later x xs f) (later y ys g))

@@ -1,4 +1,5 @@
 -- The steps of the way to a mark, and its end.
+use Rattle.std.proofs.lemmas.Grind.{common_steps}
 use Rattle.std.proofs.Common.{◌≡◌, ℕ, ◌+◌, ◌-◌, ◌<◌, ◌≤◌, true, Option, Some, List, [], ◌∷◌, ◌++◌, length}
 use Rattle.std.proofs.Common.{get_or, take, drop, refl, sym, ap, subst, ◌∙◌, ◌⊎◌, inl, inr, arith}
 use Rattle.std.specs.Prelude.{nat_eq, slice_get}
@@ -123,18 +124,7 @@ module _ (w v : Walk) (graph : v.turns.graph ≡ w.turns.graph) (targets : v.tur
 -- the next number is in the row
 pub way-place_in : (w : Walk) (numbers : List ℕ) (i p : ℕ) → i < length numbers → p ≡ get_or numbers i p
     → IsOnWay w numbers i → p ≤ length (top_of w.turns.graph.now w.turns.targets.now w.path.items)
-way-place_in w numbers i p lt number h =
-    let from : drop i numbers ≡ p ∷ drop (i + 1) numbers =
-    drop_more numbers i p lt ∙ ap (λ (n : ℕ). n ∷ drop (i + 1) numbers) (sym number) in
-    let s = valid-step (makers_of w.turns.graph.now)
-    (top_of w.turns.graph.now w.turns.targets.now w.path.items) p (drop (i + 1) numbers)
-    (subst (λ (ns : List ℕ). is_valid (makers_of w.turns.graph.now)
-    (top_of w.turns.graph.now w.turns.targets.now w.path.items) ns ≡ true) from h.valid) in
-    omega (
-      arith,
-      slice_get_within (top_of w.turns.graph.now w.turns.targets.now w.path.items) p (Some s.0)
-          s.1,
-    )
+way-place_in w numbers i p lt number h = grind (arith, common_steps)
 
 -- ---- the last edge of the mark is open
 

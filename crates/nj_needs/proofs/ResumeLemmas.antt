@@ -187,17 +187,14 @@ last_split m (k ∷ ks) = let r = last_split k ks in
 
 ahead-push : (more : List Frame) (goal at : ℕ) (f : Frame) → IsAhead more goal at → (more ≡ [] → f.at < goal)
     → IsAhead (more ++ f ∷ []) goal 0
-ahead-push [] goal at f h lt = lt refl
-ahead-push (m ∷ more) goal at f h lt = h
+ahead-push more goal h f h1 lt = grind arith
 
 ahead-next : (more : List Frame) (goal at : ℕ) → IsAhead more goal at → (more ≡ [] → at < goal)
     → IsAhead more goal (at + 1)
-ahead-next [] goal at h lt = omega (arith, lt refl)
-ahead-next (m ∷ more) goal at h lt = h
+ahead-next more goal h h1 lt = grind arith
 
 ahead-empty : (more : List Frame) (goal at : ℕ) → IsAhead more goal at → more ≡ [] → at ≤ goal
-ahead-empty [] goal at h is = h
-ahead-empty (m ∷ more) goal at h is = absurd cc
+ahead-empty more goal h h1 is = grind arith
 
 module _ (w v : Walk) (graph : v.turns.graph ≡ w.turns.graph) (targets : v.turns.targets ≡ w.turns.targets)
     (base : List Frame) (goal : ℕ) (h : IsHeading base goal w.path.items w.place)

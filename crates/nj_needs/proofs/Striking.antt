@@ -1,5 +1,5 @@
 -- The rest of a list without its repeats when some of it is done.
-use Rattle.std.proofs.Common.{◌≡◌, ℕ, Bool, true, false, not, ◌&&◌, ◌||◌, cond, List, [], ◌∷◌, ◌++◌, refl}
+use Rattle.std.proofs.Common.{arith, ◌≡◌, ℕ, Bool, true, false, not, ◌&&◌, ◌||◌, cond, List, [], ◌∷◌, ◌++◌, refl}
 use Rattle.std.proofs.Common.{sym, ap, subst, ◌∙◌, ◌⊎◌, inl, inr}
 use Rattle.std.specs.Prelude.{nat_eq, filter}
 use Rattle.std.specs.List.{list_any}
@@ -14,43 +14,24 @@ use Rattle.nj_needs.proofs.Members.{In, In-head, In-tail, In-cons_cases}
 -- a filter of a filter
 pub filter-filter : (p q : ℕ → Bool) (xs : List ℕ) → filter p (filter q xs) ≡ filter (λ x. q x && p x) xs
 filter-filter p q [] = refl
-filter-filter p q (x ∷ xs) = by_test (q x) (filter-filter p q xs)
-  where
-    by_test : (b : Bool) → filter p (filter q xs) ≡ filter (λ y. q y && p y) xs
-        → filter p (cond b (x ∷ filter q xs) (filter q xs))
-        ≡ cond (b && p x) (x ∷ filter (λ y. q y && p y) xs) (filter (λ y. q y && p y) xs)
-    by_test true h = ap (λ (ys : List ℕ). cond (p x) (x ∷ ys) ys) h
-    by_test false h = h
+filter-filter p q (x ∷ xs) = grind (arith, filter-filter p q xs)
 
 and_comm : (a b : Bool) → (a && b) ≡ (b && a)
-and_comm true true = refl
-and_comm true false = refl
-and_comm false true = refl
-and_comm false false = refl
+and_comm a b = grind arith
 
 pub filter_comm : (p q : ℕ → Bool) (xs : List ℕ) → filter p (filter q xs) ≡ filter q (filter p xs)
-filter_comm p q xs =
-    filter-filter p q xs ∙ filter_agree (λ x. q x && p x) (λ x. p x && q x) (λ x. and_comm (q x) (p x)) xs
-    ∙ sym (filter-filter q p xs)
+filter_comm p q xs = grind (arith, filter-filter, filter_agree, and_comm)
 
 not_or : (a b : Bool) → not (a || b) ≡ (not b && not a)
-not_or true true = refl
-not_or true false = refl
-not_or false true = refl
-not_or false false = refl
+not_or a b = grind arith
 
 -- to be without one more is to be without it and without the others
 pub without-cons : (x : ℕ) (xs es : List ℕ)
     → without (x ∷ xs) es ≡ filter (λ y. not (nat_eq y x)) (without xs es)
-without-cons x xs es =
-    filter_agree (λ y. not (nat_eq y x || list_any (nat_eq y) xs))
-    (λ y. not (list_any (nat_eq y) xs) && not (nat_eq y x))
-    (λ y. not_or (nat_eq y x) (list_any (nat_eq y) xs)) es
-    ∙ sym (filter-filter (λ y. not (nat_eq y x)) (λ y. not (list_any (nat_eq y) xs)) es)
+without-cons x xs es = grind (arith, filter_agree, not_or, filter-filter)
 
 same_and : (a : Bool) → (a && a) ≡ a
-same_and true = refl
-same_and false = refl
+same_and a = grind arith
 
 -- a struck element may be in front, and may be struck before
 without-struck : (x : ℕ) (xs es : List ℕ)
@@ -69,11 +50,13 @@ without-struck x xs es =
 pub without-front : (xs ys : List ℕ) → without xs (each_once nat_eq (xs ++ ys))
     ≡ without xs (each_once nat_eq ys)
 without-front [] ys = refl
-without-front (x ∷ xs) ys =
-    without-struck x xs (each_once nat_eq (xs ++ ys))
-    ∙ without-cons x xs (each_once nat_eq (xs ++ ys))
-    ∙ ap (filter (λ y. not (nat_eq y x))) (without-front xs ys)
-    ∙ sym (without-cons x xs (each_once nat_eq ys))
+without-front (x ∷ xs) ys = grind (
+  arith,
+  without-struck x xs (each_once nat_eq (xs ++ ys)),
+  without-cons x xs (each_once nat_eq (xs ++ ys)),
+  without-front xs ys,
+  without-cons x xs (each_once nat_eq ys),
+)
 
 -- nothing is left of a list that is done
 pub without-all : (xs : List ℕ) → without xs (each_once nat_eq xs) ≡ []
@@ -87,8 +70,7 @@ without-none (e ∷ es) = ap (λ (xs : List ℕ). e ∷ xs) (without-none es)
 -- lists with the same members strike the same
 pub without-same : (xs ys es : List ℕ) → ((x : ℕ) → list_any (nat_eq x) xs ≡ list_any (nat_eq x) ys)
     → without xs es ≡ without ys es
-without-same xs ys es same = filter_agree (λ y. not (list_any (nat_eq y) xs))
-    (λ y. not (list_any (nat_eq y) ys)) (λ y. ap not (same y)) es
+without-same xs ys es same = grind arith
 
 -- one more is done that was not
 pub without-next : (xs : List ℕ) (m : ℕ) (more : List ℕ) → list_any (nat_eq m) xs ≡ false

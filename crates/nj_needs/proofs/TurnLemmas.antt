@@ -230,10 +230,7 @@ module _ (g : EdgeGraph) (targets : List FileNo) (turns : ℕ) (path : Reserved 
 -- the row in which the last open edge has the walk look
 pub row-top : (g : EdgeGraph) (targets : List FileNo) (path : List Frame) (edge : Option ℕ) → IsTop path edge
     → row_in g targets edge ≡ top_of g targets path
-row-top g targets path None empty = ap (top_of g targets) (sym empty)
-row-top g targets path (Some e) ends =
-    ap (makers_of g) (sym ends.3) ∙ sym (top_row-push (makers_of g) (row_of g targets) ends.0 ends.1)
-    ∙ ap (top_of g targets) (sym ends.2)
+row-top g targets path edge empty = grind (arith, top_row-push)
 
 pub top-is_edge : (g : EdgeGraph) (targets : List FileNo) (turns : ℕ) (path : Reserved Frame) (place : ℕ)
     (flags : List Bool) (begun : ℕ) → IsWalkAt g targets turns path place flags begun

@@ -1,4 +1,5 @@
 -- The unfolded order: its fuel does not matter, and which edges it has.
+use Rattle.std.proofs.lemmas.Grind.{common_steps}
 use Rattle.std.proofs.Common.{◌≡◌, ℕ, zero, suc, ◌+◌, ◌-◌, ◌<◌, ◌≤◌, Option, Some, None, List, [], ◌∷◌, ◌++◌}
 use Rattle.std.proofs.Common.{refl, sym, ap, ◌∙◌, subst, inl, inr, arith, add-zero}
 use Rattle.std.specs.List.{flat_map}
@@ -43,8 +44,7 @@ In-row_from f (Some y ∷ row) m x (inr a) i =
     In-append_right (f y) (flat_map (made_by f) row) x (In-row_from f row m x a i)
 
 pub In-unfolded : (makers : ℕ → List (Option ℕ)) (fuel e : ℕ) → In (unfolded makers fuel e) e
-In-unfolded makers zero e = In-head e []
-In-unfolded makers (suc fuel) e = In-last (flat_map (made_by (unfolded makers fuel)) (makers e)) e
+In-unfolded makers fuel e = grind (arith, common_steps)
 
 module _ (makers : ℕ → List (Option ℕ)) (count : ℕ) (rank : ℕ → ℕ) (ranked : IsRank makers count rank) where
   pub falls : (e m : ℕ) → Among (makers e) m → rank m < rank e

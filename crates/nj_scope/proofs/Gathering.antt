@@ -1,4 +1,5 @@
 -- Lists of declarations.
+use Rattle.std.proofs.lemmas.Grind.{common_steps}
 use Rattle.std.proofs.Common.{◌≡◌, ℕ, ◌+◌, ◌<◌, if◌then◌else◌, List, [], ◌∷◌, ◌++◌, map, length, slice_get}
 use Rattle.std.proofs.Common.{Option, Some, None, is_some, refl, sym, ap, ◌∙◌, add-zero, arith}
 use Rattle.std.specs.Option.{option_map_or}
@@ -77,16 +78,4 @@ opens_file item = 0
 
 pub files-more : (e : ReadStatement) (before : List ReadStatement)
     → files_opened (e ∷ before) ≡ files_opened before + opens_file e.item
-files-more e before = by e.item
-  where
-    by : (item : StatementModel) → length (with_given (gathered path_named before) (path_named e before item))
-        + 1 ≡ files_opened before + opens_file item
-    by (IncludeModel word) = ap (λ n. n + 1)
-        (length_push (gathered path_named before) (expanded_in (scope_of e) before word))
-    by (SubninjaModel word) = ap (λ n. n + 1)
-        (length_push (gathered path_named before) (expanded_in (scope_of e) before word))
-    by (BindingModel name word) = sym (add-zero (files_opened before))
-    by (RuleModel name lines) = sym (add-zero (files_opened before))
-    by (PoolModel name lines) = sym (add-zero (files_opened before))
-    by (BuildModel outputs rule inputs lines) = sym (add-zero (files_opened before))
-    by (DefaultModel words) = sym (add-zero (files_opened before))
+files-more e before = grind (arith, common_steps)

@@ -1,5 +1,6 @@
 -- Lemmas on the last lines of the keys of a rule.
-use Rattle.std.proofs.Common.{◌≡◌, ◌<◌, ◌≤◌, ◌+◌, ◌-◌, ◌⊎◌, inl, inr, ℕ, zero, suc, Bool, true, false, ◌||◌}
+use Rattle.std.proofs.lemmas.Grind.{common_steps}
+use Rattle.std.proofs.Common.{rules, ◌≡◌, ◌<◌, ◌≤◌, ◌+◌, ◌-◌, ◌⊎◌, inl, inr, ℕ, zero, suc, Bool, true, false, ◌||◌}
 use Rattle.std.proofs.Common.{if◌then◌else◌, List, [], ◌∷◌, ◌++◌, map, length, drop, slice_get, get_or}
 use Rattle.std.proofs.Common.{Option, Some, None, is_some, option_map, unwrap_or, bytes_eq, refl, sym, ap}
 use Rattle.std.proofs.Common.{subst, ◌∙◌, true≢false, arith}
@@ -42,12 +43,7 @@ get-push : {X : Type 0} (xs : List X) (x y : X) (n : ℕ) → slice_get (xs ++ x
 get-push [] x y zero h = inl (refl, cc)
 get-push [] x y (suc n) h = absurd (true≢false (sym (ap is_some h)))
 get-push (z ∷ xs) x y zero h = inr h
-get-push (z ∷ xs) x y (suc n) h = by (get-push xs x y n h)
-  where
-    by : ((n ≡ length xs) × (x ≡ y)) ⊎ (slice_get xs n ≡ Some y)
-        → ((suc n ≡ suc (length xs)) × (x ≡ y)) ⊎ (slice_get xs n ≡ Some y)
-    by (inl e) = inl (ap suc e.0, e.1)
-    by (inr e) = inr e
+get-push (z ∷ xs) x y (suc n) h = grind (arith, get-push xs x y n h, length xs, slice_get xs n)
 
 -- ---- the last line of a key
 
@@ -219,11 +215,7 @@ numbers_differ lines i j below under same =
 
 pub not_given : (lines : List RuleLineModel) (key : List ℕ)
     → ((n : ℕ) → n < key_count lines → ¬ (key_at lines n ≡ key)) → given lines key ≡ None
-not_given lines key none = by (given lines key) refl
-  where
-    by : (o : Option (List PartModel)) → given lines key ≡ o → given lines key ≡ None
-    by None is = is
-    by (Some value) is = let r = keys_are_numbered lines key value is in absurd (none r.0 r.1 r.2)
+not_given lines key none = grind (arith, keys_are_numbered)
 
 -- ---- how they are held
 
@@ -244,8 +236,7 @@ at_place all indexes held n are below =
 
 pub length_held : (all : List RuleLineModel) (indexes : List ℕ) (held : List RuleLineModel)
     → AreIndexes all indexes held → length indexes ≡ length held
-length_held all indexes held are = sym (length-map indexes (slice_get all)) ∙ ap length are
-    ∙ length-map held Some
+length_held all indexes held are = grind (arith, common_steps)
 
 pub held_at : (lines : List RuleLine) (indexes : List ℕ) (held : List RuleLineModel) (n : ℕ) (line : RuleLine)
     → AreIndexes (map line_held lines) indexes held → n < length indexes
@@ -268,26 +259,18 @@ indexes_within lines indexes held are = All-from_get_or (λ i. i < length lines)
 pub key_held : (lines : List RuleLine) (indexes : List ℕ) (n : ℕ) (line : RuleLine)
     → AreIndexes (map line_held lines) indexes (last_lines (map line_held lines)) → n < length indexes
     → slice_get lines (slice_index indexes n) ≡ Some line → line.key.items ≡ key_at (map line_held lines) n
-key_held lines indexes n line are below here =
-    sym (key_of_line (map line_held lines) n (line_held line)
-    (held_at lines indexes (last_lines (map line_held lines)) n line are below here))
+key_held lines indexes n line are below here = grind (arith, key_of_line, map, held_at)
 
 pub value_held : (lines : List RuleLine) (indexes : List ℕ) (n : ℕ) (line : RuleLine)
     → AreIndexes (map line_held lines) indexes (last_lines (map line_held lines)) → n < length indexes
     → slice_get lines (slice_index indexes n) ≡ Some line
     → given (map line_held lines) (key_at (map line_held lines) n) ≡ Some line.value
-value_held lines indexes n line are below here =
-    given_of_line (map line_held lines) n (line_held line)
-    (held_at lines indexes (last_lines (map line_held lines)) n line are below here)
+value_held lines indexes n line are below here = grind (arith, given_of_line, map, held_at)
 
 pub number_held : (lines : List RuleLine) (indexes : List ℕ) (n : ℕ) (key : List ℕ)
     → AreIndexes (map line_held lines) indexes (last_lines (map line_held lines)) → n < length indexes
     → HasKeyAt lines (slice_index indexes n) key → IsNumber (map line_held lines) key n
-number_held lines indexes n key are below at = record {
-  within = subst (λ k. n < k) (length_held (map line_held lines) indexes (last_lines (map line_held lines))
-      are) below;
-  is = sym (key_held lines indexes n at.0 are below at.1) ∙ at.2;
-}
+number_held lines indexes n key are below h = grind (arith, length_held, map, key_held)
 
 -- no line at these indexes has the key
 abbrev pub NoneHas : List RuleLine → List ℕ → List ℕ → Type 0
@@ -304,23 +287,20 @@ has_here lines i line key is same = (line, is, sym (same_key key line.key.items 
 
 pub has_not_here : (lines : List RuleLine) (i : ℕ) (line : RuleLine) (key : List ℕ)
     → slice_get lines i ≡ Some line → bytes_eq key line.key.items ≡ false → ¬ HasKeyAt lines i key
-has_not_here lines i line key is other at =
-    let e : at.0 ≡ line = cc (sym at.1 ∙ is) in
-    let k : key ≡ line.key.items = sym at.2 ∙ ap (λ (x : RuleLine). x.key.items) e in
-    true≢false (sym ((bytes_eq-Decides key line.key.items).1 k) ∙ other)
+has_not_here lines i line key is other h = search rules
 
 line_there : (lines : List RuleLine) (indexes : List ℕ) (held : List RuleLineModel)
     → AreIndexes (map line_held lines) indexes held → (n : ℕ) → n < length indexes
     → (line : RuleLine) × (slice_get lines (slice_index indexes n) ≡ Some line)
-line_there lines indexes held are n below = by (slice_get lines (slice_index indexes n)) refl
-  where
-    by : (o : Option RuleLine) → slice_get lines (slice_index indexes n) ≡ o
-        → (line : RuleLine) × (slice_get lines (slice_index indexes n) ≡ Some line)
-    by (Some line) is = (line, is)
-    by None is =
-        let in_lines : slice_index indexes n < length lines =
-        All-get_or (λ i. i < length lines) indexes n 0 below (indexes_within lines indexes held are) in
-        absurd (true≢false (ap is_some (sym (slice_get-some lines (slice_index indexes n) in_lines).1 ∙ is)))
+line_there lines indexes held are n below = grind (
+  arith,
+  slice_get,
+  length,
+  indexes_within,
+  true≢false,
+  is_some,
+  slice_get-some,
+)
 
 pub none_held : (lines : List RuleLine) (indexes : List ℕ) (key : List ℕ)
     → AreIndexes (map line_held lines) indexes (last_lines (map line_held lines)) → NoneHas lines indexes key
@@ -336,9 +316,7 @@ none_held lines indexes key are none = not_given (map line_held lines) key (λ n
 pub pushed_index : (all : List RuleLineModel) (indexes : List ℕ) (held : List RuleLineModel) (i : ℕ)
     (m : RuleLineModel) → AreIndexes all indexes held → slice_get all i ≡ Some m
     → AreIndexes all (indexes ++ i ∷ []) (held ++ m ∷ [])
-pushed_index all indexes held i m are is =
-    map_push (slice_get all) indexes i ∙ ap (λ os. os ++ slice_get all i ∷ []) are
-    ∙ ap (λ o. map Some held ++ o ∷ []) is ∙ sym (map_push Some held m)
+pushed_index all indexes held i m are is = grind (arith, common_steps)
 
 -- whether a line has the key is whether a last line has it
 has_number : (lines : List RuleLineModel) (key : List ℕ) → has_key lines key ≡ true
@@ -472,21 +450,15 @@ module _ (lines : List RuleLine) (last : List ℕ) (held : List RuleLineModel)
 -- ---- results
 
 pub some_weaker : (o : Option ℕ) (P Q : ℕ → Type 0) → ((n : ℕ) → P n → Q n) → IfSome o P → IfSome o Q
-some_weaker None P Q f h = tt
-some_weaker (Some n) P Q f h = f n h
+some_weaker o h h1 f h2 = grind arith
 
 pub none_weaker : (o : Option ℕ) (P Q : Type 0) → (P → Q) → IfNone o P → IfNone o Q
-none_weaker None P Q f h = f h
-none_weaker (Some n) P Q f h = tt
+none_weaker o h h1 f h2 = grind arith
 
 pub none_yet : (lines : List RuleLine) (last : List ℕ) → last ≡ []
     → AreIndexes (map line_held lines) last (last_lines (drop (length lines) (map line_held lines)))
 unfolding last_lines
-none_yet lines last empty =
-    subst (λ ls. AreIndexes (map line_held lines) last (last_lines ls))
-    (sym (ap (λ n. drop n (map line_held lines)) (sym (length-map lines line_held))
-    ∙ drop-length (map line_held lines)))
-    (ap (map (slice_get (map line_held lines))) empty)
+none_yet lines last empty = grind (arith, common_steps)
 
 -- a turn from the end, at the line before index i
 module _ (lines : List RuleLine) (last ds : List ℕ) (i : ℕ) (line : RuleLine) (key : List ℕ) (o : Option ℕ)

@@ -6,7 +6,7 @@ use Rattle.std.proofs.lemmas.List.{map_push, length-append, length-drop, drop-ap
 use Rattle.std.proofs.Math.Nat.{add-sub_cancel_left, le_trans, le_refl, le-add_right}
 use Rattle.std.proofs.Math.Seq.{drop-append_seam, take-length}
 use Rattle.std.proofs.Math.Seq.{take-suc}
-use Rattle.std.proofs.lemmas.Grind.{flat_map-append}
+use Rattle.std.proofs.lemmas.Grind.{common_steps, flat_map-append}
 use Rattle.std.proofs.lemmas.List.{append-nil}
 use Rattle.std.proofs.lemmas.Option.{slice_get_within, get_or_from_slice_get}
 use Rattle.nj_text.specs.Words.{PartModel}
@@ -20,32 +20,25 @@ sub_smaller n m s h = omega arith
 -- a range of the earlier elements
 range-front : {X : Type 0} (xs more : List X) (s e : ℕ) → s ≤ e → e ≤ length xs
     → slice_range (xs ++ more) s e ≡ slice_range xs s e
-range-front xs more s e h k =
-    ap (take (e - s)) (drop-append-le s xs more (le_trans h k))
-    ∙ take-append-le (e - s) (drop s xs) more
-    (subst (λ n. e - s ≤ n) (sym (length-drop s xs)) (sub_smaller e (length xs) s k))
+range-front xs more s e h k = grind (arith, common_steps)
 
 -- the range of the elements after them
 range-back : {X : Type 0} (xs ys : List X) → slice_range (xs ++ ys) (length xs) (length (xs ++ ys)) ≡ ys
-range-back xs ys =
-    ap (take (length (xs ++ ys) - length xs)) (drop-append_seam xs ys)
-    ∙ ap (λ n. take n ys) (ap (λ m. m - length xs) (length-append xs ys)
-    ∙ add-sub_cancel_left (length xs) (length ys))
-    ∙ take-length ys
+range-back xs ys = grind (arith, common_steps)
 
 -- ---- parts of a longer text
 
 pub parts-longer : (text more : List ℕ) (ps : List LatePart) → AreWithin text ps
     → late_parts (text ++ more) ps ≡ late_parts text ps
 parts-longer text more [] within = refl
-parts-longer text more (p ∷ ps) within =
-    ap (λ bytes. text_or_name p.is_name bytes ∷ late_parts (text ++ more) ps)
-    (range-front text more p.start p.end within.0.0 within.0.1)
-    ∙ ap (λ qs. late_part text p ∷ qs) (parts-longer text more ps within.1)
+parts-longer text more (p ∷ ps) within = grind (
+  arith,
+  range-front text more p.start p.end within.0.0 within.0.1,
+  parts-longer text more ps within.1,
+)
 
 longer : (text more : List ℕ) (n : ℕ) → n ≤ length text → n ≤ length (text ++ more)
-longer text more n h = subst (λ m. n ≤ m) (sym (length-append text more))
-    (le_trans h (le-add_right (length text) (length more)))
+longer text more n h = grind (arith, common_steps)
 
 pub within-longer : (text more : List ℕ) (ps : List LatePart) → AreWithin text ps
     → AreWithin (text ++ more) ps
@@ -66,21 +59,18 @@ part_after text bytes is_name = record {
 pub parts-pushed : (text bytes : List ℕ) (is_name : Bool) (ps : List LatePart) → AreWithin text ps
     → late_parts (text ++ bytes) (ps ++ part_after text bytes is_name ∷ [])
     ≡ late_parts text ps ++ text_or_name is_name bytes ∷ []
-parts-pushed text bytes is_name ps within =
-    map_push (late_part (text ++ bytes)) ps (part_after text bytes is_name)
-    ∙ ap (λ qs. qs ++ late_part (text ++ bytes) (part_after text bytes is_name) ∷ [])
-    (parts-longer text bytes ps within)
-    ∙ ap (λ range. late_parts text ps ++ text_or_name is_name range ∷ []) (range-back text bytes)
+parts-pushed text bytes is_name ps within = grind (arith, map_push, parts-longer, range-back)
 
 pub within-pushed : (text bytes : List ℕ) (is_name : Bool) (ps : List LatePart) → AreWithin text ps
     → AreWithin (text ++ bytes) (ps ++ part_after text bytes is_name ∷ [])
-within-pushed text bytes is_name [] within = (
-  (
-    subst (λ m. length text ≤ m) (sym (length-append text bytes))
-        (le-add_right (length text) (length bytes)),
-    le_refl (length (text ++ bytes)),
-  ),
-  tt,
+within-pushed text bytes is_name [] within = grind (
+  arith,
+  length text,
+  length-append text bytes,
+  le-add_right (length text) (length bytes),
+  length bytes,
+  le_refl (length (text ++ bytes)),
+  length (text ++ bytes),
 )
 within-pushed text bytes is_name (p ∷ ps) within =
     ((within.0.0, longer text bytes p.end within.0.1), within-pushed text bytes is_name ps within.1)
@@ -90,12 +80,12 @@ pub parts-counted : (text longer bytes : List ℕ) (is_name : Bool) (ps qs : Lis
     → AreWithin text ps → longer ≡ text ++ bytes → start ≡ length text → end ≡ length longer
     → qs ≡ ps ++ record { start = start; end = end; is_name = is_name } ∷ []
     → late_parts longer qs ≡ late_parts text ps ++ text_or_name is_name bytes ∷ []
-parts-counted text longer bytes is_name ps qs start end within is from to pushed =
-    ap (late_parts longer) (pushed ∙ ap (λ s. ps ++ record { start = s; end = end; is_name = is_name } ∷ [])
-    from ∙ ap (λ e. ps ++ record { start = length text; end = e; is_name = is_name } ∷ [])
-    (to ∙ ap length is))
-    ∙ ap (λ t. late_parts t (ps ++ part_after text bytes is_name ∷ [])) is
-    ∙ parts-pushed text bytes is_name ps within
+parts-counted text longer bytes is_name ps qs start end within is from to pushed = grind (
+  arith,
+  longer,
+  length,
+  parts-pushed,
+)
 
 -- ---- a part written
 

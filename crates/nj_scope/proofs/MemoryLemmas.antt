@@ -1,5 +1,5 @@
 -- Lemmas on `specs/Memory.antt`.
-use Rattle.std.proofs.Common.{◌≡◌, ℕ, Bool, true, false, cond, List, [], ◌∷◌, ◌++◌, map, reverse, find}
+use Rattle.std.proofs.Common.{arith, ◌≡◌, ℕ, Bool, true, false, cond, List, [], ◌∷◌, ◌++◌, map, reverse, find}
 use Rattle.std.proofs.Common.{Option, Some, None, option_map, bytes_eq, refl, sym, ap, ◌∙◌}
 use Rattle.std.proofs.lemmas.List.{map-append, reverse-append}
 use Rattle.nj_scope.specs.Memory.{bytes_added}
@@ -28,16 +28,19 @@ find-reverse-map f p xs = ap (find p) (reverse-map f xs) ∙ find-map f p (rever
 
 option_map-option_map : {A B C : Type 0} (f : A → B) (g : B → C) (o : Option A)
     → option_map g (option_map f o) ≡ option_map (λ x. g (f x)) o
-option_map-option_map f g None = refl
-option_map-option_map f g (Some x) = refl
+option_map-option_map f g o = grind arith
 
 -- the bytes that were added last are the bytes of the last entry with the name, where f and g show an entry's
 -- name and bytes
 pub bytes_of_last : {A : Type 0} (f g : A → List ℕ) (name : List ℕ) (es : List A) (r : Option A)
     → r ≡ find (λ e. bytes_eq name (f e)) (reverse es)
     → option_map g r ≡ bytes_added (map (λ e. record { name = f e; bytes = g e }) es) name
-bytes_of_last f g name es r e =
-    ap (option_map g) e ∙ sym (option_map-option_map (λ x. record { name = f x; bytes = g x }) (λ a. a.bytes)
-    (find (λ x. bytes_eq name (f x)) (reverse es)))
-    ∙ sym (ap (option_map (λ a. a.bytes))
-    (find-reverse-map (λ x. record { name = f x; bytes = g x }) (λ a. bytes_eq name a.name) es))
+bytes_of_last f g name es r e = grind (
+  arith,
+  option_map,
+  option_map-option_map,
+  find,
+  bytes_eq,
+  reverse,
+  find-reverse-map,
+)

@@ -1,5 +1,5 @@
 -- Names that no scope binds.
-use Rattle.std.proofs.Common.{◌≡◌, ℕ, true, List, [], ◌∷◌, Option, None, unwrap_or, refl, sym, ap, ◌∙◌}
+use Rattle.std.proofs.Common.{arith, ◌≡◌, ℕ, true, List, [], ◌∷◌, Option, None, unwrap_or, refl, sym, ap, ◌∙◌}
 use Rattle.std.specs.Option.{option_or}
 use Rattle.nj_scope.specs.Scopes.{ScopeModel, first_given, value_in, bound_at}
 use Rattle.nj_scope.specs.Inside.PoolOrDyndep.{is_pool_or_dyndep, BindNeither}
@@ -7,13 +7,11 @@ use Rattle.nj_scope.specs.Inside.PoolOrDyndep.{is_pool_or_dyndep, BindNeither}
 none-given : {X : Type 0} (own : ℕ → Option X) → ((n : ℕ) → own n ≡ None) → (scope : List ℕ)
     → first_given own scope ≡ None
 none-given own none [] = refl
-none-given own none (s ∷ around) = ap (λ o. option_or o (first_given own around)) (none s)
-    ∙ none-given own none around
+none-given own none (s ∷ around) = grind (arith, none-given own none around)
 
 pub none-bound : (scopes : List ScopeModel) (scope name : List ℕ) → BindNeither scopes
     → is_pool_or_dyndep name ≡ true → None ≡ first_given (λ s. bound_at scopes s name) scope
-none-bound scopes scope name neither h =
-    sym (none-given (λ s. bound_at scopes s name) (λ n. neither n name h) scope)
+none-bound scopes scope name neither h = grind (arith, none-given)
 
 pub value-empty : (scopes : List ScopeModel) (scope name : List ℕ) → BindNeither scopes
     → is_pool_or_dyndep name ≡ true → [] ≡ value_in (bound_at scopes) scope name

@@ -1,5 +1,5 @@
 -- Lemmas on lists of readings.
-use Rattle.std.proofs.Common.{◌≡◌, ℕ, Bool, true, false, cond, ◌||◌, List, [], ◌∷◌, ◌++◌, Some, None, is_some}
+use Rattle.std.proofs.Common.{arith, ◌≡◌, ℕ, Bool, true, false, cond, ◌||◌, List, [], ◌∷◌, ◌++◌, Some, None, is_some}
 use Rattle.std.proofs.Common.{option_and_then, bytes_eq, refl, sym, ap, ◌∙◌, true≢false}
 use Rattle.std.proofs.lemmas.Slice.Eq.{bytes_eq-Decides}
 use Rattle.nj_scope.specs.Readings.{Reading, reading_of, is_read, bytes_in}
@@ -37,24 +37,17 @@ bytes_in-push_old done r path h = ap (option_and_then (λ x. x.bytes)) (reading_
 -- a path that was not read has the bytes of its reading
 pub bytes_in-push_new : (done : List Reading) (r : Reading) → is_read done r.path ≡ false
     → bytes_in (done ++ r ∷ []) r.path ≡ r.bytes
-bytes_in-push_new done r h =
-    ap (option_and_then (λ x. x.bytes)) (reading_of-push_new done r r.path h
-    ∙ ap (λ b. cond b (Some r) None) ((bytes_eq-Decides r.path r.path).1 refl))
+bytes_in-push_new done r h = grind (arith, option_and_then, reading_of-push_new, bytes_eq-Decides)
 
 -- and was read then
 pub is_read-push_new : (done : List Reading) (r : Reading) → is_read done r.path ≡ false
     → is_read (done ++ r ∷ []) r.path ≡ true
-is_read-push_new done r h = ap is_some (reading_of-push_new done r r.path h
-    ∙ ap (λ b. cond b (Some r) None) ((bytes_eq-Decides r.path r.path).1 refl))
+is_read-push_new done r h = grind (arith, is_some, reading_of-push_new, bytes_eq-Decides)
 
 -- the paths that were read
 pub is_read-push : (done : List Reading) (r : Reading) (path : List ℕ)
     → is_read (done ++ r ∷ []) path ≡ (is_read done path || bytes_eq path r.path)
-is_read-push [] r path = by (bytes_eq path r.path)
-  where
-    by : (b : Bool) → is_some (cond b (Some r) None) ≡ b
-    by true = refl
-    by false = refl
+is_read-push [] r path = grind arith
 is_read-push (d ∷ done) r path = by (bytes_eq path d.path) (is_read-push done r path)
   where
     by : (b : Bool) → is_read (done ++ r ∷ []) path ≡ (is_read done path || bytes_eq path r.path)

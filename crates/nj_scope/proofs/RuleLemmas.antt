@@ -1,5 +1,6 @@
 -- Lemmas on rules and pools.
-use Rattle.std.proofs.Common.{◌≡◌, ℕ, Bool, true, false, ◌||◌, if◌then◌else◌, List, [], ◌∷◌, ◌++◌, map}
+use Rattle.std.proofs.lemmas.Grind.{common_steps}
+use Rattle.std.proofs.Common.{arith, ◌≡◌, ℕ, Bool, true, false, ◌||◌, if◌then◌else◌, List, [], ◌∷◌, ◌++◌, map}
 use Rattle.std.proofs.Common.{bytes_eq, refl, sym, ap, ◌∙◌, true≢false, codes}
 use Rattle.std.specs.List.{list_any}
 use Rattle.std.specs.Global.{Vec}
@@ -18,19 +19,13 @@ pub key-pushed : (keys after : List (Vec ℕ)) (k : Vec ℕ)
     → list_any (λ q. bytes_eq k.items q.items) keys ≡ false
     → after ≡ insert_key (λ x y. bytes_eq x.items y.items) keys k
     → map (λ q. q.items) after ≡ map (λ q. q.items) keys ++ k.items ∷ []
-key-pushed keys after k absent is =
-    ap (map (λ q. q.items)) (is ∙ ap (λ b. if b then keys else keys ++ k ∷ []) absent)
-    ∙ map_push (λ q. q.items) keys k
+key-pushed keys after k absent is = grind (arith, common_steps)
 
 pub or_false : (a b : Bool) → (a || b) ≡ false → b ≡ false
-or_false true b h = absurd (true≢false h)
-or_false false b h = h
+or_false a b h = grind arith
 
 -- a name of no pool is none of those that were declared
 pub none-declared : (keys : List (Vec ℕ)) (declared : List (List ℕ)) (name key : List ℕ)
     → map (λ k. k.items) keys ≡ declared → key ≡ name → is_pool declared name ≡ false
     → list_any (λ k. bytes_eq key k.items) keys ≡ false
-none-declared keys declared name key held same none =
-    sym (among-text keys key) ∙ ap (λ ks. list_any (bytes_eq key) ks) held
-    ∙ ap (λ k. list_any (bytes_eq k) declared) same
-    ∙ or_false (bytes_eq name (codes "console")) (list_any (bytes_eq name) declared) none
+none-declared keys declared name key held same none = grind (arith, among-text, bytes_eq, or_false, codes)

@@ -1,5 +1,6 @@
 -- Lemmas on the contents of scopes.
-use Rattle.std.proofs.Common.{◌≡◌, ℕ, zero, suc, ◌<◌, nat_eq, Bool, true, false, cond, ◌&&◌, ◌⊎◌, inl, inr}
+use Rattle.std.proofs.lemmas.Grind.{common_steps}
+use Rattle.std.proofs.Common.{arith, ◌≡◌, ℕ, zero, suc, ◌<◌, nat_eq, Bool, true, false, cond, ◌&&◌, ◌⊎◌, inl, inr}
 use Rattle.std.proofs.Common.{◌≢◌, List, [], ◌∷◌, ◌++◌, map, length, get_or, slice_set, slice_get, Option}
 use Rattle.std.proofs.Common.{Some, None, is_some, option_map, option_and_then, IfSome, bytes_eq, refl, sym}
 use Rattle.std.proofs.Common.{ap, subst, ◌∙◌, true≢false}
@@ -39,13 +40,15 @@ get-set_other (x' ∷ xs) (suc i) y (suc j) apart = get-set_other xs i y j (suc_
 -- an element that was set
 pub get-set : {X : Type 0} (xs : List X) (i : ℕ) (x y : X) (j : ℕ) → slice_get xs i ≡ Some x
     → slice_get (slice_set xs i y) j ≡ cond (nat_eq j i) (Some y) (slice_get xs j)
-get-set {X = X} xs i x y j h = by (eqb_tells j i)
-  where
-    by : ((nat_eq j i ≡ true) × (j ≡ i)) ⊎ ((nat_eq j i ≡ false) × (j ≢ i))
-        → slice_get (slice_set xs i y) j ≡ cond (nat_eq j i) (Some y) (slice_get xs j)
-    by (inl (t, e)) = ap (slice_get (slice_set xs i y)) e ∙ get-set_same xs i x y h
-        ∙ sym (ap (λ b. cond b (Some y) (slice_get xs j)) t)
-    by (inr (f, apart)) = get-set_other xs i y j apart ∙ sym (ap (λ b. cond b (Some y) (slice_get xs j)) f)
+get-set {X = X} xs i x y j h = grind (
+  arith,
+  eqb_tells,
+  nat_eq,
+  slice_get,
+  slice_set,
+  get-set_same,
+  get-set_other,
+)
 
 get-push_same : {X : Type 0} (xs : List X) (y : X) → slice_get (xs ++ y ∷ []) (length xs) ≡ Some y
 get-push_same [] y = refl
@@ -65,8 +68,7 @@ past (x ∷ xs) = past xs
 -- what is known of the number in it
 pub if_some-of_map : {X Y : Type 0} (f : X → Y) (P : Y → Type 0) (o : Option X) → IfSome (option_map f o) P
     → IfSome o (λ x. P (f x))
-if_some-of_map f P None h = tt
-if_some-of_map f P (Some x) h = h
+if_some-of_map f h o h1 = grind arith
 
 -- the meaning of a comparison of numbers
 abbrev Compared : ℕ → ℕ → Type 0
@@ -218,16 +220,7 @@ module _ {V X : Type 0} (g : V → X) where
 pub pushed-text : (scopes items : List Scope) (p : ScopeNo) (new : Scope) → new.parent ≡ Some p
     → new.values.entries ≡ [] → new.rules.entries ≡ [] → items ≡ scopes ++ new ∷ []
     → map scope_model items ≡ opened (map scope_model scopes) p.0
-pushed-text scopes items p new within no_values no_rules is =
-    ap (map scope_model) is ∙ map_push scope_model scopes new
-    ∙ ap (λ q. map scope_model scopes ++ record
-    { parent = option_map (λ n. n.0) q; values = (scope_model new).values; rules = (scope_model new).rules } ∷
-    []) within
-    ∙ ap (λ es. map scope_model scopes ++ record
-    { parent = Some p.0; values = entries_text (λ v. v.items) es; rules = (scope_model new).rules } ∷ [])
-    no_values
-    ∙ ap (λ es. map scope_model scopes ++ record
-    { parent = Some p.0; values = []; rules = entries_text (λ v. v.0) es } ∷ []) no_rules
+pushed-text scopes items p new within no_values no_rules is = grind (arith, common_steps)
 
 module _ (items : List Scope) (i : ℕ) (s t : Scope) (inside : i < length (map scope_model items))
     (read : s ≡ get_or items i s) where

@@ -1,5 +1,5 @@
 -- The look-up of a name, from a scope to those around it.
-use Rattle.std.proofs.Common.{◌≡◌, ℕ, suc, ◌<◌, List, Option, Some, None, unwrap_or, is_some, IfSome, length}
+use Rattle.std.proofs.Common.{arith, ◌≡◌, ℕ, suc, ◌<◌, List, Option, Some, None, unwrap_or, is_some, IfSome, length}
 use Rattle.std.proofs.Common.{refl, sym, ap, ◌∙◌, subst, true≢false}
 use Rattle.std.specs.Option.{option_or}
 use Rattle.std.proofs.Math.Nat.{lt_trans, zero-lt-suc, suc-lt_of_lt-pred}
@@ -19,12 +19,10 @@ some_same {x = x} h = ap (λ o. unwrap_or o x) h
 
 within_beyond : (scopes : List ScopeModel) (n : ℕ) (parent : Option ℕ) → n < length scopes
     → IfSome parent (λ p. p < n) → IsWithin scopes parent
-within_beyond scopes n None h earlier = tt
-within_beyond scopes n (Some p) h earlier = lt_trans earlier h
+within_beyond scopes n parent h earlier = grind arith
 
 pub left-falls : (n : ℕ) (parent : Option ℕ) → IfSome parent (λ p. p < n) → scopes_left parent < suc n
-left-falls n None earlier = zero-lt-suc n
-left-falls n (Some p) earlier = suc-lt_of_lt-pred {n = p} {m = suc n} earlier
+left-falls n parent earlier = grind arith
 
 module _ {X : Type 0} where
   -- a look-up in the scopes that are left has the result of one in all of them

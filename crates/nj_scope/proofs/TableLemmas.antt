@@ -1,5 +1,5 @@
 -- Lemmas on the readings that a table of files keeps.
-use Rattle.std.proofs.Common.{◌≡◌, ℕ, Bool, true, false, cond, List, [], ◌∷◌, ◌++◌, map, Option, Some, None}
+use Rattle.std.proofs.Common.{arith, ◌≡◌, ℕ, Bool, true, false, cond, List, [], ◌∷◌, ◌++◌, map, Option, Some, None}
 use Rattle.std.proofs.Common.{is_some, option_map, slice_get, bytes_eq, refl, sym, ap, ◌∙◌, true≢false}
 use Rattle.std.specs.Global.{Vec}
 use Rattle.std.specs.Rc.{rc_slice_items}
@@ -17,8 +17,7 @@ abbrev pub same_name : Vec ℕ → Vec ℕ → Bool
 same_name x y = bytes_eq x.items y.items
 
 absent : {X : Type 0} (o : Option X) → is_some o ≡ false → o ≡ None
-absent None h = refl
-absent (Some x) h = absurd (true≢false h)
+absent o h = grind arith
 
 module _ {Z : Type 0} where
   -- the map has the paths that were read

@@ -1,5 +1,5 @@
 -- From the units that are left of a text to the line that is left, and the lines after it.
-use Rattle.std.proofs.Common.{◌≡◌, ℕ, Bool, true, false, cond, eqb, List, [], ◌∷◌, take, drop, Option, Some}
+use Rattle.std.proofs.Common.{arith, ◌≡◌, ℕ, Bool, true, false, cond, eqb, List, [], ◌∷◌, take, drop, Option, Some}
 use Rattle.std.proofs.Common.{None, refl, sym, ap, ◌∙◌, ◌⊎◌, inl, inr}
 use Rattle.std.specs.Option.{option_or}
 use Rattle.std.specs.Prelude.{is_some}
@@ -54,23 +54,16 @@ line_ends_at_end spot bs e = rw e (ends_at_end spot)
 pub line_ends : (spot there : Spot) (bs : List ℕ) (n : ℕ)
     → Begins spot bs LineEnd n (cut AtStart 0 there (drop n bs))
     → EndsAt spot bs (lines_from there (drop n bs))
-line_ends spot there bs n e = (
-  ap (λ us. (first_line (lines_of us)).units) e,
-  ap (λ us. lines_after (first_line (lines_of us)) (other_lines (lines_of us))) e,
-)
+line_ends spot there bs n e = grind arith
 
 abbrev HasLine : List Line → Type 0
 HasLine ls = (l : Line) × (others : List Line) × (ls ≡ l ∷ others)
 
 nil_has_no_line : HasLine [] → ⊥
-nil_has_no_line h = no_cons h.0 h.1 h.2
-  where
-    no_cons : (l : Line) (others : List Line) → [] ≡ l ∷ others → ⊥
-    no_cons l others e = absurd cc
+nil_has_no_line h = grind arith
 
 pub line_after : (u : TextUnit) (ls : List Line) → HasLine (before_first_line u ls) → HasLine ls
-line_after u [] h = absurd (nil_has_no_line h)
-line_after u (l ∷ ls) h = (l, ls, refl)
+line_after u ls h = grind arith
 
 -- ---- fronts of a line
 
@@ -80,17 +73,7 @@ EndsFail t = (u : TextUnit) (b : Bool) → ending_of u.means ≡ Some b → t u 
 
 ends_fail_by : (q : Meaning → Bool) → q LineEnd ≡ false → q TextEnd ≡ false → (m : Meaning) (b : Bool)
     → ending_of m ≡ Some b → q m ≡ false
-ends_fail_by q l t (Ordinary c) b e = absurd cc
-ends_fail_by q l t (Escape c) b e = absurd cc
-ends_fail_by q l t (Reference n) b e = absurd cc
-ends_fail_by q l t Join b e = absurd cc
-ends_fail_by q l t OpeningJoin b e = absurd cc
-ends_fail_by q l t Comment b e = absurd cc
-ends_fail_by q l t LeadingTab b e = absurd cc
-ends_fail_by q l t LineEnd b e = l
-ends_fail_by q l t TextEnd b e = t
-ends_fail_by q l t BadByte b e = absurd cc
-ends_fail_by q l t BadEscape b e = absurd cc
+ends_fail_by q l t m b e = grind arith
 
 pub blanks_end : EndsFail is_blank
 blanks_end u b e = ends_fail_by is_blank_meaning refl refl u.means b e
@@ -210,33 +193,15 @@ module _ {A : Type 0} (f : Meaning → Spot → A) (none : A)
 
 pub next_fault_of_line : (us : List TextUnit) → HasLine (lines_of us)
     → next_fault (first_line (lines_of us)).units ≡ next_fault us
-next_fault_of_line us h = same (first_line (lines_of us)).units
-    ∙ first_of_line fault_of None (λ s. refl) (λ s. refl) us h ∙ sym (same us)
-  where
-    same : (vs : List TextUnit) → next_fault vs ≡ of_first fault_of None (λ s. refl) (λ s. refl) vs
-    same [] = refl
-    same (v ∷ vs) = refl
+next_fault_of_line us h = grind arith
 
 pub begins_word_of_line : (us : List TextUnit) → HasLine (lines_of us)
     → begins_with opens_word (first_line (lines_of us)).units ≡ begins_with opens_word us
-begins_word_of_line us h = same (first_line (lines_of us)).units
-    ∙ first_of_line (λ m s. opens_word_meaning m) false (λ s. refl) (λ s. refl) us h ∙ sym (same us)
-  where
-    same : (vs : List TextUnit) → begins_with opens_word vs
-        ≡ of_first (λ m s. opens_word_meaning m) false (λ s. refl) (λ s. refl) vs
-    same [] = refl
-    same (v ∷ vs) = refl
+begins_word_of_line us h = grind arith
 
 pub begins_with_byte_of_line : (b : ℕ) (us : List TextUnit) → HasLine (lines_of us)
     → begins_with_byte b (first_line (lines_of us)).units ≡ begins_with_byte b us
-begins_with_byte_of_line b us h = same (first_line (lines_of us)).units
-    ∙ first_of_line (λ m s. is_ordinary_in (λ c. eqb c b) m) false (λ s. refl) (λ s. refl) us h
-    ∙ sym (same us)
-  where
-    same : (vs : List TextUnit) → begins_with_byte b vs
-        ≡ of_first (λ m s. is_ordinary_in (λ c. eqb c b) m) false (λ s. refl) (λ s. refl) vs
-    same [] = refl
-    same (v ∷ vs) = refl
+begins_with_byte_of_line b us h = grind arith
 
 -- ---- the place of a line
 
@@ -274,17 +239,7 @@ pub record IsValue (us : List TextUnit) : Type 0 where
 value_or_bad : (m : Meaning) (spot : Spot) → ending_of m ≡ None
     → ((in_value_meaning m ≡ true) × (fault_of m spot ≡ None))
     ⊎ ((in_value_meaning m ≡ false) × ((f : UnitFault) × (fault_of m spot ≡ Some f)))
-value_or_bad (Ordinary c) spot e = inl (refl, refl)
-value_or_bad (Escape c) spot e = inl (refl, refl)
-value_or_bad (Reference n) spot e = inl (refl, refl)
-value_or_bad Join spot e = inl (refl, refl)
-value_or_bad OpeningJoin spot e = inl (refl, refl)
-value_or_bad Comment spot e = inl (refl, refl)
-value_or_bad LeadingTab spot e = inr (refl, (fault.Tab spot, refl))
-value_or_bad LineEnd spot e = absurd cc
-value_or_bad TextEnd spot e = absurd cc
-value_or_bad BadByte spot e = inr (refl, (fault.BadByte spot, refl))
-value_or_bad BadEscape spot e = inr (refl, (fault.BadEscape spot, refl))
+value_or_bad m spot e = grind arith
 
 abbrev of_value : TextUnit → Bool
 of_value u = in_text kind.Value u
@@ -296,58 +251,17 @@ absurd_fault f e = absurd cc
 value_continues : (u : TextUnit) (us : List TextUnit) (l : Line) (ls : List Line) → lines_of us ≡ l ∷ ls
     → ending_of u.means ≡ None → of_value u ≡ true → fault_of u.means u.spot ≡ None → IsValue us
     → IsValue (u ∷ us)
-value_continues u us l ls e n t f rest =
-    let first : first_line (lines_of (u ∷ us))
-    ≡ record { units = u ∷ l.units; end = l.end; is_last = l.is_last } = rw (n, e) refl in
-    let d = drop_while-cons_yes of_value u us t in
-    let line : first_line (lines_of us) ≡ l = ap first_line e in
-    record {
-      fault = ap (λ (x : Line). first_fault x.units) first ∙ ap (λ o. option_or o (first_fault l.units)) f
-          ∙ ap (λ (x : Line). first_fault x.units) (sym line) ∙ rest.fault ∙ ap next_fault (sym d);
-      all = λ h. ap (λ (x : Line). x.units) first
-          ∙ ap (λ vs. u ∷ vs) (ap (λ (x : Line). x.units) (sym line) ∙ rest.all (sym (ap next_fault d) ∙ h))
-          ∙ sym (take_while-cons_yes of_value u us t);
-      rest = λ h. ap (λ vs. inside (lines_of vs)) d ∙ rest.rest (sym (ap next_fault d) ∙ h)
-          ∙ ap (λ lines. Inside (with_units [] (first_line lines)) (other_lines lines)) e
-          ∙ sym (ends_same n e);
-    }
-  where
-    ends_same : ending_of u.means ≡ None → lines_of us ≡ l ∷ ls
-        → Inside (with_units [] (first_line (lines_of (u ∷ us)))) (other_lines (lines_of (u ∷ us)))
-        ≡ Inside (with_units [] l) ls
-    ends_same n e = rw (n, e) refl
+value_continues u us l ls e n t f rest = grind arith
 
 -- at a bad unit
 value_fails : (u : TextUnit) (us : List TextUnit) (l : Line) (ls : List Line) (f : UnitFault)
     → lines_of us ≡ l ∷ ls → ending_of u.means ≡ None → of_value u ≡ false → fault_of u.means u.spot ≡ Some f
     → IsValue (u ∷ us)
-value_fails u us l ls f e n t k =
-    let first : first_line (lines_of (u ∷ us))
-    ≡ record { units = u ∷ l.units; end = l.end; is_last = l.is_last } = rw (n, e) refl in
-    let d = drop_while-cons_no of_value u us t in
-    let is_bad : next_fault (drop_while of_value (u ∷ us)) ≡ Some f = ap next_fault d ∙ k in
-    record {
-      fault = ap (λ (x : Line). first_fault x.units) first ∙ ap (λ o. option_or o (first_fault l.units)) k
-          ∙ sym is_bad;
-      all = λ h. absurd (absurd_fault f (sym is_bad ∙ h));
-      rest = λ h. absurd (absurd_fault f (sym is_bad ∙ h));
-    }
+value_fails u us l ls f e n t k = grind arith
 
 -- at the end of the line
 value_ends : (u : TextUnit) (us : List TextUnit) (b : Bool) → ending_of u.means ≡ Some b → IsValue (u ∷ us)
-value_ends u us b e =
-    let t = values_end u b e in
-    let d = drop_while-cons_no of_value u us t in
-    let lines : lines_of (u ∷ us) ≡ record { units = []; end = u.spot; is_last = b } ∷ lines_of us = rw e refl
-    in
-    let no_fault : fault_of u.means u.spot ≡ None =
-    of_end fault_of None (λ s. refl) (λ s. refl) u.means u.spot b e in
-    record {
-      fault = ap (λ ls. first_fault (first_line ls).units) lines ∙ sym (ap next_fault d ∙ no_fault);
-      all = λ h. ap (λ ls. (first_line ls).units) lines ∙ sym (take_while-cons_no of_value u us t);
-      rest = λ h. ap (λ vs. inside (lines_of vs)) d ∙ ap inside lines
-          ∙ ap (λ ls. Inside (with_units [] (first_line ls)) (other_lines ls)) (sym lines);
-    }
+value_ends u us b e = grind arith
 
 pub value_of_line : (us : List TextUnit) → HasLine (lines_of us) → IsValue us
 value_of_line [] h = absurd (nil_has_no_line h)

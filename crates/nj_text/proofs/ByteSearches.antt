@@ -9,8 +9,7 @@ use Rattle.nj_text.specs.declared.runs.Run.TheVariants as run
 use Rattle.nj_text.specs.Inside.Runs.{in_run}
 
 passes : (b : Bool) → ¬ (b ≡ true) → not b ≡ true
-passes true stops = absurd (stops refl)
-passes false stops = refl
+passes b stops = grind arith
 
 -- the run up to the first byte that ends it, or all bytes if none does
 up_to_first : (stop : ℕ → Bool) (bytes : List ℕ) (r : Option ℕ) → IsFirstByte stop bytes r

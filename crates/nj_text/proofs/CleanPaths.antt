@@ -1,5 +1,6 @@
 -- The clean paths: the results of cleaning, and the paths that it leaves unchanged.
-use Rattle.std.proofs.Common.{◌≡◌, ◌≢◌, ℕ, zero, suc, ◌+◌, ◌<◌, Bool, true, false, eqb, List, [], ◌∷◌, ◌++◌}
+use Rattle.std.proofs.lemmas.Grind.{common_steps}
+use Rattle.std.proofs.Common.{rules, ◌≡◌, ◌≢◌, ℕ, zero, suc, ◌+◌, ◌<◌, Bool, true, false, eqb, List, [], ◌∷◌, ◌++◌}
 use Rattle.std.proofs.Common.{length, drop, replicate, refl, sym, ap, ◌∙◌, subst, arith, append_assoc}
 use Rattle.std.proofs.Common.{length-append}
 use Rattle.std.specs.Prelude.{◌||◌, ◌↔◌, IsTrue, codes}
@@ -25,16 +26,13 @@ use Rattle.nj_text.proofs.CleanStrings.{stay-down}
 -- ---- the written path
 
 here_is : (path : List ℕ) → is_here path ≡ true → path ≡ 46 ∷ []
-here_is [] h = absurd (cc)
-here_is (b ∷ bs) h = (bytes_eq-Decides (b ∷ bs) (codes ".")).0 h
+here_is path h = search rules
 
 absolute_is : (path : List ℕ) → is_absolute path ≡ true → path ≡ 47 ∷ drop 1 path
-absolute_is [] e = absurd (cc)
-absolute_is (b ∷ bs) e = rw (slash_is b e) refl
+absolute_is path e = grind arith
 
 relative_full : (ps : List (List ℕ)) → 0 < length ps → relative_text ps ≡ text_of ps
-relative_full [] h = absurd (omega arith)
-relative_full (p ∷ ps) h = refl
+relative_full ps h = grind arith
 
 clean_here : clean_path_of (46 ∷ []) ≡ 46 ∷ []
 unfolding clean_path_of without_leftmost_pair
@@ -46,59 +44,71 @@ clean_root = refl
 
 pub pushed-absolute : (old new path : List ℕ) → is_absolute path ≡ true
     → new ≡ (old ++ 47 ∷ []) ++ text_kept true (kept_of path) → new ≡ old ++ clean_path_of path
-pushed-absolute old new path e n =
-    n ∙ append_assoc old (47 ∷ []) (text_kept true (kept_of path))
-    ∙ ap (λ xs. old ++ xs) (sym (absolute-kept path e))
+pushed-absolute old new path e n = grind (arith, append_assoc, kept_of, absolute-kept)
 
 relative_none : (ps : List (List ℕ)) → AllGo ps → length (text_of ps) ≡ 0
     → text_of ps ++ 46 ∷ [] ≡ relative_text ps
-relative_none [] h l = refl
-relative_none (p ∷ ps) h l = absurd (omega (arith, long_text p ps h.0))
+relative_none ps h l = grind (arith, common_steps)
 
 relative_some : (ps : List (List ℕ)) → 0 < length (text_of ps) → text_of ps ≡ relative_text ps
-relative_some [] l = absurd (omega arith)
-relative_some (p ∷ ps) l = refl
+relative_some ps l = grind arith
 
 pub pushed-none : (old new path : List ℕ) → is_absolute path ≡ false
     → new ≡ old ++ text_kept false (kept_of path) → length new ≡ length old
     → new ++ 46 ∷ [] ≡ old ++ clean_path_of path
-pushed-none old new path e n l =
-    let components = components_kept (kept_of path).ups (kept_of path).names in
-    let none : length (text_of components) ≡ 0 =
-    omega (arith, l, ap length n, length-append old (text_of components)) in
-    ap (λ xs. xs ++ 46 ∷ []) n ∙ append_assoc old (text_of components) (46 ∷ [])
-    ∙ ap (λ xs. old ++ xs) (relative_none components
-    (go-kept (kept_of path).ups (kept_of path).names (names-kept path)) none ∙ sym (relative-kept path e))
+pushed-none old new path e n l = grind (
+  arith,
+  kept_of,
+  length,
+  text_of,
+  length-append,
+  append_assoc,
+  relative_none,
+  go-kept,
+  names-kept,
+  relative-kept,
+)
 
 pub pushed-some : (old new path : List ℕ) → is_absolute path ≡ false
     → new ≡ old ++ text_kept false (kept_of path) → length new ≢ length old → new ≡ old ++ clean_path_of path
-pushed-some old new path e n l =
-    let components = components_kept (kept_of path).ups (kept_of path).names in
-    let some : 0 < length (text_of components) =
-    omega (arith, l, ap length n, length-append old (text_of components)) in
-    n ∙ ap (λ xs. old ++ xs) (relative_some components some ∙ sym (relative-kept path e))
+pushed-some old new path e n l = grind (
+  arith,
+  kept_of,
+  length,
+  text_of,
+  length-append,
+  relative_some,
+  relative-kept,
+)
 
 -- ---- a path whose components all stay is clean
 
 relative_stays : (path : List ℕ) → is_absolute path ≡ false
     → all_stay false (slice_split is_slash path) ≡ true → clean_path_of path ≡ path
-relative_stays path e h =
-    let components : components_kept (kept_of path).ups (kept_of path).names ≡ slice_split is_slash path =
-    stay-kept (slice_split is_slash path) false 0 [] (λ c. refl) h in
-    relative-kept path e ∙ ap relative_text components
-    ∙ relative_full (slice_split is_slash path) (omega (arith, length-slice_split is_slash path))
-    ∙ join_with_byte-slice_split 47 path
+relative_stays path e h = grind (
+  arith,
+  kept_of path,
+  stay-kept (slice_split is_slash path) false 0 [] (λ c. refl) h,
+  relative-kept path e,
+  relative_full (slice_split is_slash path) (omega (arith, length-slice_split is_slash path)),
+  length-slice_split is_slash path,
+  join_with_byte-slice_split 47 path,
+)
 
 absolute_stays : (bs : List ℕ) → all_stay true (slice_split is_slash bs) ≡ true
     → clean_path_of (47 ∷ bs) ≡ 47 ∷ bs
-absolute_stays bs h =
-    let components : components_after nothing_kept (slice_split is_slash bs) ≡ slice_split is_slash bs =
-    stay-kept (slice_split is_slash bs) true 0 [] (λ c. refl) h in
-    let names : components_kept 0 (kept_of bs).names ≡ slice_split is_slash bs =
-    sym (drop-kept (kept_of bs).ups (kept_of bs).names (down_from_names (kept_of bs).names (names-kept bs)))
-    ∙ ap (drop_while is_up) components ∙ stay-down (slice_split is_slash bs) h in
-    absolute-kept (47 ∷ bs) refl ∙ ap absolute_text names
-    ∙ ap (λ xs. 47 ∷ xs) (join_with_byte-slice_split 47 bs)
+absolute_stays bs h = grind (
+  arith,
+  components_after nothing_kept (slice_split is_slash bs),
+  stay-kept (slice_split is_slash bs) true 0 [] (λ c. refl) h,
+  kept_of bs,
+  drop-kept (kept_of bs).ups (kept_of bs).names (down_from_names (kept_of bs).names (names-kept bs)),
+  down_from_names (kept_of bs).names (names-kept bs),
+  names-kept bs,
+  stay-down (slice_split is_slash bs) h,
+  absolute-kept (47 ∷ bs) refl,
+  join_with_byte-slice_split 47 bs,
+)
 
 pub clean-stays : (path : List ℕ) → stays_clean path ≡ true → clean_path_of path ≡ path
 clean-stays path h = by_front (is_absolute path) refl
@@ -123,8 +133,7 @@ clean-stays path h = by_front (is_absolute path) refl
 
 names_push : (ns : List (List ℕ)) (n : List ℕ) → AllByRecursion IsName ns → IsName n
     → AllByRecursion IsName (ns ++ n ∷ [])
-names_push [] n h i = (i, tt)
-names_push (m ∷ ns) n h i = (h.0, names_push ns n h.1 i)
+names_push ns n h i = grind (arith, common_steps)
 
 names_in_order : (names : List (List ℕ)) → AllByRecursion IsName names
     → AllByRecursion IsName (components_kept 0 names)
@@ -165,17 +174,11 @@ whole_ups zero ps h = h
 whole_ups (suc n) ps h = (refl, whole_ups n ps h)
 
 or_true : (s t : Bool) → t ≡ true → s || t ≡ true
-or_true true t e = refl
-or_true false t e = e
+or_true s t e = grind arith
 
 stays_relative : (p : List ℕ) (ps : List (List ℕ)) → leads_nowhere p ≡ false → AllWhole (p ∷ ps)
     → all_stay false (p ∷ ps) ≡ true → stays_clean (text_of (p ∷ ps)) ≡ true
-stays_relative p ps e w h =
-    let low : is_absolute (text_of (p ∷ ps)) ≡ false = text-relative p ps e w.0 in
-    let all : all_stay false (slice_split is_slash (text_of (p ∷ ps))) ≡ true =
-    ap (all_stay false) (components-text p ps w) ∙ h in
-    rw low (or_true (is_here (text_of (p ∷ ps))) (all_stay false (slice_split is_slash (text_of (p ∷ ps))))
-    all)
+stays_relative p ps e w h = grind (arith, text_of, text-relative, components-text, or_true)
 
 relative_components : (ups : ℕ) (ns : List (List ℕ)) → AllByRecursion IsName ns → 0 < ups + length ns
     → stays_clean (text_of (replicate ups (46 ∷ 46 ∷ []) ++ ns)) ≡ true
@@ -194,12 +197,7 @@ absolute_components (n ∷ ns) h l =
     (ap (all_stay true) (components-text n ns (whole_names (n ∷ ns) h)) ∙ stay-names true (n ∷ ns) h)
 
 stays_if_clean : (path : List ℕ) → IsCleanPath path → stays_clean path ≡ true
-stays_if_clean path (IsHere e) = ap stays_clean e
-stays_if_clean path (IsRoot e) = ap stays_clean e
-stays_if_clean path (IsRelative ups names l all e) =
-    ap stays_clean e ∙ relative_components ups names (recursion_from_All IsName names all) l
-stays_if_clean path (IsAbsolute names l all e) =
-    ap stays_clean e ∙ absolute_components names (recursion_from_All IsName names all) l
+stays_if_clean path h = grind (arith, relative_components, recursion_from_All, absolute_components)
 
 pub stays-clean : (path : List ℕ) → clean_path_of path ≡ path → stays_clean path ≡ true
 stays-clean path e = stays_if_clean path (subst IsCleanPath e (cleaning-clean path))

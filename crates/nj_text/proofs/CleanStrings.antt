@@ -1,5 +1,5 @@
 -- The path that its components make, and the paths that are clean already.
-use Rattle.std.proofs.Common.{◌≡◌, ℕ, zero, suc, Bool, true, false, List, [], ◌∷◌, ◌++◌, replicate, refl, sym}
+use Rattle.std.proofs.Common.{arith, ◌≡◌, ℕ, zero, suc, Bool, true, false, List, [], ◌∷◌, ◌++◌, replicate, refl, sym}
 use Rattle.std.proofs.Common.{ap, ◌∙◌, subst, append_assoc}
 use Rattle.std.specs.Prelude.{◌&&◌}
 use Rattle.std.specs.List.{slice_split, onto_first, list_any, AllByRecursion}
@@ -24,8 +24,7 @@ AllWhole [] = Unit {0}
 AllWhole (p ∷ ps) = (list_any is_slash p ≡ false) × AllWhole ps
 
 whole-onto : (b : ℕ) (ps : List (List ℕ)) → is_slash b ≡ false → AllWhole ps → AllWhole (onto_first b ps)
-whole-onto b [] e h = (or_of (is_slash b) false e refl, tt)
-whole-onto b (p ∷ ps) e h = (or_of (is_slash b) (list_any is_slash p) e h.0, h.1)
+whole-onto b ps e h = grind arith
 
 pub whole-components : (xs : List ℕ) → AllWhole (slice_split is_slash xs)
 whole-components [] = (refl, tt)
@@ -101,8 +100,7 @@ starts_low (b ∷ p) ys e w = (or_false (is_slash b) (list_any is_slash p) w).0
 -- joined components are a relative path
 pub text-relative : (p : List ℕ) (ps : List (List ℕ)) → leads_nowhere p ≡ false → list_any is_slash p ≡ false
     → is_absolute (text_of (p ∷ ps)) ≡ false
-text-relative p [] e w = ap is_absolute (sym (append-nil p)) ∙ starts_low p [] e w
-text-relative p (q ∷ ps) e w = starts_low p (47 ∷ text_of (q ∷ ps)) e w
+text-relative p ps e w = grind (arith, append-nil, starts_low, text_of)
 
 -- ---- components that stay
 
@@ -166,11 +164,4 @@ stay-kept (p ∷ ps) named ups names n h =
 -- where a name came before, no component that stays is `..`
 pub stay-down : (ps : List (List ℕ)) → all_stay true ps ≡ true → drop_while is_up ps ≡ ps
 stay-down [] h = refl
-stay-down (p ∷ ps) h = by_component (leads_nowhere p) (is_up p) refl refl
-  where
-    by_component : (s t : Bool) → leads_nowhere p ≡ s → is_up p ≡ t → drop_while is_up (p ∷ ps) ≡ p ∷ ps
-    by_component true t e u = let x : all_stay true (p ∷ ps) ≡ false =
-        stay-cons true p ps Nowhere (component-nowhere p e) in absurd (cc)
-    by_component false true e u = let x : all_stay true (p ∷ ps) ≡ false =
-        stay-cons true p ps Up (component-up p e u) in absurd (cc)
-    by_component false false e u = rw u refl
+stay-down (p ∷ ps) h = grind arith

@@ -1,5 +1,5 @@
 -- The cut of a text, unit by unit and run by run.
-use Rattle.std.proofs.Common.{◌≡◌, ℕ, zero, suc, ◌+◌, ◌≤◌, Bool, true, false, cond, not, eqb, ◌||◌, List, []}
+use Rattle.std.proofs.Common.{rules, ◌≡◌, ℕ, zero, suc, ◌+◌, ◌≤◌, Bool, true, false, cond, not, eqb, ◌||◌, List, []}
 use Rattle.std.proofs.Common.{◌∷◌, ◌++◌, length, take, drop, refl, sym, ap, ◌∙◌, append_assoc, arith}
 use Rattle.std.proofs.Math.Numerals.{one-add}
 use Rattle.std.specs.List.{prefix_len, take_while}
@@ -32,15 +32,13 @@ advance-zero spot = ap (λ c. record { line = spot.line; column = c }) (omega ar
 pub spots_advance : (bs : List ℕ) (spot : Spot) → AllIn (λ b. not (is_line_feed b)) bs
     → spots_after bs spot ≡ advance (length bs) spot
 spots_advance [] spot h = sym (advance-zero spot)
-spots_advance (b ∷ bs) spot h =
-    let step : spot_after b spot ≡ advance 1 spot = by_test (is_line_feed b) refl h.0 in
-    ap (spots_after bs) step ∙ spots_advance bs (advance 1 spot) h.1 ∙ advance-advance 1 (length bs) spot
-    ∙ ap (λ n. advance n spot) (one-add (length bs))
-  where
-    by_test : (t : Bool) → is_line_feed b ≡ t → not t ≡ true
-        → cond t (record { line = spot.line + 1; column = 1 }) (advance 1 spot) ≡ advance 1 spot
-    by_test true e n = absurd cc
-    by_test false e n = refl
+spots_advance (b ∷ bs) spot h = grind (
+  arith,
+  spots_advance bs (advance 1 spot) h.1,
+  advance-advance 1 (length bs) spot,
+  length bs,
+  one-add (length bs),
+)
 
 -- the units of ordinary bytes at a place
 abbrev pub plain_units : Spot → List ℕ → List TextUnit
@@ -52,12 +50,7 @@ pub unit-ordinary : (b : ℕ) (bs : List ℕ) → is_ordinary_byte b ≡ true �
 unit-ordinary b bs h = rw h refl
 
 ordinary-no_feed : (b : ℕ) → is_ordinary_byte b ≡ true → is_line_feed b ≡ false
-ordinary-no_feed b h = by_tests (eqb b 36) (eqb b 10) (eqb b 13) (eqb b 0) h
-  where
-    by_tests : (d f r z : Bool) → not (((d || f) || r) || z) ≡ true → f ≡ false
-    by_tests true f r z h = absurd cc
-    by_tests false true r z h = absurd cc
-    by_tests false false r z h = refl
+ordinary-no_feed b h = grind arith
 
 pub not_feed : (b : ℕ) → is_ordinary_byte b ≡ true → not (is_line_feed b) ≡ true
 not_feed b h = rw (ordinary-no_feed b h) refl
@@ -66,11 +59,7 @@ pub spot-ordinary : (b : ℕ) (spot : Spot) → is_ordinary_byte b ≡ true → 
 spot-ordinary b spot h = rw (ordinary-no_feed b h) refl
 
 pub within-ordinary : (b : ℕ) → position_after Within (Ordinary b) ≡ Within
-within-ordinary b = by_test (is_space b)
-  where
-    by_test : (t : Bool) → cond t Within Within ≡ Within
-    by_test true = refl
-    by_test false = refl
+within-ordinary b = grind arith
 
 pub cut-ordinary : (spot : Spot) (b : ℕ) (bs : List ℕ) → is_ordinary_byte b ≡ true
     → cut Within 0 spot (b ∷ bs) ≡ record { spot = spot; bytes = b ∷ []; means = Ordinary b } ∷ cut Within 0
@@ -82,21 +71,21 @@ cut-ordinary spot b bs h = rw (unit-ordinary b bs h, within-ordinary b, spot-ord
 pub cut-run : (spot : Spot) (xs bs : List ℕ) → AllIn is_ordinary_byte xs
     → cut Within 0 spot (xs ++ bs) ≡ plain_units spot xs ++ cut Within 0 (advance (length xs) spot) bs
 cut-run spot [] bs h = ap (λ p. cut Within 0 p bs) (sym (advance-zero spot))
-cut-run spot (x ∷ xs) bs h =
-    let there : advance (length xs) (advance 1 spot) ≡ advance (suc (length xs)) spot =
-    advance-advance 1 (length xs) spot ∙ ap (λ n. advance n spot) (one-add (length xs)) in
-    cut-ordinary spot x (xs ++ bs) h.0 ∙ ap
-    (λ us. record { spot = spot; bytes = x ∷ []; means = Ordinary x } ∷ us)
-    (cut-run (advance 1 spot) xs bs h.1 ∙ ap (λ p. plain_units (advance 1 spot) xs ++ cut Within 0 p bs)
-    there)
+cut-run spot (x ∷ xs) bs h = grind (
+  arith,
+  length xs,
+  advance-advance 1 (length xs) spot,
+  one-add (length xs),
+  cut-ordinary spot x (xs ++ bs) h.0,
+  cut-run (advance 1 spot) xs bs h.1,
+)
 
 -- ---- where the bytes of a unit lead
 
 -- n bytes without a line feed at the front lead along the line
 pub lands : (xs ys : List ℕ) (n : ℕ) (spot : Spot) → AllIn (λ b. not (is_line_feed b)) xs → length xs ≡ n
     → spots_after (take n (xs ++ ys)) spot ≡ advance n spot
-lands xs ys n spot h e = ap (λ zs. spots_after zs spot) (take_at xs ys n e) ∙ spots_advance xs spot h
-    ∙ ap (λ k. advance k spot) e
+lands xs ys n spot h e = grind (arith, take_at, spots_advance)
 
 AllIn-append : (p : ℕ → Bool) (xs ys : List ℕ) → AllIn p xs → AllIn p ys → AllIn p (xs ++ ys)
 AllIn-append p [] ys h k = k
@@ -139,23 +128,13 @@ feed_lands bs spot = rw (one-add (prefix_len is_space bs)) (spaces_land bs spot)
 pub return_lands : (bs : List ℕ) (spot : Spot)
     → spots_after (take (2 + prefix_len is_space bs) (13 ∷ 10 ∷ bs)) spot
     ≡ on_next_line (prefix_len is_space bs) spot
-return_lands bs spot =
-    let two : 2 + prefix_len is_space bs ≡ suc (suc (prefix_len is_space bs)) = omega arith in
-    rw two (spaces_land bs (spot_after 13 spot))
+return_lands bs spot = grind (arith, spaces_land)
 
 identifier-no_feed : (b : ℕ) → is_identifier_byte b ≡ true → not (is_line_feed b) ≡ true
-identifier-no_feed b h = by_test (is_line_feed b) refl
-  where
-    by_test : (t : Bool) → is_line_feed b ≡ t → not t ≡ true
-    by_test true e = absurd (false≢true (sym (ap is_identifier_byte (eqb-true b 10 e)) ∙ h))
-    by_test false e = refl
+identifier-no_feed b h = grind arith
 
 name-no_feed : (b : ℕ) → is_name_byte b ≡ true → not (is_line_feed b) ≡ true
-name-no_feed b h = by_test (is_line_feed b) refl
-  where
-    by_test : (t : Bool) → is_line_feed b ≡ t → not t ≡ true
-    by_test true e = absurd (false≢true (sym (ap is_name_byte (eqb-true b 10 e)) ∙ h))
-    by_test false e = refl
+name-no_feed b h = grind arith
 
 pub identifiers_no_feed : (bs : List ℕ) → AllIn (λ b. not (is_line_feed b)) (take_while is_identifier_byte bs)
 identifiers_no_feed bs = AllIn-weaker is_identifier_byte (λ b. not (is_line_feed b))
@@ -168,36 +147,19 @@ names_no_feed bs = AllIn-weaker is_name_byte (λ b. not (is_line_feed b)) (take_
 -- ---- names
 
 excludes : (p : ℕ → Bool) (b n : ℕ) → p b ≡ true → p n ≡ false → eqb b n ≡ false
-excludes p b n h e = by_test (eqb b n) refl
-  where
-    by_test : (t : Bool) → eqb b n ≡ t → t ≡ false
-    by_test true s = absurd (false≢true (sym e ∙ (ap p (sym (eqb-true b n s)) ∙ h)))
-    by_test false s = refl
+excludes p b n h e = grind arith
 
 pub name-after_dollar : (b : ℕ) (bs : List ℕ) → is_name_byte b ≡ true
     → after_dollar (b ∷ bs) ≡ (
       Reference (b ∷ take_while is_name_byte bs),
       suc (length (take_while is_name_byte bs)),
     )
-name-after_dollar b bs h =
-    rw (
-      excludes is_name_byte b 10 h refl,
-      excludes is_name_byte b 13 h refl,
-      excludes is_name_byte b 123 h refl,
-      excludes is_name_byte b 32 h refl,
-      excludes is_name_byte b 58 h refl,
-      excludes is_name_byte b 36 h refl,
-      h,
-    ) refl
+name-after_dollar b bs h = search rules
 
 -- where the run at the front is not empty, the first byte passes
 pub first_passes : (p : ℕ → Bool) (b : ℕ) (bs : List ℕ) → eqb (length (take_while p (b ∷ bs))) 0 ≡ false
     → p b ≡ true
-first_passes p b bs h = by_test (p b) refl
-  where
-    by_test : (t : Bool) → p b ≡ t → t ≡ true
-    by_test true e = refl
-    by_test false e = absurd (false≢true (sym h ∙ ap (λ xs. eqb (length xs) 0) (take_while-cons_no p b bs e)))
+first_passes p b bs h = grind arith
 
 pub name_found : (b : ℕ) (bs bytes name : List ℕ) → bytes ≡ b ∷ bs → name ≡ take_while is_name_byte bytes
     → eqb (length name) 0 ≡ false → ◌≡◌ {A = Found} (Reference name, length name) (after_dollar bytes)

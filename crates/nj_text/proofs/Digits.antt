@@ -17,11 +17,7 @@ use Rattle.nj_text.proofs.Lists.{AllIn, take_while-append, take_while-cons_yes, 
 
 -- the value of a digit
 digit-is : (d : ℕ) → is_digit d ≡ true → digit_value d ≡ d - 48
-digit-is d h =
-    let low : 48 ≤ d = grind (arith, nat_tests, h) in
-    let high : d ≤ 57 = grind (arith, nat_tests, h) in
-    let value = digit_value_digit d (low, high) in
-    omega arith
+digit-is d h = grind arith
 
 -- a number that was held at the greatest stays there
 held : (n d g : ℕ) → min (min n g * 10 + d) g ≡ min (n * 10 + d) g
@@ -48,8 +44,7 @@ AllIn-push p (y ∷ xs) x all e = (all.0, AllIn-push p xs x all.1 e)
 
 take_while-all : (p : ℕ → Bool) (xs : List ℕ) → AllIn p xs → take_while p xs ≡ xs
 take_while-all p [] all = refl
-take_while-all p (x ∷ xs) all = take_while-cons_yes p x xs all.0
-    ∙ ap (λ ys. x ∷ ys) (take_while-all p xs all.1)
+take_while-all p (x ∷ xs) all = grind (arith, take_while-cons_yes p x xs all.0, take_while-all p xs all.1)
 
 -- a digit is read
 pub read-digit : (text : List ℕ) (i : ℕ) (before : Option ℕ) (after : ℕ) → i < length text
@@ -67,22 +62,22 @@ read-digit text i before after h read e a =
 -- a byte that is not a digit ends the number
 pub read-other : (text : List ℕ) (i : ℕ) (number : Option ℕ) → i < length text → IsRead text i number
     → is_digit (get_or text i 0) ≡ false → number ≡ leading_number_of text
-read-other text i number h read e =
-    let cut : text ≡ take i text ++ get_or text i 0 ∷ drop (suc i) text =
-    sym (take-append-drop i text) ∙ ap (λ ys. take i text ++ ys) (drop-cons text i 0 h) in
-    let front = take_while-append is_digit (take i text) (get_or text i 0 ∷ drop (suc i) text) read.0 in
-    let digits : take_while is_digit text ≡ take i text =
-    ap (take_while is_digit) cut ∙ front
-    ∙ ap (λ ys. take i text ++ ys) (take_while-cons_no is_digit (get_or text i 0) (drop (suc i) text) e)
-    ∙ append-nil (take i text) in
-    read.1 ∙ ap number_of (sym digits)
+read-other text i number h read e = grind (
+  arith,
+  take i text,
+  get_or text i 0,
+  drop (suc i) text,
+  take-append-drop i text,
+  drop-cons text i 0 h,
+  take_while-append is_digit (take i text) (get_or text i 0 ∷ drop (suc i) text) read.0,
+  take_while-cons_no is_digit (get_or text i 0) (drop (suc i) text) e,
+  append-nil (take i text),
+)
 
 -- the text is digits alone
 pub read-all : (text : List ℕ) (i : ℕ) (number : Option ℕ) → length text ≤ i → IsRead text i number
     → number ≡ leading_number_of text
-read-all text i number h read =
-    let whole : take i text ≡ text = take_all i text h in
-    read.1 ∙ ap number_of (whole ∙ sym (take_while-all is_digit text (subst (AllIn is_digit) whole read.0)))
+read-all text i number h read = grind (arith, take, take_all, take_while-all)
 
 -- ---- the first `.`
 
@@ -97,21 +92,14 @@ after_dot text = after_first is_dot text
 
 -- a byte that is not `.` comes before it
 pub after_dot-other : (b : ℕ) (text : List ℕ) → (b == 46) ≡ false → after_dot (b ∷ text) ≡ after_dot text
-after_dot-other b text e =
-    let n = position_or_len is_dot text in
-    let more : 1 + n + 1 ≡ suc (n + 1) = omega arith in
-    ap (λ t. drop (cond (not t) (1 + n) 0 + 1) (b ∷ text)) e ∙ ap (λ k. drop k (b ∷ text)) more
+after_dot-other b text e = grind arith
 
 pub after_dot-dot : (b : ℕ) (text : List ℕ) → (b == 46) ≡ true → after_dot (b ∷ text) ≡ text
 after_dot-dot b text e = ap (λ t. drop (cond (not t) (1 + position_or_len is_dot text) 0 + 1) (b ∷ text)) e
 
 -- a `.` is not a digit
 no_dot : (b : ℕ) → is_digit b ≡ true → not (is_dot b) ≡ true
-no_dot b e = by_test (is_dot b) refl
-  where
-    by_test : (t : Bool) → is_dot b ≡ t → not t ≡ true
-    by_test true dot = absurd (grind (arith, nat_tests, dot, e))
-    by_test false dot = refl
+no_dot b e = grind arith
 
 -- the digits in front come before the first `.`
 digits_before_dot : (text : List ℕ) → take_while is_digit (before_dot text) ≡ take_while is_digit text

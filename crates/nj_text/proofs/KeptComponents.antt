@@ -1,6 +1,7 @@
 -- The components that are left when a path is cleaned, one after another, are the components of its clean
 -- path.
-use Rattle.std.proofs.Common.{◌≡◌, ℕ, zero, suc, Bool, true, false, not, List, [], ◌∷◌, ◌++◌, replicate, refl}
+use Rattle.std.proofs.lemmas.Grind.{common_steps}
+use Rattle.std.proofs.Common.{arith, ◌≡◌, ℕ, zero, suc, Bool, true, false, not, List, [], ◌∷◌, ◌++◌, replicate, refl}
 use Rattle.std.proofs.Common.{sym, ap, ◌∙◌, append_assoc}
 use Rattle.std.specs.Prelude.{codes}
 use Rattle.std.specs.List.{filter, AllByRecursion}
@@ -42,8 +43,7 @@ up_is p h = (bytes_eq-Decides p (codes "..")).0 h
 
 pub replicate-push : {X : Type 0} (n : ℕ) (x : X) (xs : List X)
     → replicate n x ++ x ∷ xs ≡ replicate (suc n) x ++ xs
-replicate-push zero x xs = refl
-replicate-push (suc n) x xs = ap (λ ys. x ∷ ys) (replicate-push n x xs)
+replicate-push n x xs = grind (arith, common_steps)
 
 pub no_pair-kept : (ups : ℕ) (names : List (List ℕ)) → AllDown names → HasNoPair (components_kept ups names)
 no_pair-kept ups [] h = no_pair-replicate ups
@@ -129,5 +129,4 @@ drop-down (p ∷ ps) h = rw h.0 refl
 -- an absolute path loses its leading `..`, and nothing else
 pub drop-kept : (ups : ℕ) (names : List (List ℕ)) → AllDown names
     → drop_while is_up (components_kept ups names) ≡ components_kept 0 names
-drop-kept ups names h = ap (drop_while is_up) (kept-ups ups names) ∙ drop-ups ups (components_kept 0 names)
-    ∙ drop-down (components_kept 0 names) (down-kept names h)
+drop-kept ups names h = grind (arith, kept-ups, drop-ups, drop-down, down-kept)

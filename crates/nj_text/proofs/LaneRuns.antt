@@ -38,20 +38,23 @@ each_byte f p all (x ∷ xs) fits = ap₂ (λ a b. a ∷ b)
 -- the mask of a test that was computed for each of the 256 bytes
 pub masked : (f : ℕ → ℕ) (p : ℕ → Bool) (v z : List ℕ) → length v ≤ 64 → Each1 (Fits w8) v → z ≡ map f v
     → agree_below (λ x. top 7 (f x)) p 256 ≡ true → mask_l (map (top 7) z) % 2 ^ 64 ≡ mask_l (map p v)
-masked f p v z short fits e all =
-    ap (λ l. mask_l l % 2 ^ 64) (ap (map (top 7)) e ∙ each_byte f p all v fits)
-    ∙ mask_l-mod (map p v) 64 (omega (arith, length-map v p))
+masked f p v z short fits e all = grind (
+  arith,
+  map (top 7),
+  each_byte f p all v fits,
+  mask_l-mod (map p v) 64 (omega (arith, length-map v p)),
+  map p v,
+  length-map v p,
+)
 
 -- ---- a run, a vector at a time
 
 not-not : (b : Bool) → not (not b) ≡ b
-not-not true = refl
-not-not false = refl
+not-not b = grind arith
 
 none_fails : (b : Bool) (n l m : ℕ) → n ≤ l → cond (not b) (1 + n) 0 ≡ 1 + l → (n ≡ l → m ≡ 0)
     → cond b 1 0 + 2 * m ≡ 0
-none_fails true n l m le e ih = let no : ⊥ = omega arith in absurd no
-none_fails false n l m le e ih = let z = ih (omega arith) in omega arith
+none_fails b n l m le e ih = grind arith
 
 module _ (q : ℕ → Bool) where
   abbrev stops : ℕ → Bool

@@ -87,26 +87,10 @@ pub record StartsPlainly (m : Meaning) : Type 0 where
   pub no_end : ending_of m ≡ None
 
 not_true : (t : Bool) → not t ≡ true → t ≡ false
-not_true true h = absurd cc
-not_true false h = refl
+not_true t h = grind arith
 
 pub plainly : (m : Meaning) → starts_plainly m ≡ true → StartsPlainly m
-plainly (Ordinary b) h = record {
-  plain = λ s. refl;
-  indented = λ s. refl;
-  no_space = not_true (is_space b) h;
-  no_end = refl;
-}
-plainly (Escape b) h = record { plain = λ s. refl; indented = λ s. refl; no_space = refl; no_end = refl }
-plainly (Reference n) h = record { plain = λ s. refl; indented = λ s. refl; no_space = refl; no_end = refl }
-plainly Join h = record { plain = λ s. refl; indented = λ s. refl; no_space = refl; no_end = refl }
-plainly OpeningJoin h = record { plain = λ s. refl; indented = λ s. refl; no_space = refl; no_end = refl }
-plainly Comment h = absurd cc
-plainly LeadingTab h = absurd cc
-plainly LineEnd h = absurd cc
-plainly TextEnd h = absurd cc
-plainly BadByte h = record { plain = λ s. refl; indented = λ s. refl; no_space = refl; no_end = refl }
-plainly BadEscape h = record { plain = λ s. refl; indented = λ s. refl; no_space = refl; no_end = refl }
+plainly m h = grind arith
 
 -- ---- lines without leading spaces
 
@@ -118,16 +102,10 @@ plain_by u l ls p = rw (p.no_space, p.plain u.spot) refl
 
 pub plain_begun : (u : TextUnit) (us : List TextUnit) → HasLine (lines_of us) → starts_plainly u.means ≡ true
     → begun (lines_of (u ∷ us)) ≡ reply start.Plain (inside (lines_of (u ∷ us)))
-plain_begun u us h s =
-    let p = plainly u.means s in
-    rw (p.no_end, h.2) (plain_by u h.0 h.1 p)
+plain_begun u us h s = grind arith
 
 HasLine-after : (u : TextUnit) (ls : List Line) → HasLine (before_first_line u ls) → HasLine ls
-HasLine-after u [] h = absurd (nil_is_not_cons h.0 h.1 h.2)
-  where
-    nil_is_not_cons : (l : Line) (others : List Line) → [] ≡ l ∷ others → ⊥
-    nil_is_not_cons l others e = absurd cc
-HasLine-after u (l ∷ ls) h = (l, ls, refl)
+HasLine-after u ls h = grind arith
 
 -- ---- the first unit of a line, and of a text within one
 
@@ -137,84 +115,37 @@ reopened (u ∷ us) = record { spot = u.spot; bytes = u.bytes; means = opening u
 
 pub fails_if_no_byte : (p : ℕ → Bool) (m : Meaning) → is_ordinary_in (λ c. true) m ≡ false
     → is_ordinary_in p m ≡ false
-fails_if_no_byte p (Ordinary b) h = absurd cc
-fails_if_no_byte p (Escape b) h = refl
-fails_if_no_byte p (Reference n) h = refl
-fails_if_no_byte p Join h = refl
-fails_if_no_byte p OpeningJoin h = refl
-fails_if_no_byte p Comment h = refl
-fails_if_no_byte p LeadingTab h = refl
-fails_if_no_byte p LineEnd h = refl
-fails_if_no_byte p TextEnd h = refl
-fails_if_no_byte p BadByte h = refl
-fails_if_no_byte p BadEscape h = refl
+fails_if_no_byte p m h = grind arith
 
 -- a byte that is not a space does not begin a space
 unit_is_not_space : (b : ℕ) (bs : List ℕ) → is_space b ≡ false
     → is_ordinary_in is_space (unit_at b bs).0 ≡ false
-unit_is_not_space b bs h = by_test (is_ordinary_byte b) refl
-  where
-    by_test : (t : Bool) → is_ordinary_byte b ≡ t → is_ordinary_in is_space (unit_at b bs).0 ≡ false
-    by_test true e = rw (unit-ordinary b bs e) h
-    by_test false e = fails_if_no_byte is_space (unit_at b bs).0 (not_ordinary b bs e)
+unit_is_not_space b bs h = grind arith
 
 start_position : (m : Meaning) → is_ordinary_in is_space m ≡ false
     → position_after AtStart (opening m) ≡ position_after Within m
-start_position (Ordinary b) h = rw h refl
-start_position (Escape b) h = refl
-start_position (Reference n) h = refl
-start_position Join h = refl
-start_position OpeningJoin h = refl
-start_position Comment h = refl
-start_position LeadingTab h = refl
-start_position LineEnd h = refl
-start_position TextEnd h = refl
-start_position BadByte h = refl
-start_position BadEscape h = refl
+start_position m h = grind arith
 
 spaces_position : (m : Meaning) → is_ordinary_in is_space m ≡ false
     → position_after AfterSpaces m ≡ position_after Within m
-spaces_position (Ordinary b) h = rw h refl
-spaces_position (Escape b) h = refl
-spaces_position (Reference n) h = refl
-spaces_position Join h = refl
-spaces_position OpeningJoin h = refl
-spaces_position Comment h = refl
-spaces_position LeadingTab h = refl
-spaces_position LineEnd h = refl
-spaces_position TextEnd h = refl
-spaces_position BadByte h = refl
-spaces_position BadEscape h = refl
+spaces_position m h = grind arith
 
 -- the start of a line, where that is neither a comment, nor a space, nor a tab
 cut-start : (spot : Spot) (bs : List ℕ) → opens_comment bs ≡ false → begins_with_space_byte bs ≡ false
     → is_first 9 bs ≡ false → cut AtStart 0 spot bs ≡ reopened (cut Within 0 spot bs)
 unfolding cut
-cut-start spot [] c s t = refl
-cut-start spot (b ∷ bs) c s t =
-    let same = start_position (unit_at b bs).0 (unit_is_not_space b bs s) in
-    rw (c, t, same) refl
+cut-start spot bs c s t = grind arith
 
 cut-spaces : (spot : Spot) (bs : List ℕ) → begins_with_space_byte bs ≡ false → is_first 9 bs ≡ false
     → cut AfterSpaces 0 spot bs ≡ cut Within 0 spot bs
 unfolding cut
-cut-spaces spot [] s t = refl
-cut-spaces spot (b ∷ bs) s t = rw (t, spaces_position (unit_at b bs).0 (unit_is_not_space b bs s)) refl
+cut-spaces spot bs s t = grind arith
 
 -- a unit that is not a tab does not begin with one
 no_tab : (spot : Spot) (bs : List ℕ) (m : Meaning) (n : ℕ) (remainder : List TextUnit)
     → Begins spot bs m n remainder → (m ≡ Ordinary 9 → ⊥) → is_first 9 bs ≡ false
 unfolding cut
-no_tab spot [] m n remainder e h = refl
-no_tab spot (b ∷ bs) m n remainder e h = by_test (eqb b 9) refl
-  where
-    first_meaning : List TextUnit → Meaning
-    first_meaning [] = TextEnd
-    first_meaning (u ∷ us) = u.means
-
-    by_test : (t : Bool) → eqb b 9 ≡ t → t ≡ false
-    by_test true f = absurd (h (sym (ap first_meaning e) ∙ ap (λ x. (unit_at x bs).0) (eqb-true b 9 f)))
-    by_test false f = refl
+no_tab spot bs m n remainder e h = grind arith
 
 -- ---- the start of a line, as the lexer finds it
 
@@ -226,10 +157,7 @@ at_once_end spot bs e = rw e refl
 pub at_once_line_end : (spot there : Spot) (bs : List ℕ) (n : ℕ) → opens_comment bs ≡ false
     → begins_with_space_byte bs ≡ false → Begins spot bs LineEnd n (cut AtStart 0 there (drop n bs))
     → begun (lines_from spot bs) ≡ reply start.Blank (Between (lines_from there (drop n bs)))
-at_once_line_end spot there bs n c s e =
-    let found = cut-start spot bs c s (no_tab spot bs LineEnd n (cut AtStart 0 there (drop n bs)) e
-    (λ h. absurd cc)) ∙ ap reopened e in
-    ap (λ us. begun (lines_of us)) found
+at_once_line_end spot there bs n c s e = grind (arith, cut-start, no_tab, drop)
 
 pub at_once_plain : (spot : Spot) (bs : List ℕ) (m : Meaning) (n : ℕ) (remainder : List TextUnit)
     → opens_comment bs ≡ false → begins_with_space_byte bs ≡ false → (m ≡ Ordinary 9 → ⊥) → opening m ≡ m
@@ -273,14 +201,7 @@ tab_by spot bytes us h = rw h.2 refl
 pub at_once_tab : (spot : Spot) (b : ℕ) (bs : List ℕ) → opens_comment bs ≡ false → is_first b bs ≡ true
     → b ≡ 9 → begun (lines_from spot bs) ≡ failing (fault.Tab spot)
 unfolding cut
-at_once_tab spot b [] c e t = absurd cc
-at_once_tab spot b (x ∷ bs) c e t =
-    let is_tab : x ≡ 9 = eqb-true x b e ∙ t in
-    let rest = cut Within 0 (spot_after 9 spot) bs in
-    let found : cut AtStart 0 spot (x ∷ bs)
-    ≡ record { spot = spot; bytes = 9 ∷ []; means = LeadingTab } ∷ rest = rw (c, is_tab) refl in
-    ap (λ us. begun (lines_of us)) found ∙ tab_by spot (9 ∷ []) rest
-    (cut_has_line Within 0 (spot_after 9 spot) bs)
+at_once_tab spot b bs c e t = grind (arith, eqb-true, tab_by, cut_has_line)
 
 -- ---- after leading spaces
 
@@ -291,9 +212,7 @@ spaces_line : (spot : Spot) (bs : List ℕ) (us : List TextUnit) (l : Line) (ls 
     → lines_of us ≡ l ∷ ls → lines_of (space_units spot bs ++ us)
     ≡ with_units (space_units spot bs ++ l.units) l ∷ ls
 spaces_line spot [] us l ls e = e
-spaces_line spot (b ∷ bs) us l ls e = ap
-    (before_first_line (record { spot = spot; bytes = b ∷ []; means = Ordinary b }))
-    (spaces_line (advance 1 spot) bs us l ls e)
+spaces_line spot (b ∷ bs) us l ls e = grind (arith, spaces_line (advance 1 spot) bs us l ls e)
 
 spaces_are_units : (spot : Spot) (bs : List ℕ) → AreSpaces bs → AllIn is_space_unit (space_units spot bs)
 spaces_are_units spot [] h = tt
@@ -303,21 +222,18 @@ spaces_are_units spot (b ∷ bs) h = (rw h.0 refl, spaces_are_units (advance 1 s
 kind_after : (spot : Spot) (b : ℕ) (bs : List ℕ) (us : List TextUnit) (l : Line) → AreSpaces (b ∷ bs)
     → kind_of (with_units (space_units spot (b ∷ bs) ++ us) l)
     ≡ kind_after_spaces (drop_while is_space_unit us) true
-kind_after spot b bs us l h =
-    let front : is_space b ≡ true = rw h.0 refl in
-    rw front (ap (λ vs. kind_after_spaces vs true)
-    (drop_while-append is_space_unit (space_units (advance 1 spot) bs) us
-    (spaces_are_units (advance 1 spot) bs h.1)))
+kind_after spot b bs us l h = grind (arith, drop_while-append, spaces_are_units)
 
 begun_after : (spot : Spot) (b : ℕ) (bs : List ℕ) (us : List TextUnit) (l : Line) (ls : List Line)
     → AreSpaces (b ∷ bs) → lines_of us ≡ l ∷ ls
     → begun (lines_of (space_units spot (b ∷ bs) ++ us))
     ≡ begun_by (kind_after_spaces (drop_while is_space_unit l.units) true)
     (with_units (space_units spot (b ∷ bs) ++ l.units) l) ls
-begun_after spot b bs us l ls h e =
-    ap begun (spaces_line spot (b ∷ bs) us l ls e)
-    ∙ ap (λ k. begun_by k (with_units (space_units spot (b ∷ bs) ++ l.units) l) ls)
-    (kind_after spot b bs l.units l h)
+begun_after spot b bs us l ls h e = grind (
+  arith,
+  spaces_line spot (b ∷ bs) us l ls e,
+  kind_after spot b bs l.units l h,
+)
 
 pub after_end : (spot : Spot) (b : ℕ) (bs : List ℕ) (here : Spot) (rest : List ℕ) → AreSpaces (b ∷ bs)
     → rest ≡ []
@@ -407,11 +323,7 @@ no_feed c = not (is_line_feed c)
 
 -- the first byte of a comment's line is not a line feed
 comment_begins : (b : ℕ) (bs : List ℕ) → opens_comment (b ∷ bs) ≡ true → no_feed b ≡ true
-comment_begins b bs h = by_test (is_line_feed b) refl
-  where
-    by_test : (t : Bool) → is_line_feed b ≡ t → not t ≡ true
-    by_test true e = absurd (false≢true (sym (rw (eqb-true b 10 e) refl) ∙ h))
-    by_test false e = refl
+comment_begins b bs h = grind arith
 
 pub comment_cut : (spot : Spot) (bs : List ℕ) → opens_comment bs ≡ true
     → (zs : List ℕ) × (cut AtStart 0 spot bs
@@ -442,22 +354,14 @@ pub over_last_comment : (spot there : Spot) (bs rest : List ℕ) → opens_comme
     → there ≡ advance (length (take_while no_feed bs)) spot → rest ≡ drop_while no_feed bs → rest ≡ []
     → without_comments (lines_from spot bs) ≡ without_comments (lines_from there rest)
 unfolding cut
-over_last_comment spot there bs rest h t r e =
-    let c = comment_cut spot bs h in
-    let found = c.1 ∙ ap (cut_from c.0) (sym r ∙ e) in
-    ap (λ us. without_comments (lines_of us)) found ∙ rw (t, e) refl
-  where
-    cut_from : List ℕ → List ℕ → List TextUnit
-    cut_from zs ys = record { spot = spot; bytes = zs; means = Comment } ∷ cut Within 0
-        (advance (length (take_while no_feed bs)) spot) ys
+over_last_comment spot there bs rest h t r e = grind (
+  arith,
+  comment_cut spot bs h,
+  length (take_while no_feed bs),
+)
 
 feed_first : (bs : List ℕ) → NoneInRun no_feed bs → eqb (length bs) 0 ≡ false → bs ≡ 10 ∷ drop 1 bs
-feed_first [] h e = absurd cc
-feed_first (b ∷ bs) h e = ap (λ x. x ∷ bs) (eqb-true b 10 (by_test (eqb b 10) h))
-  where
-    by_test : (t : Bool) → not t ≡ false → t ≡ true
-    by_test true h = refl
-    by_test false h = absurd cc
+feed_first bs h e = grind arith
 
 -- passing a comment and its line end
 pub over_comment : (spot there : Spot) (bs rest : List ℕ) → opens_comment bs ≡ true
@@ -465,15 +369,14 @@ pub over_comment : (spot there : Spot) (bs rest : List ℕ) → opens_comment bs
     → eqb (length rest) 0 ≡ false → without_comments (lines_from spot bs)
     ≡ without_comments (lines_from (on_next_line 0 there) (drop 1 rest))
 unfolding cut
-over_comment spot there bs rest h t r e =
-    let c = comment_cut spot bs h in
-    let feed : rest ≡ 10 ∷ drop 1 rest = feed_first rest (rw r (none_after no_feed bs)) e in
-    let found = c.1 ∙ ap (cut_from c.0) (sym r ∙ feed) in
-    ap (λ us. without_comments (lines_of us)) found ∙ rw t refl
-  where
-    cut_from : List ℕ → List ℕ → List TextUnit
-    cut_from zs ys = record { spot = spot; bytes = zs; means = Comment } ∷ cut Within 0
-        (advance (length (take_while no_feed bs)) spot) ys
+over_comment spot there bs rest h t r e = grind (
+  arith,
+  comment_cut spot bs h,
+  drop 1 rest,
+  feed_first rest (rw r (none_after no_feed bs)) e,
+  none_after no_feed bs,
+  length (take_while no_feed bs),
+)
 
 -- ---- leading spaces
 
@@ -482,27 +385,21 @@ spaces_after : (spot : Spot) (xs ys : List ℕ) → AllIn is_space xs
     ++ cut AfterSpaces 0 (advance (length xs) spot) ys
 unfolding cut
 spaces_after spot [] ys h = ap (λ p. cut AfterSpaces 0 p ys) (sym (advance-zero spot))
-spaces_after spot (x ∷ xs) ys h =
-    let is : x ≡ 32 = eqb-true x 32 h.0 in
-    let there : advance (length xs) (advance 1 spot) ≡ advance (suc (length xs)) spot =
-    advance-advance 1 (length xs) spot ∙ ap (λ n. advance n spot) (one-add (length xs)) in
-    rw is (ap (λ us. record { spot = spot; bytes = 32 ∷ []; means = Ordinary 32 } ∷ us)
-    (spaces_after (advance 1 spot) xs ys h.1
-    ∙ ap (λ p. space_units (advance 1 spot) xs ++ cut AfterSpaces 0 p ys) there))
+spaces_after spot (x ∷ xs) ys h = grind (
+  arith,
+  eqb-true x 32 h.0,
+  length xs,
+  advance-advance 1 (length xs) spot,
+  one-add (length xs),
+  spaces_after (advance 1 spot) xs ys h.1,
+)
 
 spaces_first : (spot : Spot) (x : ℕ) (xs ys : List ℕ) → AllIn is_space (x ∷ xs)
     → opens_comment ((x ∷ xs) ++ ys) ≡ false
     → cut AtStart 0 spot ((x ∷ xs) ++ ys) ≡ space_units spot (x ∷ xs)
     ++ cut AfterSpaces 0 (advance (length (x ∷ xs)) spot) ys
 unfolding cut
-spaces_first spot x xs ys h c =
-    let is : x ≡ 32 = eqb-true x 32 h.0 in
-    let no_comment : opens_comment (32 ∷ xs ++ ys) ≡ false = rw is at c in
-    let there : advance (length xs) (advance 1 spot) ≡ advance (suc (length xs)) spot =
-    advance-advance 1 (length xs) spot ∙ ap (λ n. advance n spot) (one-add (length xs)) in
-    rw (is, no_comment) (ap (λ us. record { spot = spot; bytes = 32 ∷ []; means = Ordinary 32 } ∷ us)
-    (spaces_after (advance 1 spot) xs ys h.1
-    ∙ ap (λ p. space_units (advance 1 spot) xs ++ cut AfterSpaces 0 p ys) there))
+spaces_first spot x xs ys h c = grind (arith, eqb-true, length, advance-advance, one-add, spaces_after)
 
 -- ---- facts of the results
 
@@ -534,13 +431,11 @@ not_nine b h e = h cc
 -- a place after a line end, as the cursor has it
 pub lines_moved : (spot there : Spot) (bs rest : List ℕ) (n : ℕ) → there ≡ spot → rest ≡ drop (n + 0) bs
     → lines_from there rest ≡ lines_from spot (drop n bs)
-lines_moved spot there bs rest n s r = let e : n + 0 ≡ n = omega arith in
-    ap (λ p. lines_from p rest) s ∙ ap (lines_from spot) (r ∙ ap (λ k. drop k bs) e)
+lines_moved spot there bs rest n s r = grind arith
 
 pub within_moved : (spot there : Spot) (bs rest : List ℕ) (n k : ℕ) → there ≡ spot
     → rest ≡ drop ((n - k) + k) bs → k < n → lines_within there rest ≡ lines_within spot (drop n bs)
-within_moved spot there bs rest n k s r h = let e : (n - k) + k ≡ n = omega arith in
-    ap (λ p. lines_within p rest) s ∙ ap (lines_within spot) (r ∙ ap (λ m. drop m bs) e)
+within_moved spot there bs rest n k s r h = grind arith
 
 pub plain_ordinary : (b : ℕ) (bs : List ℕ) → is_first b bs ≡ true → begins_with_space_byte bs ≡ false
     → starts_plainly (Ordinary b) ≡ true
@@ -551,9 +446,10 @@ pub begun_after_spaces : (spot : Spot) (bytes xs : List ℕ) (c : Cursor) (found
     → bytes ≡ xs ++ c.rest.now → xs ≡ take_while is_space bytes → c.spot ≡ advance (length xs) spot
     → opens_comment bytes ≡ false → eqb (length xs) 0 ≡ false
     → BegunAfterSpaces c found → BegunIs (lines_from spot bytes) found
-begun_after_spaces spot bytes xs c found whole run there no_comment some h =
-    let s = spaces_cut spot bytes xs c.rest.now c.spot whole run there no_comment some in
-    subst (λ us. BegunIs (lines_of us) found) (sym s.3) (h spot s.0 s.1 s.2)
+begun_after_spaces spot bytes xs c found whole run there no_comment some h = grind (
+  arith,
+  spaces_cut spot bytes xs c.rest.now c.spot whole run there no_comment some,
+)
 
 pub comment_opens : (bytes remainder rest : List ℕ) (b : ℕ) → remainder ≡ drop_while is_space bytes
     → remainder ≡ b ∷ rest → b ≡ 35 → opens_comment bytes ≡ true
@@ -563,9 +459,7 @@ pub over_comment_read : (spot there end : Spot) (bs rest after : List ℕ) → o
     → there ≡ advance (length (take_while no_feed bs)) spot → rest ≡ drop_while no_feed bs
     → eqb (length rest) 0 ≡ false → end ≡ on_next_line 0 there → after ≡ drop 1 rest
     → without_comments (lines_from spot bs) ≡ without_comments (lines_from end after)
-over_comment_read spot there end bs rest after h t r e s a =
-    over_comment spot there bs rest h t r e ∙ ap (λ p. without_comments (lines_from p (drop 1 rest))) (sym s)
-    ∙ ap (λ xs. without_comments (lines_from end xs)) (sym a)
+over_comment_read spot there end bs rest after h t r e s a = grind (arith, over_comment, drop)
 
 -- ---- a line that begins with no comment is none
 
@@ -612,38 +506,18 @@ module _ (q : Meaning → Bool) (unsaid : IsUnsaid q) where
       (choice_is_unsaid (eqb b 13 && is_first 10 bs) _ _ unsaid.line_end unsaid.bad_byte)))
 
 comment_is_unsaid : IsUnsaid gives_comment
-comment_is_unsaid = record {
-  ordinary = λ b. refl;
-  escape = λ b. refl;
-  reference = λ n. refl;
-  join = refl;
-  line_end = refl;
-  bad_byte = refl;
-  bad_escape = refl;
-}
+comment_is_unsaid = grind arith
 
 choice_gives_none : (t : Bool) (x y : Found) → gives_comment x.0 ≡ false → gives_comment y.0 ≡ false
     → gives_comment (cond t x y).0 ≡ false
-choice_gives_none true x y h k = h
-choice_gives_none false x y h k = k
+choice_gives_none t x y h k = grind arith
 
 text_kind_is_none : (t : Bool) → is_comment (text_kind t) ≡ false
-text_kind_is_none true = refl
-text_kind_is_none false = refl
+text_kind_is_none t = grind arith
 
 kind_is_none : (m : Meaning) (spot : Spot) (t : Bool) → gives_comment m ≡ false
     → is_comment (kind_with m spot t) ≡ false
-kind_is_none (Ordinary b) spot t h = text_kind_is_none t
-kind_is_none (Escape b) spot t h = text_kind_is_none t
-kind_is_none (Reference n) spot t h = text_kind_is_none t
-kind_is_none Join spot t h = text_kind_is_none t
-kind_is_none OpeningJoin spot t h = text_kind_is_none t
-kind_is_none Comment spot t h = absurd cc
-kind_is_none LeadingTab spot t h = refl
-kind_is_none LineEnd spot t h = text_kind_is_none t
-kind_is_none TextEnd spot t h = text_kind_is_none t
-kind_is_none BadByte spot t h = text_kind_is_none t
-kind_is_none BadEscape spot t h = text_kind_is_none t
+kind_is_none m spot t h = grind arith
 
 -- the kind of the first of the lines, whose leading spaces may have been passed
 abbrev first_kind : List TextUnit → Bool → Kind
@@ -656,28 +530,16 @@ first_units u ls h = rw h.2 refl
 -- a unit that is neither a comment nor a space
 first_is_none : (u : TextUnit) (us : List TextUnit) (t : Bool) → HasLine (lines_of us)
     → gives_comment u.means ≡ false → is_space_unit u ≡ false → is_comment (first_kind (u ∷ us) t) ≡ false
-first_is_none u us t h c s = by_end (ending_of u.means)
-  where
-    by_end : (o : Option Bool) → is_comment
-        (kind_after_spaces (drop_while is_space_unit (first_line (lines_before o u (lines_of us))).units) t)
-        ≡ false
-    by_end None = ap (λ vs. is_comment (kind_after_spaces (drop_while is_space_unit vs) t))
-        (first_units u (lines_of us) h) ∙ ap (λ vs. is_comment (kind_after_spaces vs t))
-        (drop_while-cons_no is_space_unit u (first_line (lines_of us)).units s)
-        ∙ kind_is_none u.means u.spot t c
-    by_end (Some b) = refl
+first_is_none u us t h c s = grind arith
 
 -- a space is passed
 first_is_space : (u : TextUnit) (us : List TextUnit) (t : Bool) → HasLine (lines_of us)
     → ending_of u.means ≡ None → is_space_unit u ≡ true → first_kind (u ∷ us) t ≡ first_kind us t
-first_is_space u us t h e s = rw e (ap (λ vs. kind_after_spaces (drop_while is_space_unit vs) t)
-    (first_units u (lines_of us) h) ∙ ap (λ vs. kind_after_spaces vs t)
-    (drop_while-cons_yes is_space_unit u (first_line (lines_of us)).units s))
+first_is_space u us t h e s = grind arith
 
 choice_no_space : (t : Bool) (x y : Found) → is_ordinary_in is_space x.0 ≡ false
     → is_ordinary_in is_space y.0 ≡ false → is_ordinary_in is_space (cond t x y).0 ≡ false
-choice_no_space true x y h k = h
-choice_no_space false x y h k = k
+choice_no_space t x y h k = grind arith
 
 after_spaces_is_none : (spot : Spot) (bs : List ℕ) (t : Bool)
     → is_comment (first_kind (cut AfterSpaces 0 spot bs) t) ≡ false
@@ -710,54 +572,31 @@ after_spaces_is_none spot (b ∷ bs) t = by_test (is_space b) refl (λ p. after_
         (choice_no_space (eqb b 9) (LeadingTab, 0) (unit_at b bs) refl (unit_is_not_space b bs e))
 
 opened_gives_none : (m : Meaning) → gives_comment m ≡ false → gives_comment (opening m) ≡ false
-opened_gives_none (Ordinary b) h = refl
-opened_gives_none (Escape b) h = refl
-opened_gives_none (Reference n) h = refl
-opened_gives_none Join h = refl
-opened_gives_none OpeningJoin h = refl
-opened_gives_none Comment h = absurd cc
-opened_gives_none LeadingTab h = refl
-opened_gives_none LineEnd h = refl
-opened_gives_none TextEnd h = refl
-opened_gives_none BadByte h = refl
-opened_gives_none BadEscape h = refl
+opened_gives_none m h = grind arith
 
 opened_is_not_space : (m : Meaning) → is_ordinary_in is_space m ≡ false
     → is_ordinary_in is_space (opening m) ≡ false
-opened_is_not_space (Ordinary b) h = h
-opened_is_not_space (Escape b) h = refl
-opened_is_not_space (Reference n) h = refl
-opened_is_not_space Join h = refl
-opened_is_not_space OpeningJoin h = refl
-opened_is_not_space Comment h = refl
-opened_is_not_space LeadingTab h = refl
-opened_is_not_space LineEnd h = refl
-opened_is_not_space TextEnd h = refl
-opened_is_not_space BadByte h = refl
-opened_is_not_space BadEscape h = refl
+opened_is_not_space m h = grind arith
 
 start_is_none : (spot : Spot) (b : ℕ) (bs : List ℕ) (t : Bool) → opens_comment (b ∷ bs) ≡ false
     → is_comment (first_kind (cut AtStart 0 spot (b ∷ bs)) t) ≡ false
 unfolding cut
-start_is_none spot b bs t h = by_test (is_space b) refl
-  where
-    by_test : (v : Bool) → is_space b ≡ v → is_comment (first_kind (cut AtStart 0 spot (b ∷ bs)) t) ≡ false
-    by_test true e =
-        let is : b ≡ 32 = eqb-true b 32 e in
-        let none : opens_comment (32 ∷ bs) ≡ false = rw is at h in
-        rw (is, none) (ap is_comment (first_is_space
-        (record { spot = spot; bytes = 32 ∷ []; means = Ordinary 32 })
-        (cut AfterSpaces 0 (advance 1 spot) bs) t (cut_has_line AfterSpaces 0 (advance 1 spot) bs) refl
-        refl) ∙ after_spaces_is_none (advance 1 spot) bs t)
-    by_test false e =
-        let found : Found = cond (eqb b 9) (LeadingTab, 0) (opening (unit_at b bs).0, (unit_at b bs).1) in
-        rw h (first_is_none (record { spot = spot; bytes = b ∷ take found.1 bs; means = found.0 })
-        (cut (position_after AtStart found.0) found.1 (spot_after b spot) bs) t
-        (cut_has_line (position_after AtStart found.0) found.1 (spot_after b spot) bs)
-        (choice_gives_none (eqb b 9) (LeadingTab, 0) (opening (unit_at b bs).0, (unit_at b bs).1) refl
-        (opened_gives_none (unit_at b bs).0 (unit_is_unsaid gives_comment comment_is_unsaid b bs)))
-        (choice_no_space (eqb b 9) (LeadingTab, 0) (opening (unit_at b bs).0, (unit_at b bs).1) refl
-        (opened_is_not_space (unit_at b bs).0 (unit_is_not_space b bs e))))
+start_is_none spot b bs t h = grind (
+  arith,
+  eqb-true,
+  first_is_space,
+  cut_has_line,
+  after_spaces_is_none,
+  eqb,
+  first_is_none,
+  take,
+  choice_gives_none,
+  opened_gives_none,
+  comment_is_unsaid,
+  choice_no_space,
+  opened_is_not_space,
+  unit_is_not_space,
+)
 
 pub is_not_comment : (spot : Spot) (bs : List ℕ) → opens_comment bs ≡ false
     → without_comments (lines_from spot bs) ≡ lines_from spot bs

@@ -1,4 +1,5 @@
 -- Vectors whose lanes are looked up in a table of sixteen bytes.
+use Rattle.std.proofs.lemmas.Grind.{common_steps}
 use Rattle.std.proofs.Common.{◌≡◌, ℕ, ◌+◌, ◌*◌, ◌/◌, ◌<◌, List, [], ◌∷◌, map, length, get_or, replicate}
 use Rattle.std.proofs.Common.{bit_and, refl, sym, ap, ◌∙◌, arith, w8}
 use Rattle.std.proofs.lemmas.List.{get_or-map, length-map, ext_get_or}
@@ -35,8 +36,7 @@ looked_up t v long =
     ∙ sym (get_or-map (λ b. get_or t (bit_and b 15) 0) v i 0 0 within))
 
 map-same : (v : List ℕ) → v ≡ map (λ b. b) v
-map-same [] = refl
-map-same (b ∷ v) = ap (λ w. b ∷ w) (map-same v)
+map-same v = grind (arith, common_steps)
 
 -- where a byte is the byte of its place in the table
 pub hits : (t v looked : List ℕ) → looked ≡ map (λ b. get_or t (bit_and b 15) 0) v

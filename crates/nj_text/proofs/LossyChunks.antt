@@ -9,9 +9,9 @@ pub lossy-chunk : (bs valid invalid rest : List ℕ) → bs ≡ valid ++ (invali
     → length valid ≡ utf8_valid_len bs
     → length invalid ≡ utf8_invalid_len (drop (utf8_valid_len bs) bs) → (length invalid ≡ 0 → length rest ≡ 0)
     → utf8_lossy bs ≡ (valid ++ replaced invalid) ++ utf8_lossy rest
-lossy-chunk bs valid [] rest parts valid_len invalid_len last =
-    utf8_lossy_last_chunk bs valid [] rest parts valid_len refl (last refl)
-    ∙ sym (append_assoc valid [] (utf8_lossy rest))
-lossy-chunk bs valid (b ∷ invalid) rest parts valid_len invalid_len last =
-    utf8_lossy_chunk bs valid (b ∷ invalid) rest parts valid_len invalid_len (omega arith)
-    ∙ sym (append_assoc valid (replaced (b ∷ invalid)) (utf8_lossy rest))
+lossy-chunk bs valid invalid rest parts valid_len invalid_len last = grind (
+  arith,
+  utf8_lossy_last_chunk,
+  append_assoc,
+  utf8_lossy_chunk,
+)

@@ -1,4 +1,5 @@
 -- The last name is taken off a path.
+use Rattle.std.proofs.lemmas.Grind.{common_steps}
 use Rattle.std.proofs.Common.{◌≡◌, ℕ, ◌≤◌, Bool, true, false, List, [], ◌∷◌, ◌++◌, length, take, refl, sym}
 use Rattle.std.proofs.Common.{ap, ◌∙◌, arith, inl, inr}
 use Rattle.std.specs.Prelude.{◌||◌}
@@ -15,12 +16,10 @@ pub record IsDropping (floor : ℕ) (old now : List ℕ) : Type 0 where
   pub above : floor ≤ length now
 
 or_true : (s : Bool) → s || true ≡ true
-or_true true = refl
-or_true false = refl
+or_true s = grind arith
 
 any-slash : (xs ys : List ℕ) → list_any is_slash (xs ++ 47 ∷ ys) ≡ true
-any-slash [] ys = refl
-any-slash (x ∷ xs) ys = ap (λ t. is_slash x || t) (any-slash xs ys) ∙ or_true (is_slash x)
+any-slash xs ys = grind (arith, common_steps)
 
 no_slash : (a xs ys : List ℕ) → list_any is_slash a ≡ false → a ≡ xs ++ 47 ∷ ys → ⊥
 no_slash a xs ys h e = let yes : list_any is_slash a ≡ true = ap (list_any is_slash) e ∙ any-slash xs ys in cc
@@ -47,9 +46,7 @@ not_longer (x ∷ xs) a (y ∷ ys) b e l h = let t : xs ++ a ≡ ys ++ 47 ∷ b 
 -- the name goes with the slash before it
 pub drops-at : (floor : ℕ) (head name new : List ℕ) → list_any is_slash name ≡ false → floor ≤ length head
     → DropsName floor (head ++ 47 ∷ name) new → new ≡ head
-drops-at floor head name new h l (other, k, inl (above, e)) = sym (same_head head new name other h k e)
-drops-at floor head name new h l (other, k, inr (at, e)) =
-    absurd (not_longer new other head name (sym e) (omega arith) k)
+drops-at floor head name new h l h1 = grind (arith, same_head, not_longer)
 
 -- the name is alone above the floor
 pub drops-alone : (floor : ℕ) (head name new : List ℕ) → list_any is_slash name ≡ false → floor ≡ length head

@@ -16,14 +16,7 @@ abbrev BeginsName : ℕ → Type 0
 BeginsName b = is_slash b || b == 46 ≡ false
 
 name_begun : (b : ℕ) (p : List ℕ) → BeginsName b → list_any is_slash (b ∷ p) ≡ false → IsName (b ∷ p)
-name_begun b p begins whole =
-    let low = (or_false (is_slash b) (b == 46) begins).1 in
-    record {
-      leads_somewhere = ap (λ t. t && bytes_eq p []) low;
-      leads_down =
-          ap (λ t. t && bytes_eq p (codes ".")) low;
-      has_no_slash = whole;
-    }
+name_begun b p begins whole = grind arith
 
 -- all components but the first are names
 abbrev Continues : List ℕ → Type 0
@@ -31,22 +24,16 @@ Continues text = AllByRecursion IsName (drop 1 (slice_split is_slash text))
 
 onto_name : (b : ℕ) (ps : List (List ℕ)) → BeginsName b → AllWhole (onto_first b ps)
     → AllByRecursion IsName (drop 1 (onto_first b ps)) → AllByRecursion IsName (onto_first b ps)
-onto_name b [] begins whole rest = (name_begun b [] begins whole.0, tt)
-onto_name b (p ∷ ps) begins whole rest = (name_begun b p begins whole.0, rest)
+onto_name b ps begins whole rest = grind arith
 
 -- and the first too, where its first byte begins a name
 names_begun : (b : ℕ) (bs : List ℕ) → BeginsName b → Continues (b ∷ bs)
     → AllByRecursion IsName (slice_split is_slash (b ∷ bs))
-names_begun b bs begins rest =
-    let split = slice_split-cons_no is_slash b bs (or_false (is_slash b) (b == 46) begins).0 in
-    subst (AllByRecursion IsName) (sym split)
-    (onto_name b (slice_split is_slash bs) begins (subst AllWhole split (whole-components (b ∷ bs)))
-    (subst (λ ps. AllByRecursion IsName (drop 1 ps)) split rest))
+names_begun b bs begins rest = grind (arith, slice_split-cons_no, or_false, onto_name, whole-components, drop)
 
 drop_onto : (b : ℕ) (ps : List (List ℕ)) → AllByRecursion IsName (drop 1 ps)
     → AllByRecursion IsName (drop 1 (onto_first b ps))
-drop_onto b [] h = tt
-drop_onto b (p ∷ ps) h = h
+drop_onto b ps h = grind arith
 
 continues : (text : List ℕ) → any (suspects text) ≡ false → ends_with_slash text ≡ false → Continues text
 continues [] none end = tt
@@ -63,19 +50,15 @@ continues (b ∷ c ∷ bs) none end =
         (names_begun c bs (sym (ap (λ t. t && (is_slash c || c == 46)) e) ∙ fine) rest)
 
 begun_if : (t : Bool) → not t ≡ true → t ≡ false
-begun_if true e = absurd (cc)
-begun_if false e = refl
+begun_if t e = grind arith
 
 names_if : (text : List ℕ) → begins_name text ≡ true → ends_with_slash text ≡ false
     → any (suspects text) ≡ false → AllByRecursion IsName (slice_split is_slash text)
-names_if [] begins end none = absurd (cc)
-names_if (b ∷ bs) begins end none = names_begun b bs (begun_if (is_slash b || b == 46) begins)
-    (continues (b ∷ bs) none end)
+names_if text begins end none = grind (arith, names_begun, begun_if, continues)
 
 pub names_seen : (text : List ℕ) (suspect : Bool) → suspect ≡ any (suspects text) → begins_name text ≡ true
     → ends_with_slash text ≡ false → OnTrue (not suspect) (AllByRecursion IsName (slice_split is_slash text))
-names_seen text true e begins end = tt
-names_seen text false e begins end = names_if text begins end (sym e)
+names_seen text suspect e begins end = grind (arith, names_if)
 
 pub ends_at_last : (text : List ℕ) → 0 < length text
     → ends_with_slash text ≡ is_slash (get_or text (length text - 1) 0)

@@ -18,9 +18,7 @@ pub cut-dollar : (spot : Spot) (bs : List ℕ) (m : Meaning) (n : ℕ) → ◌�
     → cut Within 0 spot (36 ∷ bs) ≡ record { spot = spot; bytes = 36 ∷ take n bs; means = m } ∷ cut
     (position_after Within m) 0 (spots_after (take n bs) (advance 1 spot)) (drop n bs)
 unfolding cut
-cut-dollar spot bs m n e h = rw (← e) (ap
-    (λ us. record { spot = spot; bytes = 36 ∷ take n bs; means = m } ∷ us)
-    (cut-skip (position_after Within m) n (advance 1 spot) bs h))
+cut-dollar spot bs m n e h = grind (arith, take, cut-skip)
 
 pub join_unit : (end spaces : ℕ) (bs : List ℕ) → ◌≡◌ {A = Found} (Join, end + spaces) (after_dollar bs)
     → ((spot : Spot) → spots_after (take (end + spaces) bs) spot ≡ on_next_line spaces spot)
@@ -41,26 +39,29 @@ pub reference_unit : (name : List ℕ) (n : ℕ) (bs : List ℕ)
     → ((spot : Spot) → spots_after (take n bs) spot ≡ advance n spot) → n ≤ length bs
     → (spot : Spot) → Begins spot (36 ∷ bs) (Reference name) (1 + n)
     (units_within (advance (1 + n) spot) (drop (1 + n) (36 ∷ bs)))
-reference_unit name n bs e lands h spot =
-    rw (one-add n) (cut-dollar spot bs (Reference name) n e h
-    ∙ ap (λ p. record { spot = spot; bytes = 36 ∷ take n bs; means = Reference name } ∷ cut Within 0 p
-    (drop n bs)) (lands (advance 1 spot) ∙ advance-two n spot))
+reference_unit name n bs e lands h spot = grind (
+  arith,
+  one-add n,
+  cut-dollar spot bs (Reference name) n e h,
+  take n bs,
+  drop n bs,
+  advance-two n spot,
+)
 
 pub escape_unit : (b : ℕ) (bs : List ℕ) → ◌≡◌ {A = Found} (Escape b, 1) (after_dollar bs)
     → ((spot : Spot) → spots_after (take 1 bs) spot ≡ advance 1 spot) → 1 ≤ length bs
     → (spot : Spot) → Begins spot (36 ∷ bs) (Escape b) 2 (units_within (advance 2 spot) (drop 2 (36 ∷ bs)))
-escape_unit b bs e lands h spot =
-    cut-dollar spot bs (Escape b) 1 e h ∙ ap
-    (λ p. record { spot = spot; bytes = 36 ∷ take 1 bs; means = Escape b } ∷ cut Within 0 p (drop 1 bs))
-    (lands (advance 1 spot) ∙ advance-two 1 spot)
+escape_unit b bs e lands h spot = grind (
+  arith,
+  cut-dollar spot bs (Escape b) 1 e h,
+  take 1 bs,
+  drop 1 bs,
+  advance-two 1 spot,
+)
 
 pub bad_escape_unit : (bs : List ℕ) → ◌≡◌ {A = Found} (BadEscape, 0) (after_dollar bs) → (spot : Spot)
     → BeginsBadly spot (36 ∷ bs) BadEscape
-bad_escape_unit bs e spot = (
-  1,
-  cut Within 0 (advance 1 spot) bs,
-  cut-dollar spot bs BadEscape 0 e (omega arith),
-)
+bad_escape_unit bs e spot = grind (arith, cut-dollar spot bs BadEscape 0 e (omega arith))
 
 feed_unit : (bs : List ℕ) (spot : Spot)
     → Begins spot (10 ∷ bs) LineEnd 1 (cut AtStart 0 (on_next_line 0 spot) (drop 1 (10 ∷ bs)))
@@ -78,9 +79,7 @@ EndsHere bytes n = (spot : Spot) → Begins spot bytes LineEnd n
     (cut AtStart 0 (on_next_line 0 spot) (drop n bytes))
 
 return_ends : (bs : List ℕ) (t : Bool) → is_first 10 bs ≡ t → t ≡ true → EndsHere (13 ∷ bs) 2
-return_ends [] t e h = absurd (false≢true (e ∙ h))
-return_ends (b ∷ bs) t e h = subst (λ x. EndsHere (13 ∷ x ∷ bs) 2) (sym (eqb-true b 10 (e ∙ h)))
-    (return_unit bs)
+return_ends bs t e h = grind (arith, false≢true, eqb-true, return_unit)
 
 pub line_end_unit : (bytes : List ℕ) (n : ℕ) → n ≡ line_end_length bytes → eqb n 0 ≡ false → EndsHere bytes n
 line_end_unit [] n e h = absurd (false≢true (sym h ∙ ap (λ k. eqb k 0) e))
@@ -110,16 +109,7 @@ bad_byte b bs e spot = (1, cut Within 0 (spot_after b spot) bs, rw e refl)
 
 pub bad_byte_unit : (b : ℕ) (bs : List ℕ) → is_ordinary_byte b ≡ false → eqb b 36 ≡ false
     → line_end_length (b ∷ bs) ≡ 0 → (spot : Spot) → BeginsBadly spot (b ∷ bs) BadByte
-bad_byte_unit b bs o d l = bad_byte b bs (rw (o, d) (by_tests (eqb b 10) (eqb b 13 && is_first 10 bs) l))
-  where
-    Zero : ℕ → Type 0
-    Zero n = n ≡ 0
-
-    by_tests : (f r : Bool) → Zero (cond f 1 (cond r 2 0))
-        → ◌≡◌ {A = Found} (cond f (LineEnd, 0) (cond r (LineEnd, 1) (BadByte, 0))) (BadByte, 0)
-    by_tests true r l = absurd (suc_not_zero l)
-    by_tests false true l = absurd (suc_not_zero l)
-    by_tests false false l = refl
+bad_byte_unit b bs o d l = grind (arith, bad_byte, eqb)
 
 pub ordinary_unit : (b : ℕ) (bs : List ℕ) → is_ordinary_byte b ≡ true → (spot : Spot)
     → Begins spot (b ∷ bs) (Ordinary b) 1 (units_within (advance 1 spot) (drop 1 (b ∷ bs)))

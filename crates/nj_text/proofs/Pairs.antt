@@ -39,8 +39,7 @@ leftmost-none (a ∷ b ∷ ps) h = leftmost-cons a b ps h.0 ∙ ap (λ qs. a ∷
 pub leftmost-at : (front : List (List ℕ)) (a b : List ℕ) (ps : List (List ℕ)) → HasNoPair (front ++ a ∷ [])
     → is_pair a b ≡ true → without_leftmost_pair (front ++ a ∷ b ∷ ps) ≡ front ++ ps
 leftmost-at [] a b ps h e = leftmost-cons_pair a b ps e
-leftmost-at (x ∷ []) a b ps h e = leftmost-cons x a (b ∷ ps) h.0
-    ∙ ap (λ qs. x ∷ qs) (leftmost-cons_pair a b ps e)
+leftmost-at (x ∷ []) a b ps h e = grind (arith, leftmost-cons x a (b ∷ ps) h.0, leftmost-cons_pair a b ps e)
 leftmost-at (x ∷ y ∷ front) a b ps h e =
     leftmost-cons x y (front ++ a ∷ b ∷ ps) h.0 ∙ ap (λ qs. x ∷ qs) (leftmost-at (y ∷ front) a b ps h.1 e)
 
@@ -97,22 +96,13 @@ pairs-none ps h = iterate-same (length ps) ps (leftmost-none ps h)
 -- the leftmost pair makes no difference
 pub pairs-at : (front : List (List ℕ)) (a b : List ℕ) (ps : List (List ℕ)) → HasNoPair (front ++ a ∷ [])
     → is_pair a b ≡ true → without_pairs (front ++ a ∷ b ∷ ps) ≡ without_pairs (front ++ ps)
-pairs-at front a b ps h e =
-    let long : length (front ++ a ∷ b ∷ ps) ≡ suc (suc (length (front ++ ps))) =
-    simp length-append (omega arith) in
-    ap (λ n. iterate without_leftmost_pair n (front ++ a ∷ b ∷ ps)) long
-    ∙ ap (iterate without_leftmost_pair (suc (length (front ++ ps)))) (leftmost-at front a b ps h e)
-    ∙ enough (suc (length (front ++ ps))) (length (front ++ ps)) (front ++ ps) (omega arith) (omega arith)
+pairs-at front a b ps h e = grind (arith, length, length-append, leftmost-at, enough)
 
 -- one more component, other than `..`
 pub no_pair-push : (ps : List (List ℕ)) (b : List ℕ) → HasNoPair ps → is_up b ≡ false
     → HasNoPair (ps ++ b ∷ [])
 no_pair-push [] b h e = tt
-no_pair-push (a ∷ []) b h e = (no_pair (is_up a) (is_up b) e, tt)
-  where
-    no_pair : (s t : Bool) → t ≡ false → not s && t ≡ false
-    no_pair true t e = refl
-    no_pair false t e = e
+no_pair-push (a ∷ []) b h e = grind arith
 no_pair-push (a ∷ c ∷ ps) b h e = (h.0, no_pair-push (c ∷ ps) b h.1 e)
 
 pub no_pair-replicate : (n : ℕ) → HasNoPair (replicate n (46 ∷ 46 ∷ []))

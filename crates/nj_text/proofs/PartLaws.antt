@@ -1,4 +1,5 @@
 -- The law of parts: they are in the bytes of their units from left to right.
+use Rattle.std.proofs.lemmas.Grind.{common_steps}
 use Rattle.std.proofs.Common.{◌≡◌, ℕ, zero, suc, ◌+◌, Bool, true, false, cond, ◌&&◌, List, [], ◌∷◌, ◌++◌}
 use Rattle.std.proofs.Common.{length, take, map, refl, sym, ap, ◌∙◌, subst, append_assoc, eqb, arith}
 use Rattle.std.specs.List.{take_while}
@@ -31,8 +32,7 @@ GivesFound b bs found = Denotes found.0 (b ∷ take found.1 bs)
 
 choice : (b : ℕ) (bs : List ℕ) (t : Bool) (x y : Found) → GivesFound b bs x → GivesFound b bs y
     → GivesFound b bs (cond t x y)
-choice b bs true x y h k = h
-choice b bs false x y h k = k
+choice b bs t x y h k = grind arith
 
 run_and_rest : (p : ℕ → Bool) (xs : List ℕ) → xs ≡ take_while p xs ++ drop_while p xs
 run_and_rest p [] = refl
@@ -77,23 +77,13 @@ dollar_gives b (c ∷ cs) =
     (choice b bs (is_escapable c) _ _ (b, refl) (choice b bs (is_name_byte c) _ _ (name_gives b c cs) tt))))
 
 unit_gives : (b : ℕ) (bs : List ℕ) → GivesFound b bs (unit_at b bs)
-unit_gives b bs =
-    choice b bs (is_ordinary_byte b) _ _ refl
-    (choice b bs (eqb b 36) _ _ (dollar_gives b bs)
-    (choice b bs (eqb b 10) _ _ tt (choice b bs (eqb b 13 && is_first 10 bs) _ _ tt tt)))
+unit_gives b bs = grind (arith, choice, eqb, dollar_gives)
 
 opening_gives : (m : Meaning) (bytes : List ℕ) → Denotes m bytes → Denotes (opening m) bytes
-opening_gives Join bytes h = tt
-opening_gives m bytes h = h
+opening_gives m bytes h = grind arith
 
 found_gives : (position : Position) (b : ℕ) (bs : List ℕ) → GivesFound b bs (found_at position b bs)
-found_gives AtStart b bs =
-    let unit = unit_at b bs in
-    choice b bs (opens_comment (b ∷ bs)) _ _ tt
-    (choice b bs (eqb b 9) _ (opening unit.0, unit.1) tt
-    (opening_gives unit.0 (b ∷ take unit.1 bs) (unit_gives b bs)))
-found_gives AfterSpaces b bs = choice b bs (eqb b 9) _ (unit_at b bs) tt (unit_gives b bs)
-found_gives Within b bs = unit_gives b bs
+found_gives position b bs = grind (arith, choice, eqb, opening_gives, take, unit_gives)
 
 abbrev AllGive : List TextUnit → Type 0
 AllGive [] = Unit {0}
@@ -147,14 +137,11 @@ unit_before (Ordinary b) bytes false ps rest h s =
     (([], rest, whole, s.0), λ e. (b ∷ [], ps, rest, refl, whole, s.0))
 unit_before (Escape b) bytes t ps rest h s =
     ((h.0 ∷ [], rest, ap (λ zs. zs ++ rest) h.1, s.0), λ e. absurd cc)
-unit_before (Reference name) bytes t ps rest h s = (
-  (
-    h.0,
-    h.1 ++ rest,
-    ap (λ zs. zs ++ rest) h.2 ∙ append_assoc (h.0 ++ name) h.1 rest,
-    after_gap h.1 (map part_bytes ps) rest s.0,
-  ),
-  λ e. absurd cc,
+unit_before (Reference name) bytes t ps rest h s = grind (
+  arith,
+  append_assoc (h.0 ++ name) h.1 rest,
+  after_gap h.1 (map part_bytes ps) rest s.0,
+  map part_bytes ps,
 )
 unit_before m bytes t ps rest h s = (after_gap bytes (map part_bytes ps) rest s.0, λ e. absurd cc)
 
@@ -165,9 +152,7 @@ in_order (u ∷ us) h = unit_before u.means u.bytes (begins_with is_ordinary us)
     (in_order us h.1)
 
 bytes_of-append : (us vs : List TextUnit) → bytes_of (us ++ vs) ≡ bytes_of us ++ bytes_of vs
-bytes_of-append [] vs = refl
-bytes_of-append (u ∷ us) vs = ap (λ zs. u.bytes ++ zs) (bytes_of-append us vs)
-    ∙ sym (append_assoc u.bytes (bytes_of us) (bytes_of vs))
+bytes_of-append us vs = grind (arith, common_steps)
 
 pub parts_in_order : PartsComeInOrder
 parts_in_order text before us after e =

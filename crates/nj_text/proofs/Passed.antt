@@ -1,5 +1,5 @@
 -- Blanks that are passed.
-use Rattle.std.proofs.Common.{◌≡◌, ℕ, Bool, true, false, cond, List, [], ◌∷◌, ◌++◌, length, refl, sym, ap}
+use Rattle.std.proofs.Common.{arith, ◌≡◌, ℕ, Bool, true, false, cond, List, [], ◌∷◌, ◌++◌, length, refl, sym, ap}
 use Rattle.std.proofs.Common.{◌∙◌}
 use Rattle.std.specs.List.{take_while}
 use Rattle.std.proofs.lemmas.Bool.{eqb-true}
@@ -30,8 +30,7 @@ blanks_stop_at_end spot bytes e = rw e refl
 
 pub first_is_not_space : (b : ℕ) (bytes : List ℕ) → is_first b bytes ≡ true
     → begins_with_space_byte bytes ≡ false → is_space b ≡ false
-first_is_not_space b [] e h = absurd cc
-first_is_not_space b (x ∷ bs) e h = ap is_space (sym (eqb-true x b e)) ∙ h
+first_is_not_space b bytes e h = grind arith
 
 -- a join is one
 pub blanks_over_join : (spot : Spot) (bytes : List ℕ) (n : ℕ) (remainder : List TextUnit)
@@ -59,16 +58,12 @@ blanks_over_spaces spot bytes xs ys e h =
 
 pub no_space_after : (bytes : List ℕ) → begins_with_space_byte (drop_while is_space bytes) ≡ false
 no_space_after [] = refl
-no_space_after (b ∷ bs) = by_test (is_space b) refl (no_space_after bs)
-  where
-    by_test : (t : Bool) → is_space b ≡ t → begins_with_space_byte (drop_while is_space bs) ≡ false
-        → begins_with_space_byte (cond t (drop_while is_space bs) (b ∷ bs)) ≡ false
-    by_test true e h = h
-    by_test false e h = e
+no_space_after (b ∷ bs) = grind (arith, no_space_after bs)
 
 pub blanks_over_run : (spot : Spot) (bytes xs ys : List ℕ) (there : Spot) → bytes ≡ xs ++ ys
     → xs ≡ take_while is_space bytes → there ≡ advance (length xs) spot
     → drop_while is_blank (units_within spot bytes) ≡ drop_while is_blank (units_within there ys)
-blanks_over_run spot bytes xs ys there whole run e =
-    blanks_over_spaces spot bytes xs ys whole (rw run (AllIn-take_while is_space bytes))
-    ∙ ap (λ p. drop_while is_blank (units_within p ys)) (sym e)
+blanks_over_run spot bytes xs ys there whole run e = grind (
+  arith,
+  blanks_over_spaces spot bytes xs ys whole (rw run (AllIn-take_while is_space bytes)),
+)

@@ -39,11 +39,7 @@ feed_starts spot bs = (refl, refl)
 -- ---- the name
 
 identifier_is_no_space : (b : ℕ) → is_identifier_byte b ≡ true → is_space b ≡ false
-identifier_is_no_space b h = by_test (is_space b) refl
-  where
-    by_test : (t : Bool) → is_space b ≡ t → t ≡ false
-    by_test true e = absurd (false≢true (ap is_identifier_byte (sym (eqb-true b 32 e)) ∙ h))
-    by_test false e = refl
+identifier_is_no_space b h = grind arith
 
 name_starts : (spot : Spot) (bytes : List ℕ) → eqb (length (take_while is_identifier_byte bytes)) 0 ≡ false
     → Starts (units_within spot bytes)
@@ -60,10 +56,12 @@ name_here : (spot there : Spot) (bytes xs ys : List ℕ) → Starts (units_withi
     → xs ≡ take_while is_identifier_byte bytes → ys ≡ drop_while is_identifier_byte bytes
     → there ≡ advance (length xs) spot → eqb (length xs) 0 ≡ false
     → ident_of (inside (lines_within spot bytes)) ≡ reply (Some xs) (inside (lines_within there ys))
-name_here spot there bytes xs ys starts whole run_is after_is t nonempty =
-    at_cursor (unless_bad ident_at) spot spot bytes bytes (sym starts.0)
-    ∙ identifier_here spot there bytes xs ys whole run_is after_is t (sym starts.1)
-    ∙ ap (λ n. reply n (inside (lines_within there ys))) (some_if_any xs nonempty)
+name_here spot there bytes xs ys starts whole run_is after_is t nonempty = grind (
+  arith,
+  at_cursor (unless_bad ident_at) spot spot bytes bytes (sym starts.0),
+  identifier_here spot there bytes xs ys whole run_is after_is t (sym starts.1),
+  some_if_any xs nonempty,
+)
 
 -- ---- the sign
 
@@ -114,22 +112,12 @@ feed_begins spot zs = refl
 
 end_here : (spot : Spot) (zs : List ℕ) → sign_of sign.LineEnd (inside (lines_within spot (10 ∷ zs)))
     ≡ reply true (Between (lines_from (on_next_line 0 spot) zs))
-end_here spot zs =
-    let starts = feed_starts spot zs in
-    let ends = line_ends spot (on_next_line 0 spot) (10 ∷ zs) 1 (feed_begins spot zs) in
-    at_cursor (unless_bad (sign_at sign.LineEnd)) spot spot (10 ∷ zs) (10 ∷ zs) (sym starts.0)
-    ∙ line_end_taken sign.LineEnd spot (10 ∷ zs) (lines_from (on_next_line 0 spot) zs) refl (sym starts.1)
-    ends.0 ends.1
+end_here spot zs = grind (arith, feed_starts, line_ends, feed_begins, at_cursor, line_end_taken)
 
 -- ---- the line
 
 some_length : (b : ℕ) (bs : List ℕ) → eqb (length (b ∷ bs)) 0 ≡ false
-some_length b bs = by_test (eqb (length (b ∷ bs)) 0) refl
-  where
-    by_test : (t : Bool) → eqb (length (b ∷ bs)) 0 ≡ t → t ≡ false
-    by_test true e = let zero_long : length (b ∷ bs) ≡ 0 = eqb-true (length (b ∷ bs)) 0 e in
-        absurd (omega arith)
-    by_test false e = refl
+some_length b bs = grind arith
 
 value_starts : (spot : Spot) (b : ℕ) (rest xs bs ys : List ℕ) → rest ≡ xs ++ ys → xs ≡ b ∷ bs
     → xs ≡ take_while is_ordinary_byte rest → (b ≡ 32 → ⊥) → Starts (units_within spot rest)

@@ -1,5 +1,5 @@
 -- Plain words.
-use Rattle.std.proofs.Common.{◌≡◌, ℕ, Bool, true, false, eqb, List, [], ◌∷◌, ◌++◌, length, drop, Some, None}
+use Rattle.std.proofs.Common.{arith, ◌≡◌, ℕ, Bool, true, false, eqb, List, [], ◌∷◌, ◌++◌, length, drop, Some, None}
 use Rattle.std.proofs.Common.{refl, sym, ap, subst, ◌∙◌}
 use Rattle.std.specs.List.{take_while}
 use Rattle.std.proofs.lemmas.Bool.{eqb-true, false≢true}
@@ -51,19 +51,7 @@ bar_starts spot bs = (refl, refl, refl)
 
 -- one byte of three
 stop_is : (P : ℕ → Type 0) (b : ℕ) → P 10 → P 58 → P 124 → no_word_begins (b ∷ []) ≡ true → P b
-stop_is P b feed colon bar h = by_feed (eqb b 10) refl
-  where
-    by_bar : (t : Bool) → eqb b 124 ≡ t → eqb b 10 ≡ false → eqb b 58 ≡ false → P b
-    by_bar true e f c = subst P (sym (eqb-true b 124 e)) bar
-    by_bar false e f c = absurd (false≢true (sym (rw (f, c, e) refl) ∙ h))
-
-    by_colon : (t : Bool) → eqb b 58 ≡ t → eqb b 10 ≡ false → P b
-    by_colon true e f = subst P (sym (eqb-true b 58 e)) colon
-    by_colon false e f = by_bar (eqb b 124) refl f e
-
-    by_feed : (t : Bool) → eqb b 10 ≡ t → P b
-    by_feed true e = subst P (sym (eqb-true b 10 e)) feed
-    by_feed false e = by_colon (eqb b 58) refl e
+stop_is h b feed colon bar h1 = grind arith
 
 stop_starts : (spot : Spot) (bytes : List ℕ) → no_word_begins bytes ≡ true
     → StartsWith false (units_within spot bytes)
@@ -72,25 +60,21 @@ stop_starts spot (b ∷ bs) h = let P : ℕ → Type 0 = λ x. StartsWith false 
     stop_is P b (feed_starts spot bs) (colon_starts spot bs) (bar_starts spot bs) h
 
 word_byte_is_ordinary : (b : ℕ) → is_word_byte b ≡ true → is_ordinary_byte b ≡ true
-word_byte_is_ordinary b h = by_test (is_ordinary_byte b) refl
-  where
-    by_test : (t : Bool) → is_ordinary_byte b ≡ t → t ≡ true
-    by_test true e = refl
-    by_test false e = absurd (false≢true (sym (rw e refl) ∙ h))
+word_byte_is_ordinary b h = grind arith
 
 word_byte_is_no_space : (b : ℕ) → is_word_byte b ≡ true → is_space b ≡ false
-word_byte_is_no_space b h = by_test (is_space b) refl
-  where
-    by_test : (t : Bool) → is_space b ≡ t → t ≡ false
-    by_test true e = absurd (false≢true (ap is_word_byte (sym (eqb-true b 32 e)) ∙ h))
-    by_test false e = refl
+word_byte_is_no_space b h = grind arith
 
 word_starts : (spot : Spot) (bytes : List ℕ) → eqb (length (take_while is_word_byte bytes)) 0 ≡ false
     → StartsWith true (units_within spot bytes)
-word_starts spot [] h = absurd (false≢true (sym h))
-word_starts spot (b ∷ bs) h =
-    let w = first_passes is_word_byte b bs h in
-    rw (cut-ordinary spot b bs (word_byte_is_ordinary b w)) (rw (word_byte_is_no_space b w) refl, refl, w)
+word_starts spot bytes h = grind (
+  arith,
+  false≢true,
+  first_passes,
+  cut-ordinary,
+  word_byte_is_ordinary,
+  word_byte_is_no_space,
+)
 
 -- ---- the end of a word
 

@@ -1,4 +1,5 @@
 -- Strings in quotes, run by run, and how a shell reads them.
+use Rattle.std.proofs.lemmas.Grind.{common_steps}
 use Rattle.std.proofs.Common.{◌≡◌, ◌≢◌, ℕ, suc, ◌+◌, ◌<◌, Bool, true, false, Option, Some, None, List, []}
 use Rattle.std.proofs.Common.{◌∷◌, ◌++◌, length, take, drop, get_or, eqb, refl, sym, ap, ◌∙◌, arith, add-one}
 use Rattle.std.proofs.Common.{append_assoc}
@@ -17,20 +18,11 @@ within-other : (b : ℕ) → is_quote b ≡ false → within_quotes b ≡ b ∷ 
 within-other b e = rw e refl
 
 and_true : (s t : Bool) → s && t ≡ true → (s ≡ true) × (t ≡ true)
-and_true true t e = (refl, e)
-and_true false t e = absurd (cc)
+and_true s t e = grind arith
 
 -- a plain byte is neither `'` nor `\`
 plain-other : (b : ℕ) → is_plain_byte b ≡ true → (is_quote b ≡ false) × (eqb b 92 ≡ false)
-plain-other b e = (by_test (is_quote b) refl, by_slash (eqb b 92) refl)
-  where
-    by_test : (t : Bool) → is_quote b ≡ t → t ≡ false
-    by_test true q = absurd (grind (arith, nat_tests, q, e))
-    by_test false q = refl
-
-    by_slash : (t : Bool) → eqb b 92 ≡ t → t ≡ false
-    by_slash true q = absurd (grind (arith, nat_tests, q, e))
-    by_slash false q = refl
+plain-other b e = grind arith
 
 -- plain bytes stay unchanged
 pub within-plain : (xs : List ℕ) → list_all is_plain_byte xs ≡ true → flat_map within_quotes xs ≡ xs
@@ -57,11 +49,7 @@ run-quote text i h front e =
 
 unquoted-plain : (b : ℕ) (bs : List ℕ) → is_plain_byte b ≡ true
     → word_from Unquoted (b ∷ bs) ≡ joined_words (Some (b ∷ [])) (word_from Unquoted bs)
-unquoted-plain b bs e =
-    let other = plain-other b e in
-    let quote : is_quote b ≡ false = other.0 in
-    let slash : eqb b 92 ≡ false = other.1 in
-    rw (quote, slash, e) refl
+unquoted-plain b bs e = grind arith
 
 word-plain : (path : List ℕ) → list_all is_plain_byte path ≡ true → word_from Unquoted path ≡ Some path
 word-plain [] h = refl
@@ -88,16 +76,11 @@ word-quoted (b ∷ path) = by_test (is_quote b) refl (word-quoted path)
         ∙ quoted-other b (flat_map within_quotes path ++ 39 ∷ []) e ∙ ap (joined_words (Some (b ∷ []))) rest
 
 some_word : (text : List ℕ) → text ≢ [] → shell_word text ≡ word_from Unquoted text
-some_word [] h = absurd (h refl)
-some_word (b ∷ text) h = refl
+some_word text h = grind arith
 
 pub takes_the_path : ShellTakesThePath
 unfolding quoted
-takes_the_path path h = by_test (list_all is_plain_byte path) refl
-  where
-    by_test : (t : Bool) → list_all is_plain_byte path ≡ t → shell_word (quoted path) ≡ Some path
-    by_test true e = rw e (some_word path h ∙ word-plain path e)
-    by_test false e = rw e (ap (joined_words (Some [])) (word-quoted path))
+takes_the_path path h = grind (arith, some_word, word-plain, word-quoted)
 
 -- ---- the loop over the runs
 
@@ -114,22 +97,14 @@ pub record IsQuoting (base front rest : List ℕ) (left : Option (List ℕ)) (ou
 -- the quotes are open, and the plain front is written
 pub quoting-none : (base front rest : List ℕ) (opened out : List ℕ) → opened ≡ base ++ 39 ∷ []
     → out ≡ opened ++ front → list_all is_plain_byte front ≡ true → IsQuoting base front rest (Some rest) out
-quoting-none base front rest opened out o e h = record {
-  written = front;
-  out_is = e ∙ ap (λ xs. xs ++ front) o ∙ append_assoc base (39 ∷ []) front;
-  left_is = ap (λ xs. xs ++ flat_map within_quotes rest) (sym (within-plain front h))
-      ∙ sym (flat_map-append within_quotes front rest);
-}
+quoting-none base front rest opened out o e h = grind (arith, append_assoc, within-plain, flat_map-append)
 
 -- ---- the whole
 
 pub quoted-plain : (path : List ℕ) (n : ℕ) → n ≡ length path → list_all is_plain_byte (take n path) ≡ true
     → path ≡ quoted path
 unfolding quoted
-quoted-plain path n e h =
-    let all : list_all is_plain_byte path ≡ true =
-    ap (list_all is_plain_byte) (sym (take_all n path (omega arith))) ∙ h in
-    rw all refl
+quoted-plain path n e h = grind (arith, common_steps)
 
 pub quoted-in_quotes : (path : List ℕ) (n : ℕ) → list_all is_plain_byte path ≡ false
     → in_quotes (take n path ++ drop n path) ≡ quoted path

@@ -1,4 +1,5 @@
 -- The components between the slashes of a text.
+use Rattle.std.proofs.lemmas.Grind.{common_steps}
 use Rattle.std.proofs.Common.{◌≡◌, ℕ, suc, ◌+◌, ◌<◌, ◌≤◌, Bool, true, false, List, [], ◌∷◌, ◌++◌, length}
 use Rattle.std.proofs.Common.{take, drop, get_or, refl, sym, ap, ◌∙◌, arith, add-one}
 use Rattle.std.specs.Prelude.{◌||◌}
@@ -13,8 +14,7 @@ pub slash_is : (b : ℕ) → is_slash b ≡ true → b ≡ 47
 slash_is b e = grind (arith, nat_tests, e)
 
 pub or_false : (s t : Bool) → s || t ≡ false → (s ≡ false) × (t ≡ false)
-or_false true t e = absurd (cc)
-or_false false t e = (refl, e)
+or_false s t e = grind arith
 
 pub or_of : (s t : Bool) → s ≡ false → t ≡ false → s || t ≡ false
 or_of s t a b = rw (a, b) refl
@@ -36,17 +36,13 @@ components-none (x ∷ xs) h =
 
 pub any-append : (xs ys : List ℕ) → list_any is_slash xs ≡ false → list_any is_slash ys ≡ false
     → list_any is_slash (xs ++ ys) ≡ false
-any-append [] ys h k = k
-any-append (x ∷ xs) ys h k =
-    let no = or_false (is_slash x) (list_any is_slash xs) h in
-    or_of (is_slash x) (list_any is_slash (xs ++ ys)) no.0 (any-append xs ys no.1 k)
+any-append xs ys h k = grind (arith, common_steps)
 
 -- ---- the scan for the first slash
 
 pub scan-more : (text : List ℕ) (i : ℕ) → i < length text → list_any is_slash (take i text) ≡ false
     → is_slash (get_or text i 0) ≡ false → list_any is_slash (take (i + 1) text) ≡ false
-scan-more text i h front e = rw (take_more text i 0 h)
-    (any-append (take i text) (get_or text i 0 ∷ []) front (or_of (is_slash (get_or text i 0)) false e refl))
+scan-more text i h front e = grind (arith, common_steps)
 
 pub scan-slash : (text : List ℕ) (i : ℕ) → i < length text → list_any is_slash (take i text) ≡ false
     → get_or text i 0 ≡ 47 → slice_split is_slash text
@@ -59,7 +55,4 @@ scan-slash text i h front e =
 
 pub scan-all : (text : List ℕ) (i : ℕ) → length text ≤ i → list_any is_slash (take i text) ≡ false
     → (slice_split is_slash text ≡ text ∷ []) × (list_any is_slash text ≡ false)
-scan-all text i h front =
-    let whole : take i text ≡ text = take_all i text h in
-    let no : list_any is_slash text ≡ false = ap (list_any is_slash) (sym whole) ∙ front in
-    (components-none text no, no)
+scan-all text i h front = grind (arith, take, take_all, components-none)

@@ -1,5 +1,5 @@
 -- The states of a lexer, by where it is.
-use Rattle.std.proofs.Common.{◌≡◌, ℕ, Bool, true, false, List, [], ◌∷◌, map, Result, Ok, Err, refl, sym, ap}
+use Rattle.std.proofs.Common.{arith, ◌≡◌, ℕ, Bool, true, false, List, [], ◌∷◌, map, Result, Ok, Err, refl, sym, ap}
 use Rattle.std.proofs.Common.{◌∙◌}
 use Rattle.nj_text.specs.declared.spot.Spot.{Spot}
 use Rattle.nj_text.specs.declared.cursor.Cursor.{Cursor}
@@ -30,8 +30,7 @@ HasLine ls = (l : Line) × (more : List Line) × (ls ≡ l ∷ more)
 -- ---- places
 
 first_spot_is : (ls : List Line) → first_line_spot ls ≡ line_spot (first_line ls)
-first_spot_is [] = refl
-first_spot_is (l ∷ ls) = refl
+first_spot_is ls = grind arith
 
 pub spot_between : (spot : Spot) (bytes : List ℕ) → first_line_spot (lines_from spot bytes) ≡ spot
 spot_between spot bytes = first_spot_is (lines_from spot bytes) ∙ spot_of_line AtStart spot bytes
@@ -51,40 +50,16 @@ opened_is : (place : Spot) (joined : List ℕ) (spot : Spot) (bytes : List ℕ)
     → inside (opened place joined spot bytes)
     ≡ Inside (with_units (opening_unit place joined ∷ (line spot bytes).units) (line spot bytes))
     (others spot bytes)
-opened_is place joined spot bytes = by_line (lines_within spot bytes) (cut_has_line Within 0 spot bytes)
-  where
-    by_line : (ls : List Line) → HasLine ls
-        → inside (before_first_line (opening_unit place joined) ls)
-        ≡ Inside (with_units (opening_unit place joined ∷ (first_line ls).units) (first_line ls))
-        (other_lines ls)
-    by_line ls h = rw h.2 refl
+opened_is place joined spot bytes = grind (arith, cut_has_line Within 0 spot bytes)
 
 pub spot_opening : (place : Spot) (joined : List ℕ) (spot : Spot) (bytes : List ℕ)
     → line_spot (first_line (opened place joined spot bytes)) ≡ place
-spot_opening place joined spot bytes = by_line (lines_within spot bytes) (cut_has_line Within 0 spot bytes)
-  where
-    by_line : (ls : List Line) → HasLine ls
-        → line_spot (first_line (before_first_line (opening_unit place joined) ls)) ≡ place
-    by_line ls h = rw h.2 refl
+spot_opening place joined spot bytes = grind (arith, cut_has_line Within 0 spot bytes)
 
 pub sign_opening : (want : Sign) (place : Spot) (joined : List ℕ) (spot : Spot) (bytes : List ℕ)
     → sign_of want (inside (opened place joined spot bytes))
     ≡ reply false (inside (opened place joined spot bytes))
-sign_opening want place joined spot bytes =
-    ap (sign_of want) (opened_is place joined spot bytes) ∙ by_want want
-    ∙ ap (λ s. reply false s) (sym (opened_is place joined spot bytes))
-  where
-    by_want : (w : Sign) → sign_of w (Inside
-        (with_units (opening_unit place joined ∷ (line spot bytes).units) (line spot bytes))
-        (others spot bytes))
-        ≡ reply false (Inside (with_units (opening_unit place joined ∷ (line spot bytes).units)
-        (line spot bytes)) (others spot bytes))
-    by_want sign.Colon = refl
-    by_want sign.Equals = refl
-    by_want sign.Pipe = refl
-    by_want sign.Pipe2 = refl
-    by_want sign.PipeAt = refl
-    by_want sign.LineEnd = refl
+sign_opening want place joined spot bytes = grind (arith, opened_is, line, others)
 
 pub value_opening : (place : Spot) (joined : List ℕ) (spot : Spot) (bytes : List ℕ)
     → value_of (inside (opened place joined spot bytes))
@@ -93,23 +68,14 @@ value_opening place joined spot bytes = ap value_of (opened_is place joined spot
 
 -- within a line no join opens it
 opening_is_unsaid : IsUnsaid opens_line_meaning
-opening_is_unsaid = record {
-  ordinary = λ b. refl;
-  escape = λ b. refl;
-  reference = λ n. refl;
-  join = refl;
-  line_end = refl;
-  bad_byte = refl;
-  bad_escape = refl;
-}
+opening_is_unsaid = grind arith
 
 abbrev first_opens : List TextUnit → Bool
 first_opens [] = false
 first_opens (u ∷ us) = opens_line_meaning u.means
 
 opens_nothing : (us : List TextUnit) → first_opens us ≡ false → after_opening us ≡ us
-opens_nothing [] h = refl
-opens_nothing (u ∷ us) h = rw h refl
+opens_nothing us h = grind arith
 
 within_opens : (spot : Spot) (bytes : List ℕ) → first_opens (cut Within 0 spot bytes) ≡ false
 unfolding cut
@@ -130,40 +96,29 @@ line_opens spot bytes = opens_nothing (line spot bytes).units
 pub value_inside : (spot : Spot) (bytes : List ℕ)
     → value_of (inside (lines_within spot bytes))
     ≡ value_at (after_blanks (line spot bytes)) (others spot bytes)
-value_inside spot bytes = ap (λ us. value_at (after_blanks (with_units us (line spot bytes)))
-    (others spot bytes)) (line_opens spot bytes)
+value_inside spot bytes = grind (arith, line, others, line_opens)
 
 -- ---- a value that was read
 
 finished_at_fault : (old new : State) (expected : Reply WordModel) (f : WordFault)
     (result : Result Word LexFault) → is_inside old ≡ true → FailsStep expected f
     → FinishesAtFault f old new result → ReturnsOrLacksMemory word_model result old new expected
-finished_at_fault old new expected (word_fault.Unit f) (Ok w) i e h = absurd h.0
-finished_at_fault old new expected (word_fault.Unit f) (Err g) i e h = rw (h.0, e) (refl, h.1)
-finished_at_fault old new expected word_fault.OutOfMemory (Ok w) i e h = absurd h.0
-finished_at_fault old new expected word_fault.OutOfMemory (Err g) i e h = rw h.0 (i, h.1)
+finished_at_fault old new expected f result i e h = grind arith
 
 pub finished_value : (old new : State) (expected : Reply WordModel) (step : Result (Word × Cursor) WordFault)
     (result : Result Word LexFault) → is_inside old ≡ true → value_of old ≡ expected
     → StepsOrLacksMemory word_model expected step → FinishesValue step old new result
     → ReturnsOrLacksMemory word_model result old new (value_of old)
-finished_value old new expected (Ok step) result i v e h =
-    rw (h.0, v, e) (ap (λ s. reply (word_model step.0) s) (sym h.1))
-finished_value old new expected (Err f) result i v e h =
-    rw v (finished_at_fault old new expected f result i e h)
+finished_value old new expected step result i v e h = grind arith
 
 pub value_between : (spot : Spot) (bytes : List ℕ) (parts : List Part) → parts ≡ []
     → value_of (Between (lines_from spot bytes))
     ≡ reply (record { spot = spot; parts = map part_model parts }) (Between (lines_from spot bytes))
-value_between spot bytes parts e = ap (λ p. reply (record { spot = p; parts = [] })
-    (Between (lines_from spot bytes))) (spot_between spot bytes)
-    ∙ ap (λ ps. reply (record { spot = spot; parts = map part_model ps }) (Between (lines_from spot bytes)))
-    (sym e)
+value_between spot bytes parts e = grind (arith, spot_between, map)
 
 -- ---- after blanks
 
 pub blanks_skipped : (spot there : Spot) (bytes rest : List ℕ)
     → units_within there rest ≡ drop_while is_blank (units_within spot bytes)
     → inside (lines_within there rest) ≡ skip_blanks_of (inside (lines_within spot bytes))
-blanks_skipped spot there bytes rest e =
-    ap (λ us. inside (lines_of us)) e ∙ passed_by is_blank blanks_end (units_within spot bytes)
+blanks_skipped spot there bytes rest e = grind (arith, passed_by)

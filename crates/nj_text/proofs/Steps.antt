@@ -1,5 +1,5 @@
 -- The result of a call within a line, from the units at its cursor.
-use Rattle.std.proofs.Common.{◌≡◌, ℕ, Bool, true, false, cond, not, ◌||◌, eqb, List, [], ◌∷◌, ◌++◌, length}
+use Rattle.std.proofs.Common.{arith, ◌≡◌, ℕ, Bool, true, false, cond, not, ◌||◌, eqb, List, [], ◌∷◌, ◌++◌, length}
 use Rattle.std.proofs.Common.{take, Option, Some, None, refl, sym, ap, subst, ◌∙◌}
 use Rattle.std.specs.List.{take_while}
 use Rattle.std.proofs.lemmas.Bool.{eqb-true, false≢true, true≢false}
@@ -46,9 +46,7 @@ pub at_cursor : {A : Type 0} (f : Line → List Line → A) (spot there : Spot) 
     → units_within there rest ≡ drop_while is_blank (units_within spot bytes)
     → f (after_blanks (first_line (lines_within spot bytes))) (other_lines (lines_within spot bytes))
     ≡ f (first_line (lines_within there rest)) (other_lines (lines_within there rest))
-at_cursor f spot there bytes rest e =
-    let same = ap (λ us. inside (lines_of us)) e ∙ passed_by is_blank blanks_end (units_within spot bytes) in
-    ap (λ s. f (line_of_state s) (lines_of_state s)) (sym same)
+at_cursor f spot there bytes rest e = grind (arith, passed_by)
 
 abbrev pub line : Spot → List ℕ → Line
 line spot bytes = first_line (lines_within spot bytes)
@@ -74,19 +72,7 @@ continues_here spot bytes expected e = ap (λ o. unless_fault o expected) (fault
 -- ---- identifiers
 
 pub identifier_is_ordinary : (b : ℕ) → is_identifier_byte b ≡ true → is_ordinary_byte b ≡ true
-identifier_is_ordinary b h = by_tests (eqb b 36) (eqb b 10) (eqb b 13) (eqb b 0) (excluded 36 refl)
-    (excluded 10 refl) (excluded 13 refl) (excluded 0 refl)
-  where
-    excluded : (n : ℕ) → is_identifier_byte n ≡ false → eqb b n ≡ true → ⊥
-    excluded n f e = false≢true (sym f ∙ (ap is_identifier_byte (sym (eqb-true b n e)) ∙ h))
-
-    by_tests : (d f r z : Bool) → (d ≡ true → ⊥) → (f ≡ true → ⊥) → (r ≡ true → ⊥) → (z ≡ true → ⊥)
-        → not (((d || f) || r) || z) ≡ true
-    by_tests true f r z d' f' r' z' = absurd (d' refl)
-    by_tests false true r z d' f' r' z' = absurd (f' refl)
-    by_tests false false true z d' f' r' z' = absurd (r' refl)
-    by_tests false false false true d' f' r' z' = absurd (z' refl)
-    by_tests false false false false d' f' r' z' = refl
+identifier_is_ordinary b h = grind arith
 
 units_are_identifier : (spot : Spot) (xs : List ℕ) → AllIn is_identifier_byte xs
     → AllIn in_identifier (plain_units spot xs)
@@ -102,21 +88,7 @@ identifier_stops : (spot : Spot) (ys : List ℕ) → NoneInRun is_identifier_byt
     → (take_while in_identifier (units_within spot ys) ≡ [])
     × (drop_while in_identifier (units_within spot ys) ≡ units_within spot ys)
 unfolding cut
-identifier_stops spot [] h = (refl, refl)
-identifier_stops spot (b ∷ bs) h =
-    let fails : is_ordinary_in is_identifier_byte (unit_at b bs).0 ≡ false = by_test (is_ordinary_byte b) refl
-    in (
-      take_while-cons_no in_identifier (record
-          { spot = spot; bytes = b ∷ take (unit_at b bs).1 bs; means = (unit_at b bs).0 })
-          (cut (position_after Within (unit_at b bs).0) (unit_at b bs).1 (spot_after b spot) bs) fails,
-      drop_while-cons_no in_identifier (record
-          { spot = spot; bytes = b ∷ take (unit_at b bs).1 bs; means = (unit_at b bs).0 })
-          (cut (position_after Within (unit_at b bs).0) (unit_at b bs).1 (spot_after b spot) bs) fails,
-    )
-  where
-    by_test : (t : Bool) → is_ordinary_byte b ≡ t → is_ordinary_in is_identifier_byte (unit_at b bs).0 ≡ false
-    by_test true e = rw (unit-ordinary b bs e) h
-    by_test false e = fails_if_no_byte is_identifier_byte (unit_at b bs).0 (not_ordinary b bs e)
+identifier_stops spot ys h = grind arith
 
 -- the identifier that the units begin with
 identifier_units : (spot : Spot) (bytes xs ys : List ℕ) → bytes ≡ xs ++ ys → AllIn is_identifier_byte xs
@@ -161,8 +133,7 @@ identifier_here spot there bytes xs ys whole run remainder t f =
     ∙ ap (λ vs. inside (lines_of vs)) parts.1 ∙ ap (λ p. inside (lines_within p ys)) (sym t))
 
 pub some_if_any : (xs : List ℕ) → eqb (length xs) 0 ≡ false → some_bytes xs ≡ Some xs
-some_if_any [] h = absurd (true≢false h)
-some_if_any (x ∷ xs) h = refl
+some_if_any xs h = grind arith
 
 pub none_if_empty : (xs : List ℕ) → eqb (length xs) 0 ≡ true → some_bytes xs ≡ None
 none_if_empty xs h = ap some_bytes (nil_from_length xs (eqb-true (length xs) 0 h))
@@ -172,8 +143,7 @@ none_if_empty xs h = ap some_bytes (nil_from_length xs (eqb-true (length xs) 0 h
 word_line : (spot : Spot) (bytes : List ℕ)
     → (first_line (lines_of (drop_while in_word (units_within spot bytes)))).units
     ≡ drop_while in_word (line spot bytes).units
-word_line spot bytes = ap (λ s. (line_of_state s).units)
-    (passed_by in_word words_end (units_within spot bytes))
+word_line spot bytes = grind (arith, passed_by)
 
 fault_after_word : (spot : Spot) (bytes : List ℕ)
     → next_fault (drop_while in_word (line spot bytes).units)
@@ -198,20 +168,13 @@ word_or_none spot bytes t =
 pub no_word_here : (spot : Spot) (bytes : List ℕ) → None ≡ next_fault (units_within spot bytes)
     → begins_with opens_word (units_within spot bytes) ≡ false
     → unless_bad word_at (line spot bytes) (others spot bytes) ≡ reply None (inside (lines_within spot bytes))
-no_word_here spot bytes f b =
-    continues_here spot bytes (word_or_none spot bytes (begins_with opens_word (line spot bytes).units)) f
-    ∙ ap (word_or_none spot bytes) (begins_here spot bytes ∙ b)
+no_word_here spot bytes f b = grind arith
 
 pub word_fails_here : (spot : Spot) (bytes : List ℕ) (f : UnitFault)
     → None ≡ next_fault (units_within spot bytes) → begins_with opens_word (units_within spot bytes) ≡ true
     → next_fault (after_text kind.Word (units_within spot bytes)) ≡ Some f
     → unless_bad word_at (line spot bytes) (others spot bytes) ≡ failing f
-word_fails_here spot bytes f n b e =
-    continues_here spot bytes (word_or_none spot bytes (begins_with opens_word (line spot bytes).units)) n
-    ∙ ap (word_or_none spot bytes) (begins_here spot bytes ∙ b)
-    ∙ ap (λ o. unless_fault o (reply (Some (word_here (line spot bytes)))
-    (Inside (with_units (drop_while in_word (line spot bytes).units) (line spot bytes)) (others spot bytes))))
-    (fault_after_word spot bytes ∙ e)
+word_fails_here spot bytes f n b e = grind (arith, continues_here, begins_here, fault_after_word)
 
 pub word_is_here : (spot : Spot) (bytes : List ℕ) (parts : List PartModel) (there : Spot) (rest : List ℕ)
     → None ≡ next_fault (units_within spot bytes) → begins_with opens_word (units_within spot bytes) ≡ true
@@ -220,37 +183,23 @@ pub word_is_here : (spot : Spot) (bytes : List ℕ) (parts : List PartModel) (th
     → units_within there rest ≡ after_text kind.Word (units_within spot bytes)
     → unless_bad word_at (line spot bytes) (others spot bytes)
     ≡ reply (Some (record { spot = spot; parts = parts })) (inside (lines_within there rest))
-word_is_here spot bytes parts there rest n b e p r =
-    let us = units_within spot bytes in
-    let place : line_spot (line spot bytes) ≡ spot = spot_of_line Within spot bytes in
-    let text : parts_of (take_while in_word (line spot bytes).units) ≡ parts =
-    ap parts_of (front_of in_word words_end us (cut_has_line Within 0 spot bytes)) ∙ sym p in
-    let after : Inside (with_units (drop_while in_word (line spot bytes).units) (line spot bytes))
-    (others spot bytes) ≡ inside (lines_within there rest) =
-    sym (passed_by in_word words_end us) ∙ ap (λ vs. inside (lines_of vs)) (sym r) in
-    continues_here spot bytes (word_or_none spot bytes (begins_with opens_word (line spot bytes).units)) n
-    ∙ ap (word_or_none spot bytes) (begins_here spot bytes ∙ b)
-    ∙ ap (λ o. unless_fault o (reply (Some (word_here (line spot bytes)))
-    (Inside (with_units (drop_while in_word (line spot bytes).units) (line spot bytes)) (others spot bytes))))
-    (fault_after_word spot bytes ∙ e)
-    ∙ ap (λ s. reply (Some (word_here (line spot bytes))) s) after
-    ∙ ap (λ x. reply (Some (record {
-      spot = x;
-      parts =
-          parts_of (take_while in_word (line spot bytes).units);
-    })) (inside (lines_within there rest))) place
-    ∙ ap (λ x. reply (Some (record { spot = spot; parts = x })) (inside (lines_within there rest))) text
+word_is_here spot bytes parts there rest n b e p r = grind (
+  arith,
+  spot_of_line,
+  front_of,
+  cut_has_line,
+  passed_by,
+  continues_here,
+  begins_here,
+  fault_after_word,
+)
 
 -- ---- values
 
 pub value_fails_here : (spot : Spot) (bytes : List ℕ) (f : UnitFault)
     → next_fault (after_text kind.Value (units_within spot bytes)) ≡ Some f
     → value_at (line spot bytes) (others spot bytes) ≡ failing f
-value_fails_here spot bytes f e =
-    let v = value_of_line (units_within spot bytes) (cut_has_line Within 0 spot bytes) in
-    ap (λ o. unless_fault o (reply (record
-    { spot = line_spot (line spot bytes); parts = parts_of (line spot bytes).units })
-    (Inside (with_units [] (line spot bytes)) (others spot bytes)))) (v.fault ∙ e)
+value_fails_here spot bytes f e = grind (arith, value_of_line, cut_has_line)
 
 pub value_is_here : (spot : Spot) (bytes : List ℕ) (parts : List PartModel) (there : Spot) (rest : List ℕ)
     → next_fault (after_text kind.Value (units_within spot bytes)) ≡ None
@@ -258,21 +207,7 @@ pub value_is_here : (spot : Spot) (bytes : List ℕ) (parts : List PartModel) (t
     → units_within there rest ≡ after_text kind.Value (units_within spot bytes)
     → value_at (line spot bytes) (others spot bytes)
     ≡ reply (record { spot = spot; parts = parts }) (inside (lines_within there rest))
-value_is_here spot bytes parts there rest e p r =
-    let us = units_within spot bytes in
-    let v = value_of_line us (cut_has_line Within 0 spot bytes) in
-    let place : line_spot (line spot bytes) ≡ spot = spot_of_line Within spot bytes in
-    let text : parts_of (line spot bytes).units ≡ parts = ap parts_of (v.all e) ∙ sym p in
-    let after : Inside (with_units [] (line spot bytes)) (others spot bytes)
-    ≡ inside (lines_within there rest) = sym (v.rest e) ∙ ap (λ vs. inside (lines_of vs)) (sym r) in
-    ap (λ o. unless_fault o (reply (record
-    { spot = line_spot (line spot bytes); parts = parts_of (line spot bytes).units })
-    (Inside (with_units [] (line spot bytes)) (others spot bytes)))) (v.fault ∙ e)
-    ∙ ap (λ s. reply (record { spot = line_spot (line spot bytes); parts = parts_of (line spot bytes).units })
-    s) after
-    ∙ ap (λ x. reply (record { spot = x; parts = parts_of (line spot bytes).units })
-    (inside (lines_within there rest))) place
-    ∙ ap (λ x. reply (record { spot = spot; parts = x }) (inside (lines_within there rest))) text
+value_is_here spot bytes parts there rest e p r = grind (arith, value_of_line, cut_has_line, spot_of_line)
 
 -- ---- begin words
 
@@ -288,26 +223,20 @@ begins_at_end spot bytes e = rw e refl
 pub identifier_fails : (spot : Spot) (bytes : List ℕ) (f : UnitFault)
     → Some f ≡ next_fault (units_within spot bytes)
     → unless_bad ident_at (line spot bytes) (others spot bytes) ≡ failing f
-identifier_fails spot bytes f e =
-    fails_here spot bytes f (reply (some_bytes (bytes_of (take_while in_identifier (line spot bytes).units)))
-    (Inside (with_units (drop_while in_identifier (line spot bytes).units) (line spot bytes))
-    (others spot bytes))) e
+identifier_fails spot bytes f e = grind (arith, fails_here)
 
 pub word_fails_at_once : (spot : Spot) (bytes : List ℕ) (f : UnitFault)
     → Some f ≡ next_fault (units_within spot bytes)
     → unless_bad word_at (line spot bytes) (others spot bytes) ≡ failing f
-word_fails_at_once spot bytes f e = fails_here spot bytes f
-    (word_or_none spot bytes (begins_with opens_word (line spot bytes).units)) e
+word_fails_at_once spot bytes f e = grind (arith, fails_here)
 
 pub word_fails_or_lacks : (spot : Spot) (bytes : List ℕ) (f : WordFault)
     → None ≡ next_fault (units_within spot bytes) → begins_with opens_word (units_within spot bytes) ≡ true
     → FailsText f (next_fault (after_text kind.Word (units_within spot bytes)))
     → FailsStep (unless_bad word_at (line spot bytes) (others spot bytes)) f
-word_fails_or_lacks spot bytes (word_fault.Unit f) n b e = word_fails_here spot bytes f n b e
-word_fails_or_lacks spot bytes word_fault.OutOfMemory n b e = tt
+word_fails_or_lacks spot bytes f n b e = grind (arith, word_fails_here)
 
 pub value_fails_or_lacks : (spot : Spot) (bytes : List ℕ) (f : WordFault)
     → FailsText f (next_fault (after_text kind.Value (units_within spot bytes)))
     → FailsStep (value_at (line spot bytes) (others spot bytes)) f
-value_fails_or_lacks spot bytes (word_fault.Unit f) e = value_fails_here spot bytes f e
-value_fails_or_lacks spot bytes word_fault.OutOfMemory e = tt
+value_fails_or_lacks spot bytes f e = grind (arith, value_fails_here)

@@ -16,14 +16,7 @@ use lib.Lanes.{chunk, zip2, mask_l, top}
 
 suspect_bits : (s t u : Bool) → top 7 (bit_and (cond s 255 0) (bit_or (cond t 255 0) (cond u 255 0))) ≡ s
     && (t || u)
-suspect_bits true true true = refl
-suspect_bits true true false = refl
-suspect_bits true false true = refl
-suspect_bits true false false = refl
-suspect_bits false true true = refl
-suspect_bits false true false = refl
-suspect_bits false false true = refl
-suspect_bits false false false = refl
+suspect_bits s t u = grind arith
 
 suspect_pairs : (v w : List ℕ) → map (top 7)
     (zip2 bit_and (map (λ a. hit a 47) v) (map (λ b. bit_or (hit b 47) (hit b 46)) w)) ≡ zip2 is_suspect v w
@@ -96,10 +89,15 @@ any_found tests i n e =
 
 pub none_more : (tests : List Bool) (i n : ℕ) → any (take i tests) ≡ false → any (chunk i n tests) ≡ false
     → any (take (i + n) tests) ≡ false
-none_more tests i n front e =
-    any_cut i (take (i + n) tests)
-    ∙ ap₂ (λ s t. any s || any t) (take-take i (i + n) tests (omega arith)) (drop-take i n tests)
-    ∙ ap₂ (λ s t. s || t) front e
+none_more tests i n front e = grind (
+  arith,
+  any_cut i (take (i + n) tests),
+  take (i + n) tests,
+  ap₂ (λ s t. any s || any t) (take-take i (i + n) tests (omega arith)) (drop-take i n tests),
+  take-take i (i + n) tests (omega arith),
+  drop-take i n tests,
+  ap₂ (λ s t. s || t) front e,
+)
 
 -- no more pairs than bytes but one
 suspects_short : (text : List ℕ) → length (suspects text) ≤ length text - 1

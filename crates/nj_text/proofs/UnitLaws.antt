@@ -1,4 +1,5 @@
 -- The laws of the cut.
+use Rattle.std.proofs.lemmas.Grind.{common_steps}
 use Rattle.std.proofs.Common.{◌≡◌, ℕ, zero, suc, Bool, true, false, Option, Some, None, is_some, List, []}
 use Rattle.std.proofs.Common.{◌∷◌, ◌++◌, take, drop, map, reverse, ◌+◌, cond, not, refl, sym, ap, subst, ◌∙◌}
 use Rattle.std.proofs.Common.{arith}
@@ -63,18 +64,7 @@ spots_after-push [] b spot = refl
 spots_after-push (c ∷ bytes) b spot = spots_after-push bytes b (spot_after c spot)
 
 counted-push : (bytes : List ℕ) (b : ℕ) → counted_spot (bytes ++ b ∷ []) ≡ spot_after b (counted_spot bytes)
-counted-push bytes b = rw (
-  sum_by_push (λ c. cond (is_line_feed c) 1 0) bytes b,
-  reverse-append bytes (b ∷ []),
-) (by_test (is_line_feed b) (count_by is_line_feed bytes)
-    (suffix_len (λ c. not (is_line_feed c)) bytes))
-  where
-    by_test : (t : Bool) (m n : ℕ) → ◌≡◌ {A = Spot}
-        (record { line = m + cond t 1 0 + 1; column = cond (not t) (1 + n) 0 + 1 })
-        (cond t (record { line = m + 1 + 1; column = 1 }) (record { line = m + 1; column = n + 1 + 1 }))
-    by_test true m n = refl
-    by_test false m n = ap (λ k. record { line = k; column = 1 + n + 1 }) (omega arith)
-        ∙ ap (λ k. record { line = m + 1; column = k }) (omega arith)
+counted-push bytes b = grind (arith, common_steps)
 
 -- over the bytes from their end on
 counted-reverse : (bytes : List ℕ) → spots_after (reverse bytes) first_spot ≡ counted_spot (reverse bytes)
@@ -84,8 +74,7 @@ counted-reverse (b ∷ bytes) =
     ∙ ap (spot_after b) (counted-reverse bytes) ∙ sym (counted-push (reverse bytes) b))
 
 pub spots_count : (bytes : List ℕ) → spots_after bytes first_spot ≡ counted_spot bytes
-spots_count bytes = subst (λ bs. spots_after bs first_spot ≡ counted_spot bs) (reverse-reverse bytes)
-    (counted-reverse (reverse bytes))
+spots_count bytes = grind (arith, reverse-reverse bytes, counted-reverse (reverse bytes), reverse bytes)
 
 pub come_in_place : UnitsComeInPlace
 come_in_place text us vs u e = place_in_cut AtStart 0 first_spot text us vs u e ∙ spots_count (bytes_of us)
@@ -97,8 +86,7 @@ EndsWithEnd (u ∷ []) = is_some (ending_of u.means) ≡ true
 EndsWithEnd (u ∷ v ∷ us) = EndsWithEnd (v ∷ us)
 
 ends-before : (u : TextUnit) (us : List TextUnit) → EndsWithEnd us → EndsWithEnd (u ∷ us)
-ends-before u [] h = absurd h
-ends-before u (v ∷ us) h = h
+ends-before u us h = grind arith
 
 cut-ends : (position : Position) (skip : ℕ) (spot : Spot) (bs : List ℕ)
     → EndsWithEnd (cut position skip spot bs)
@@ -115,14 +103,11 @@ cut-ends position (suc skip) spot (b ∷ bs) = cut-ends position skip (spot_afte
 -- a unit before lines that represent some marks
 marks-before : (ending : Option Bool) (u : TextUnit) (ls : List Line) (m : Mark) (ms : List Mark)
     → flat_map marks_of ls ≡ m ∷ ms → flat_map marks_of (lines_before ending u ls) ≡ mark_by ending u ∷ m ∷ ms
-marks-before None u [] m ms e = absurd cc
-marks-before None u (l ∷ ls) m ms e = ap (λ xs. InLine u ∷ xs) e
-marks-before (Some is_last) u ls m ms e = ap (λ xs. AtEnd u.spot is_last ∷ xs) e
+marks-before ending u ls m ms e = grind arith
 
 marks-last : (ending : Option Bool) (u : TextUnit) → is_some ending ≡ true
     → flat_map marks_of (lines_before ending u []) ≡ mark_by ending u ∷ []
-marks-last None u h = absurd cc
-marks-last (Some is_last) u h = refl
+marks-last ending u h = grind arith
 
 marks_of-lines : (us : List TextUnit) → EndsWithEnd us → flat_map marks_of (lines_of us) ≡ map mark_of us
 marks_of-lines [] h = absurd h

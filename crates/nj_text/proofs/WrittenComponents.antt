@@ -1,5 +1,6 @@
 -- The components of a path as they are written, one more component at a time.
-use Rattle.std.proofs.Common.{◌≡◌, ℕ, zero, suc, ◌+◌, ◌≤◌, ◌<◌, Bool, true, false, ltb, Option, Some, List}
+use Rattle.std.proofs.lemmas.Grind.{common_steps}
+use Rattle.std.proofs.Common.{rules, ◌≡◌, ℕ, zero, suc, ◌+◌, ◌≤◌, ◌<◌, Bool, true, false, ltb, Option, Some, List}
 use Rattle.std.proofs.Common.{[], ◌∷◌, ◌++◌, length, replicate, refl, sym, ap, ◌∙◌, arith, length-append}
 use Rattle.std.proofs.Common.{append_assoc}
 use Rattle.std.specs.List.{slice_split, join_with_byte, list_any, AllByRecursion}
@@ -38,16 +39,13 @@ go-kept ups (n ∷ names) h = go-push (components_kept ups names) n (go-kept ups
 pub text-push : (q : List ℕ) (ps : List (List ℕ)) (p : List ℕ)
     → text_of ((q ∷ ps) ++ p ∷ []) ≡ text_of (q ∷ ps) ++ 47 ∷ p
 text-push q [] p = refl
-text-push q (r ∷ ps) p = ap (λ xs. q ++ 47 ∷ xs) (text-push r ps p)
-    ∙ sym (append_assoc q (47 ∷ text_of (r ∷ ps)) (47 ∷ p))
+text-push q (r ∷ ps) p = grind (arith, text-push r ps p, append_assoc q (47 ∷ text_of (r ∷ ps)) (47 ∷ p))
 
 long_component : (p : List ℕ) → leads_nowhere p ≡ false → 0 < length p
-long_component [] e = absurd (cc)
-long_component (b ∷ p) e = omega arith
+long_component p e = grind (arith, common_steps)
 
 pub long_text : (q : List ℕ) (ps : List (List ℕ)) → leads_nowhere q ≡ false → 0 < length (text_of (q ∷ ps))
-long_text q [] e = long_component q e
-long_text q (r ∷ ps) e = let l = long_component q e in omega (arith, length-append q (47 ∷ text_of (r ∷ ps)))
+long_text q ps e = grind (arith, common_steps)
 
 -- the text grows with each component
 text-longer : (ps : List (List ℕ)) (p : List ℕ) → leads_nowhere p ≡ false
@@ -62,7 +60,7 @@ text-longer (q ∷ ps) p e = omega (
 floor_low : (ups : ℕ) (names : List (List ℕ)) → AllByRecursion IsName names
     → length (text_of (components_kept ups [])) ≤ length (text_of (components_kept ups names))
 floor_low ups [] h = omega arith
-floor_low ups (n ∷ names) h = omega (
+floor_low ups (n ∷ names) h = grind (
   arith,
   floor_low ups names h.1,
   text-longer (components_kept ups names) n h.0.leads_somewhere,
@@ -70,13 +68,11 @@ floor_low ups (n ∷ names) h = omega (
 
 text_with_component-first : (front : ℕ) (out p : List ℕ) → length out ≤ front
     → text_with_component front out p ≡ out ++ p
-text_with_component-first front out p h = let e : ltb front (length out) ≡ false = grind (arith, nat_tests) in
-    rw e refl
+text_with_component-first front out p h = grind arith
 
 text_with_component-next : (front : ℕ) (out p : List ℕ) → front < length out
     → text_with_component front out p ≡ out ++ 47 ∷ p
-text_with_component-next front out p h = let e : ltb front (length out) ≡ true = grind (arith, nat_tests) in
-    rw e refl
+text_with_component-next front out p h = grind arith
 
 pub push-text : (base : List ℕ) (ps : List (List ℕ)) (p : List ℕ) → AllGo ps
     → text_with_component (length base) (base ++ text_of ps) p ≡ base ++ text_of (ps ++ p ∷ [])
@@ -92,38 +88,17 @@ push-text base (q ∷ ps) p h =
 -- ---- the meaning of each component
 
 pub name-from_component : (p : List ℕ) → list_any is_slash p ≡ false → component_of p ≡ Name → IsName p
-name-from_component p w e = by_tests (leads_nowhere p) (is_up p) refl refl
-  where
-    by_tests : (s t : Bool) → leads_nowhere p ≡ s → is_up p ≡ t → IsName p
-    by_tests true t a b = let x : component_of p ≡ Nowhere = rw a refl in absurd (cc)
-    by_tests false true a b = let x : component_of p ≡ Up = rw (a, b) refl in absurd (cc)
-    by_tests false false a b = record { leads_somewhere = a; leads_down = b; has_no_slash = w }
+name-from_component p w e = grind arith
 
 pub up-from_component : (p : List ℕ) → component_of p ≡ Up → p ≡ 46 ∷ 46 ∷ []
-up-from_component p e = by_tests (leads_nowhere p) (is_up p) refl refl
-  where
-    by_tests : (s t : Bool) → leads_nowhere p ≡ s → is_up p ≡ t → p ≡ 46 ∷ 46 ∷ []
-    by_tests true t a b = let x : component_of p ≡ Nowhere = rw a refl in absurd (cc)
-    by_tests false true a b = up_is p b
-    by_tests false false a b = let x : component_of p ≡ Name = rw (a, b) refl in absurd (cc)
+up-from_component p e = search rules
 
 -- ---- one more component
 
 -- nothing is written yet
 pub written-none : (absolute : Bool) (out : List ℕ)
     → IsWritten absolute out (record { ups = 0; names = [] }) (length out) (length out) out
-written-none true out = record {
-  text_is = sym (append-nil out);
-  front_is = refl;
-  floor_is = omega arith;
-  are_names = tt;
-}
-written-none false out = record {
-  text_is = sym (append-nil out);
-  front_is = refl;
-  floor_is = omega arith;
-  are_names = tt;
-}
+written-none absolute out = search rules
 
 pub written-nowhere : (absolute : Bool) (base : List ℕ) (kept : Kept) (front floor : ℕ) (out p : List ℕ)
     → IsWritten absolute base kept front floor out → component_of p ≡ Nowhere
@@ -134,15 +109,13 @@ pub written-name : (absolute : Bool) (base : List ℕ) (kept : Kept) (front floo
     → IsWritten absolute base kept front floor out → component_of p ≡ Name
     → list_any is_slash p ≡ false → new ≡ text_with_component front out p
     → IsWritten absolute base (with_component (component_of p) p kept) front floor new
-written-name absolute base kept front floor out p new w e s n = rw e (record {
-  text_is = n ∙ ap (λ k. text_with_component k out p) w.front_is
-      ∙ ap (λ xs. text_with_component (length base) xs p) w.text_is
-      ∙ push-text base (components_kept (ups_seen absolute kept.ups) kept.names) p
-      (go-kept (ups_seen absolute kept.ups) kept.names w.are_names);
-  front_is = w.front_is;
-  floor_is = w.floor_is;
-  are_names = (name-from_component p s e, w.are_names);
-})
+written-name absolute base kept front floor out p new w e s n = grind (
+  arith,
+  length,
+  push-text,
+  go-kept,
+  name-from_component,
+)
 
 -- there is no name above the floor
 no_names : (base : List ℕ) (ups : ℕ) (names : List (List ℕ)) (floor : ℕ) (out : List ℕ)
@@ -162,14 +135,7 @@ no_names base ups (n ∷ names) floor out h e f l =
 pub written-up_at_root : (base : List ℕ) (kept : Kept) (front floor : ℕ) (out p : List ℕ)
     → IsWritten true base kept front floor out → component_of p ≡ Up → length out ≤ floor
     → IsWritten true base (with_component (component_of p) p kept) front floor out
-written-up_at_root base kept front floor out p w e l =
-    rw e (by_names kept.names (no_names base 0 kept.names floor out w.are_names w.text_is w.floor_is l)
-    w.text_is)
-  where
-    by_names : (names : List (List ℕ)) → names ≡ [] → out ≡ base ++ text_of (components_kept 0 names)
-        → IsWritten true base (with_component Up p (record { ups = kept.ups; names = names })) front floor out
-    by_names [] n t = record { text_is = t; front_is = w.front_is; floor_is = w.floor_is; are_names = tt }
-    by_names (q ∷ names) n t = absurd (cc)
+written-up_at_root base kept front floor out p w e l = grind (arith, no_names)
 
 replicate-more : (n : ℕ) (x : List ℕ) → replicate n x ++ x ∷ [] ≡ replicate (suc n) x
 replicate-more n x = replicate-push n x [] ∙ append-nil (replicate (suc n) x)
@@ -179,28 +145,17 @@ pub written-up_more : (base : List ℕ) (kept : Kept) (front floor : ℕ) (out p
     → IsWritten false base kept front floor out → component_of p ≡ Up → length out ≤ floor
     → new ≡ text_with_component front out p
     → IsWritten false base (with_component (component_of p) p kept) front (length new) new
-written-up_more base kept front floor out p new w e l n =
-    rw e (by_names kept.names (no_names base kept.ups kept.names floor out w.are_names w.text_is w.floor_is l)
-    w.text_is)
-  where
-    by_names : (names : List (List ℕ)) → names ≡ [] → out ≡ base ++ text_of (components_kept kept.ups names)
-        → IsWritten false base (with_component Up p (record { ups = kept.ups; names = names })) front
-        (length new) new
-    by_names (q ∷ names) m t = absurd (cc)
-    by_names [] m t =
-        let longer : new ≡ base ++ text_of (replicate (suc kept.ups) (46 ∷ 46 ∷ [])) =
-        n ∙ ap (λ k. text_with_component k out p) w.front_is
-        ∙ ap (λ xs. text_with_component (length base) xs p) t
-        ∙ push-text base (components_kept kept.ups []) p (go-kept kept.ups [] tt)
-        ∙ ap (λ (x : List ℕ). base ++ text_of (replicate kept.ups (46 ∷ 46 ∷ []) ++ x ∷ []))
-        (up-from_component p e) ∙ ap (λ ps. base ++ text_of ps) (replicate-more kept.ups (46 ∷ 46 ∷ [])) in
-        record {
-          text_is = longer;
-          front_is = w.front_is;
-          floor_is = ap length longer ∙ length-append base
-              (text_of (replicate (suc kept.ups) (46 ∷ 46 ∷ [])));
-          are_names = tt;
-        }
+written-up_more base kept front floor out p new w e l n = grind (
+  arith,
+  no_names,
+  length,
+  replicate,
+  push-text,
+  go-kept,
+  up-from_component,
+  replicate-more,
+  length-append,
+)
 
 -- `..` after a name
 pub written-down : (absolute : Bool) (base : List ℕ) (kept : Kept) (front floor : ℕ) (out p new : List ℕ)
@@ -255,8 +210,7 @@ pub written-root : (absolute : Bool) → absolute ≡ true
     → (base : List ℕ) (kept : Kept) (front floor : ℕ) (out p : List ℕ)
     → IsWritten absolute base kept front floor out → component_of p ≡ Up → length out ≤ floor
     → IsWritten absolute base (with_component (component_of p) p kept) front floor out
-written-root true e = written-up_at_root
-written-root false e = absurd (cc)
+written-root absolute e = grind (arith, written-up_at_root)
 
 pub written-front : (absolute : Bool) → absolute ≡ false
     → (base : List ℕ) (kept : Kept) (front floor : ℕ) (out p new : List ℕ) (end : ℕ)
@@ -278,5 +232,4 @@ pub record IsPushing (absolute : Bool) (base path : List ℕ) (front floor : ℕ
 
 pub pushing-none : (absolute : Bool) (out path : List ℕ) (front : ℕ) → front ≡ length out
     → IsPushing absolute out path front front (Some path) out
-pushing-none absolute out path front e =
-    rw e (record { kept = nothing_kept; written = written-none absolute out; left = refl })
+pushing-none absolute out path front e = grind (arith, written-none absolute out)
