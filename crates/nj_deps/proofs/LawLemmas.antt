@@ -54,7 +54,8 @@ read_unless_no_memory bytes log OutOfMemory is refused = refl
 
 -- the entry after more entries for the output: the last of them
 last_or : Option OutputModel → List OutputModel → Option OutputModel
-last_or known h = grind arith
+last_or known [] = known
+last_or known (o ∷ said) = last_or (Some o) said
 
 last-said : (known : Option OutputModel) (o : OutputModel) (said : List OutputModel)
     → last_or known (o ∷ said) ≡ slice_get (o ∷ said) (length said)

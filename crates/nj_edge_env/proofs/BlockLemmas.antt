@@ -15,7 +15,8 @@ use Rattle.std.proofs.lemmas.Slice.Eq.{bytes_eq-Decides}
 use Rattle.nj_edge_env.specs.declared.name_values.Bound.{Bound}
 use Rattle.nj_edge_env.specs.Inside.BlocksHeld.{bound_of, values_of, values_by_name, names_of, bounds_of}
 use Rattle.nj_edge_env.specs.Inside.BlocksHeld.{list_at, IsPart, BoundsAreHeld, BlocksAreHeld, BeginsWith}
-use Rattle.nj_edge_env.specs.Inside.BlocksHeld.{IsFirstAt, IsNumberOf, BindNeitherAfter, is_pool_or_dyndep}
+use Rattle.nj_edge_env.specs.Inside.BlocksHeld.{IsFirstAt, IsNumberOf, BindNeitherAfter}
+use Rattle.nj_scope.specs.Declarations.{is_pool_or_dyndep}
 use Rattle.nj_edge_env.specs.Blocks.{BlocksModel, bound_in}
 use Rattle.nj_edge_env.proofs.BoundLemmas.{values_at, values_kept, longer, bounds_grow, swapped}
 use Rattle.nj_edge_env.proofs.BoundLemmas.{test-from_apart}

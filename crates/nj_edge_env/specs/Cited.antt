@@ -1,8 +1,9 @@
 -- What the contracts of this crate cite: each name comes from the module in its line.
 pub use Rattle.nj_edge_env.specs.Blocks.{bound_in, names_in}
-pub use Rattle.nj_edge_env.specs.Inside.BlocksHeld.{blocks_of, bounds_of, BlocksAreHeld, IsFirstAt, IsNumberOf, is_pool_or_dyndep}
-pub use Rattle.nj_edge_env.specs.Inside.BlocksHeld.{values_of, AreRising, IsPart, BoundsAreHeld, IsBoundTo, BeginsWith, with_bound, ends_at}
-pub use Rattle.nj_edge_env.specs.Inside.BlocksHeld.{bound_of, list_at, lists_of, AreStarts}
+pub use Rattle.nj_edge_env.specs.Inside.BlocksHeld.{blocks_of, bounds_of, BlocksAreHeld, IsFirstAt, IsNumberOf, values_of, AreRising}
+pub use Rattle.nj_edge_env.specs.Inside.BlocksHeld.{IsPart, BoundsAreHeld, IsBoundTo, BeginsWith, with_bound, ends_at, bound_of, list_at}
+pub use Rattle.nj_edge_env.specs.Inside.BlocksHeld.{lists_of, AreStarts}
+pub use Rattle.nj_scope.specs.Declarations.{is_pool_or_dyndep, DeclaredBy}
 pub use Rattle.nj_scope.specs.Readings.{IsPrefix}
 pub use Rattle.nj_text.specs.Quotes.{quoted}
 pub use Rattle.nj_names.specs.Files.{path_at}
@@ -15,7 +16,6 @@ pub use Rattle.nj_edge_env.specs.ReferencesHeld.{AreReferences, NeverCycles, Tel
 pub use Rattle.nj_edge_env.specs.Inside.CyclesHeld.{makers_counted, AreSortedKeys, key_held, referring_key}
 pub use Rattle.nj_edge_env.specs.Inside.StringsHeld.{text_known, taller, with_text, AreKeyStrings, AppendsLate, AppendsParts, AppendsPlain}
 pub use Rattle.nj_text.specs.Words.{part_model}
-pub use Rattle.nj_scope.specs.Declarations.{DeclaredBy}
 pub use Rattle.nj_scope.specs.ReadingList.{ReadStatement, value_after}
 pub use Rattle.nj_scope.specs.RulesHeld.{IsNumber}
 pub use Rattle.nj_scope.specs.Scopes.{IsScope, parent_at}

@@ -6,8 +6,8 @@ ghost use Rattle.nj_edge_env.specs.Cited.{bound_in, names_in, blocks_of, bounds_
 use crate::binding_order::NameOrder;
 use crate::name_values::{Bound, bind_value, bound_of, value_at};
 use crate::number_lists::NumberLists;
-use crate::path_names::is_pool_or_dyndep;
 use nj_names::{HashKeys, Names};
+use nj_scope::is_pool_or_dyndep;
 use std::alloc::{AllocError, Global};
 use std::marker::Model;
 

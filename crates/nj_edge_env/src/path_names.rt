@@ -1,7 +1,7 @@
 //! Names with a meaning of their own.
 
 ghost use Rattle.std.specs.Prelude.{◌≡◌};
-ghost use Rattle.nj_edge_env.specs.Cited.{names_paths, is_of_command, is_quoted, is_pool_or_dyndep};
+ghost use Rattle.nj_edge_env.specs.Cited.{names_paths, is_of_command, is_quoted};
 
 /// Whether the name means paths of an edge.
 pub(crate) fn names_paths(name: &[u8]) -> bool
@@ -26,12 +26,4 @@ pub(crate) fn is_quoted(asked: &[u8]) -> bool
     !(asked == b"rspfile".as_slice()
         || asked == b"depfile".as_slice()
         || asked == b"dyndep".as_slice())
-}
-
-/// Whether the name assigns a pool or a dyndep file to an edge.
-#[inline(always)]
-pub(crate) fn is_pool_or_dyndep(name: &[u8]) -> bool
-    ensures { result ≡ is_pool_or_dyndep name.now }
-{
-    name == b"pool".as_slice() || name == b"dyndep".as_slice()
 }

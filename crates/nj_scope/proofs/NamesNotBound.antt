@@ -2,7 +2,8 @@
 use Rattle.std.proofs.Common.{arith, ◌≡◌, ℕ, true, List, [], ◌∷◌, Option, None, unwrap_or, refl, sym, ap, ◌∙◌}
 use Rattle.std.specs.Option.{option_or}
 use Rattle.nj_scope.specs.Scopes.{ScopeModel, first_given, value_in, bound_at}
-use Rattle.nj_scope.specs.Inside.PoolOrDyndep.{is_pool_or_dyndep, BindNeither}
+use Rattle.nj_scope.specs.Declarations.{is_pool_or_dyndep}
+use Rattle.nj_scope.specs.Inside.PoolOrDyndep.{BindNeither}
 
 none-given : {X : Type 0} (own : ℕ → Option X) → ((n : ℕ) → own n ≡ None) → (scope : List ℕ)
     → first_given own scope ≡ None

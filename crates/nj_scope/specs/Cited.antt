@@ -5,10 +5,9 @@ pub use Rattle.nj_manifest.specs.Contents.{lines_model, line_model}
 pub use Rattle.nj_manifest.specs.Statements.{LineModel, BindingModel, RuleModel, PoolModel, SubninjaModel}
 pub use Rattle.nj_scope.specs.Scopes.{IsScope, expanded, parent_at, rule_at, first_given, value_in, bound_at}
 pub use Rattle.nj_scope.specs.Pools.{is_pool}
-pub use Rattle.nj_scope.specs.Declarations.{DeclaredBy, TakesIn, Keeps, SameScopes}
+pub use Rattle.nj_scope.specs.Declarations.{DeclaredBy, TakesIn, Keeps, SameScopes, is_pool_or_dyndep}
 pub use Rattle.nj_scope.specs.ReadingList.{ReadStatement, value_after, value_if_bound, is_declared, rule_in_force, gathered, rule_given}
 pub use Rattle.nj_scope.specs.ReadingList.{pool_given, scope_given, path_named}
-pub use Rattle.nj_scope.specs.Inside.PoolOrDyndep.{is_pool_or_dyndep}
 pub use Rattle.nj_scope.specs.Late.{part_written, parts_written}
 pub use Rattle.nj_scope.specs.Inside.LateHeld.{text_or_name}
 pub use Rattle.nj_scope.specs.Laws.{LastBindingCounts, OthersAreInherited, OthersKeepTheirs, InForceIsDeclared, IsInReadingOrder}

@@ -1,6 +1,6 @@
 -- The declarations held of the statements that were read: the scopes, rules and pools are those that the statements
 -- declare.
-use Rattle.std.specs.Prelude.{false, ◌≡◌, ℕ, None, List, length, ◌∷◌}
+use Rattle.std.specs.Prelude.{false, ◌≡◌, ℕ, Bool, ◌||◌, None, List, length, ◌∷◌, codes, bytes_eq}
 use Rattle.nj_text.specs.declared.spot.Spot.{Spot}
 use Rattle.nj_manifest.specs.Statements.{StatementModel}
 use Rattle.nj_scope.specs.Scopes.{ScopeModel, parent_at, bound_at, rule_at}
@@ -45,3 +45,7 @@ Keeps old new = (entries : List list.ReadStatement) → DeclaredBy old entries �
 pub record SameScopes (old new : DeclarationsModel) : Type 0 where
   pub count : length new.scopes ≡ length old.scopes
   pub parents : (n : ℕ) → parent_at new.scopes n ≡ parent_at old.scopes n
+
+-- a variable that assigns a pool or a dyndep file to an edge
+abbrev pub is_pool_or_dyndep : (name : List ℕ) → Bool
+is_pool_or_dyndep name = bytes_eq name (codes "pool") || bytes_eq name (codes "dyndep")

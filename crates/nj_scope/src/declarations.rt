@@ -267,7 +267,7 @@ impl Declarations {
 
 /// Whether it is a variable that assigns a pool or a dyndep file to an edge.
 #[inline(always)]
-fn is_pool_or_dyndep(name: &[u8]) -> bool
+pub fn is_pool_or_dyndep(name: &[u8]) -> bool
     ensures { result ≡ is_pool_or_dyndep name.now }
 {
     name == b"pool".as_slice() || name == b"dyndep".as_slice()

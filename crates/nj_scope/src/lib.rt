@@ -12,7 +12,7 @@ mod scopes;
 mod source;
 mod table;
 
-pub use declarations::{Declarations, MAIN_SCOPE, PHONY};
+pub use declarations::{Declarations, MAIN_SCOPE, PHONY, is_pool_or_dyndep};
 pub use deferred::LateValue;
 pub use laws::{lists_by_reading_order, rules_in_force, values_by_reading_order};
 pub use memory_files::MemoryFiles;

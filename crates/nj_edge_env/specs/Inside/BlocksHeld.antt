@@ -1,9 +1,9 @@
 -- How the values of blocks are held: as parts of one text, by the numbers of names. Nothing here has to be believed.
-use Rattle.std.specs.Prelude.{◌≡◌, ◌⊎◌, ℕ, zero, suc, ◌+◌, ◌<◌, ◌≤◌, ◌==◌, Bool, true, false, if◌then◌else◌, Option, Some, None, List, [], ◌∷◌, ◌++◌, map, length, drop, codes, bytes_eq, slice_index_or, slice_range}
+use Rattle.std.specs.Prelude.{◌≡◌, ◌⊎◌, ℕ, zero, suc, ◌+◌, ◌<◌, ◌≤◌, ◌==◌, Bool, true, false, if◌then◌else◌, Option, Some, None, List, [], ◌∷◌, ◌++◌, map, length, drop, bytes_eq, slice_index_or, slice_range}
 use Rattle.std.specs.Global.{Vec}
 use Rattle.std.specs.List.{AllByRecursion}
 use Rattle.nj_edge_env.specs.declared.name_values.Bound.{Bound}
-use Rattle.nj_names.specs.NameTables.{is_among}
+use Rattle.nj_scope.specs.Declarations.{is_pool_or_dyndep}
 use Rattle.nj_edge_env.specs.Blocks.{BlocksModel, bound_in}
 
 -- ---- lists of numbers
@@ -69,10 +69,6 @@ pub record BlocksAreHeld (len last : ℕ) (names : List (List ℕ)) (bounds : Li
   pub values : AllByRecursion (BoundsAreHeld len last) bounds
   pub listed : (edge : ℕ) → AllByRecursion (λ number. number < length names) (list_at lists edge)
   pub lists_end : length lists ≤ last + 1
-
--- the variables that assign a pool or a dyndep file to an edge
-abbrev pub is_pool_or_dyndep : (name : List ℕ) → Bool
-is_pool_or_dyndep name = is_among (codes "pool" ∷ codes "dyndep" ∷ []) name
 
 -- no block of an edge after this one binds one of them, and it is no edge after the last
 pub record BindNeitherAfter (assigning : ℕ) (blocks : BlocksModel) : Type 0 where
