@@ -201,7 +201,7 @@ class History:
             self.step(self.make_phony_file)
         if self.chance.random() < 0.9:
             self.step(self.build)
-        if len(self.project.dyndeps) > 1 and self.chance.random() < 0.4:
+        if len(self.project.dyndeps) > 1 and self.chance.random() < 0.6:
             self.step(self.remove_dyndep)
         elif self.chance.random() < 0.3:
             self.step(self.remove_output)
