@@ -1,6 +1,7 @@
 """Phrases for which a page or a comment has better words, and the prose in which they are sought.
 
-`NEVER` has the phrases that are never right, `SELDOM` those that often are not, which are counted.
+`NEVER` has the phrases that are never right, `NAMES` those of them that names in code do not have
+either, `SELDOM` those that often are not right, which are counted.
 Each is a pattern, with what to write in its place. Prose is what people read as sentences: of a page
 without its code and its generated parts, of a source its comments.
 """
@@ -34,6 +35,9 @@ NEVER = {
     r"one (?!or\b)\w+ more": "one more ..",
     r"wrong words": "invalid arguments",
 }
+
+# Those that a name in code must not have either: its words are those between its capitals and signs.
+NAMES = (r"(?:hand|hands|handed|handing) (?:in|out|over)",)
 
 # Where a phrase of `NEVER` stays all the same: a fault's text, a name, a table of these phrases.
 EXCEPT = {
@@ -98,6 +102,19 @@ def prose(name, text):
         return without_code(text)
     found = python_prose(text) if kind == ".py" else comments(text, SIGNS[kind])
     return re.sub(r"`[^`\n]*`", blank, found)
+
+
+def words(name):
+    """The words of a name in code, apart by blanks."""
+    return re.sub(r"(?<=[a-z0-9])(?=[A-Z])|[_-]+", " ", name)
+
+
+def refused_names(text):
+    """Each name in a source that has a phrase of `NAMES`, with its line and the phrase."""
+    for found in re.finditer(r"[^\W\d][\w-]*", text):
+        for phrase in NAMES:
+            if pattern(phrase).search(words(found[0])):
+                yield text.count("\n", 0, found.start()) + 1, found[0], phrase
 
 
 def pattern(phrase):

@@ -3,7 +3,7 @@ and scripts (lib/phrases.py).
 """
 
 from lib.checks import check, expect
-from lib.phrases import EXCEPT, NEVER, finds, prose
+from lib.phrases import EXCEPT, NEVER, finds, prose, refused_names
 from lib.programs import ROOT
 
 GENERATED = "REFERENCE.md", "HEADLINE.md"
@@ -34,6 +34,16 @@ def pages_have_none():
 
 
 @check
+def names_have_none():
+    for page in sorted({file for kind in SOURCES for file in ROOT.glob(kind)}):
+        name = page.relative_to(ROOT)
+        for _, found, phrase in refused_names(str(name)):
+            yield f"{name}: {found} (better: {NEVER[phrase]})"
+        for line, found, phrase in refused_names(page.read_text()):
+            yield f"{name}:{line}: {found} (better: {NEVER[phrase]})"
+
+
+@check
 def exceptions_are_used():
     for name, phrases in EXCEPT.items():
         found = {phrase for _, _, phrase in finds(phrases, prose(name, (ROOT / name).read_text()))}
@@ -52,7 +62,13 @@ PLANTED = [
 ]
 
 
+# Names, each with whether it is refused.
+PLANTED_NAMES = [("HandedIn", 1), ("all-handed-in", 1), ("hand_over", 1), ("handle_input", 0)]
+
+
 @check
 def planted_phrases_are_found():
     for name, text, wanted in PLANTED:
         yield from expect(f"{name}, {text!r}", len(list(refused(name, text))), wanted)
+    for name, wanted in PLANTED_NAMES:
+        yield from expect(name, len(list(refused_names(name))), wanted)

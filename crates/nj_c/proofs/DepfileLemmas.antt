@@ -10,7 +10,7 @@ use Rattle.nj_names.specs.NameTables.{with_name}
 use Rattle.nj_edges.specs.Repeats.{each_once}
 use Rattle.nj_scope.specs.ReadingList.{ReadStatement}
 use Rattle.nj_c.specs.DiscoveredInputs.{depfile_at, lacking_depfiles}
-use Rattle.nj_c.specs.HandedIn.{Handed}
+use Rattle.nj_c.specs.SuppliedFiles.{Supplied}
 use Rattle.nj_c.specs.Loading.{is_lacking}
 use Rattle.nj_c.proofs.DyndepLemmas.{one-path}
 
@@ -22,7 +22,7 @@ range-more n =
 
 -- ---- depfiles
 
-module _ (h : Handed) (stated : List ReadStatement) where
+module _ (h : Supplied) (stated : List ReadStatement) where
   -- the depfiles of the first edges
   abbrev depfiles : ℕ → List (List ℕ)
   depfiles count = filter_map (depfile_at stated) (range_with_len 0 count)

@@ -17,25 +17,26 @@ use Rattle.nj_c.specs.declared.status.Status.TheVariants.{BadNumber, BadMark, No
 use Rattle.nj_c.specs.declared.status.Status.TheVariants.{BadLog}
 use Rattle.nj_c.specs.DiscoveredInputs.{given_read, lacking_depfiles, log_bytes, times_of, JoinsDiscovered}
 use Rattle.nj_c.specs.DiscoveredInputs.{JoinsFound, KeepsOthers}
-use Rattle.nj_c.specs.HandedIn.{Handed, handed_state, SameFiles}
+use Rattle.nj_c.specs.SuppliedFiles.{Supplied, supplied_state, SameFiles}
 use Rattle.nj_c.specs.Loading.{unread}
 use Rattle.nj_c.specs.Inside.DiscoveredHeld.{FindsOr, JoinsTo, KeepsFound}
 use Rattle.nj_c.proofs.LogLemmas.{some-is-not-none}
 
 -- ---- what was discovered
 
-pub finds-or : (g : GraphModel) (before middle after : Handed) (log : LogModel) (times : List ℕ)
+pub finds-or : (g : GraphModel) (before middle after : Supplied) (log : LogModel) (times : List ℕ)
     (found : DiscoveriesModel) (result : Result Joined GraphFault)
     → middle ≡ unread before
     → ((stated : List ReadStatement) → IsGraphOf g stated
-    → AreDiscovered (handed_state middle) (handed_state after) (times_of g times) log stated found)
+    → AreDiscovered (supplied_state middle) (supplied_state after) (times_of g times) log stated found)
     → JoinsTo g found result → FindsOr g before after log times result
 finds-or g before middle after log times found (Ok joined) begun are (unknown, numbers, joins) = (
   found,
   unknown,
   numbers,
   λ stated graph. record {
-    discovered = subst (λ h. AreDiscovered (handed_state h) (handed_state after) (times_of g times) log stated
+    discovered = subst (λ h. AreDiscovered (supplied_state h) (supplied_state after) (times_of g times) log
+        stated
         found) begun (are stated graph);
     joins = joins stated graph;
   },
@@ -43,7 +44,8 @@ finds-or g before middle after log times found (Ok joined) begun are (unknown, n
 finds-or g before middle after log times found (Err fault) begun are joins = inr (
   found,
   λ stated graph. record {
-    discovered = subst (λ h. AreDiscovered (handed_state h) (handed_state after) (times_of g times) log stated
+    discovered = subst (λ h. AreDiscovered (supplied_state h) (supplied_state after) (times_of g times) log
+        stated
         found) begun (are stated graph);
     joins = joins stated graph;
   },
@@ -51,7 +53,7 @@ finds-or g before middle after log times found (Err fault) begun are joins = inr
 
 -- ---- after the join
 
-module _ (g : GraphModel) (before : Kept) (files : Handed) (wanted : Vec (Vec ℕ)) (log : LogModel)
+module _ (g : GraphModel) (before : Kept) (files : Supplied) (wanted : Vec (Vec ℕ)) (log : LogModel)
     (read : LogRead) (times : List ℕ)
     (empty : wanted.items ≡ []) (lacking : (stated : List ReadStatement) → IsGraphOf g stated
     → lacking_depfiles before.files stated (length (edges_of g)) ≡ [])

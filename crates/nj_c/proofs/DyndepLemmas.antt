@@ -19,7 +19,7 @@ use Rattle.nj_statements.specs.EdgeList.{edge_of_build, edges_read}
 use Rattle.nj_statements.proofs.OnceLemmas.{once-known, once-new}
 use Rattle.nj_tools.proofs.CollectedLemmas.{among-once}
 use Rattle.nj_graph.specs.Graph.{GraphModel, IsGraphOf, edges_of}
-use Rattle.nj_c.specs.HandedIn.{Handed}
+use Rattle.nj_c.specs.SuppliedFiles.{Supplied}
 use Rattle.nj_c.specs.Loading.{is_lacking}
 
 -- ---- how many there are
@@ -64,7 +64,7 @@ with-once xs x = by (is_among xs x) refl
     by false new = ap (λ b. cond b (each_once bytes_eq xs) (each_once bytes_eq xs ++ x ∷ []))
         (among-once xs x ∙ new) ∙ sym (once-new xs x new)
 
-module _ (h : Handed) where
+module _ (h : Supplied) where
   abbrev pub lacking : List AssignedModel → List (List ℕ)
   lacking assigned = each_once bytes_eq (filter (is_lacking h) (filter_map (λ a. a.dyndep) assigned))
 

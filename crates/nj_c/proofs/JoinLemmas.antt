@@ -24,7 +24,7 @@ use Rattle.nj_graph.specs.Runs.{IsEnd, IsLacking, EndsSo, ReachedModel, paths_wi
 use Rattle.nj_graph.specs.Loads.{LoadedModel, LoadedOr}
 use Rattle.nj_graph.specs.Joining.{all_joined, continued, file_joined, files_joined, joined_after, path_asked}
 use Rattle.nj_graph.specs.Joining.{Joins}
-use Rattle.nj_c.specs.HandedIn.{Handed, handed_in, handed_state, wanted_paths, ReadsAsHanded}
+use Rattle.nj_c.specs.SuppliedFiles.{Supplied, supplied_for, supplied_state, wanted_paths, ReadsAsSupplied}
 use Rattle.nj_c.specs.Loading.{dyndeps_of, is_lacking}
 
 -- ---- lists
@@ -69,10 +69,10 @@ once-nil (x ∷ xs) is = absurd (not-nil x (filter (λ y. not (bytes_eq y x)) (e
 
 -- ---- the files that are read
 
-module _ (h : Handed) where
+module _ (h : Supplied) where
   -- something was supplied for a path
   abbrev Has : List ℕ → Type 0
-  Has path = is_some (handed_in h path) ≡ true
+  Has path = is_some (supplied_for h path) ≡ true
 
   -- or it is never read
   abbrev IsGiven : List ℕ → Type 0
@@ -89,9 +89,9 @@ module _ (h : Handed) where
   asked-one : (p : Pending) → IsGiven p.file → AllByRecursion Has (path_asked p)
   asked-one p given = by (is_utf8 p.file) given
     where
-      by : (text : Bool) → (text && not (is_some (handed_in h p.file))) ≡ false
+      by : (text : Bool) → (text && not (is_some (supplied_for h p.file))) ≡ false
           → AllByRecursion Has (cond text (p.file ∷ []) [])
-      by true is = (has-given (is_some (handed_in h p.file)) is, tt)
+      by true is = (has-given (is_some (supplied_for h p.file)) is, tt)
       by false is = tt
 
   asked-files : (files : List Reading) (stated : List ReadStatement) (ps : List Pending)
@@ -205,9 +205,9 @@ module _ (h : Handed) where
         → AllByRecursion Has (paths_of rs)
     from-same rs is = from-prefix rs ([], is ∙ sym (append-nil (paths_of (old ++ rs))))
 
-    from-end : (rs : List Reading) (before after : Handed) (fault : GraphFault) (reached : ReachedModel)
+    from-end : (rs : List Reading) (before after : Supplied) (fault : GraphFault) (reached : ReachedModel)
         (end : End) → reached.read.end ≡ end
-        → IsEnd (handed_state before) (handed_state after) end fault
+        → IsEnd (supplied_state before) (supplied_state after) end fault
         → (IsLacking end (old ++ rs) → joined_after old stated (old ++ rs) ≡ reached)
         → reached.paths ≡ paths_with end (old ++ rs) → AllByRecursion Has (paths_of rs)
     from-end rs before after fault reached Whole is answered read came = absurd answered
@@ -216,15 +216,15 @@ module _ (h : Handed) where
     from-end rs before after fault reached (Lacking path place) is answered read came = let below =
         answered.1.above (omega arith) in absurd (omega (arith, below))
 
-    ends-given : (rs : List Reading) (before after : Handed) (fault : GraphFault)
-        → EndsSo (handed_state before) (handed_state after) (old ++ rs) (joined_after old stated) fault
+    ends-given : (rs : List Reading) (before after : Supplied) (fault : GraphFault)
+        → EndsSo (supplied_state before) (supplied_state after) (old ++ rs) (joined_after old stated) fault
         → AllByRecursion Has (paths_of rs)
     ends-given rs before after fault ends =
         from-end rs before after fault ends.reached ends.reached.read.end refl ends.answered
         (ends.read (old ++ rs) ([], sym (append-nil (old ++ rs)))) ends.came_to
 
-    reads-given : (rs : List Reading) (before after : Handed) (result : Result LoadedModel GraphFault)
-        → LoadedOr (handed_state before) (handed_state after) (old ++ rs) (joined_after old stated) result
+    reads-given : (rs : List Reading) (before after : Supplied) (result : Result LoadedModel GraphFault)
+        → LoadedOr (supplied_state before) (supplied_state after) (old ++ rs) (joined_after old stated) result
         → AllByRecursion Has (paths_of rs)
     reads-given rs before after (Ok loaded) ok = from-same rs ok.whole.came_to
     reads-given rs before after (Err fault) (inl (inl lacks)) =
@@ -235,55 +235,58 @@ module _ (h : Handed) where
 -- ---- of readings
 
 -- each reading is of a path for which something was supplied, and found that
-abbrev AreHandedIn : Handed → List Reading → Type 0
-AreHandedIn h read = AllByRecursion (λ r. is_some (handed_in h r.path) ≡ true) read
+abbrev AllSupplied : Supplied → List Reading → Type 0
+AllSupplied h read = AllByRecursion (λ r. is_some (supplied_for h r.path) ≡ true) read
 
-none-wanted : (h : Handed) (read : List Reading) → AreHandedIn h read
-    → filter_map (λ r. cond (is_some (handed_in h r.path)) None (Some r.path)) read ≡ []
+none-wanted : (h : Supplied) (read : List Reading) → AllSupplied h read
+    → filter_map (λ r. cond (is_some (supplied_for h r.path)) None (Some r.path)) read ≡ []
 none-wanted h [] are = refl
 none-wanted h (r ∷ rs) are =
-    let others = filter_map (λ (r : Reading). cond (is_some (handed_in h r.path)) None (Some r.path)) rs in
+    let others = filter_map (λ (r : Reading). cond (is_some (supplied_for h r.path)) None (Some r.path)) rs in
     ap (λ b. cons_option (cond b None (Some r.path)) others) are.0 ∙ none-wanted h rs are.1
 
-all-handed : (h : Handed) (read : List Reading)
-    → filter_map (λ r. cond (is_some (handed_in h r.path)) None (Some r.path)) read ≡ [] → AreHandedIn h read
-all-handed h [] none = tt
-all-handed h (r ∷ rs) none = by (is_some (handed_in h r.path)) refl none (all-handed h rs)
+all-supplied : (h : Supplied) (read : List Reading)
+    → filter_map (λ r. cond (is_some (supplied_for h r.path)) None (Some r.path)) read ≡ []
+    → AllSupplied h read
+all-supplied h [] none = tt
+all-supplied h (r ∷ rs) none = by (is_some (supplied_for h r.path)) refl none (all-supplied h rs)
   where
     others : List (List ℕ)
-    others = filter_map (λ (r : Reading). cond (is_some (handed_in h r.path)) None (Some r.path)) rs
+    others = filter_map (λ (r : Reading). cond (is_some (supplied_for h r.path)) None (Some r.path)) rs
 
-    by : (b : Bool) → is_some (handed_in h r.path) ≡ b → cons_option (cond b None (Some r.path)) others ≡ []
-        → (others ≡ [] → AreHandedIn h rs)
-        → (is_some (handed_in h r.path) ≡ true) × AreHandedIn h rs
+    by : (b : Bool) → is_some (supplied_for h r.path) ≡ b
+        → cons_option (cond b None (Some r.path)) others ≡ []
+        → (others ≡ [] → AllSupplied h rs)
+        → (is_some (supplied_for h r.path) ≡ true) × AllSupplied h rs
     by true is nothing rest = (is, rest nothing)
     by false is nothing rest = absurd (not-nil r.path others nothing)
 
-of-paths : (h : Handed) (read : List Reading)
-    → AllByRecursion (λ path. is_some (handed_in h path) ≡ true) (paths_of read) → AreHandedIn h read
+of-paths : (h : Supplied) (read : List Reading)
+    → AllByRecursion (λ path. is_some (supplied_for h path) ≡ true) (paths_of read) → AllSupplied h read
 of-paths h [] are = tt
 of-paths h (r ∷ rs) are = (are.0, of-paths h rs are.1)
 
-module _ (between after : Handed) (same : (path : List ℕ) → handed_in after path ≡ handed_in between path)
+module _ (between after : Supplied) (same : (path : List ℕ)
+    → supplied_for after path ≡ supplied_for between path)
   where
-    handed-after : (read : List Reading) → AreHandedIn between read → AreHandedIn after read
-    handed-after [] are = tt
-    handed-after (r ∷ rs) are = (ap is_some (same r.path) ∙ are.0, handed-after rs are.1)
+    supplied-after : (read : List Reading) → AllSupplied between read → AllSupplied after read
+    supplied-after [] are = tt
+    supplied-after (r ∷ rs) are = (ap is_some (same r.path) ∙ are.0, supplied-after rs are.1)
 
     found-after : (read : List Reading) → AllByRecursion
-        (λ r. r.bytes ≡ unwrap_or (handed_in between r.path) (Some [])) read
-        → AllByRecursion (λ r. r.bytes ≡ unwrap_or (handed_in after r.path) (Some [])) read
+        (λ r. r.bytes ≡ unwrap_or (supplied_for between r.path) (Some [])) read
+        → AllByRecursion (λ r. r.bytes ≡ unwrap_or (supplied_for after r.path) (Some [])) read
     found-after [] found = tt
     found-after (r ∷ rs) found = (
       found.0 ∙ ap (λ f. unwrap_or f (Some [])) (sym (same r.path)),
       found-after rs found.1,
     )
 
-    as-given : (read : List Reading) → AreHandedIn between read
-        → AllByRecursion (IsAsGiven (handed_state between)) read
-        → AllByRecursion (λ r. r.bytes ≡ unwrap_or (handed_in between r.path) (Some [])) read
+    as-given : (read : List Reading) → AllSupplied between read
+        → AllByRecursion (IsAsGiven (supplied_state between)) read
+        → AllByRecursion (λ r. r.bytes ≡ unwrap_or (supplied_for between r.path) (Some [])) read
     as-given [] are found = tt
-    as-given (r ∷ rs) are found = (by (handed_in between r.path) are.0 found.0, as-given rs are.1 found.1)
+    as-given (r ∷ rs) are found = (by (supplied_for between r.path) are.0 found.0, as-given rs are.1 found.1)
       where
         by : (f : Option (Option (List ℕ))) → is_some f ≡ true → IfSome f (λ meant. r.bytes ≡ meant)
             → r.bytes ≡ unwrap_or f (Some [])
@@ -291,14 +294,14 @@ module _ (between after : Handed) (same : (path : List ℕ) → handed_in after 
         by (Some meant) some is = is
 
 -- After a joining of files without lacking ones, as before it, all files read were supplied.
-module _ (between after : Handed) (loaded : LoadedModel) (stated : List ReadStatement)
+module _ (between after : Supplied) (loaded : LoadedModel) (stated : List ReadStatement)
     (is : IsGraphOf loaded.graph stated) where
   module _ (none : wanted_paths between ≡ [])
       (lacking : each_once bytes_eq (filter (is_lacking between) (dyndeps_of loaded.graph)) ≡ [])
-      (found : ReadsAsHanded between)
+      (found : ReadsAsSupplied between)
       (joined : Result LoadedModel GraphFault)
-      (joins : Joins stated loaded.files (handed_state between) (handed_state after) joined) where
-    pub same-files : (path : List ℕ) → handed_in after path ≡ handed_in between path
+      (joins : Joins stated loaded.files (supplied_state between) (supplied_state after) joined) where
+    pub same-files : (path : List ℕ) → supplied_for after path ≡ supplied_for between path
     same-files path = joins.1.read.files path
 
     abbrev rs : List Reading
@@ -309,12 +312,12 @@ module _ (between after : Handed) (loaded : LoadedModel) (stated : List ReadStat
         (none-lacking between loaded.graph.built.assigned
         (once-nil (filter (is_lacking between) (dyndeps_of loaded.graph)) lacking))
 
-    new-handed : AreHandedIn between rs
-    new-handed =
+    new-supplied : AllSupplied between rs
+    new-supplied =
         of-paths between rs
         (reads-given between loaded.files stated (given-pending between stated given-bound) rs between after
         joined
-        (subst (λ files. LoadedOr (handed_state between) (handed_state after) files
+        (subst (λ files. LoadedOr (supplied_state between) (supplied_state after) files
         (joined_after loaded.files stated) joined) joins.1.added joins.2))
 
     read-after : after.read ≡ between.read ++ rs
@@ -323,14 +326,15 @@ module _ (between after : Handed) (loaded : LoadedModel) (stated : List ReadStat
     pub none-wanted-after : wanted_paths after ≡ []
     none-wanted-after =
         none-wanted after after.read
-        (subst (AreHandedIn after) (sym read-after)
-        (handed-after between after same-files (between.read ++ rs)
-        (all-append (λ r. is_some (handed_in between r.path) ≡ true) between.read rs
-        (all-handed between between.read none) new-handed)))
+        (subst (AllSupplied after) (sym read-after)
+        (supplied-after between after same-files (between.read ++ rs)
+        (all-append (λ r. is_some (supplied_for between r.path) ≡ true) between.read rs
+        (all-supplied between between.read none) new-supplied)))
 
-    pub found-joined : ReadsAsHanded after
+    pub found-joined : ReadsAsSupplied after
     found-joined =
-        subst (AllByRecursion (λ r. r.bytes ≡ unwrap_or (handed_in after r.path) (Some []))) (sym read-after)
+        subst (AllByRecursion (λ r. r.bytes ≡ unwrap_or (supplied_for after r.path) (Some [])))
+        (sym read-after)
         (found-after between after same-files (between.read ++ rs)
-        (all-append (λ r. r.bytes ≡ unwrap_or (handed_in between r.path) (Some [])) between.read rs found
-        (as-given between after same-files rs new-handed joins.1.read.as_given)))
+        (all-append (λ r. r.bytes ≡ unwrap_or (supplied_for between r.path) (Some [])) between.read rs found
+        (as-given between after same-files rs new-supplied joins.1.read.as_given)))

@@ -5,7 +5,6 @@ mod DepfileLemmas
 mod DirtyLemmas
 mod DiscoveredLemmas
 mod DyndepLemmas
-mod HandedLemmas
 mod ItemLemmas
 mod JoinLemmas
 mod LoadLemmas
@@ -16,6 +15,7 @@ mod MadeLemmas
 mod PageLemmas
 mod RunLemmas
 mod SessionValues
+mod SuppliedLemmas
 mod WantedLemmas
 mod WordLemmas
 mod WordRows

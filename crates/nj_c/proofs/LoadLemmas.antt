@@ -18,7 +18,8 @@ use Rattle.nj_c.specs.declared.status.Status.{Status}
 use Rattle.nj_c.specs.declared.status.Status.TheVariants.{Done, Nothing, Short, Fault, Wanted, NotLoaded}
 use Rattle.nj_c.specs.declared.status.Status.TheVariants.{BadNumber, BadMark, NotUtf8, NotOpen, OutOfMemory}
 use Rattle.nj_c.specs.declared.status.Status.TheVariants.{BadLog}
-use Rattle.nj_c.specs.HandedIn.{Handed, handed_in, handed_state, wanted_paths, ReadsAsHanded, SameFiles}
+use Rattle.nj_c.specs.SuppliedFiles.{Supplied, supplied_for, supplied_state, wanted_paths, ReadsAsSupplied}
+use Rattle.nj_c.specs.SuppliedFiles.{SameFiles}
 use Rattle.nj_c.specs.Loading.{unread, graph_loaded, lacking_dyndeps, paths_or, paths_to_load, GivesGraph}
 use Rattle.nj_c.specs.Loading.{KeepsNothing, LeavesNothing, LoadsFiles, LoadsKept, SameRun}
 use Rattle.nj_c.specs.Inside.Results.{AreStatements, FinishesLoad, KeepsLoad, KeepsResult}
@@ -50,29 +51,30 @@ abbrev FoundBy : SourceState → Type 0
 FoundBy s = AllByRecursion (λ r. r.bytes ≡ unwrap_or (s.files r.path) (Some [])) (unwrap_or s.readings [])
 
 -- all files read were supplied, and the same was supplied as before
-pub record AllWasHanded (between after : Handed) : Type 0 where
+pub record AllWasSupplied (between after : Supplied) : Type 0 where
   pub wanted : wanted_paths after ≡ []
-  pub found : ReadsAsHanded after
+  pub found : ReadsAsSupplied after
   pub same : SameFiles between after
 
-as-before : (between after : Handed) → handed_state after ≡ handed_state between → wanted_paths between ≡ []
-    → ReadsAsHanded between → AllWasHanded between after
+as-before : (between after : Supplied) → supplied_state after ≡ supplied_state between
+    → wanted_paths between ≡ []
+    → ReadsAsSupplied between → AllWasSupplied between after
 as-before between after is none found = record {
   wanted = ap wanted-of is ∙ none;
   found = subst FoundBy (sym is) found;
   same = λ path. ap (λ s. s.files path) is;
 }
 
-handed-loaded : (main : List ℕ) (before : SourceState) (between after : Handed) (loaded : LoadedModel)
+supplied-loaded : (main : List ℕ) (before : SourceState) (between after : Supplied) (loaded : LoadedModel)
     (joins : Bool) (result : Result GraphModel GraphFault)
-    → Loads main before (handed_state between) (Ok loaded) → paths_to_load between joins (Ok loaded) ≡ []
-    → ReadsAsHanded between
-    → GivesGraph (handed_state between) (handed_state after) joins (Ok loaded) result
-    → AllWasHanded between after
-handed-loaded main before between after loaded false result loads none found gives =
+    → Loads main before (supplied_state between) (Ok loaded) → paths_to_load between joins (Ok loaded) ≡ []
+    → ReadsAsSupplied between
+    → GivesGraph (supplied_state between) (supplied_state after) joins (Ok loaded) result
+    → AllWasSupplied between after
+supplied-loaded main before between after loaded false result loads none found gives =
     as-before between after gives.0 (first-none (wanted_paths between)
     (lacking_dyndeps between false loaded.graph) none).0 found
-handed-loaded main before between after loaded true result loads none found (joined, is, joins) =
+supplied-loaded main before between after loaded true result loads none found (joined, is, joins) =
     let nothing = first-none (wanted_paths between) (lacking_dyndeps between true loaded.graph) none in
     let stated = loads.2.entries in let graph = loads.2.graph_is in let reads = joins stated graph in
     record {
@@ -81,14 +83,15 @@ handed-loaded main before between after loaded true result loads none found (joi
       same = same-files between after loaded stated graph nothing.0 nothing.1 found joined reads;
     }
 
-all-handed-in : (main : List ℕ) (before : SourceState) (between after : Handed)
+all-was-supplied : (main : List ℕ) (before : SourceState) (between after : Supplied)
     (loaded : Result LoadedModel GraphFault) (joins : Bool) (result : Result GraphModel GraphFault)
-    → Loads main before (handed_state between) loaded → paths_to_load between joins loaded ≡ []
-    → ReadsAsHanded between
-    → GivesGraph (handed_state between) (handed_state after) joins loaded result → AllWasHanded between after
-all-handed-in main before between after (Ok loaded) joins result loads none found gives =
-    handed-loaded main before between after loaded joins result loads none found gives
-all-handed-in main before between after (Err fault) joins result loads none found gives =
+    → Loads main before (supplied_state between) loaded → paths_to_load between joins loaded ≡ []
+    → ReadsAsSupplied between
+    → GivesGraph (supplied_state between) (supplied_state after) joins loaded result
+    → AllWasSupplied between after
+all-was-supplied main before between after (Ok loaded) joins result loads none found gives =
+    supplied-loaded main before between after loaded joins result loads none found gives
+all-was-supplied main before between after (Err fault) joins result loads none found gives =
     as-before between after gives.0 none found
 
 -- ---- the kept result of a load
@@ -103,11 +106,11 @@ no-items : (paths : List (Vec ℕ)) → map (λ p. p.items) paths ≡ [] → pat
 no-items [] is = refl
 no-items (p ∷ ps) is = absurd (true≢false (sym (ap is-nil is)))
 
-module _ (before middle : Kept) (files : Handed) (main : List ℕ) (joins : Bool)
+module _ (before middle : Kept) (files : Supplied) (main : List ℕ) (joins : Bool)
     (loaded : Result LoadedModel GraphFault)
     (begun : middle.files ≡ unread before.files) (none : KeepsNothing middle) (nothing : LeavesNothing middle)
     (run : SameRun before middle)
-    (loads : Loads main (handed_state (unread before.files)) (handed_state files) loaded) where
+    (loads : Loads main (supplied_state (unread before.files)) (supplied_state files) loaded) where
   -- the session after the load, before anything of it is kept
   abbrev read : Kept
   read = record middle { files = files }
@@ -115,7 +118,7 @@ module _ (before middle : Kept) (files : Handed) (main : List ℕ) (joins : Bool
   same : SameFiles before.files files
   same path = loads.1.read.files path
 
-  module _ (after : Kept) (others : Handed) (same-then : SameFiles before.files others) where
+  module _ (after : Kept) (others : Supplied) (same-then : SameFiles before.files others) where
     lacks : after ≡ record middle { files = others } → LoadsKept before after main joins OutOfMemory
     lacks is = subst (λ k. LoadsKept before k main joins OutOfMemory) (sym is) (
       same-then,
@@ -156,7 +159,7 @@ module _ (before middle : Kept) (files : Handed) (main : List ℕ) (joins : Bool
   out_of_memory : (after : Kept) → after ≡ read → LoadsKept before after main joins OutOfMemory
   out_of_memory after is = lacks after files same is
 
-  finishes : (found : ReadsAsHanded files) (wanted : Vec (Vec ℕ)) → loaded ≢ Err no_memory
+  finishes : (found : ReadsAsSupplied files) (wanted : Vec (Vec ℕ)) → loaded ≢ Err no_memory
       → map (λ p. p.items) wanted.items ≡ paths_to_load files joins loaded → (after : Kept) (status : Status)
       → KeepsLoad read after joins loaded wanted status → LoadsKept before after main joins status
   finishes found wanted memory are after status (inl (waits, is, some)) =
@@ -180,7 +183,8 @@ module _ (before middle : Kept) (files : Handed) (main : List ℕ) (joins : Bool
       ))
   finishes found wanted memory are after status (inr (others, result, empty, gives, kept)) =
       let none-to-load : paths_to_load files joins loaded ≡ [] = sym are ∙ ap (map (λ p. p.items)) empty in
-      let all = all-handed-in main (handed_state (unread before.files)) files others loaded joins result loads
+      let all = all-was-supplied main (supplied_state (unread before.files)) files others loaded joins result
+      loads
       none-to-load found gives in
       keeps after others (λ path. all.same path ∙ same path) result status
       (record {
@@ -196,7 +200,8 @@ module _ (before middle : Kept) (files : Handed) (main : List ℕ) (joins : Bool
   pub loads_kept : (after : Kept) (status : Status) → FinishesLoad read after joins loaded status
       → LoadsKept before after main joins status
   loads_kept after status (inl (wanted, memory, are, found, keeps)) =
-      let stated = are-statements main (handed_state (unread before.files)) (handed_state files) loaded loads
+      let stated = are-statements main (supplied_state (unread before.files)) (supplied_state files) loaded
+      loads
       in
       finishes found wanted memory (are stated.0 stated.1) after status keeps
   loads_kept after status (inr (is, left)) =
@@ -206,7 +211,7 @@ pub not_loaded : (before after : Kept) (main : List ℕ) (joins : Bool) → afte
     → KeepsNothing after → LeavesNothing after
     → SameRun before after → is_utf8 main ≡ false → LoadsKept before after main joins NotUtf8
 not_loaded before after main joins files none nothing run text =
-    ((λ path. ap (λ f. handed_in f path) files), nothing, run, (none, text))
+    ((λ path. ap (λ f. supplied_for f path) files), nothing, run, (none, text))
 
 -- ---- how the graph is given
 

@@ -23,7 +23,7 @@ use Rattle.nj_graph.specs.Loads.{LoadedModel, LoadedOr, Loads, main_reached}
 use Rattle.nj_graph.proofs.ReadingRows.{on_files}
 use Rattle.nj_c.specs.declared.session_state.Kept.{Kept}
 use Rattle.nj_c.specs.declared.status.Status.TheVariants.{Done, Fault, Wanted, OutOfMemory}
-use Rattle.nj_c.specs.HandedIn.{Handed, handed_in, handed_state, reads_as, wanted_paths}
+use Rattle.nj_c.specs.SuppliedFiles.{Supplied, supplied_for, supplied_state, reads_as, wanted_paths}
 use Rattle.nj_c.specs.Loading.{unread, lacking_dyndeps, paths_or, paths_to_load, KeepsNothing, LeavesNothing}
 use Rattle.nj_c.specs.Loading.{LoadsKept}
 
@@ -50,7 +50,7 @@ m = codes "m"
 abbrev a : List ℕ
 a = codes "a"
 
-abbrev begun : Handed
+abbrev begun : Supplied
 begun = record { paths = m ∷ []; files = Some (codes "include a\n") ∷ []; read = [] }
 
 -- the reading of a path
@@ -201,9 +201,10 @@ AreFirst files = IsPrefix (paths_of files) (m ∷ a ∷ [])
 both-first : (files : List Reading) → paths_of files ≡ m ∷ a ∷ [] → AreFirst files
 both-first files are = subst (λ paths. IsPrefix paths (m ∷ a ∷ [])) (sym are) ([], refl)
 
-never-ends : (after : Handed) (files : List Reading) (fault : GraphFault) (reached : ReachedModel) (end : End)
+never-ends : (after : Supplied) (files : List Reading) (fault : GraphFault) (reached : ReachedModel)
+    (end : End)
     → AreGiven files → reached.read.end ≡ end
-    → IsEnd (handed_state begun) (handed_state after) end fault
+    → IsEnd (supplied_state begun) (supplied_state after) end fault
     → (IsLacking end (with-both files) → main_reached m (with-both files) ≡ reached) → ⊥
 never-ends after files fault reached Whole are is answered read = answered
 never-ends after files fault reached (Refused f) are is answered read =
@@ -211,9 +212,9 @@ never-ends after files fault reached (Refused f) are is answered read =
 never-ends after files fault reached (Lacking path place) are is answered read = let below =
     answered.1.above (omega arith) in absurd (omega (arith, below))
 
-first-paths : (after : Handed) (files : List Reading) (result : Result LoadedModel GraphFault)
+first-paths : (after : Supplied) (files : List Reading) (result : Result LoadedModel GraphFault)
     → AreGiven files
-    → LoadedOr (handed_state begun) (handed_state after) files (main_reached m) result → AreFirst files
+    → LoadedOr (supplied_state begun) (supplied_state after) files (main_reached m) result → AreFirst files
 first-paths after files (Ok loaded) are ok =
     both-first files (whole-paths files are (ap (λ r. r.end) ok.whole.read) ok.whole.came_to)
 first-paths after files (Err fault) are (inl (inl lacks)) =
@@ -228,7 +229,7 @@ first-paths after files (Err fault) are (inr cycle) =
 -- ---- the files that it wants
 
 abbrev wanted_of : List (List ℕ) → List (List ℕ)
-wanted_of paths = filter_map (λ path. cond (is_some (handed_in begun path)) None (Some path)) paths
+wanted_of paths = filter_map (λ path. cond (is_some (supplied_for begun path)) None (Some path)) paths
 
 abbrev first_two : List (List ℕ) → List (List ℕ)
 first_two [] = []
@@ -253,9 +254,9 @@ one-wanted (p ∷ q ∷ []) (others, is) some = ap wanted_of (sym (ap first_two 
 one-wanted (p ∷ q ∷ r ∷ ps) (others, is) some = absurd (true≢false (sym (ap are_more is)))
 
 module _ (before after : Kept) (is : unread before.files ≡ begun)
-    (same : (path : List ℕ) → handed_in after.files path ≡ handed_in before.files path) where
-  as-begun : (path : List ℕ) → handed_in after.files path ≡ handed_in begun path
-  as-begun path = same path ∙ ap (λ h. handed_in h path) is
+    (same : (path : List ℕ) → supplied_for after.files path ≡ supplied_for before.files path) where
+  as-begun : (path : List ℕ) → supplied_for after.files path ≡ supplied_for begun path
+  as-begun path = same path ∙ ap (λ h. supplied_for h path) is
 
   are-given : (files : List Reading) → AllByRecursion (λ r. r.bytes ≡ reads_as after.files r.path) files
       → AreGiven files
@@ -266,26 +267,27 @@ module _ (before after : Kept) (is : unread before.files ≡ begun)
   )
 
   are-wanted : (files : List Reading) → filter_map
-      (λ r. cond (is_some (handed_in after.files r.path)) None (Some r.path)) files
+      (λ r. cond (is_some (supplied_for after.files r.path)) None (Some r.path)) files
       ≡ wanted_of (paths_of files)
   are-wanted [] = refl
   are-wanted (r ∷ rs) =
-      let others = filter_map (λ r. cond (is_some (handed_in after.files r.path)) None (Some r.path)) rs in
+      let others = filter_map (λ r. cond (is_some (supplied_for after.files r.path)) None (Some r.path)) rs in
       ap (λ file. cons_option (cond (is_some file) None (Some r.path)) others) (as-begun r.path)
-      ∙ ap (cons_option (cond (is_some (handed_in begun r.path)) None (Some r.path))) (are-wanted rs)
+      ∙ ap (cons_option (cond (is_some (supplied_for begun r.path)) None (Some r.path))) (are-wanted rs)
 
   loaded-by : (loaded : Result LoadedModel GraphFault)
-      → Loads m (handed_state (unread before.files)) (handed_state after.files) loaded
-      → Loads m (handed_state begun) (handed_state after.files) loaded
-  loaded-by loaded loads = subst (λ s. Loads m s (handed_state after.files) loaded) (ap handed_state is) loads
+      → Loads m (supplied_state (unread before.files)) (supplied_state after.files) loaded
+      → Loads m (supplied_state begun) (supplied_state after.files) loaded
+  loaded-by loaded loads = subst (λ s. Loads m s (supplied_state after.files) loaded) (ap supplied_state is)
+      loads
 
   are-first : (loaded : Result LoadedModel GraphFault)
-      → Loads m (handed_state begun) (handed_state after.files) loaded
+      → Loads m (supplied_state begun) (supplied_state after.files) loaded
       → AreGiven after.files.read → AreFirst after.files.read
   are-first loaded (files, read, or) are =
       let these : files ≡ after.files.read = read.added ∙ sym (ap (λ o. unwrap_or o []) read.read.reported) in
       first-paths after.files after.files.read loaded are
-      (subst (λ fs. LoadedOr (handed_state begun) (handed_state after.files) fs (main_reached m) loaded)
+      (subst (λ fs. LoadedOr (supplied_state begun) (supplied_state after.files) fs (main_reached m) loaded)
       these or)
 
 -- without dyndep files those that were read and not supplied are wanted
@@ -293,7 +295,7 @@ paths_or-none : (paths : List (List ℕ)) → paths_or paths [] ≡ paths
 paths_or-none [] = refl
 paths_or-none (path ∷ paths) = refl
 
-read-alone : (h : Handed) (loaded : Result LoadedModel GraphFault)
+read-alone : (h : Supplied) (loaded : Result LoadedModel GraphFault)
     → paths_to_load h false loaded ≡ wanted_paths h
 read-alone h (Ok loaded) = paths_or-none (wanted_paths h)
 read-alone h (Err fault) = refl
@@ -327,7 +329,7 @@ bound_to file = record { pool = None; dyndep = file }
 abbrev with_bound : GraphModel → List (Option (List ℕ)) → GraphModel
 with_bound g files = record g { built = record g.built { assigned = map bound_to files } }
 
-abbrev with_d : Handed
+abbrev with_d : Supplied
 with_d = record { paths = m ∷ codes "d" ∷ []; files = Some [] ∷ None ∷ []; read = given m ∷ [] }
 
 -- Both that are not there are wanted, without duplicates, in the order of their first edges; `d` is

@@ -20,7 +20,7 @@ use Rattle.nj_c.specs.declared.status.Status.{Status}
 use Rattle.nj_c.specs.declared.status.Status.TheVariants.{Done, Nothing, Short, Fault, Wanted, NotLoaded}
 use Rattle.nj_c.specs.declared.status.Status.TheVariants.{BadNumber, BadMark, NotUtf8, NotOpen, OutOfMemory}
 use Rattle.nj_c.specs.declared.status.Status.TheVariants.{BadLog}
-use Rattle.nj_c.specs.HandedIn.{Handed, handed_in, handed_state, SameFiles}
+use Rattle.nj_c.specs.SuppliedFiles.{Supplied, supplied_for, supplied_state, SameFiles}
 use Rattle.nj_c.specs.Loading.{unread}
 use Rattle.nj_c.specs.Runs.{untouched, given_words, KeepsNoOutput, OutputsNeverFail, LeavesRun}
 use Rattle.nj_c.specs.Runs.{LeavesRunOfText, RunsKept, SameLoad}
@@ -51,17 +51,17 @@ no-output kept none = record {
 
 -- from new sinks
 pub from-new : (words : List (List ℕ)) (before after : Kept) (ended : run.Status) → NoRun before
-    → RunsWords words (around (handed_state before.files) (state_of before.output) (state_of before.errors))
-    (around (handed_state after.files) (state_of after.output) (state_of after.errors)) ended
+    → RunsWords words (around (supplied_state before.files) (state_of before.output) (state_of before.errors))
+    (around (supplied_state after.files) (state_of after.output) (state_of after.errors)) ended
     → Ran before.files after words ended
 from-new words before after ended none runs =
-    let end = around (handed_state after.files) (state_of after.output) (state_of after.errors) in
-    subst (λ m. RunsWords words (around (handed_state before.files) untouched (state_of m)) end ended)
+    let end = around (supplied_state after.files) (state_of after.output) (state_of after.errors) in
+    subst (λ m. RunsWords words (around (supplied_state before.files) untouched (state_of m)) end ended)
     none.errors
-    (subst (λ m. RunsWords words (around (handed_state before.files) (state_of m) (state_of before.errors))
+    (subst (λ m. RunsWords words (around (supplied_state before.files) (state_of m) (state_of before.errors))
     end ended) none.output runs)
 
-module _ (words : List (List ℕ)) (begun : Handed) (mid after : Kept) (ended : run.Status) where
+module _ (words : List (List ℕ)) (begun : Supplied) (mid after : Kept) (ended : run.Status) where
   pub ends-done : (before exit : ℤ) → Ran begun mid words ended → after.files ≡ mid.files
       → exit ≡ pos (exit_code ended) → FinishesRun mid after Done
       → LeavesRun begun after words before exit Done
@@ -142,7 +142,7 @@ pub runs-kept : (before middle after : Kept) (text : List ℕ) (words : List (Li
     → SameLoad middle after
     → LeavesRun middle.files after words exit new status → RunsKept before after text exit new status
 runs-kept before middle after text words exit new status begun one are files two ends = (
-  (λ path. files path ∙ ap (λ f. handed_in f path) begun),
+  (λ path. files path ∙ ap (λ f. supplied_for f path) begun),
   same-load before middle after one two,
   of-text before after text exit new status
       (subst (λ ws. LeavesRun (unread before.files) after ws exit new status) are
@@ -153,9 +153,9 @@ pub not-run : (before middle : Kept) (text : List ℕ) (exit : ℤ) (status : St
     → middle.files ≡ unread before.files → SameLoad before middle → NoRun middle
     → middle.wanted.items ≡ [] → WordsRefused text status → RunsKept before middle text exit exit status
 not-run before middle text exit NotUtf8 begun one none wanted why =
-    ((λ path. ap (λ f. handed_in f path) begun), one, (refl, no-output middle none, wanted, why))
+    ((λ path. ap (λ f. supplied_for f path) begun), one, (refl, no-output middle none, wanted, why))
 not-run before middle text exit OutOfMemory begun one none wanted why =
-    ((λ path. ap (λ f. handed_in f path) begun), one, (refl, no-output middle none, wanted))
+    ((λ path. ap (λ f. supplied_for f path) begun), one, (refl, no-output middle none, wanted))
 not-run before middle text exit Done begun one none wanted why = absurd why
 not-run before middle text exit Nothing begun one none wanted why = absurd why
 not-run before middle text exit Short begun one none wanted why = absurd why
@@ -221,6 +221,6 @@ words-end words old new ended out err no-out no-err (inr fails) = other-status e
 
 pub never-fails : OutputsNeverFail
 never-fails begun after words output errors ended has =
-    words-end words (around (handed_state begun) untouched untouched)
-    (around (handed_state after) (state_of output) (state_of errors)) ended
+    words-end words (around (supplied_state begun) untouched untouched)
+    (around (supplied_state after) (state_of output) (state_of errors)) ended
     refl refl has.no_failures.0 has.no_failures.1 has.runs

@@ -6,14 +6,14 @@ use Rattle.std.specs.Global.{Vec}
 use Rattle.std.specs.List.{AllByRecursion, cons_option, filter_map, flat_map}
 use Rattle.std.proofs.lemmas.List.{append-nil, flat_map_more, map_push, take_more}
 use Rattle.nj_scope.specs.Readings.{Reading}
-use Rattle.nj_c.specs.declared.supplied_files.HandedReading.{HandedReading}
-use Rattle.nj_c.specs.Inside.HandedHeld.{read_bytes, reading_held, wanted_of}
-use Rattle.nj_c.proofs.HandedLemmas.{is-known}
+use Rattle.nj_c.specs.declared.supplied_files.NumberedReading.{NumberedReading}
+use Rattle.nj_c.specs.Inside.SuppliedHeld.{read_bytes, reading_held, wanted_of}
+use Rattle.nj_c.proofs.SuppliedLemmas.{is-known}
 
 abbrev pub bytes_of : Vec ℕ → List ℕ
 bytes_of p = p.items
 
-pub wanted-more : (old new : List (List ℕ)) (items : List HandedReading) (i : ℕ) (d : HandedReading)
+pub wanted-more : (old new : List (List ℕ)) (items : List NumberedReading) (i : ℕ) (d : NumberedReading)
     → i < length items
     → old ≡ flat_map wanted_of (take i items) → new ≡ old ++ wanted_of (get_or items i d)
     → new ≡ flat_map wanted_of (take (i + 1) items)
@@ -23,7 +23,7 @@ wanted-more old new items i d below is more =
     ∙ ap (flat_map wanted_of) (sym (take_more items i d below))
 
 -- one more path, of a reading that was not supplied
-pub wanted-push : (old new : List (Vec ℕ)) (path : Vec ℕ) (r : HandedReading) → is_some r.number ≡ false
+pub wanted-push : (old new : List (Vec ℕ)) (path : Vec ℕ) (r : NumberedReading) → is_some r.number ≡ false
     → path.items ≡ r.path.items
     → new ≡ old ++ path ∷ [] → map bytes_of new ≡ map bytes_of old ++ wanted_of r
 wanted-push old new path r none same more =
@@ -31,7 +31,7 @@ wanted-push old new path r none same more =
     ∙ ap (λ b. map bytes_of old ++ cond b [] (r.path.items ∷ [])) (sym none)
 
 -- none, of one that was
-pub wanted-same : (old : List (List ℕ)) (r : HandedReading) → is_some r.number ≡ true
+pub wanted-same : (old : List (List ℕ)) (r : NumberedReading) → is_some r.number ≡ true
     → old ≡ old ++ wanted_of r
 wanted-same old r some = sym (append-nil old) ∙ ap (λ b. old ++ cond b [] (r.path.items ∷ [])) (sym some)
 
@@ -45,7 +45,7 @@ abbrev wanted : List (List ℕ) → List (Option (List ℕ)) → Reading → Opt
 wanted paths files r = cond (is_some (option_and_then (slice_get files) (position (bytes_eq r.path) paths)))
     None (Some r.path)
 
-pub wanted-held : (paths : List (List ℕ)) (files : List (Option (List ℕ))) (read : List HandedReading)
+pub wanted-held : (paths : List (List ℕ)) (files : List (Option (List ℕ))) (read : List NumberedReading)
     → length files ≡ length paths
     → AllByRecursion (λ r. r.number ≡ position (bytes_eq r.path.items) paths) read
     → flat_map wanted_of read ≡ filter_map (wanted paths files) (map (reading_held files) read)
@@ -70,7 +70,7 @@ found-one files (Some n) known = by_file (slice_get files n) known
     by_file None there = absurd (true≢false (sym there))
     by_file (Some f) there = refl
 
-pub found-held : (paths : List (List ℕ)) (files : List (Option (List ℕ))) (read : List HandedReading)
+pub found-held : (paths : List (List ℕ)) (files : List (Option (List ℕ))) (read : List NumberedReading)
     → length files ≡ length paths
     → AllByRecursion (λ r. r.number ≡ position (bytes_eq r.path.items) paths) read
     → AllByRecursion (λ r. r.bytes ≡ unwrap_or

@@ -21,7 +21,7 @@ pub use Rattle.nj_scope.specs.ReadingList.{ReadStatement}
 pub use Rattle.nj_graph.specs.Discovering.{AreDiscovered}
 pub use Rattle.nj_c.specs.DiscoveredInputs.{given_read, lacking_depfiles, log_bytes, times_of, unknown_of, ForgetsGraph, JoinsDiscovered}
 pub use Rattle.nj_c.specs.DiscoveredInputs.{JoinsFound, maker_at, time_found, depfile_at}
-pub use Rattle.nj_c.specs.HandedIn.{handed_state, SameFiles, wanted_paths, handed_in, ReadsAsHanded, SetsFile}
+pub use Rattle.nj_c.specs.SuppliedFiles.{supplied_state, SameFiles, wanted_paths, supplied_for, ReadsAsSupplied, SetsFile}
 pub use Rattle.nj_c.specs.Inside.DiscoveredHeld.{FindsOr, JoinsTo, KeepsFound, IsAnswer}
 pub use Rattle.nj_statements.specs.Built.{detail_at, defaults_in_force}
 pub use Rattle.nj_c.specs.FaultKinds.{kind_of, kind_of_syntax}
@@ -36,7 +36,7 @@ pub use Rattle.nj_c.specs.Targets.{PicksFile}
 pub use Rattle.nj_c.specs.Inside.RunsHeld.{empty_memory, FinishesRun, KeepsRun, NoFailures, NoRun, Ran, WordsRefused}
 pub use Rattle.nj_scope.specs.Sources.{outcome_bytes}
 pub use Rattle.std.specs.List.{flat_map, list_any, filter}
-pub use Rattle.nj_c.specs.Inside.HandedHeld.{read_bytes, wanted_of}
+pub use Rattle.nj_c.specs.Inside.SuppliedHeld.{read_bytes, wanted_of}
 pub use Rattle.nj_c.specs.UndeclaredInputs.{numbered_input, GivesInputs, GivesUndeclared, InputsKeptUnlessDone}
 pub use Rattle.nj_names.specs.NameTables.{with_name}
 pub use Rattle.nj_edges.specs.Repeats.{each_once}

@@ -22,7 +22,7 @@ use Rattle.nj_c.specs.declared.session_state.Kept.{Kept}
 use Rattle.nj_c.specs.declared.session_state.LogRead.{LogRead}
 use Rattle.nj_c.specs.declared.status.Status.{Status}
 use Rattle.nj_c.specs.declared.status.Status.TheVariants.{Done, Fault, Wanted, NotLoaded, BadNumber, BadLog, OutOfMemory}
-use Rattle.nj_c.specs.HandedIn.{Handed, handed_state, SameFiles}
+use Rattle.nj_c.specs.SuppliedFiles.{Supplied, supplied_state, SameFiles}
 use Rattle.nj_c.specs.JoinedLogs.{read_of, IsNoLog, KeepsNumbers}
 use Rattle.nj_c.specs.Loading.{is_lacking, unread, SameRun}
 
@@ -69,7 +69,7 @@ abbrev pub depfile_at : List ReadStatement → (edge : ℕ) → Option (List ℕ
 depfile_at stated edge = depfile_by (late_text_of stated edge (codes "deps")) (late_text_of stated edge (codes "depfile"))
 
 -- those of the first edges that were not supplied, without duplicates
-abbrev pub lacking_depfiles : Handed → List ReadStatement → (count : ℕ) → List (List ℕ)
+abbrev pub lacking_depfiles : Supplied → List ReadStatement → (count : ℕ) → List (List ℕ)
 lacking_depfiles h stated count = each_once bytes_eq (filter (is_lacking h) (filter_map (depfile_at stated) (range_with_len 0 count)))
 
 -- ---- joining
@@ -86,10 +86,10 @@ unknown_of found = map (λ edge. is_unknown edge.verdict) found.edges
 
 -- The edges of a graph discovered this by a log, the supplied depfiles and these times, and it was joined: this is the graph of all, or
 -- the fault.
-pub record FindsInputs (g : GraphModel) (before after : Handed) (log : LogModel) (times : List ℕ) (stated : List ReadStatement)
+pub record FindsInputs (g : GraphModel) (before after : Supplied) (log : LogModel) (times : List ℕ) (stated : List ReadStatement)
     (found : DiscoveriesModel) (result : Result GraphModel GraphFault)
     : Type 0 where
-  pub discovered : AreDiscovered (handed_state (unread before)) (handed_state after) (times_of g times) log stated found
+  pub discovered : AreDiscovered (supplied_state (unread before)) (supplied_state after) (times_of g times) log stated found
   pub joins : JoinsNamed (λ edge. (discovery_at found edge).inputs) stated result
 
 -- the supplied files, the lists and the last run stay the same, and no path is wanted

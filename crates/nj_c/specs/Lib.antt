@@ -1,6 +1,6 @@
 -- the definitions to believe
 pub mod Statuses
-pub mod HandedIn
+pub mod SuppliedFiles
 pub mod Asking
 pub mod Buffers
 pub mod Loading

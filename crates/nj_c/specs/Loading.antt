@@ -14,7 +14,7 @@ use Rattle.nj_c.specs.declared.session_state.Kept.{Kept}
 use Rattle.nj_c.specs.declared.status.Status.{Status}
 use Rattle.nj_c.specs.declared.status.Status.TheVariants.{Done, Fault, Wanted, NotUtf8, NotOpen, OutOfMemory}
 use Rattle.nj_c.specs.Statuses.{code_of}
-use Rattle.nj_c.specs.HandedIn.{Handed, handed_in, handed_state, wanted_paths, ReadsAsHanded, SameFiles, SetsFile}
+use Rattle.nj_c.specs.SuppliedFiles.{Supplied, supplied_for, supplied_state, wanted_paths, ReadsAsSupplied, SameFiles, SetsFile}
 
 -- a status was returned, with this property
 abbrev pub Returns : ℤ → (Status → Type 0) → Type 0
@@ -51,7 +51,7 @@ Opens before after result =
     ⊎ ((result ≡ code_of OutOfMemory) × (after ≡ before))
 
 -- the file at a path was set; or an allocation failed, and the supplied files are unchanged
-abbrev pub TakesFile : (before after : Handed) → (path : List ℕ) → (file : Option (List ℕ)) → Status → Type 0
+abbrev pub TakesFile : (before after : Supplied) → (path : List ℕ) → (file : Option (List ℕ)) → Status → Type 0
 TakesFile before after path file Done = SetsFile before after path file
 TakesFile before after path file OutOfMemory = after ≡ before
 TakesFile before after path file other = ⊥
@@ -59,12 +59,12 @@ TakesFile before after path file other = ⊥
 -- so does an open session, which keeps all else
 abbrev pub TakesPath : (before after : Kept) → (path : List ℕ) → (file : Option (List ℕ)) → Status → Type 0
 TakesPath before after path file status =
-    (files : Handed) × (after ≡ record before { files = files }) × TakesFile before.files files path file status
+    (files : Supplied) × (after ≡ record before { files = files }) × TakesFile before.files files path file status
 
 -- ---- the files that a load reads and wants
 
 -- the supplied files, before any reading
-abbrev pub unread : Handed → Handed
+abbrev pub unread : Supplied → Supplied
 unread h = record { paths = h.paths; files = h.files; read = [] }
 
 -- the dyndep files to which edges are bound, in the order of the edges
@@ -72,11 +72,11 @@ abbrev pub dyndeps_of : GraphModel → List (List ℕ)
 dyndeps_of g = filter_map (λ a. a.dyndep) g.built.assigned
 
 -- nothing was supplied for a path; one that is not UTF-8 is never read
-abbrev pub is_lacking : Handed → (path : List ℕ) → Bool
-is_lacking h path = is_utf8 path && not (is_some (handed_in h path))
+abbrev pub is_lacking : Supplied → (path : List ℕ) → Bool
+is_lacking h path = is_utf8 path && not (is_some (supplied_for h path))
 
 -- the dyndep files that are to be joined and were not supplied, without duplicates
-abbrev pub lacking_dyndeps : Handed → (joins : Bool) → GraphModel → List (List ℕ)
+abbrev pub lacking_dyndeps : Supplied → (joins : Bool) → GraphModel → List (List ℕ)
 lacking_dyndeps h joins g = if joins then each_once bytes_eq (filter (is_lacking h) (dyndeps_of g)) else []
 
 -- these paths, or the others if there are none
@@ -86,7 +86,7 @@ paths_or (path ∷ paths) others = path ∷ paths
 
 -- The paths that are wanted once a main file and all that it includes are loaded: those that were read and not supplied;
 -- where there are none of these, all dyndep files that are to be joined and were not supplied.
-abbrev pub paths_to_load : Handed → (joins : Bool) → Result LoadedModel GraphFault → List (List ℕ)
+abbrev pub paths_to_load : Supplied → (joins : Bool) → Result LoadedModel GraphFault → List (List ℕ)
 paths_to_load h joins (Ok loaded) = paths_or (wanted_paths h) (lacking_dyndeps h joins loaded.graph)
 paths_to_load h joins (Err fault) = wanted_paths h
 
@@ -112,20 +112,20 @@ GivesGraph between after joins (Err fault) result = (after ≡ between) × (resu
 
 -- A main file was loaded from the supplied files, and nothing was wanted; so all files read then, dyndep files among them, were
 -- supplied.
-pub record LoadsFiles (before after : Handed) (main : List ℕ) (joins : Bool) (result : Result GraphModel GraphFault) : Type 0 where
-  pub between : Handed
+pub record LoadsFiles (before after : Supplied) (main : List ℕ) (joins : Bool) (result : Result GraphModel GraphFault) : Type 0 where
+  pub between : Supplied
   pub loaded : Result LoadedModel GraphFault
-  pub loads : Loads main (handed_state (unread before)) (handed_state between) loaded
+  pub loads : Loads main (supplied_state (unread before)) (supplied_state between) loaded
   pub none_to_load : paths_to_load between joins loaded ≡ []
-  pub gives : GivesGraph (handed_state between) (handed_state after) joins loaded result
-  pub found : ReadsAsHanded after
+  pub gives : GivesGraph (supplied_state between) (supplied_state after) joins loaded result
+  pub found : ReadsAsSupplied after
   pub none_wanted : wanted_paths after ≡ []
 
 -- A main file was loaded from the supplied files, and paths are wanted, which are listed.
 pub record WantsFiles (before after : Kept) (main : List ℕ) (joins : Bool) : Type 0 where
   pub loaded : Result LoadedModel GraphFault
-  pub loads : Loads main (handed_state (unread before.files)) (handed_state after.files) loaded
-  pub found : ReadsAsHanded after.files
+  pub loads : Loads main (supplied_state (unread before.files)) (supplied_state after.files) loaded
+  pub found : ReadsAsSupplied after.files
   pub in_memory : loaded ≢ Err no_memory
   pub are : map (λ p. p.items) after.wanted.items ≡ paths_to_load after.files joins loaded
   pub some : paths_to_load after.files joins loaded ≢ []

@@ -12,7 +12,7 @@ use Rattle.nj_cli.specs.Status.{exit_code}
 use Rattle.nj_c.specs.declared.session_state.Kept.{Kept}
 use Rattle.nj_c.specs.declared.status.Status.{Status}
 use Rattle.nj_c.specs.declared.status.Status.TheVariants.{Done, Wanted, NotUtf8, OutOfMemory}
-use Rattle.nj_c.specs.HandedIn.{Handed, handed_state, wanted_paths, ReadsAsHanded, SameFiles}
+use Rattle.nj_c.specs.SuppliedFiles.{Supplied, supplied_state, wanted_paths, ReadsAsSupplied, SameFiles}
 use Rattle.nj_c.specs.Loading.{unread, ListsWanted}
 
 -- ---- the words
@@ -49,15 +49,15 @@ untouched = record { taken = Some []; failures = 0; took_since_failure = false }
 
 -- The program ran with these arguments over the supplied files, and wrote this to standard output and standard error, without a
 -- failure.
-pub record HasRun (begun after : Handed) (words : List (List ℕ)) (output errors : Memory) (ended : run.Status) : Type 0 where
-  pub runs : RunsWords words (around (handed_state begun) untouched untouched)
-      (around (handed_state after) (state_of output) (state_of errors)) ended
-  pub found : ReadsAsHanded after
+pub record HasRun (begun after : Supplied) (words : List (List ℕ)) (output errors : Memory) (ended : run.Status) : Type 0 where
+  pub runs : RunsWords words (around (supplied_state begun) untouched untouched)
+      (around (supplied_state after) (state_of output) (state_of errors)) ended
+  pub found : ReadsAsSupplied after
   pub no_failures : (output.failures ≡ 0) × (errors.failures ≡ 0)
 
 -- So it never ends as a run whose standard output could not be written.
 abbrev pub OutputsNeverFail : Type 0
-OutputsNeverFail = (begun after : Handed) (words : List (List ℕ)) (output errors : Memory) (ended : run.Status)
+OutputsNeverFail = (begun after : Supplied) (words : List (List ℕ)) (output errors : Memory) (ended : run.Status)
     → HasRun begun after words output errors ended → ended ≢ OutputFailed
 
 -- nothing is kept of a run's output
@@ -76,7 +76,7 @@ pub record SameLoad (before after : Kept) : Type 0 where
 
 -- The session after a run with these arguments, by its status. All files that it read were supplied, unless some are
 -- wanted.
-abbrev pub LeavesRun : (begun : Handed) → (after : Kept) → (words : List (List ℕ)) → (exit_before exit_after : ℤ) → Status → Type 0
+abbrev pub LeavesRun : (begun : Supplied) → (after : Kept) → (words : List (List ℕ)) → (exit_before exit_after : ℤ) → Status → Type 0
 LeavesRun begun after words exit_before exit_after Done =
     (ended : run.Status) × (exit_after ≡ pos (exit_code ended)) × HasRun begun after.files words after.output after.errors ended
     × (wanted_paths after.files ≡ []) × (after.wanted.items ≡ [])

@@ -1,7 +1,7 @@
 //! Inputs that builds discovered.
 
 ghost use Rattle.std.specs.Prelude.{◌≡◌, ◌≢◌, ◌<◌, List, length, map, slice_get, IfOk, IfErr, Some, None};
-ghost use Rattle.nj_c.specs.Cited.{IsLogOf, IsLogFault, ReadStatement, AreDiscovered, edges_of, GraphModel, IsGraphOf, bool_code, GivesItem, IfLoaded, IfNumber, IfOpen, given_read, lacking_depfiles, log_bytes, times_of, unknown_of, ForgetsGraph, JoinsDiscovered, JoinsFound, handed_state, SameFiles, Changes, code_of, FindsOr, JoinsTo, KeepsFound};
+ghost use Rattle.nj_c.specs.Cited.{IsLogOf, IsLogFault, ReadStatement, AreDiscovered, edges_of, GraphModel, IsGraphOf, bool_code, GivesItem, IfLoaded, IfNumber, IfOpen, given_read, lacking_depfiles, log_bytes, times_of, unknown_of, ForgetsGraph, JoinsDiscovered, JoinsFound, supplied_state, SameFiles, Changes, code_of, FindsOr, JoinsTo, KeepsFound};
 
 use crate::asking::{ask, change};
 use crate::deps_logs::log_read;
@@ -12,7 +12,7 @@ use crate::sealed_box::Seal;
 use crate::session::Session;
 use crate::session_state::{Kept, LogRead};
 use crate::status::Status;
-use crate::supplied_files::HandedIn;
+use crate::supplied_files::SuppliedFiles;
 use nj_deps::{DepsLog, DepsLogFault};
 use nj_graph::{Discoveries, Graph, GraphFault, Verdict};
 use nj_scope::{FileSource, HashKeys};
@@ -223,7 +223,7 @@ pub struct Joined {
 fn join_found(
     alloc: Global,
     graph: Graph,
-    files: &mut HandedIn,
+    files: &mut SuppliedFiles,
     log: &DepsLog,
     times: &[u64],
 ) -> Result<Joined, GraphFault>
@@ -249,7 +249,7 @@ fn join_known(alloc: Global, graph: Graph, found: &Discoveries) -> Result<Joined
 fn discover(
     alloc: Global,
     graph: &Graph,
-    files: &mut HandedIn,
+    files: &mut SuppliedFiles,
     log: &DepsLog,
     times: &[u64],
 ) -> Result<Discoveries, AllocError>
@@ -257,7 +257,7 @@ fn discover(
     ensures count { IfOk result (λ found.
         length found.edges ≡ length (edges_of graph.now)) }
     ensures discovered { (stated : List ReadStatement) → IsGraphOf graph.now stated
-        → IfOk result (AreDiscovered (handed_state files.old) (handed_state files.new)
+        → IfOk result (AreDiscovered (supplied_state files.old) (supplied_state files.new)
         (times_of graph.now times.now) log.now stated) }
 {
     graph.discover(alloc, log, files, &EdgeTimes { graph, times })

@@ -3,7 +3,7 @@
 ghost use Rattle.std.specs.Prelude.{◌≡◌, ◌<◌, List, length, map, option_map, IfOk};
 ghost use Rattle.nj_c.specs.Cited.{ReadStatement, edges_of, IsGraphOf, depfile_at, lacking_depfiles};
 
-use crate::supplied_files::HandedIn;
+use crate::supplied_files::SuppliedFiles;
 use crate::wanted_files::{copied_paths, name_if_lacking};
 use nj_edges::Files;
 use nj_graph::{EdgeNo, Graph};
@@ -14,7 +14,7 @@ use std::alloc::{AllocError, Global};
 /// deps log counts, and the depfile does not.
 pub(crate) fn lacking_depfiles(
     alloc: Global,
-    files: &HandedIn,
+    files: &SuppliedFiles,
     graph: &Graph,
 ) -> Result<Vec<Vec<u8>>, AllocError>
     ensures { (stated : List ReadStatement) → IsGraphOf graph.now stated
@@ -28,7 +28,7 @@ pub(crate) fn lacking_depfiles(
 }
 
 // The same, in a table.
-fn lacking_names(alloc: Global, files: &HandedIn, graph: &Graph) -> Result<Files, AllocError>
+fn lacking_names(alloc: Global, files: &SuppliedFiles, graph: &Graph) -> Result<Files, AllocError>
     ensures { (stated : List ReadStatement) → IsGraphOf graph.now stated
         → IfOk result (λ lacking. lacking
         ≡ lacking_depfiles files.now stated (length (edges_of graph.now))) }

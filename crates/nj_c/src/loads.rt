@@ -1,7 +1,7 @@
 //! Loads.
 
 ghost use Rattle.std.specs.Prelude.{◌≡◌, ◌≢◌, false, map, not, nat_eq, Err};
-ghost use Rattle.nj_c.specs.Cited.{no_memory, GivesTextAt, IfOpen, KeptUnlessDone, handed_state, graph_loaded, unread, Changes, GivesGraph, KeepsNothing, LeavesNothing, LoadsKept, SameRun, FinishesLoad, KeepsFault, KeepsLoad, KeepsResult};
+ghost use Rattle.nj_c.specs.Cited.{no_memory, GivesTextAt, IfOpen, KeptUnlessDone, supplied_state, graph_loaded, unread, Changes, GivesGraph, KeepsNothing, LeavesNothing, LoadsKept, SameRun, FinishesLoad, KeepsFault, KeepsLoad, KeepsResult};
 
 use crate::asking::{ask, change};
 use crate::buffers::copy_text;
@@ -9,7 +9,7 @@ use crate::sealed_box::Seal;
 use crate::session::Session;
 use crate::session_state::Kept;
 use crate::status::Status;
-use crate::supplied_files::HandedIn;
+use crate::supplied_files::SuppliedFiles;
 use crate::wanted_files::wanted_after;
 use nj_graph::{Cause, Graph, GraphFault, Loaded, join_dyndeps, load};
 use std::alloc::Global;
@@ -145,11 +145,11 @@ fn keep_load(
 #[tactic(auto, using(crate::proofs::LoadLemmas::gives_fault, crate::proofs::LoadLemmas::gives_loaded, crate::proofs::LoadLemmas::gives_joined))]
 fn joined_graph(
     alloc: Global,
-    files: &mut HandedIn,
+    files: &mut SuppliedFiles,
     loaded: Result<Loaded, GraphFault>,
     joins: bool,
 ) -> Result<Graph, GraphFault>
-    ensures { GivesGraph (handed_state files.old) (handed_state files.new) joins loaded result }
+    ensures { GivesGraph (supplied_state files.old) (supplied_state files.new) joins loaded result }
 {
     let loaded = loaded?;
     if !joins {

@@ -2,7 +2,7 @@
 
 ghost use Rattle.nj_c.specs.Cited.{IsEmpty};
 
-use crate::supplied_files::HandedIn;
+use crate::supplied_files::SuppliedFiles;
 use nj_graph::{EdgeNo, Graph, GraphFault};
 use nj_scope::HashKeys;
 use nj_tools::MemorySink;
@@ -12,7 +12,7 @@ use std::alloc::Global;
 #[derive(Drop)]
 pub struct Kept {
     /// The supplied files.
-    pub(crate) files: HandedIn,
+    pub(crate) files: SuppliedFiles,
     /// The paths that the last load or run wanted and that were not supplied.
     pub(crate) wanted: Vec<Vec<u8>>,
     /// The graph, after a load that went well.
@@ -48,7 +48,7 @@ impl Kept {
         ensures { IsEmpty result }
     {
         Kept {
-            files: HandedIn::new(alloc, keys),
+            files: SuppliedFiles::new(alloc, keys),
             wanted: Vec::new(alloc),
             graph: None,
             fault: None,

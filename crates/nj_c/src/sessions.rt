@@ -8,7 +8,7 @@ use crate::sealed_box::Seal;
 use crate::session::Session;
 use crate::session_state::Kept;
 use crate::status::Status;
-use crate::supplied_files::HandedIn;
+use crate::supplied_files::SuppliedFiles;
 use nj_scope::HashKeys;
 use std::alloc::{AllocError, Global};
 
@@ -100,7 +100,7 @@ fn set_file(seal: Seal, path: &[u8], file: Option<Vec<u8>>) -> (Seal, Status)
     (Seal::new(kept), status)
 }
 
-fn set_in(files: &mut HandedIn, path: &[u8], file: Option<Vec<u8>>) -> Status
+fn set_in(files: &mut SuppliedFiles, path: &[u8], file: Option<Vec<u8>>) -> Status
     ensures { TakesFile files.old files.new path.now (outcome_bytes file) result }
 {
     match files.set(path, file) {

@@ -1,7 +1,7 @@
 //! The files that C supplies.
 
 ghost use Rattle.std.specs.Prelude.{◌≡◌, ◌<◌, ◌++◌, [], ◌∷◌, false, is_some, length, map, set, position, bytes_eq, IfOk, IfSome, OnOk, OnErr};
-ghost use Rattle.nj_c.specs.Cited.{flat_map, list_any, outcome_bytes, handed_in, wanted_paths, ReadsAsHanded, SetsFile, read_bytes, wanted_of};
+ghost use Rattle.nj_c.specs.Cited.{flat_map, list_any, outcome_bytes, supplied_for, wanted_paths, ReadsAsSupplied, SetsFile, read_bytes, wanted_of};
 
 use nj_edges::{FileNo, Files};
 use nj_scope::{FileSource, HashKeys, SourceFault};
@@ -10,29 +10,29 @@ use std::marker::Model;
 
 // One reading: the path, and the number of its file; `None` if that was not supplied.
 #[derive(Drop)]
-struct HandedReading {
+struct NumberedReading {
     path: Vec<u8>,
     number: Option<usize>,
 }
 
 /// The supplied files. One that was not supplied reads as an empty file, and is then wanted.
 #[derive(Drop)]
-pub struct HandedIn {
+pub struct SuppliedFiles {
     keys: HashKeys,
     paths: Files,
     // For each path its bytes; `None` if no file is there.
     files: Vec<Option<Vec<u8>>>,
     // The readings since the last load began.
-    read: Vec<HandedReading>,
+    read: Vec<NumberedReading>,
 }
 
-impl Model for HandedIn {
+impl Model for SuppliedFiles {
     ghost use Rattle.std.specs.Prelude.{map};
     ghost use Rattle.nj_scope.specs.Sources.{outcome_bytes};
-    ghost use Rattle.nj_c.specs.HandedIn.{Handed};
-    ghost use Rattle.nj_c.specs.Inside.HandedHeld.{reading_held, AreHanded};
+    ghost use Rattle.nj_c.specs.SuppliedFiles.{Supplied};
+    ghost use Rattle.nj_c.specs.Inside.SuppliedHeld.{reading_held, AreSupplied};
 
-    ghost Value = { Handed };
+    ghost Value = { Supplied };
 
     ghost view = { λ h. record {
       paths = h.paths;
@@ -40,15 +40,15 @@ impl Model for HandedIn {
       read = map (reading_held (map outcome_bytes h.files.items)) h.read.items;
     } };
 
-    ghost invariant = { λ h. AreHanded h.paths h.files.items h.read.items };
+    ghost invariant = { λ h. AreSupplied h.paths h.files.items h.read.items };
 }
 
-impl HandedIn {
+impl SuppliedFiles {
     /// No files, whose paths are hashed by these keys. It allocates nothing.
-    pub(crate) fn new(alloc: Global, keys: HashKeys) -> HandedIn
+    pub(crate) fn new(alloc: Global, keys: HashKeys) -> SuppliedFiles
         ensures { result ≡ record { paths = []; files = []; read = [] } }
     {
-        HandedIn {
+        SuppliedFiles {
             keys,
             paths: Files::new(alloc, keys),
             files: Vec::new(alloc),
@@ -113,14 +113,14 @@ impl HandedIn {
     pub(crate) fn wanted(&self, alloc: Global) -> Result<Vec<Vec<u8>>, AllocError>
         ensures paths { IfOk result (λ paths.
             map (λ p. p.items) paths.items ≡ wanted_paths self.now) }
-        ensures found { ReadsAsHanded self.now }
+        ensures found { ReadsAsSupplied self.now }
     {
         wanted_in(alloc, &self.read)
     }
 
     /// Whether something was supplied for a path: bytes, or that no file is there.
     pub(crate) fn has(&self, path: &[u8]) -> bool
-        ensures { result ≡ is_some (handed_in self.now path.now) }
+        ensures { result ≡ is_some (supplied_for self.now path.now) }
     {
         self.paths.number(path).is_some()
     }
@@ -138,17 +138,17 @@ impl HandedIn {
     }
 }
 
-impl FileSource for HandedIn {
-    ghost use Rattle.nj_c.specs.HandedIn.{handed_state};
+impl FileSource for SuppliedFiles {
+    ghost use Rattle.nj_c.specs.SuppliedFiles.{supplied_state};
 
-    ghost state = { λ h. handed_state h };
+    ghost state = { λ h. supplied_state h };
 
     fn read(&mut self, alloc: Global, path: &str) -> Result<Option<Vec<u8>>, SourceFault> {
         let path = path.as_bytes();
         let number = self.number(path);
         let bytes = copy_at(alloc, &self.files, number)?;
         let path = Vec::from_slice(alloc, path)?;
-        self.read.push(HandedReading { path, number })?;
+        self.read.push(NumberedReading { path, number })?;
         Ok(bytes)
     }
 
@@ -158,7 +158,7 @@ impl FileSource for HandedIn {
 }
 
 // The paths of readings that were not supplied.
-fn wanted_in(alloc: Global, read: &[HandedReading]) -> Result<Vec<Vec<u8>>, AllocError>
+fn wanted_in(alloc: Global, read: &[NumberedReading]) -> Result<Vec<Vec<u8>>, AllocError>
     ensures { IfOk result (λ paths. map (λ p. p.items) paths.items
         ≡ flat_map wanted_of read.now) }
 {
@@ -173,7 +173,7 @@ fn wanted_in(alloc: Global, read: &[HandedReading]) -> Result<Vec<Vec<u8>>, Allo
 fn push_wanted(
     alloc: Global,
     paths: &mut Vec<Vec<u8>>,
-    reading: &HandedReading,
+    reading: &NumberedReading,
 ) -> Result<(), AllocError>
     ensures { OnOk result (map (λ p. p.items) paths.new.items
         ≡ map (λ p. p.items) paths.old.items ++ wanted_of reading.now) }

@@ -1,9 +1,9 @@
 //! The files that a load wants.
 
 ghost use Rattle.std.specs.Prelude.{◌≡◌, List, map, bytes_eq, if◌then◌else◌, IfOk, OnOk};
-ghost use Rattle.nj_c.specs.Cited.{filter, with_name, each_once, ReadStatement, IsGraphOf, wanted_paths, ReadsAsHanded, dyndeps_of, is_lacking, lacking_dyndeps, paths_or, paths_to_load, AreStatements};
+ghost use Rattle.nj_c.specs.Cited.{filter, with_name, each_once, ReadStatement, IsGraphOf, wanted_paths, ReadsAsSupplied, dyndeps_of, is_lacking, lacking_dyndeps, paths_or, paths_to_load, AreStatements};
 
-use crate::supplied_files::HandedIn;
+use crate::supplied_files::SuppliedFiles;
 use nj_edges::{FileNo, Files};
 use nj_graph::{Cause, EdgeNo, Graph, GraphFault, Loaded};
 use nj_scope::FileSource;
@@ -12,14 +12,14 @@ use std::alloc::{AllocError, Global};
 /// The paths that are wanted after the main file was loaded, with all that it includes.
 pub(crate) fn wanted_after(
     alloc: Global,
-    files: &HandedIn,
+    files: &SuppliedFiles,
     loaded: &Result<Loaded, GraphFault>,
     joins: bool,
 ) -> Result<Vec<Vec<u8>>, AllocError>
     ensures wanted { (entries : List ReadStatement) → AreStatements loaded.now entries
         → IfOk result (λ paths. map (λ p. p.items) paths.items
         ≡ paths_to_load files.now joins loaded.now) }
-    ensures found { ReadsAsHanded files.now }
+    ensures found { ReadsAsSupplied files.now }
 {
     match loaded {
         Ok(loaded) => wanted_with(alloc, files, loaded.graph(), joins),
@@ -30,12 +30,12 @@ pub(crate) fn wanted_after(
 // Where a fault ended the load: the paths that were read and not supplied.
 fn wanted_with_fault(
     alloc: Global,
-    files: &HandedIn,
+    files: &SuppliedFiles,
     fault: &GraphFault,
 ) -> Result<Vec<Vec<u8>>, AllocError>
     ensures wanted { IfOk result (λ paths. map (λ p. p.items) paths.items
         ≡ wanted_paths files.now) }
-    ensures found { ReadsAsHanded files.now }
+    ensures found { ReadsAsSupplied files.now }
 {
     let wanted = files.wanted(alloc)?;
     if matches!(fault.cause, Cause::OutOfMemory) {
@@ -47,14 +47,14 @@ fn wanted_with_fault(
 // Where the load gave a graph: these paths, or if there is none, the dyndep files.
 fn wanted_with(
     alloc: Global,
-    files: &HandedIn,
+    files: &SuppliedFiles,
     graph: &Graph,
     joins: bool,
 ) -> Result<Vec<Vec<u8>>, AllocError>
     ensures wanted { (entries : List ReadStatement) → IsGraphOf graph.now entries
         → IfOk result (λ paths. map (λ p. p.items) paths.items
         ≡ paths_or (wanted_paths files.now) (lacking_dyndeps files.now joins graph.now)) }
-    ensures found { ReadsAsHanded files.now }
+    ensures found { ReadsAsSupplied files.now }
 {
     let wanted = files.wanted(alloc)?;
     if joins && wanted.as_slice().is_empty() {
@@ -67,7 +67,7 @@ fn wanted_with(
 // The dyndep files to which edges are bound and that were not supplied, without duplicates.
 fn dyndeps_to_load(
     alloc: Global,
-    files: &HandedIn,
+    files: &SuppliedFiles,
     graph: &Graph,
 ) -> Result<Vec<Vec<u8>>, AllocError>
     ensures { (entries : List ReadStatement) → IsGraphOf graph.now entries
@@ -81,7 +81,7 @@ fn dyndeps_to_load(
 }
 
 // The same, in a table.
-fn lacking_dyndeps(alloc: Global, files: &HandedIn, graph: &Graph) -> Result<Files, AllocError>
+fn lacking_dyndeps(alloc: Global, files: &SuppliedFiles, graph: &Graph) -> Result<Files, AllocError>
     ensures { (entries : List ReadStatement) → IsGraphOf graph.now entries
         → IfOk result (λ lacking. lacking
         ≡ each_once bytes_eq (filter (is_lacking files.now) (dyndeps_of graph.now))) }
@@ -97,7 +97,7 @@ fn lacking_dyndeps(alloc: Global, files: &HandedIn, graph: &Graph) -> Result<Fil
 
 /// Names a path that was not supplied.
 pub(crate) fn name_if_lacking(
-    files: &HandedIn,
+    files: &SuppliedFiles,
     path: &[u8],
     lacking: &mut Files,
 ) -> Result<(), AllocError>
@@ -112,7 +112,7 @@ pub(crate) fn name_if_lacking(
 }
 
 // Whether nothing was supplied for a path; one that is not UTF-8 is never read.
-fn is_lacking(files: &HandedIn, path: &[u8]) -> bool
+fn is_lacking(files: &SuppliedFiles, path: &[u8]) -> bool
     ensures { result ≡ is_lacking files.now path.now }
 {
     match str::from_utf8(path) {

@@ -17,7 +17,7 @@ use Rattle.nj_c.specs.declared.session_state.LogRead.{LogRead}
 use Rattle.nj_c.specs.declared.status.Status.{Status}
 use Rattle.nj_c.specs.declared.status.Status.TheVariants.{Done}
 use Rattle.nj_c.specs.DiscoveredInputs.{unknown_of, FindsInputs}
-use Rattle.nj_c.specs.HandedIn.{Handed}
+use Rattle.nj_c.specs.SuppliedFiles.{Supplied}
 use Rattle.nj_c.specs.JoinedLogs.{KeepsNumbers}
 use Rattle.nj_c.specs.Inside.Results.{KeepsFault}
 
@@ -35,7 +35,7 @@ JoinsTo g found (Err fault) =
     (stated : List ReadStatement) → IsGraphOf g stated → JoinsNamed (λ edge. (discovery_at found edge).inputs) stated (Err fault)
 
 -- what was discovered for a graph, and the graph to which it was joined; or the fault
-abbrev pub FindsOr : GraphModel → (before after : Handed) → LogModel → (times : List ℕ) → Result Joined GraphFault → Type 0
+abbrev pub FindsOr : GraphModel → (before after : Supplied) → LogModel → (times : List ℕ) → Result Joined GraphFault → Type 0
 FindsOr g before after log times (Ok joined) =
     (found : DiscoveriesModel) × (joined.unknown.items ≡ unknown_of found) × KeepsNumbers g joined.graph
     × ((stated : List ReadStatement) → IsGraphOf g stated → FindsInputs g before after log times stated found (Ok joined.graph))

@@ -6,7 +6,7 @@ use Rattle.nj_faults.specs.declared.fault.GraphFault.{GraphFault}
 use Rattle.nj_faults.specs.Faults.{no_memory}
 use Rattle.nj_graph.specs.Graph.{GraphModel, IsGraphOf}
 use Rattle.nj_graph.specs.Loads.{LoadedModel}
-use Rattle.nj_c.specs.HandedIn.{Handed, handed_state, ReadsAsHanded}
+use Rattle.nj_c.specs.SuppliedFiles.{Supplied, supplied_state, ReadsAsSupplied}
 use Rattle.nj_c.specs.Loading.{paths_to_load, GivesGraph}
 use Rattle.nj_c.specs.declared.session_state.Kept.{Kept}
 use Rattle.nj_c.specs.declared.status.Status.{Status}
@@ -32,8 +32,8 @@ KeepsResult before after (Err fault) status = KeepsFault before after fault stat
 abbrev pub KeepsLoad : (before after : Kept) → (joins : Bool) → Result LoadedModel GraphFault → (wanted : Vec (Vec ℕ)) → Status → Type 0
 KeepsLoad before after joins loaded wanted status =
     ((status ≡ Wanted) × (after ≡ record before { wanted = wanted }) × (wanted.items ≢ []))
-    ⊎ ((files : Handed) × (result : Result GraphModel GraphFault) × (wanted.items ≡ [])
-    × GivesGraph (handed_state before.files) (handed_state files) joins loaded result
+    ⊎ ((files : Supplied) × (result : Result GraphModel GraphFault) × (wanted.items ≡ [])
+    × GivesGraph (supplied_state before.files) (supplied_state files) joins loaded result
     × KeepsResult (record before { files = files }) after result status)
 
 -- the kept result of a load by the paths that are wanted; or an allocation failed
@@ -42,5 +42,5 @@ FinishesLoad before after joins loaded status =
     ((wanted : Vec (Vec ℕ)) × (loaded ≢ Err no_memory)
     × ((entries : List ReadStatement) → AreStatements loaded entries
     → map (λ p. p.items) wanted.items ≡ paths_to_load before.files joins loaded)
-    × ReadsAsHanded before.files × KeepsLoad before after joins loaded wanted status)
+    × ReadsAsSupplied before.files × KeepsLoad before after joins loaded wanted status)
     ⊎ ((status ≡ OutOfMemory) × (after ≡ before))

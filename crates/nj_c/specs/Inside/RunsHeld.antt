@@ -8,7 +8,7 @@ use Rattle.nj_cli.specs.Runs.{RunsWords, around, out_of_memory}
 use Rattle.nj_c.specs.declared.session_state.Kept.{Kept}
 use Rattle.nj_c.specs.declared.status.Status.{Status}
 use Rattle.nj_c.specs.declared.status.Status.TheVariants.{Done, Wanted, NotUtf8, OutOfMemory}
-use Rattle.nj_c.specs.HandedIn.{Handed, handed_state, wanted_paths, ReadsAsHanded}
+use Rattle.nj_c.specs.SuppliedFiles.{Supplied, supplied_state, wanted_paths, ReadsAsSupplied}
 use Rattle.nj_c.specs.Loading.{ListsWanted, SameRun}
 use Rattle.nj_c.specs.Runs.{untouched}
 
@@ -23,10 +23,10 @@ abbrev pub empty_memory : Memory
 empty_memory = record { bytes = []; limit = None; capacity = 0; failures = 0; took_since_failure = false }
 
 -- the program ran with new sinks, which are kept
-abbrev pub Ran : (begun : Handed) → (after : Kept) → (words : List (List ℕ)) → run.Status → Type 0
+abbrev pub Ran : (begun : Supplied) → (after : Kept) → (words : List (List ℕ)) → run.Status → Type 0
 Ran begun after words ended =
-    RunsWords words (around (handed_state begun) untouched untouched)
-    (around (handed_state after.files) (state_of after.output) (state_of after.errors)) ended
+    RunsWords words (around (supplied_state begun) untouched untouched)
+    (around (supplied_state after.files) (state_of after.output) (state_of after.errors)) ended
 
 -- nothing was written, and no sink failed
 pub record NoRun (kept : Kept) : Type 0 where
@@ -47,7 +47,7 @@ KeepsRun before after other = ⊥
 
 -- or an allocation failed
 abbrev pub FinishesRun : (before after : Kept) → Status → Type 0
-FinishesRun before after Done = NoFailures before × ReadsAsHanded after.files × KeepsRun before after Done
-FinishesRun before after Wanted = NoFailures before × ReadsAsHanded after.files × KeepsRun before after Wanted
+FinishesRun before after Done = NoFailures before × ReadsAsSupplied after.files × KeepsRun before after Done
+FinishesRun before after Wanted = NoFailures before × ReadsAsSupplied after.files × KeepsRun before after Wanted
 FinishesRun before after OutOfMemory = NoRun after × (after.wanted.items ≡ [])
 FinishesRun before after other = ⊥

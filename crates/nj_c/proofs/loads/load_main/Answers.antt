@@ -1,7 +1,7 @@
 use Rattle.std.proofs.Common.{◌≡◌, false, subst, rules}
 use Rattle.std.specs.Str.{is_utf8}
 use Rattle.nj_graph.specs.Loads.{Loads}
-use Rattle.nj_c.specs.HandedIn.{handed_state}
+use Rattle.nj_c.specs.SuppliedFiles.{supplied_state}
 use Rattle.nj_c.proofs.LoadLemmas.{loads_kept, not_loaded}
 use Rattle.nj_c.proofs.loads.load_main.Goals as goal
 
@@ -17,9 +17,11 @@ pub returns : goal.returns
 returns c =
     let begun = c.forget_load.ensures.files in let files = c.load-loaded.new.source in let loaded =
     c.load-loaded.result in
-    let named = subst (λ m. Loads m (handed_state c.forget_load.new.kept.files) (handed_state files) loaded)
+    let named = subst (λ m. Loads m (supplied_state c.forget_load.new.kept.files) (supplied_state files)
+    loaded)
     c.in-Ok.ensures.cases.0 c.load-loaded.ensures.loads in
-    let loads = subst (λ f. Loads c.args.main.now (handed_state f) (handed_state files) loaded) begun named in
+    let loads = subst (λ f. Loads c.args.main.now (supplied_state f) (supplied_state files) loaded) begun
+    named in
     loads_kept c.args.kept.now c.forget_load.new.kept files c.args.main.now c.args.joins loaded begun
     c.forget_load.ensures.nothing c.forget_load.ensures.lists
     c.forget_load.ensures.run loads c.finish_load.new.kept c.finish_load.result c.finish_load.ensures

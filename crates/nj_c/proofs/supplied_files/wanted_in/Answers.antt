@@ -1,6 +1,6 @@
 use Rattle.std.proofs.Common.{◌≡◌, map, ◌++◌, subst}
 use Rattle.std.proofs.lemmas.List.{get_or_read}
-use Rattle.nj_c.specs.Inside.HandedHeld.{wanted_of}
+use Rattle.nj_c.specs.Inside.SuppliedHeld.{wanted_of}
 use Rattle.nj_c.proofs.WantedLemmas.{bytes_of, wanted-more}
 use Rattle.nj_c.proofs.supplied_files.wanted_in.Goals as goal
 

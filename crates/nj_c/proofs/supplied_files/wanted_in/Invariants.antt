@@ -1,6 +1,6 @@
 use Rattle.std.proofs.Common.{◌≡◌, map, take}
 use Rattle.std.specs.List.{flat_map}
-use Rattle.nj_c.specs.Inside.HandedHeld.{wanted_of}
+use Rattle.nj_c.specs.Inside.SuppliedHeld.{wanted_of}
 use Rattle.nj_c.proofs.WantedLemmas.{bytes_of}
 use Rattle.nj_c.proofs.supplied_files.wanted_in.Given as goal
 

@@ -3,21 +3,21 @@ use Rattle.std.specs.Prelude.{◌≡◌, ℕ, List, [], ◌∷◌, Option, Some,
 use Rattle.std.specs.Global.{Vec}
 use Rattle.std.specs.List.{AllByRecursion}
 use Rattle.nj_scope.specs.Readings.{Reading}
-use Rattle.nj_c.specs.declared.supplied_files.HandedReading.{HandedReading}
+use Rattle.nj_c.specs.declared.supplied_files.NumberedReading.{NumberedReading}
 
 -- the reading of the file of a number: an empty file if there is none of this number
 abbrev pub read_bytes : List (Option (List ℕ)) → Option ℕ → Option (List ℕ)
 read_bytes files None = Some []
 read_bytes files (Some number) = unwrap_or (slice_get files number) None
 
-abbrev pub reading_held : List (Option (List ℕ)) → HandedReading → Reading
+abbrev pub reading_held : List (Option (List ℕ)) → NumberedReading → Reading
 reading_held files r = record { path = r.path.items; bytes = read_bytes files r.number }
 
 -- a file for each path, and each reading has the number of its path
-abbrev pub AreHanded : List (List ℕ) → List (Option (Vec ℕ)) → List HandedReading → Type 0
-AreHanded paths files read = (length files ≡ length paths)
+abbrev pub AreSupplied : List (List ℕ) → List (Option (Vec ℕ)) → List NumberedReading → Type 0
+AreSupplied paths files read = (length files ≡ length paths)
     × AllByRecursion (λ r. r.number ≡ position (bytes_eq r.path.items) paths) read
 
 -- the path of a reading that was not supplied
-abbrev pub wanted_of : HandedReading → List (List ℕ)
+abbrev pub wanted_of : NumberedReading → List (List ℕ)
 wanted_of r = if is_some r.number then [] else r.path.items ∷ []

@@ -1,7 +1,7 @@
 use Rattle.std.proofs.Common.{refl}
 use Rattle.std.proofs.lemmas.List.{map-set}
 use Rattle.nj_scope.specs.Sources.{outcome_bytes}
-use Rattle.nj_c.proofs.supplied_files.HandedIn.replace.Goals as goal
+use Rattle.nj_c.proofs.supplied_files.SuppliedFiles.replace.Goals as goal
 
 pub returns : goal.returns
 returns c = rw (

@@ -6,7 +6,7 @@ use Rattle.std.proofs.Common.{arith, true≢false}
 use Rattle.std.specs.List.{list_any}
 use Rattle.std.proofs.lemmas.Grind.{common_steps}
 use Rattle.std.proofs.lemmas.Slice.Eq.{bytes_eq-Decides}
-use Rattle.nj_c.specs.HandedIn.{Handed, handed_in, SetsFile}
+use Rattle.nj_c.specs.SuppliedFiles.{Supplied, supplied_for, SetsFile}
 
 abbrev File : Type 0
 File = Option (List ℕ)
@@ -178,21 +178,21 @@ pub is-known : (paths : List (List ℕ)) (files : List File) (q : List ℕ) → 
     → is_some (look-up paths files q) ≡ is_some (position (bytes_eq q) paths)
 is-known paths files q same = ap is_some (found-is paths files q) ∙ found-some paths files q same
 
-pub sets-known : (before after : Handed) (path : List ℕ) (n : ℕ) (file : File)
+pub sets-known : (before after : Supplied) (path : List ℕ) (n : ℕ) (file : File)
     → position (bytes_eq path) before.paths ≡ Some n → n < length before.files
     → after ≡ record { paths = before.paths; files = set before.files n file; read = [] }
     → SetsFile before after path file
 sets-known before after path n file at below is = record {
-  files = λ q. ap (λ h. handed_in h q) is ∙ set-file before.paths before.files path q n file at below;
+  files = λ q. ap (λ h. supplied_for h q) is ∙ set-file before.paths before.files path q n file at below;
   read = ap (λ h. h.read) is;
 }
 
-pub sets-new : (before after : Handed) (path : List ℕ) (file : File)
+pub sets-new : (before after : Supplied) (path : List ℕ) (file : File)
     → list_any (bytes_eq path) before.paths ≡ false → length before.files ≡ length before.paths
     → after ≡ record { paths = before.paths ++ path ∷ []; files = before.files ++ file ∷ []; read = [] }
     → SetsFile before after path file
 sets-new before after path file none same is = record {
-  files = λ q. ap (λ h. handed_in h q) is ∙ added-file before.paths before.files path q file none same;
+  files = λ q. ap (λ h. supplied_for h q) is ∙ added-file before.paths before.files path q file none same;
   read = ap (λ h. h.read) is;
 }
 

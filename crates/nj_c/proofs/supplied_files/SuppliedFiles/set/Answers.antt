@@ -1,8 +1,8 @@
 use Rattle.std.proofs.Common.{◌≡◌, false, bytes_eq, sym}
 use Rattle.std.specs.List.{list_any}
 use Rattle.nj_scope.specs.Sources.{outcome_bytes}
-use Rattle.nj_c.proofs.HandedLemmas.{if-ok, sets-known, sets-new}
-use Rattle.nj_c.proofs.supplied_files.HandedIn.set.Goals as goal
+use Rattle.nj_c.proofs.SuppliedLemmas.{if-ok, sets-known, sets-new}
+use Rattle.nj_c.proofs.supplied_files.SuppliedFiles.set.Goals as goal
 
 pub returns-in-Some-clause-set : goal.returns-in-Some-clause-set
 returns-in-Some-clause-set c =
