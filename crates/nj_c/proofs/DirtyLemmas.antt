@@ -1,20 +1,13 @@
 -- Edges with flags, and the edges that are to be built again.
-use Rattle.std.proofs.Common.{◌≡◌, ℕ, ◌+◌, Bool, true, false, cond, List, [], ◌∷◌, ◌++◌, map, sym, ap, subst}
+use Rattle.std.proofs.Common.{◌≡◌, ℕ, ◌+◌, Bool, true, false, cond, List, [], ◌∷◌, ◌++◌, sym, ap}
 use Rattle.std.proofs.Common.{◌∙◌, append-nil}
-use Rattle.std.specs.Prelude.{◌↔◌, filter, slice_index_or, Contains}
+use Rattle.std.specs.Prelude.{filter, slice_index_or}
 use Rattle.std.specs.List.{range_with_len}
-use Rattle.std.specs.List.Sorted.{IsStrictlyIncreasing}
 use Rattle.std.proofs.lemmas.List.{map_push}
 use Rattle.std.proofs.lemmas.List.Elements.{filter-append}
-use Rattle.nj_names.specs.Files.{path_at}
-use Rattle.nj_names.specs.declared.files.FileNo.{FileNo}
-use Rattle.nj_edges.specs.Dirty.{IsDirty}
-use Rattle.nj_edges.specs.EdgeGraphs.{EdgeGraph}
 use Rattle.nj_edges.specs.declared.edges.EdgeNo.{EdgeNo}
-use Rattle.nj_graph.specs.Graph.{GraphModel, edges_of, files_of}
-use Rattle.nj_c.specs.DirtyEdges.{flagged, AreDirty}
+use Rattle.nj_c.specs.DirtyEdges.{flagged}
 use Rattle.nj_c.specs.Inside.PagesHeld.{numbers_of}
-use Rattle.nj_c.specs.Pages.{numbered}
 use Rattle.nj_c.proofs.DepfileLemmas.{range-more}
 
 -- ---- flags
@@ -37,20 +30,3 @@ module _ (flags : List Bool) (n : ℕ) (old : List EdgeNo) (held : numbers_of ol
   set-same is =
       held ∙ sym (append-nil (flagged flags n)) ∙ ap (λ b. flagged flags n ++ cond b (n ∷ []) []) (sym is)
       ∙ sym (flagged-more flags n)
-
--- ---- dirty edges
-
-pub dirty_list : (g : GraphModel) (graph : EdgeGraph) (numbers : List ℕ) (files : List FileNo)
-    (given unknown found : List ℕ)
-    → graph ≡ g.built.graph → files ≡ numbered numbers → given ≡ unknown → IsStrictlyIncreasing found
-    → ((edge : ℕ) → Contains found edge ↔ IsDirty graph.edges (map (path_at graph.files) files) given edge)
-    → AreDirty g numbers unknown found
-dirty_list g graph numbers files given unknown found is are same rises dirty = (
-  rises,
-  λ edge.
-      subst (λ us. Contains found edge ↔ IsDirty (edges_of g) (map (path_at (files_of g)) (numbered numbers))
-      us edge) same
-      (subst (λ fs. Contains found edge ↔ IsDirty (edges_of g) (map (path_at (files_of g)) fs) given edge) are
-      (subst (λ (e : EdgeGraph). Contains found edge
-      ↔ IsDirty e.edges (map (path_at e.files) files) given edge) is (dirty edge))),
-)

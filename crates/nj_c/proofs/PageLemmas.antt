@@ -1,23 +1,22 @@
--- Numbers of files, and pages.
-use Rattle.std.proofs.Common.{◌≡◌, ◌<◌, ◌+◌, inl, inr, ℕ, Some, Result, Ok, Err, List, [], ◌∷◌, ◌++◌, All}
-use Rattle.std.proofs.Common.{length, map, take, get_or, refl, sym, ap, subst, ◌∙◌}
+-- Numbers of files, lists of edges, and pages.
+use Rattle.std.proofs.Common.{◌≡◌, ◌<◌, ◌+◌, inl, inr, ℕ, ℤ, Option, Some, Result, Ok, Err, IfOk, IfErr, List}
+use Rattle.std.proofs.Common.{[], ◌∷◌, ◌++◌, All, false, length, take, get_or, refl, sym, ap, subst, ◌∙◌}
 use Rattle.std.proofs.lemmas.List.{map_more, get_or-map, length-map, take_more}
 use Rattle.std.proofs.lemmas.List.Elements.{All-push}
 use Rattle.nj_names.specs.declared.files.FileNo.{FileNo}
 use Rattle.nj_edges.specs.EdgeGraphs.{EdgeGraph}
-use Rattle.nj_needs.specs.declared.mark_fault.MarkFault.{MarkFault}
-use Rattle.nj_needs.specs.declared.mark_fault.MarkFault.TheVariants as fault
-use Rattle.nj_names.specs.Files.{path_at}
-use Rattle.nj_graph.specs.Graph.{GraphModel, edges_of, files_of}
+use Rattle.nj_needs.specs.Graphs.{makers_of, row_of}
+use Rattle.nj_needs.specs.Marks.{is_valid}
+use Rattle.nj_graph.specs.Graph.{GraphModel}
 use Rattle.nj_c.specs.declared.session_state.Kept.{Kept}
 use Rattle.nj_c.specs.declared.pages.Page.{Page}
 use Rattle.nj_c.specs.declared.status.Status.{Status}
-use Rattle.nj_c.specs.declared.status.Status.TheVariants.{Done, Nothing, Short, Fault, Wanted, NotLoaded}
-use Rattle.nj_c.specs.declared.status.Status.TheVariants.{BadNumber, NotUtf8, NotOpen, BadMark, OutOfMemory}
-use Rattle.nj_c.specs.declared.status.Status.TheVariants.{BadLog}
-use Rattle.nj_c.specs.Pages.{mark_of, numbered, paths_of_files, AreBelow, AreKnown, IsBadMark, IsNeededList}
-use Rattle.nj_c.specs.Pages.{ListsPage}
-use Rattle.nj_c.specs.Inside.PagesHeld.{mark_status, MarkRefused, PageAfter, PageAt, PageFrom, PageOf}
+use Rattle.nj_c.specs.Loading.{Changes}
+use Rattle.nj_c.specs.Pages.{edge_numbers, mark_of, numbered, AreBelow, AreKnown, AreRefused}
+use Rattle.nj_c.specs.Pages.{IsBadMark, IsPage, IsPageAfter, ListsEdges, PageRefused}
+use Rattle.nj_c.specs.Statuses.{code_of}
+use Rattle.nj_c.specs.Inside.PagesHeld.{numbers_of, FindsEdges, KeepsPage, MarkRefused}
+use Rattle.nj_c.proofs.AskLemmas.{changes}
 
 abbrev pub as_file : ℕ → FileNo
 as_file n = record { 0 = n }
@@ -40,112 +39,69 @@ all-numbered count numbers held k d within =
     let below = subst (λ n. k < n) (length-map numbers as_file) within in
     subst (λ n. n < count) (ap (λ f. f.0) (sym (get_or-map as_file numbers k 0 d below))) (held k 0 below)
 
--- ---- the edges that files need
-
-pub needed_list : (g : GraphModel) (graph : EdgeGraph) (numbers : List ℕ) (files : List FileNo)
-    (found : List ℕ)
-    → graph ≡ g.built.graph → files ≡ numbered numbers
-    → IsNeededList graph.edges (map (path_at graph.files) files) found
-    → IsNeededList (edges_of g) (paths_of_files g numbers) found
-needed_list g graph numbers files found is are held =
-    subst (λ fs. IsNeededList (edges_of g) (map (path_at (files_of g)) fs) found) are
-    (subst (λ (e : EdgeGraph). IsNeededList e.edges (map (path_at e.files) files) found) is held)
+-- what holds of the edges of a graph and of files does so of those that are the same
+pub same-files : (holds : EdgeGraph → List FileNo → Type 0) {graph other : EdgeGraph}
+    {files others : List FileNo} → graph ≡ other → files ≡ others → holds graph files → holds other others
+same-files holds {graph = graph} {others = others} same are held =
+    subst (λ e. holds e others) same (subst (holds graph) are held)
 
 -- ---- pages
 
-pub from-fault : (g : EdgeGraph) (targets : List FileNo) (mark : List ℕ) (limit : ℕ) (fault : MarkFault)
-    → PageAfter g targets mark limit (Err fault)
-    → PageFrom g targets mark limit (Err (mark_status fault))
-from-fault g targets mark limit fault.MarkOutOfRange is = is
-from-fault g targets mark limit fault.OutOfMemory is = tt
-from-fault g targets mark limit fault.BadMark is = absurd is
+pub page-refused : (graph : Option GraphModel) (g : GraphModel) (targets text : List ℕ) (why : Type 0)
+    (status : Status) → graph ≡ Some g → AreKnown g targets
+    → (why → IsBadMark g.built.graph (numbered targets) text)
+    → MarkRefused why status → PageRefused graph targets text status
+page-refused graph g targets text why status was known bad (inl memory) =
+    inl (subst (AreRefused graph targets) (sym memory) tt)
+page-refused graph g targets text why status was known bad (inr (is, because)) =
+    inr (g, was, known, is, bad because)
 
-pub at-mark : (g : EdgeGraph) (targets : List FileNo) (text mark : List ℕ) (limit : ℕ)
-    (result : Result Page Status) → mark_of text ≡ Some mark
-    → PageFrom g targets mark limit result → PageAt g targets text limit result
-at-mark g targets text mark limit (Ok page) is from = (mark, is, from)
-at-mark g targets text mark limit (Err BadMark) is from = inr (mark, is, from)
-at-mark g targets text mark limit (Err OutOfMemory) is from = tt
-at-mark g targets text mark limit (Err Done) is from = absurd from
-at-mark g targets text mark limit (Err Nothing) is from = absurd from
-at-mark g targets text mark limit (Err Short) is from = absurd from
-at-mark g targets text mark limit (Err Fault) is from = absurd from
-at-mark g targets text mark limit (Err Wanted) is from = absurd from
-at-mark g targets text mark limit (Err NotLoaded) is from = absurd from
-at-mark g targets text mark limit (Err BadNumber) is from = absurd from
-at-mark g targets text mark limit (Err NotUtf8) is from = absurd from
-at-mark g targets text mark limit (Err NotOpen) is from = absurd from
-at-mark g targets text mark limit (Err BadLog) is from = absurd from
+pub page-found : (kept : Kept) (g : GraphModel) (graph : EdgeGraph) (targets text : List ℕ)
+    (files : List FileNo) (mark : List ℕ) (limit : ℕ) (result : Result Page Status)
+    → kept.graph ≡ Some g → graph ≡ g.built.graph
+    → AreKnown g targets → files ≡ numbered targets → mark_of text ≡ Some mark
+    → IfOk result (λ page. IsPage graph files mark limit (numbers_of page.edges.items) page.mark.items)
+    → IfErr result (MarkRefused (is_valid (makers_of graph) (row_of graph files) mark ≡ false))
+    → FindsEdges kept targets (IsPageAfter targets text limit) (PageRefused kept.graph targets text) result
+page-found kept g graph targets text files mark limit (Ok page) was same known are is found none =
+    let edges = numbers_of page.edges.items in (
+      g,
+      was,
+      known,
+      (mark, is, same-files (λ e fs. IsPage e fs mark limit edges page.mark.items) same are found),
+    )
+page-found kept g graph targets text files mark limit (Err status) was same known are is none refused =
+    page-refused kept.graph g targets text _ status was known
+    (λ invalid. inr (
+      mark,
+      is,
+      same-files (λ e fs. is_valid (makers_of e) (row_of e fs) mark ≡ false) same are invalid,
+    )) refused
 
-pub at-none : (g : EdgeGraph) (targets : List FileNo) (text : List ℕ) (limit : ℕ) (status : Status)
-    → MarkRefused text status
-    → PageAt g targets text limit (Err status)
-at-none g targets text limit BadMark none = inl none
-at-none g targets text limit OutOfMemory none = tt
-at-none g targets text limit Done none = absurd none
-at-none g targets text limit Nothing none = absurd none
-at-none g targets text limit Short none = absurd none
-at-none g targets text limit Fault none = absurd none
-at-none g targets text limit Wanted none = absurd none
-at-none g targets text limit NotLoaded none = absurd none
-at-none g targets text limit BadNumber none = absurd none
-at-none g targets text limit NotUtf8 none = absurd none
-at-none g targets text limit NotOpen none = absurd none
-at-none g targets text limit BadLog none = absurd none
+-- ---- lists
 
-pub of-numbers : (g : GraphModel) (numbers : List ℕ) (targets : List FileNo) (text : List ℕ) (limit : ℕ)
-    (result : Result Page Status) → AreKnown g numbers
-    → targets ≡ numbered numbers → PageAt g.built.graph targets text limit result
-    → PageOf g numbers text limit result
-of-numbers g numbers targets text limit (Ok page) known are at =
-    (known, subst (λ t. PageAt g.built.graph t text limit (Ok page)) are at)
-of-numbers g numbers targets text limit (Err BadMark) known are at =
-    (known, subst (λ t. IsBadMark g.built.graph t text) are at)
-of-numbers g numbers targets text limit (Err OutOfMemory) known are at = tt
-of-numbers g numbers targets text limit (Err Done) known are at = absurd at
-of-numbers g numbers targets text limit (Err Nothing) known are at = absurd at
-of-numbers g numbers targets text limit (Err Short) known are at = absurd at
-of-numbers g numbers targets text limit (Err Fault) known are at = absurd at
-of-numbers g numbers targets text limit (Err Wanted) known are at = absurd at
-of-numbers g numbers targets text limit (Err NotLoaded) known are at = absurd at
-of-numbers g numbers targets text limit (Err BadNumber) known are at = absurd at
-of-numbers g numbers targets text limit (Err NotUtf8) known are at = absurd at
-of-numbers g numbers targets text limit (Err NotOpen) known are at = absurd at
-of-numbers g numbers targets text limit (Err BadLog) known are at = absurd at
-
--- ---- the part that a session keeps of them
-
-pub lists-page : (before : Kept) (g : GraphModel) (targets text : List ℕ) (limit : ℕ) (page : Page)
-    → before.graph ≡ Some g → PageOf g targets text limit (Ok page)
-    → ListsPage before (record before { found = page.edges; mark = page.mark }) targets text limit Done
-lists-page before g targets text limit page graph of = (
-  g,
-  graph,
-  record {
-    files = refl;
-    wanted = refl;
-    graph = refl;
-    fault = refl;
-    log = refl;
-    unknown = refl;
-    run = record { output = refl; errors = refl };
-  },
-  of.0,
-  of.1,
-)
-
-pub lists-no-page : (before : Kept) (g : GraphModel) (targets text : List ℕ) (limit : ℕ) (status : Status)
-    → before.graph ≡ Some g
-    → PageOf g targets text limit (Err status) → ListsPage before before targets text limit status
-lists-no-page before g targets text limit BadMark graph of = (g, graph, refl, of.0, of.1)
-lists-no-page before g targets text limit BadNumber graph of = (g, graph, refl, of)
-lists-no-page before g targets text limit OutOfMemory graph of = refl
-lists-no-page before g targets text limit Done graph of = absurd of
-lists-no-page before g targets text limit Nothing graph of = absurd of
-lists-no-page before g targets text limit Short graph of = absurd of
-lists-no-page before g targets text limit Fault graph of = absurd of
-lists-no-page before g targets text limit Wanted graph of = absurd of
-lists-no-page before g targets text limit NotLoaded graph of = absurd of
-lists-no-page before g targets text limit NotUtf8 graph of = absurd of
-lists-no-page before g targets text limit NotOpen graph of = absurd of
-lists-no-page before g targets text limit BadLog graph of = absurd of
+-- what was found of a session's graph is listed, or the status says why not
+pub lists : (files : List ℕ) (are : Kept → GraphModel → (edges mark : List ℕ) → Type 0)
+    (refused : Kept → Status → Type 0) (found : Result Page Status) (status : Status)
+    {session after : Option Kept} {result : ℤ} {kept before new : Kept}
+    → kept ≡ before → Some before ≡ session → after ≡ Some new → result ≡ code_of status
+    → FindsEdges kept files (are kept) (refused kept) found → KeepsPage before new found status
+    → Changes session after result (λ kept then. ListsEdges kept then files (are kept) (refused kept))
+lists files are refused found status {session = session} {after = after} {result = result} {before = before}
+    {new = new} same was put is finds keeps =
+    changes session before new after result status
+    (λ kept then. ListsEdges kept then files (are kept) (refused kept)) was put is
+    (listed found (subst (λ k. FindsEdges k files (are k) (refused k) found) same finds) keeps)
+  where
+    listed : (found : Result Page Status) → FindsEdges before files (are before) (refused before) found
+        → KeepsPage before new found status
+        → ListsEdges before new files (are before) (refused before) status
+    listed (Ok page) (g, graph, known, held) (done, kept) = inl (
+      g,
+      graph,
+      done,
+      known,
+      subst (λ k. are before g (edge_numbers k) k.mark.items) (sym kept) held,
+      subst (λ k. k ≡ record before { found = k.found; mark = k.mark }) (sym kept) refl,
+    )
+    listed (Err why) none (same, kept) = inr (subst (refused before) (sym same) none, kept)

@@ -13,9 +13,9 @@ pub use Rattle.nj_c.specs.Loading.{Changes, graph_loaded, unread, GivesGraph, Ke
 pub use Rattle.nj_c.specs.Loading.{Opens, TakesFile, TakesPath, dyndeps_of, is_lacking, lacking_dyndeps, paths_or, paths_to_load}
 pub use Rattle.nj_c.specs.Inside.LogsJoined.{JoinsKnown, KeepsJoined}
 pub use Rattle.nj_c.specs.DirtyEdges.{flagged, AreDirty, ListsDirty}
-pub use Rattle.nj_c.specs.Pages.{AreKnown, end_text, mark_of, numbered, paths_of_files, AreBelow, IsNeededList, IsPageOf, IsReached}
-pub use Rattle.nj_c.specs.Pages.{ListsNeeded, ListsPage, ListsReached}
-pub use Rattle.nj_c.specs.Inside.PagesHeld.{numbers_of, mark_status, MarkRefused, PageAfter, PageAt, PageFrom, PageOf}
+pub use Rattle.nj_c.specs.Inside.PagesHeld.{numbers_of, FindsEdges, MarkRefused, KeepsPage, mark_status}
+pub use Rattle.nj_c.specs.Pages.{AreRefused, AreKnown, AreReached, AreNeeded, end_text, mark_of, numbered, IsPageOf, ListsNeeded, ListsPage}
+pub use Rattle.nj_c.specs.Pages.{ListsReached, IsPage, IsNoMark, IsPageAfter, PageRefused}
 pub use Rattle.nj_deps.specs.Logs.{IsLogOf, IsLogFault}
 pub use Rattle.nj_scope.specs.ReadingList.{ReadStatement}
 pub use Rattle.nj_graph.specs.Discovering.{AreDiscovered}
@@ -31,6 +31,8 @@ pub use Rattle.nj_faults.specs.Faults.{no_memory}
 pub use Rattle.nj_c.specs.Inside.Results.{FinishesLoad, KeepsFault, KeepsLoad, KeepsResult, AreStatements}
 pub use Rattle.nj_ask.specs.MadeFrom.{TellMadeFrom}
 pub use Rattle.nj_c.specs.MadeFrom.{FlagsKeptUnlessDone, GivesMadeFrom}
+pub use Rattle.nj_needs.specs.Graphs.{makers_of, row_of}
+pub use Rattle.nj_needs.specs.Marks.{is_valid}
 pub use Rattle.nj_c.specs.Paths.{numbered_step, GivesPath, StepsKeptUnlessDone}
 pub use Rattle.nj_c.specs.Targets.{PicksFile}
 pub use Rattle.nj_c.specs.Inside.RunsHeld.{empty_memory, FinishesRun, KeepsRun, NoFailures, NoRun, Ran, WordsRefused}

@@ -1,13 +1,12 @@
 -- The edges that are to be built again where files changed.
-use Rattle.std.specs.Prelude.{◌≡◌, ◌↔◌, ℕ, Bool, false, List, [], length, slice_index_or, Contains, Some, None}
+use Rattle.std.specs.Prelude.{◌≡◌, ◌↔◌, ℕ, Bool, false, List, [], length, slice_index_or, Contains}
 use Rattle.std.specs.List.{filter, range_with_len}
 use Rattle.std.specs.List.Sorted.{IsStrictlyIncreasing}
 use Rattle.nj_edges.specs.Dirty.{IsDirty}
 use Rattle.nj_graph.specs.Graph.{GraphModel, edges_of}
 use Rattle.nj_c.specs.declared.session_state.Kept.{Kept}
 use Rattle.nj_c.specs.declared.status.Status.{Status}
-use Rattle.nj_c.specs.declared.status.Status.TheVariants.{Done, NotLoaded, BadNumber, OutOfMemory}
-use Rattle.nj_c.specs.Pages.{edge_numbers, paths_of_files, AreKnown, Lists}
+use Rattle.nj_c.specs.Pages.{paths_of_files, AreRefused, ListsEdges}
 
 -- the edges with a flag, of the first ones
 abbrev pub flagged : (flags : List Bool) → (count : ℕ) → List ℕ
@@ -17,18 +16,11 @@ flagged flags count = filter (λ edge. slice_index_or flags edge false) (range_w
 abbrev pub unknown_edges : Kept → GraphModel → List ℕ
 unknown_edges kept g = flagged kept.unknown.items (length (edges_of g))
 
--- exactly the edges that are to be built again where these files changed and these edges are dirty by themselves, by number
-abbrev pub AreDirty : GraphModel → (files unknown edges : List ℕ) → Type 0
-AreDirty g files unknown edges = IsStrictlyIncreasing edges
-    × ((edge : ℕ) → Contains edges edge ↔ IsDirty (edges_of g) (paths_of_files g files) unknown edge)
+-- exactly the edges that are to be built again where these files changed, by number, and no mark
+abbrev pub AreDirty : Kept → (files : List ℕ) → GraphModel → (edges mark : List ℕ) → Type 0
+AreDirty kept files g edges mark = IsStrictlyIncreasing edges
+    × ((edge : ℕ) → Contains edges edge ↔ IsDirty (edges_of g) (paths_of_files g files) (unknown_edges kept g) edge) × (mark ≡ [])
 
--- the edges that a change of these files makes dirty are listed, or a status says why not
+-- they are listed, or a status says why not
 abbrev pub ListsDirty : (before after : Kept) → (files : List ℕ) → Status → Type 0
-ListsDirty before after files Done =
-    (g : GraphModel) × (before.graph ≡ Some g) × Lists before after × AreKnown g files
-    × AreDirty g files (unknown_edges before g) (edge_numbers after) × (after.mark.items ≡ [])
-ListsDirty before after files BadNumber =
-    (g : GraphModel) × (before.graph ≡ Some g) × (after ≡ before) × (AreKnown g files → ⊥)
-ListsDirty before after files NotLoaded = (before.graph ≡ None) × (after ≡ before)
-ListsDirty before after files OutOfMemory = after ≡ before
-ListsDirty before after files other = ⊥
+ListsDirty before after files = ListsEdges before after files (AreDirty before files) (AreRefused before.graph files)

@@ -1,5 +1,5 @@
 -- Lists of edges: those that a change affects, those that files need, and pages of the commands that targets need.
-use Rattle.std.specs.Prelude.{◌≡◌, ◌<◌, ◌⊎◌, ◌↔◌, ℕ, true, false, List, [], ◌∷◌, map, length, nat_eq, All, Contains, Option, Some, None}
+use Rattle.std.specs.Prelude.{◌≡◌, ◌<◌, ◌⊎◌, ◌↔◌, ℕ, true, false, List, [], ◌∷◌, map, length, nat_eq, All, Contains, Option, Some, None, MatchOption, ⊤}
 use Rattle.std.specs.Str.{is_utf8}
 use Rattle.std.specs.List.{IsDistinct}
 use Rattle.std.specs.List.Sorted.{IsStrictlyIncreasing}
@@ -18,7 +18,6 @@ use Rattle.nj_needs.specs.PageWalks.{StopsAt, written}
 use Rattle.nj_c.specs.declared.session_state.Kept.{Kept}
 use Rattle.nj_c.specs.declared.status.Status.{Status}
 use Rattle.nj_c.specs.declared.status.Status.TheVariants.{Done, NotLoaded, BadNumber, BadMark, OutOfMemory}
-use Rattle.nj_c.specs.Loading.{SameRun}
 
 -- the numbers of edges and of files
 abbrev pub edge_numbers : Kept → List ℕ
@@ -40,33 +39,31 @@ numbered numbers = map (λ n. record { 0 = n }) numbers
 abbrev pub paths_of_files : GraphModel → List ℕ → List (List ℕ)
 paths_of_files g numbers = map (path_at (files_of g)) (numbered numbers)
 
--- a session in which only the edges that were listed last changed, and the mark after them
-pub record Lists (before after : Kept) : Type 0 where
-  pub files : after.files ≡ before.files
-  pub wanted : after.wanted ≡ before.wanted
-  pub graph : after.graph ≡ before.graph
-  pub fault : after.fault ≡ before.fault
-  pub log : after.log ≡ before.log
-  pub unknown : after.unknown ≡ before.unknown
-  pub run : SameRun before after
+-- why files are refused: no graph is loaded, or one of the numbers is not that of a file, or an allocation failed
+abbrev pub AreRefused : Option GraphModel → (files : List ℕ) → Status → Type 0
+AreRefused graph files NotLoaded = graph ≡ None
+AreRefused graph files BadNumber = MatchOption graph ⊥ (λ g. AreKnown g files → ⊥)
+AreRefused graph files OutOfMemory = ⊤
+AreRefused graph files other = ⊥
+
+-- Such edges of the graph are listed for files, and such a mark is after them; or a status says why not, and nothing changes.
+abbrev pub ListsEdges : (before after : Kept) → (files : List ℕ) → (are : GraphModel → (edges mark : List ℕ) → Type 0)
+    → (refused : Status → Type 0) → Status → Type 0
+ListsEdges before after files are refused status =
+    ((g : GraphModel) × (before.graph ≡ Some g) × (status ≡ Done) × AreKnown g files × are g (edge_numbers after) after.mark.items
+    × (after ≡ record before { found = after.found; mark = after.mark }))
+    ⊎ (refused status × (after ≡ before))
 
 -- ---- affected edges
 
--- exactly the affected edges, by number
-abbrev pub IsReached : GraphModel → (files edges : List ℕ) → Type 0
-IsReached g files edges = IsStrictlyIncreasing edges
-    × ((edge : ℕ) → Contains edges edge ↔ IsAffected (edges_of g) (paths_of_files g files) edge)
+-- exactly the affected edges, by number, and no mark
+abbrev pub AreReached : (files : List ℕ) → GraphModel → (edges mark : List ℕ) → Type 0
+AreReached files g edges mark = IsStrictlyIncreasing edges
+    × ((edge : ℕ) → Contains edges edge ↔ IsAffected (edges_of g) (paths_of_files g files) edge) × (mark ≡ [])
 
 -- the edges that a change of these files affects are listed, or a status says why not
 abbrev pub ListsReached : (before after : Kept) → (files : List ℕ) → Status → Type 0
-ListsReached before after files Done =
-    (g : GraphModel) × (before.graph ≡ Some g) × Lists before after × AreKnown g files × IsReached g files (edge_numbers after)
-    × (after.mark.items ≡ [])
-ListsReached before after files BadNumber =
-    (g : GraphModel) × (before.graph ≡ Some g) × (after ≡ before) × (AreKnown g files → ⊥)
-ListsReached before after files NotLoaded = (before.graph ≡ None) × (after ≡ before)
-ListsReached before after files OutOfMemory = after ≡ before
-ListsReached before after files other = ⊥
+ListsReached before after files = ListsEdges before after files (AreReached files) (AreRefused before.graph files)
 
 -- ---- needed edges
 
@@ -76,16 +73,13 @@ pub record IsNeededList (edges : List EdgePaths) (files : List (List ℕ)) (numb
   pub each_once : IsDistinct nat_eq numbers
   pub nearest_first : AreNearestFirst edges files numbers
 
--- the edges that these files need are listed, or a status says why not
+-- the edges that these files need, and no mark
+abbrev pub AreNeeded : (files : List ℕ) → GraphModel → (edges mark : List ℕ) → Type 0
+AreNeeded files g edges mark = IsNeededList (edges_of g) (paths_of_files g files) edges × (mark ≡ [])
+
+-- they are listed, or a status says why not
 abbrev pub ListsNeeded : (before after : Kept) → (files : List ℕ) → Status → Type 0
-ListsNeeded before after files Done =
-    (g : GraphModel) × (before.graph ≡ Some g) × Lists before after × AreKnown g files
-    × IsNeededList (edges_of g) (paths_of_files g files) (edge_numbers after) × (after.mark.items ≡ [])
-ListsNeeded before after files BadNumber =
-    (g : GraphModel) × (before.graph ≡ Some g) × (after ≡ before) × (AreKnown g files → ⊥)
-ListsNeeded before after files NotLoaded = (before.graph ≡ None) × (after ≡ before)
-ListsNeeded before after files OutOfMemory = after ≡ before
-ListsNeeded before after files other = ⊥
+ListsNeeded before after files = ListsEdges before after files (AreNeeded files) (AreRefused before.graph files)
 
 -- ---- pages
 
@@ -119,16 +113,17 @@ abbrev pub IsBadMark : EdgeGraph → (targets : List FileNo) → (text : List �
 IsBadMark g targets text = IsNoMark text
     ⊎ ((mark : List ℕ) × (mark_of text ≡ Some mark) × (is_valid (makers_of g) (row_of g targets) mark ≡ false))
 
+-- a page after the mark of a text
+abbrev pub IsPageAfter : (targets text : List ℕ) → (limit : ℕ) → GraphModel → (edges end : List ℕ) → Type 0
+IsPageAfter targets text limit g edges end =
+    (mark : List ℕ) × (mark_of text ≡ Some mark) × IsPage g.built.graph (numbered targets) mark limit edges end
+
+-- why no page is listed: the targets are refused, or the mark is
+abbrev pub PageRefused : Option GraphModel → (targets text : List ℕ) → Status → Type 0
+PageRefused graph targets text status = AreRefused graph targets status
+    ⊎ ((g : GraphModel) × (graph ≡ Some g) × AreKnown g targets × (status ≡ BadMark) × IsBadMark g.built.graph (numbered targets) text)
+
 -- a page of the edges that the targets need is listed, or a status says why not
-abbrev pub ListsPage : (before after : Kept) → (targets : List ℕ) → (text : List ℕ) → (limit : ℕ) → Status → Type 0
-ListsPage before after targets text limit Done =
-    (g : GraphModel) × (before.graph ≡ Some g) × Lists before after × AreKnown g targets
-    × ((mark : List ℕ) × (mark_of text ≡ Some mark)
-    × IsPage g.built.graph (numbered targets) mark limit (edge_numbers after) after.mark.items)
-ListsPage before after targets text limit BadMark =
-    (g : GraphModel) × (before.graph ≡ Some g) × (after ≡ before) × AreKnown g targets × IsBadMark g.built.graph (numbered targets) text
-ListsPage before after targets text limit BadNumber =
-    (g : GraphModel) × (before.graph ≡ Some g) × (after ≡ before) × (AreKnown g targets → ⊥)
-ListsPage before after targets text limit NotLoaded = (before.graph ≡ None) × (after ≡ before)
-ListsPage before after targets text limit OutOfMemory = after ≡ before
-ListsPage before after targets text limit other = ⊥
+abbrev pub ListsPage : (before after : Kept) → (targets text : List ℕ) → (limit : ℕ) → Status → Type 0
+ListsPage before after targets text limit =
+    ListsEdges before after targets (IsPageAfter targets text limit) (PageRefused before.graph targets text)

@@ -66,8 +66,20 @@ macro_rules! change {
     };
 }
 
+/// Lists edges in an open session: the answer is the list, or the status that says why not.
+macro_rules! list {
+    ($session:expr, $alloc:expr, $kept:ident => $answer:expr) => {
+        $crate::asking::change!($session, $alloc, seal => {
+            let $kept = seal.get();
+            let found = $answer;
+            $crate::pages::keep_page(seal, found)
+        })
+    };
+}
+
 pub(crate) use ask;
 pub(crate) use ask_edge;
 pub(crate) use ask_file;
 pub(crate) use ask_graph;
 pub(crate) use change;
+pub(crate) use list;

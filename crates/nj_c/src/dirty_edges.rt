@@ -1,15 +1,15 @@
 //! The edges that are to be built again where files changed.
 
-ghost use Rattle.std.specs.Prelude.{◌≡◌, ◌<◌, length, map, All, IfOk, MatchOption};
-ghost use Rattle.nj_c.specs.Cited.{edges_of, flagged, AreDirty, ListsDirty, Changes, AreKnown, numbers_of};
+ghost use Rattle.std.specs.Prelude.{◌≡◌, ◌<◌, All, IfOk};
+ghost use Rattle.nj_c.specs.Cited.{flagged, AreDirty, ListsDirty, Changes, numbers_of, AreRefused, FindsEdges};
 
-use crate::asking::change;
-use crate::pages::{keep_edges, known_files};
-use crate::sealed_box::Seal;
+use crate::asking::list;
+use crate::pages::{Page, graph_and_files};
 use crate::session::Session;
+use crate::session_state::Kept;
 use crate::status::Status;
 use nj_ask::is_set;
-use nj_graph::{EdgeNo, Graph};
+use nj_graph::EdgeNo;
 use std::alloc::{AllocError, Global};
 
 /// Lists the edges that are to be built again where these files changed, phony edges among them,
@@ -23,43 +23,20 @@ pub extern "C" fn nx_dirtied(alloc: Global, session: &mut Session, files: &[usiz
     ensures { Changes session.old.kept session.new.kept result (λ kept after.
         ListsDirty kept after files.now) }
 {
-    change!(session, alloc, seal => list_dirty(alloc, seal, files))
+    list!(session, alloc, kept => dirtied(alloc, kept, files))
 }
 
-fn list_dirty(alloc: Global, seal: Seal, files: &[usize]) -> (Seal, Status)
-    ensures { ListsDirty seal.kept result.0.kept files.now result.1 }
+// The edges that are to be built again where files of these numbers changed.
+fn dirtied(alloc: Global, kept: &Kept, numbers: &[usize]) -> Result<Page, Status>
+    ensures { FindsEdges kept.now numbers.now (AreDirty kept.now numbers.now)
+        (AreRefused kept.now.graph numbers.now) result }
 {
-    let kept = seal.get();
-    let Some(graph) = &kept.graph else {
-        return (seal, Status::NotLoaded);
-    };
-    match dirtied(alloc, graph, files, &kept.unknown) {
-        Ok(Some(edges)) => (keep_edges(seal, edges, Vec::new(alloc)), Status::Done),
-        Ok(None) => (seal, Status::BadNumber),
-        Err(_) => (seal, Status::OutOfMemory),
-    }
-}
-
-// The edges that are to be built again where files of these numbers changed; `None` if a number is
-// not that of a file.
-fn dirtied(
-    alloc: Global,
-    graph: &Graph,
-    numbers: &[usize],
-    unknown: &[bool],
-) -> Result<Option<Vec<EdgeNo>>, AllocError>
-    ensures { IfOk result (λ found. MatchOption found (AreKnown graph.now numbers.now → ⊥) (λ edges.
-        AreKnown graph.now numbers.now
-        × AreDirty graph.now numbers.now (flagged unknown.now (length (edges_of graph.now)))
-        (numbers_of edges.items))) }
-{
-    match known_files(alloc, numbers, graph.file_count())? {
-        Some(files) => {
-            let unknown = flagged(alloc, unknown, graph.edge_count())?;
-            Ok(Some(graph.edge_graph().dirtied_by(alloc, &files, &unknown)?))
-        }
-        None => Ok(None),
-    }
+    let (graph, files) = graph_and_files(alloc, kept, numbers)?;
+    let graph = graph.edge_graph();
+    let unknown = flagged(alloc, &kept.unknown, graph.edge_count())?;
+    let edges = graph.dirtied_by(alloc, &files, &unknown)?;
+    let mark = Vec::new(alloc);
+    Ok(Page { edges, mark })
 }
 
 // The edges with a flag, of the first ones.

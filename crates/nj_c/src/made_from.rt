@@ -1,7 +1,7 @@
 //! From which files the manifest is made.
 
-ghost use Rattle.std.specs.Prelude.{◌≡◌, map, IfOk, MatchOption};
-ghost use Rattle.nj_c.specs.Cited.{bool_code, OfGraph, filled, TellMadeFrom, FlagsKeptUnlessDone, GivesMadeFrom, AreKnown, code_of};
+ghost use Rattle.std.specs.Prelude.{◌≡◌, map, IfErr, IfOk, Some};
+ghost use Rattle.nj_c.specs.Cited.{AreRefused, bool_code, OfGraph, filled, TellMadeFrom, FlagsKeptUnlessDone, GivesMadeFrom, AreKnown, code_of};
 
 use crate::asking::ask;
 use crate::pages::known_files;
@@ -10,7 +10,7 @@ use crate::status::Status;
 use nj_ask::made_from;
 use nj_graph::Graph;
 use nj_scope::{FileSource, HashKeys};
-use std::alloc::{AllocError, Global};
+use std::alloc::Global;
 
 /// Of each of these files whether the manifest is made from it: whether it was opened in the load,
 /// or is an input of an edge that makes such a file or has a value of `generator`, or that one of
@@ -46,30 +46,27 @@ fn give_made_from(
     ensures buffer { FlagsKeptUnlessDone flags.old flags.new (code_of result) }
 {
     match made_from_numbers(alloc, graph, keys, numbers) {
-        Ok(Some(made)) => {
+        Ok(made) => {
             write_flags(&made, flags);
             Status::Done
         }
-        Ok(None) => Status::BadNumber,
-        Err(_) => Status::OutOfMemory,
+        Err(status) => status,
     }
 }
 
-// Of each file of these numbers whether the manifest is made from it; `None` if a number is not
-// that of a file.
+// Of each file of these numbers whether the manifest is made from it.
 fn made_from_numbers(
     alloc: Global,
     graph: &Graph,
     keys: HashKeys,
     numbers: &[usize],
-) -> Result<Option<Vec<bool>>, AllocError>
-    ensures { IfOk result (λ made. MatchOption made (AreKnown graph.now numbers.now → ⊥) (λ made.
-        AreKnown graph.now numbers.now × TellMadeFrom graph.now numbers.now made.items)) }
+) -> Result<Vec<bool>, Status>
+    ensures made { IfOk result (λ made.
+        AreKnown graph.now numbers.now × TellMadeFrom graph.now numbers.now made.items) }
+    ensures refused { IfErr result (AreRefused (Some graph.now) numbers.now) }
 {
-    match known_files(alloc, numbers, graph.file_count())? {
-        Some(files) => Ok(Some(made_from(alloc, graph, keys, &files)?)),
-        None => Ok(None),
-    }
+    let files = known_files(alloc, graph, numbers)?;
+    Ok(made_from(alloc, graph, keys, &files)?)
 }
 
 // Writes as many flags as there is room for.

@@ -1,17 +1,18 @@
 //! Lists of edges: those that a change affects, those that files need, and pages of the commands
 //! that targets need.
 
-ghost use Rattle.std.specs.Prelude.{◌≡◌, ◌<◌, Some, map, length, slice_get, All, IfErr, IfOk, IfSome, MatchOption};
-ghost use Rattle.nj_c.specs.Cited.{edges_of, files_of, GivesItem, GivesMark, IfOpen, KeptUnlessDone, Changes, end_text, mark_of, numbered, paths_of_files, AreBelow, AreKnown, IsNeededList, IsPageOf, IsReached, ListsNeeded, ListsPage, ListsReached, code_of, mark_status, numbers_of, MarkRefused, PageAfter, PageAt, PageFrom, PageOf};
+ghost use Rattle.std.specs.Prelude.{◌≡◌, ◌<◌, false, Some, map, length, slice_get, All, IfErr, IfOk};
+ghost use Rattle.nj_c.specs.Cited.{AreReached, AreNeeded, files_of, GivesItem, GivesMark, IfOpen, KeptUnlessDone, Changes, end_text, mark_of, numbered, AreKnown, IsPageOf, ListsNeeded, ListsPage, ListsReached, code_of, numbers_of, MarkRefused, AreRefused, IsPage, IsNoMark, IsPageAfter, PageRefused, makers_of, row_of, is_valid, FindsEdges, KeepsPage};
 
-use crate::asking::{ask, change};
+use crate::asking::{ask, list};
 use crate::buffers::copy_text;
 use crate::items::give_edge;
 use crate::sealed_box::Seal;
 use crate::session::Session;
+use crate::session_state::Kept;
 use crate::status::Status;
-use nj_graph::{EdgeNo, FileNo, Graph};
-use nj_needs::{Mark, MarkFault, Needs};
+use nj_graph::{EdgeGraph, EdgeNo, FileNo, Graph};
+use nj_needs::{Mark, Needs};
 use std::alloc::{AllocError, Global};
 use std::mem;
 
@@ -22,7 +23,7 @@ pub extern "C" fn nx_affected(alloc: Global, session: &mut Session, files: &[usi
     ensures { Changes session.old.kept session.new.kept result (λ kept after.
         ListsReached kept after files.now) }
 {
-    change!(session, alloc, seal => list_affected(alloc, seal, files))
+    list!(session, alloc, kept => affected(alloc, kept, files))
 }
 
 /// Lists the edges that these files need through any chain of inputs, phony edges among them,
@@ -33,7 +34,7 @@ pub extern "C" fn nx_needed(alloc: Global, session: &mut Session, files: &[usize
     ensures { Changes session.old.kept session.new.kept result (λ kept after.
         ListsNeeded kept after files.now) }
 {
-    change!(session, alloc, seal => list_needed(alloc, seal, files))
+    list!(session, alloc, kept => needed(alloc, kept, files))
 }
 
 /// Lists the edges with commands that targets need, without duplicates, each after all edges that
@@ -50,7 +51,7 @@ pub extern "C" fn nx_page(
     ensures { Changes session.old.kept session.new.kept result (λ kept after.
         ListsPage kept after targets.now mark.now take) }
 {
-    change!(session, alloc, seal => list_page(alloc, seal, targets, mark, take))
+    list!(session, alloc, kept => page_of(alloc, kept, targets, mark, take))
 }
 
 /// The edge at an index among those that were listed last.
@@ -94,34 +95,24 @@ fn give_mark(mark: &[u8], buffer: &mut [u8], needed: &mut usize) -> Status
     copy_text(mark, buffer, needed)
 }
 
-fn list_affected(alloc: Global, seal: Seal, files: &[usize]) -> (Seal, Status)
-    ensures { ListsReached seal.kept result.0.kept files.now result.1 }
+/// A list of edges, and the text of the mark at which it ends; empty if no edge is left after it.
+#[derive(Drop)]
+pub(crate) struct Page {
+    pub(crate) edges: Vec<EdgeNo>,
+    pub(crate) mark: Vec<u8>,
+}
+
+/// Keeps a list in place of the last one.
+pub(crate) fn keep_page(seal: Seal, found: Result<Page, Status>) -> (Seal, Status)
+    ensures { KeepsPage seal.kept result.0.kept found result.1 }
 {
-    let Some(graph) = &seal.get().graph else {
-        return (seal, Status::NotLoaded);
-    };
-    match affected(alloc, graph, files) {
-        Ok(Some(edges)) => (keep_edges(seal, edges, Vec::new(alloc)), Status::Done),
-        Ok(None) => (seal, Status::BadNumber),
-        Err(_) => (seal, Status::OutOfMemory),
+    match found {
+        Ok(Page { edges, mark }) => (keep_edges(seal, edges, mark), Status::Done),
+        Err(status) => (seal, status),
     }
 }
 
-fn list_needed(alloc: Global, seal: Seal, files: &[usize]) -> (Seal, Status)
-    ensures { ListsNeeded seal.kept result.0.kept files.now result.1 }
-{
-    let Some(graph) = &seal.get().graph else {
-        return (seal, Status::NotLoaded);
-    };
-    match needed(alloc, graph, files) {
-        Ok(Some(edges)) => (keep_edges(seal, edges, Vec::new(alloc)), Status::Done),
-        Ok(None) => (seal, Status::BadNumber),
-        Err(_) => (seal, Status::OutOfMemory),
-    }
-}
-
-/// Keeps a list of edges, and the mark after them.
-pub(crate) fn keep_edges(seal: Seal, edges: Vec<EdgeNo>, mark: Vec<u8>) -> Seal
+fn keep_edges(seal: Seal, edges: Vec<EdgeNo>, mark: Vec<u8>) -> Seal
     ensures { result.kept ≡ record seal.kept { found = edges; mark = mark } }
 {
     let mut kept = seal.into_box();
@@ -130,143 +121,89 @@ pub(crate) fn keep_edges(seal: Seal, edges: Vec<EdgeNo>, mark: Vec<u8>) -> Seal
     Seal::new(kept)
 }
 
-// The edges that a change of files of these numbers affects; `None` if a number is not that of a
-// file.
-fn affected(
-    alloc: Global,
-    graph: &Graph,
-    numbers: &[usize],
-) -> Result<Option<Vec<EdgeNo>>, AllocError>
-    ensures { IfOk result (λ found. MatchOption found (AreKnown graph.now numbers.now → ⊥) (λ edges.
-        AreKnown graph.now numbers.now
-        × IsReached graph.now numbers.now (numbers_of edges.items))) }
+// The edges that a change of files of these numbers affects.
+fn affected(alloc: Global, kept: &Kept, numbers: &[usize]) -> Result<Page, Status>
+    ensures { FindsEdges kept.now numbers.now (AreReached numbers.now)
+        (AreRefused kept.now.graph numbers.now) result }
 {
-    match known_files(alloc, numbers, graph.file_count())? {
-        Some(files) => Ok(Some(graph.affected_by(alloc, &files)?)),
-        None => Ok(None),
-    }
+    let (graph, files) = graph_and_files(alloc, kept, numbers)?;
+    let edges = graph.edge_graph().affected_by(alloc, &files)?;
+    let mark = Vec::new(alloc);
+    Ok(Page { edges, mark })
 }
 
-// The edges that files of these numbers need; `None` if a number is not that of a file.
-fn needed(
-    alloc: Global,
-    graph: &Graph,
-    numbers: &[usize],
-) -> Result<Option<Vec<EdgeNo>>, AllocError>
-    ensures { IfOk result (λ found. MatchOption found (AreKnown graph.now numbers.now → ⊥) (λ edges.
-        AreKnown graph.now numbers.now
-        × IsNeededList (edges_of graph.now) (paths_of_files graph.now numbers.now)
-        (numbers_of edges.items))) }
+// The edges that files of these numbers need.
+fn needed(alloc: Global, kept: &Kept, numbers: &[usize]) -> Result<Page, Status>
+    ensures { FindsEdges kept.now numbers.now (AreNeeded numbers.now)
+        (AreRefused kept.now.graph numbers.now) result }
 {
-    match known_files(alloc, numbers, graph.file_count())? {
-        Some(files) => Ok(Some(graph.edge_graph().needed_by(alloc, &files)?)),
-        None => Ok(None),
-    }
+    let (graph, files) = graph_and_files(alloc, kept, numbers)?;
+    let edges = graph.edge_graph().needed_by(alloc, &files)?;
+    let mark = Vec::new(alloc);
+    Ok(Page { edges, mark })
 }
 
-/// The files of these numbers; `None` if one is not below the count.
+/// The graph of a session, and the files of these numbers.
+pub(crate) fn graph_and_files<'k>(
+    alloc: Global,
+    kept: &'k Kept,
+    numbers: &[usize],
+) -> Result<(&'k Graph, Vec<FileNo>), Status>
+    ensures found { IfOk result (λ found. (kept.now.graph ≡ Some found.0.now)
+        × AreKnown found.0.now numbers.now × (found.1.items ≡ numbered numbers.now)) }
+    ensures below { IfOk result (λ found.
+        All (λ file. file.0 < length (files_of found.0.now)) found.1.items) }
+    ensures refused { IfErr result (AreRefused kept.now.graph numbers.now) }
+{
+    let Some(graph) = &kept.graph else {
+        return Err(Status::NotLoaded);
+    };
+    let files = known_files(alloc, graph, numbers)?;
+    Ok((graph, files))
+}
+
+/// The files of these numbers.
 pub(crate) fn known_files(
     alloc: Global,
+    graph: &Graph,
     numbers: &[usize],
-    count: usize,
-) -> Result<Option<Vec<FileNo>>, AllocError>
-    ensures numbered { IfOk result (λ known.
-        MatchOption known (AreBelow count numbers.now → ⊥) (λ files.
-        AreBelow count numbers.now × (files.items ≡ numbered numbers.now))) }
-    ensures below { IfOk result (λ known. IfSome known (λ files.
-        All (λ file. file.0 < count) files.items)) }
+) -> Result<Vec<FileNo>, Status>
+    ensures found { IfOk result (λ files.
+        AreKnown graph.now numbers.now × (files.items ≡ numbered numbers.now)) }
+    ensures below { IfOk result (λ files.
+        All (λ file. file.0 < length (files_of graph.now)) files.items) }
+    ensures refused { IfErr result (AreRefused (Some graph.now) numbers.now) }
 {
     let mut files = Vec::new(alloc);
     'numbers: for number in numbers {
-        if *number >= count {
-            return Ok(None);
+        if *number >= graph.file_count() {
+            return Err(Status::BadNumber);
         }
         files.push(FileNo(*number))?;
     }
-    Ok(Some(files))
+    Ok(files)
 }
 
-fn list_page(
-    alloc: Global,
-    seal: Seal,
-    targets: &[usize],
-    mark: &[u8],
-    take: usize,
-) -> (Seal, Status)
-    ensures { ListsPage seal.kept result.0.kept targets.now mark.now take result.1 }
-{
-    let Some(graph) = &seal.get().graph else {
-        return (seal, Status::NotLoaded);
-    };
-    match page_of(alloc, graph, targets, mark, take) {
-        Ok(Page { edges, mark }) => (keep_edges(seal, edges, mark), Status::Done),
-        Err(status) => (seal, status),
-    }
-}
-
-/// Some of the edges that targets need.
-#[derive(Drop)]
-struct Page {
-    edges: Vec<EdgeNo>,
-    // The text of the mark at which it ends; empty if no edge is left after it.
-    mark: Vec<u8>,
-}
-
-// The page after the mark of a text.
+// The page of the edges that targets need after the mark of a text.
 fn page_of(
     alloc: Global,
-    graph: &Graph,
+    kept: &Kept,
     numbers: &[usize],
-    mark: &[u8],
-    take: usize,
-) -> Result<Page, Status>
-    ensures { PageOf graph.now numbers.now mark.now take result }
-{
-    let Ok(known) = known_files(alloc, numbers, graph.file_count()) else {
-        return Err(Status::OutOfMemory);
-    };
-    let Some(targets) = known else {
-        return Err(Status::BadNumber);
-    };
-    page_at(alloc, graph, &targets, mark, take)
-}
-
-fn page_at(
-    alloc: Global,
-    graph: &Graph,
-    targets: &[FileNo],
     text: &[u8],
     take: usize,
 ) -> Result<Page, Status>
-    requires { All (λ file. file.0 < length (files_of graph.now)) targets.now }
-    ensures { PageAt graph.now.built.graph targets.now text.now take result }
+    ensures { FindsEdges kept.now numbers.now (IsPageAfter numbers.now text.now take)
+        (PageRefused kept.now.graph numbers.now text.now) result }
 {
-    match read_mark(alloc, text) {
-        Ok(mark) => page_from(alloc, graph, targets, &mark, take),
-        Err(status) => Err(status),
-    }
-}
-
-fn page_from(
-    alloc: Global,
-    graph: &Graph,
-    targets: &[FileNo],
-    mark: &Mark,
-    take: usize,
-) -> Result<Page, Status>
-    requires { All (λ file. file.0 < length (files_of graph.now)) targets.now }
-    ensures { PageFrom graph.now.built.graph targets.now mark.now take result }
-{
-    match page_after(alloc, graph, targets, mark, take) {
-        Ok(page) => Ok(page),
-        Err(fault) => Err(status_of(fault)),
-    }
+    let (graph, targets) = graph_and_files(alloc, kept, numbers)?;
+    let mark = read_mark(alloc, text)?;
+    page_after(alloc, graph.edge_graph(), &targets, &mark, take)
 }
 
 // The mark that a text gives; the empty text is the start.
 fn read_mark(alloc: Global, text: &[u8]) -> Result<Mark, Status>
     ensures mark { IfOk result (λ mark. mark_of text.now ≡ Some mark) }
-    ensures refused { IfErr result (λ status. MarkRefused text.now status) }
+    ensures refused { IfErr result (MarkRefused (IsNoMark text.now)) }
 {
     if text.is_empty() {
         return Ok(Mark::start(alloc));
@@ -274,34 +211,24 @@ fn read_mark(alloc: Global, text: &[u8]) -> Result<Mark, Status>
     let Ok(text) = str::from_utf8(text) else {
         return Err(Status::BadMark);
     };
-    match Mark::read(alloc, text) {
-        Ok(mark) => Ok(mark),
-        Err(fault) => Err(status_of(fault)),
-    }
-}
-
-fn status_of(fault: MarkFault) -> Status
-    ensures { result ≡ mark_status fault }
-{
-    match fault {
-        MarkFault::OutOfMemory => Status::OutOfMemory,
-        MarkFault::BadMark | MarkFault::MarkOutOfRange => Status::BadMark,
-    }
+    Ok(Mark::read(alloc, text)?)
 }
 
 fn page_after(
     alloc: Global,
-    graph: &Graph,
+    graph: &EdgeGraph,
     targets: &[FileNo],
     mark: &Mark,
     take: usize,
-) -> Result<Page, MarkFault>
-    requires { All (λ file. file.0 < length (files_of graph.now)) targets.now }
-    ensures { PageAfter graph.now.built.graph targets.now mark.now take result }
+) -> Result<Page, Status>
+    requires { All (λ file. file.0 < length graph.now.files) targets.now }
+    ensures page { IfOk result (λ page. IsPage graph.now targets.now mark.now take
+        (numbers_of page.edges.items) page.mark.items) }
+    ensures refused { IfErr result (MarkRefused
+        (is_valid (makers_of graph.now) (row_of graph.now targets.now) mark.now ≡ false)) }
 {
-    let mut needs = Needs::resume(alloc, graph.edge_graph(), targets, mark)?;
-    let page = next_page(alloc, &mut needs, take)?;
-    Ok(page)
+    let mut needs = Needs::resume(alloc, graph, targets, mark)?;
+    Ok(next_page(alloc, &mut needs, take)?)
 }
 
 // At most `take` of the edges that are left to a walk.

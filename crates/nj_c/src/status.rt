@@ -1,7 +1,10 @@
 //! The statuses that calls return.
 
 ghost use Rattle.std.specs.Prelude.{◌≡◌};
-ghost use Rattle.nj_c.specs.Cited.{code_of};
+ghost use Rattle.nj_c.specs.Cited.{OutOfMemory, code_of, mark_status};
+
+use nj_needs::MarkFault;
+use std::alloc::{AllocError, AllocFailed};
 
 /// The result of a call. Its number never changes.
 #[derive(Clone, Copy, Debug, PartialEq, Eq)]
@@ -30,6 +33,33 @@ pub enum Status {
     OutOfMemory,
     /// The bytes are no deps log of version 4.
     BadLog,
+}
+
+impl From<AllocError> for Status {
+    ghost from_gives = { λ _ s. s ≡ OutOfMemory };
+
+    fn from(_e: AllocError) -> Status {
+        Status::OutOfMemory
+    }
+}
+
+impl<T: Drop> From<AllocFailed<T>> for Status {
+    ghost from_gives = { λ _ s. s ≡ OutOfMemory };
+
+    fn from(_e: AllocFailed<T>) -> Status {
+        Status::OutOfMemory
+    }
+}
+
+impl From<MarkFault> for Status {
+    ghost from_gives = { λ fault s. s ≡ mark_status fault };
+
+    fn from(fault: MarkFault) -> Status {
+        match fault {
+            MarkFault::OutOfMemory => Status::OutOfMemory,
+            MarkFault::BadMark | MarkFault::MarkOutOfRange => Status::BadMark,
+        }
+    }
 }
 
 impl Status {

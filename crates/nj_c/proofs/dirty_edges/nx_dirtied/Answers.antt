@@ -1,9 +1,12 @@
 use Rattle.std.proofs.Common.{rules}
-use Rattle.nj_c.proofs.AskLemmas.{changes}
+use Rattle.nj_c.specs.DirtyEdges.{AreDirty}
+use Rattle.nj_c.specs.Pages.{AreRefused}
+use Rattle.nj_c.proofs.PageLemmas.{lists}
 use Rattle.nj_c.proofs.dirty_edges.nx_dirtied.Goals as goal
 
 pub returns-in-Some : goal.returns-in-Some
 returns-in-Some c =
-    changes c.args.session.now.kept c.in-Some.seal.kept c.list_dirty-changed.result.0.kept c.put.new.self.kept
-    _ c.list_dirty-changed.result.1 _ c.in-Some.ensures.taken c.put.ensures
-    (search rules) c.list_dirty-changed.ensures
+    let files = c.args.files.now in
+    lists files (λ kept. AreDirty kept files) (λ kept. AreRefused kept.graph files)
+    c.dirtied-found.result c.keep_page.result.1 c.get-kept.ensures c.in-Some.ensures.taken c.put.ensures
+    (search rules) c.dirtied-found.ensures c.keep_page.ensures

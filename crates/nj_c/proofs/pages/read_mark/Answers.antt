@@ -1,4 +1,4 @@
-use Rattle.std.proofs.Common.{◌≡◌, false, inl, rules}
+use Rattle.std.proofs.Common.{◌≡◌, false, refl, inl, inr, rules}
 use Rattle.std.specs.Str.{is_utf8}
 use Rattle.nj_c.proofs.pages.read_mark.Goals as goal
 
@@ -6,4 +6,4 @@ pub returns-in_default-clause-refused : goal.returns-in_default-clause-refused
 unfolding is_utf8
 returns-in_default-clause-refused c =
     let text : is_utf8 c.args.text.now ≡ false = search rules in
-    inl text
+    inr (refl, inl text)
