@@ -1,6 +1,7 @@
 -- The session after joining what builds discovered.
 use Rattle.std.specs.Global.{Vec}
-use Rattle.std.proofs.Common.{◌≡◌, inl, inr, ℕ, List, [], length, Some, None, Result, Ok, Err, refl, sym}
+use Rattle.std.proofs.Common.{◌≡◌, inl, inr, ℕ, Bool, Option, List, [], length, Some, None, Result, Ok, Err}
+use Rattle.std.proofs.Common.{refl, sym}
 use Rattle.std.proofs.Common.{subst}
 use Rattle.nj_deps.specs.Logs.{LogModel, IsLogOf}
 use Rattle.nj_scope.specs.ReadingList.{ReadStatement}
@@ -62,50 +63,16 @@ module _ (g : GraphModel) (before : Kept) (files : Supplied) (wanted : Vec (Vec 
   abbrev middle : Kept
   middle = record before { files = files; wanted = wanted }
 
-  finds-fault : (after : Kept) (fault : GraphFault) (status : Status)
-      → FindsOr g before.files files log times (Err fault) → KeepsFound middle after read (Err fault) status
-      → JoinsFound g before after log read times status
-  finds-fault after fault Fault (inl none) (other, is) = absurd (other none)
-  finds-fault after fault Fault (inr (found, finds)) (other, is) =
-      subst (λ k. JoinsFound g before k log read times Fault) (sym is) (
-        fault,
-        found,
-        record {
-          files = same;
-          wanted = empty;
-          found = refl;
-          mark = refl;
-          run =
-              record { output = refl; errors = refl };
-        },
-        refl,
-        refl,
-        other,
-        (λ stated graph. (lacking stated graph, finds stated graph)),
-      )
-  finds-fault after fault OutOfMemory finds is =
-      subst (λ k. JoinsFound g before k log read times OutOfMemory) (sym is) (
-        record {
-          files = same;
-          wanted = empty;
-          found = refl;
-          mark = refl;
-          run =
-              record { output = refl; errors = refl };
-        },
-        refl,
-        refl,
-      )
-  finds-fault after fault Done finds kept = absurd kept
-  finds-fault after fault Nothing finds kept = absurd kept
-  finds-fault after fault Short finds kept = absurd kept
-  finds-fault after fault Wanted finds kept = absurd kept
-  finds-fault after fault NotLoaded finds kept = absurd kept
-  finds-fault after fault BadNumber finds kept = absurd kept
-  finds-fault after fault BadMark finds kept = absurd kept
-  finds-fault after fault NotUtf8 finds kept = absurd kept
-  finds-fault after fault NotOpen finds kept = absurd kept
-  finds-fault after fault BadLog finds kept = absurd kept
+  others : (graph : Option GraphModel) (fault : Option GraphFault) (how_far : Option LogRead)
+      (unknown : Vec Bool)
+      → KeepsOthers before (record middle { graph = graph; fault = fault; log = how_far; unknown = unknown })
+  others graph fault how_far unknown = record {
+    files = same;
+    wanted = empty;
+    found = refl;
+    mark = refl;
+    run = record { output = refl; errors = refl };
+  }
 
   pub finds-result : (after : Kept) (joined : Result Joined GraphFault) (status : Status)
       → FindsOr g before.files files log times joined → KeepsFound middle after read joined status
@@ -115,14 +82,7 @@ module _ (g : GraphModel) (before : Kept) (files : Supplied) (wanted : Vec (Vec 
       (subst (λ k. JoinsFound g before k log read times Done) (sym is) (
         joined.graph,
         found,
-        record {
-          files = same;
-          wanted = empty;
-          found = refl;
-          mark = refl;
-          run =
-              record { output = refl; errors = refl };
-        },
+        others _ _ _ _,
         refl,
         refl,
         refl,
@@ -130,7 +90,21 @@ module _ (g : GraphModel) (before : Kept) (files : Supplied) (wanted : Vec (Vec 
         numbers,
         (λ stated graph. (lacking stated graph, finds stated graph)),
       ))
-  finds-result after (Err fault) status finds kept = finds-fault after fault status finds kept
+  finds-result after (Err fault) status (inl none) (inl (failed, other, is)) = absurd (other none)
+  finds-result after (Err fault) status (inr (found, finds)) (inl (failed, other, is)) =
+      subst (JoinsFound g before after log read times) (sym failed)
+      (subst (λ k. JoinsFound g before k log read times Fault) (sym is) (
+        fault,
+        found,
+        others _ _ _ _,
+        refl,
+        refl,
+        other,
+        (λ stated graph. (lacking stated graph, finds stated graph)),
+      ))
+  finds-result after (Err fault) status finds (inr (failed, is)) =
+      subst (JoinsFound g before after log read times) (sym failed)
+      (subst (λ k. JoinsFound g before k log read times OutOfMemory) (sym is) (others _ _ _ _, refl, refl))
 
 -- ---- a graph that was taken out before
 

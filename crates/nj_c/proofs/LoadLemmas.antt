@@ -15,9 +15,7 @@ use Rattle.nj_graph.specs.Loads.{LoadedModel, Loads}
 use Rattle.nj_graph.specs.Joining.{Joins}
 use Rattle.nj_c.specs.declared.session_state.Kept.{Kept}
 use Rattle.nj_c.specs.declared.status.Status.{Status}
-use Rattle.nj_c.specs.declared.status.Status.TheVariants.{Done, Nothing, Short, Fault, Wanted, NotLoaded}
-use Rattle.nj_c.specs.declared.status.Status.TheVariants.{BadNumber, BadMark, NotUtf8, NotOpen, OutOfMemory}
-use Rattle.nj_c.specs.declared.status.Status.TheVariants.{BadLog}
+use Rattle.nj_c.specs.declared.status.Status.TheVariants.{Done, Fault, Wanted, NotUtf8, OutOfMemory}
 use Rattle.nj_c.specs.SuppliedFiles.{Supplied, supplied_for, supplied_state, wanted_paths, ReadsAsSupplied}
 use Rattle.nj_c.specs.SuppliedFiles.{SameFiles}
 use Rattle.nj_c.specs.Loading.{unread, graph_loaded, lacking_dyndeps, paths_or, paths_to_load, GivesGraph}
@@ -138,23 +136,16 @@ module _ (before middle : Kept) (files : Supplied) (main : List ℕ) (joins : Bo
           record { output = run.output; errors = run.errors },
           (graph, refl, none.fault, none.wanted, whole),
         ))
-    keeps (Err fault) Fault whole (other, is) = subst (λ k. LoadsKept before k main joins Fault) (sym is) (
-      same-then,
-      nothing,
-      record { output = run.output; errors = run.errors },
-      (fault, none.graph, refl, none.wanted, other, whole),
-    )
-    keeps (Err fault) OutOfMemory whole is = lacks is
-    keeps (Err fault) Done whole kept = absurd kept
-    keeps (Err fault) Nothing whole kept = absurd kept
-    keeps (Err fault) Short whole kept = absurd kept
-    keeps (Err fault) Wanted whole kept = absurd kept
-    keeps (Err fault) NotLoaded whole kept = absurd kept
-    keeps (Err fault) BadNumber whole kept = absurd kept
-    keeps (Err fault) BadMark whole kept = absurd kept
-    keeps (Err fault) NotUtf8 whole kept = absurd kept
-    keeps (Err fault) NotOpen whole kept = absurd kept
-    keeps (Err fault) BadLog whole kept = absurd kept
+    keeps (Err fault) status whole (inl (failed, other, is)) =
+        subst (LoadsKept before after main joins) (sym failed)
+        (subst (λ k. LoadsKept before k main joins Fault) (sym is) (
+          same-then,
+          nothing,
+          record { output = run.output; errors = run.errors },
+          (fault, none.graph, refl, none.wanted, other, whole),
+        ))
+    keeps (Err fault) status whole (inr (failed, is)) =
+        subst (LoadsKept before after main joins) (sym failed) (lacks is)
 
   out_of_memory : (after : Kept) → after ≡ read → LoadsKept before after main joins OutOfMemory
   out_of_memory after is = lacks after files same is

@@ -1,5 +1,6 @@
 -- The session after joining a deps log.
-use Rattle.std.proofs.Common.{◌≡◌, ◌≢◌, ℕ, List, length, IfOk, Some, None, is_some, Result, Ok, Err, sym, ap}
+use Rattle.std.proofs.Common.{◌≡◌, ◌≢◌, inl, inr, ℕ, List, length, IfOk, Some, None, is_some, Result, Ok, Err}
+use Rattle.std.proofs.Common.{sym, ap}
 use Rattle.std.proofs.Common.{subst, ◌∙◌, true≢false, Option}
 use Rattle.nj_deps.specs.Logs.{LogModel, IsLogOf}
 use Rattle.nj_scope.specs.ReadingList.{ReadStatement}
@@ -9,9 +10,6 @@ use Rattle.nj_graph.specs.Graph.{GraphModel, IsGraphOf, edges_of, files_of}
 use Rattle.nj_graph.specs.DepsLogs.{JoinsLog}
 use Rattle.nj_c.specs.declared.session_state.Kept.{Kept}
 use Rattle.nj_c.specs.declared.status.Status.{Status}
-use Rattle.nj_c.specs.declared.status.Status.TheVariants.{Done, Nothing, Short, Fault, Wanted, NotLoaded}
-use Rattle.nj_c.specs.declared.status.Status.TheVariants.{BadNumber, BadMark, NotUtf8, NotOpen, OutOfMemory}
-use Rattle.nj_c.specs.declared.status.Status.TheVariants.{BadLog}
 use Rattle.nj_c.specs.JoinedLogs.{JoinsDeps}
 use Rattle.nj_c.specs.Inside.LogsJoined.{JoinsKnown, KeepsJoined}
 
@@ -28,18 +26,10 @@ module _ (before after : Kept) (bytes : List ℕ) (log : LogModel) (is : IsLogOf
       → JoinsDeps before after bytes status
   keeps (Ok joined) status edges files joins (kept, done) =
       subst (JoinsDeps before after bytes) (sym done) (g, was, (joined, log, is, kept, (edges, files), joins))
-  keeps (Err fault) Fault edges files joins (other, kept) = (g, was, (fault, log, is, kept, other, joins))
-  keeps (Err fault) OutOfMemory edges files joins kept = (some-is-not-none was, kept)
-  keeps (Err fault) Done edges files joins kept = absurd kept
-  keeps (Err fault) Nothing edges files joins kept = absurd kept
-  keeps (Err fault) Short edges files joins kept = absurd kept
-  keeps (Err fault) Wanted edges files joins kept = absurd kept
-  keeps (Err fault) NotLoaded edges files joins kept = absurd kept
-  keeps (Err fault) BadNumber edges files joins kept = absurd kept
-  keeps (Err fault) BadMark edges files joins kept = absurd kept
-  keeps (Err fault) NotUtf8 edges files joins kept = absurd kept
-  keeps (Err fault) NotOpen edges files joins kept = absurd kept
-  keeps (Err fault) BadLog edges files joins kept = absurd kept
+  keeps (Err fault) status edges files joins (inl (failed, other, kept)) =
+      subst (JoinsDeps before after bytes) (sym failed) (g, was, (fault, log, is, kept, other, joins))
+  keeps (Err fault) status edges files joins (inr (failed, kept)) =
+      subst (JoinsDeps before after bytes) (sym failed) (some-is-not-none was, kept)
 
 -- the log of these bytes was joined
 pub joined : (before after : Kept) (bytes : List ℕ) (log : LogModel) (status : Status) → IsLogOf bytes log

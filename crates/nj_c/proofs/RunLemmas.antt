@@ -23,7 +23,7 @@ use Rattle.nj_c.specs.declared.status.Status.TheVariants.{BadLog}
 use Rattle.nj_c.specs.SuppliedFiles.{Supplied, supplied_for, supplied_state, SameFiles}
 use Rattle.nj_c.specs.Loading.{unread}
 use Rattle.nj_c.specs.Runs.{untouched, given_words, KeepsNoOutput, OutputsNeverFail, LeavesRun}
-use Rattle.nj_c.specs.Runs.{LeavesRunOfText, RunsKept, SameLoad}
+use Rattle.nj_c.specs.Runs.{RunsKept, SameLoad}
 use Rattle.nj_c.specs.Inside.RunsHeld.{FinishesRun, NoRun, Ran, WordsRefused}
 
 -- ---- the declared files stay the same
@@ -120,22 +120,6 @@ same-load before middle after one two = record {
   unknown = two.unknown ∙ one.unknown;
 }
 
-of-text : (before after : Kept) (text : List ℕ) (exit new : ℤ) (status : Status)
-    → LeavesRun (unread before.files) after (given_words text) exit new status
-    → LeavesRunOfText before after text exit new status
-of-text before after text exit new Done ends = ends
-of-text before after text exit new Wanted ends = ends
-of-text before after text exit new OutOfMemory ends = ends
-of-text before after text exit new NotUtf8 ends = absurd ends
-of-text before after text exit new Nothing ends = absurd ends
-of-text before after text exit new Short ends = absurd ends
-of-text before after text exit new Fault ends = absurd ends
-of-text before after text exit new NotLoaded ends = absurd ends
-of-text before after text exit new BadNumber ends = absurd ends
-of-text before after text exit new BadMark ends = absurd ends
-of-text before after text exit new NotOpen ends = absurd ends
-of-text before after text exit new BadLog ends = absurd ends
-
 pub runs-kept : (before middle after : Kept) (text : List ℕ) (words : List (List ℕ)) (exit new : ℤ)
     (status : Status) → middle.files ≡ unread before.files
     → SameLoad before middle → words ≡ given_words text → SameFiles middle.files after.files
@@ -144,28 +128,21 @@ pub runs-kept : (before middle after : Kept) (text : List ℕ) (words : List (Li
 runs-kept before middle after text words exit new status begun one are files two ends = (
   (λ path. files path ∙ ap (λ f. supplied_for f path) begun),
   same-load before middle after one two,
-  of-text before after text exit new status
-      (subst (λ ws. LeavesRun (unread before.files) after ws exit new status) are
+  inl (subst (λ ws. LeavesRun (unread before.files) after ws exit new status) are
       (subst (λ f. LeavesRun f after words exit new status) begun ends)),
 )
 
 pub not-run : (before middle : Kept) (text : List ℕ) (exit : ℤ) (status : Status)
     → middle.files ≡ unread before.files → SameLoad before middle → NoRun middle
     → middle.wanted.items ≡ [] → WordsRefused text status → RunsKept before middle text exit exit status
-not-run before middle text exit NotUtf8 begun one none wanted why =
-    ((λ path. ap (λ f. supplied_for f path) begun), one, (refl, no-output middle none, wanted, why))
-not-run before middle text exit OutOfMemory begun one none wanted why =
-    ((λ path. ap (λ f. supplied_for f path) begun), one, (refl, no-output middle none, wanted))
-not-run before middle text exit Done begun one none wanted why = absurd why
-not-run before middle text exit Nothing begun one none wanted why = absurd why
-not-run before middle text exit Short begun one none wanted why = absurd why
-not-run before middle text exit Fault begun one none wanted why = absurd why
-not-run before middle text exit Wanted begun one none wanted why = absurd why
-not-run before middle text exit NotLoaded begun one none wanted why = absurd why
-not-run before middle text exit BadNumber begun one none wanted why = absurd why
-not-run before middle text exit BadMark begun one none wanted why = absurd why
-not-run before middle text exit NotOpen begun one none wanted why = absurd why
-not-run before middle text exit BadLog begun one none wanted why = absurd why
+not-run before middle text exit status begun one none wanted (inl (is, why)) =
+    ((λ path. ap (λ f. supplied_for f path) begun), one, inr (is, why, refl, no-output middle none, wanted))
+not-run before middle text exit status begun one none wanted (inr is) = (
+  (λ path. ap (λ f. supplied_for f path) begun),
+  one,
+  inl (subst (LeavesRun (unread before.files) middle (given_words text) exit exit) (sym is)
+      (refl, no-output middle none, wanted)),
+)
 
 -- ---- its status
 

@@ -122,13 +122,9 @@ fn read_log(alloc: Global, keys: HashKeys, bytes: &[u8]) -> Result<GivenLog, Dep
     ensures read { IfOk result (λ given. given.read ≡ given_read bytes.now given.log) }
     ensures fault { IfErr result (λ fault. IsLogFault (log_bytes bytes.now) fault) }
 {
-    match DepsLog::read_with_keys(alloc, keys, log_bytes(bytes)) {
-        Ok(log) => {
-            let read = given_read(bytes, &log);
-            Ok(GivenLog { log, read })
-        }
-        Err(fault) => Err(fault),
-    }
+    let log = DepsLog::read_with_keys(alloc, keys, log_bytes(bytes))?;
+    let read = given_read(bytes, &log);
+    Ok(GivenLog { log, read })
 }
 
 fn log_bytes(bytes: &[u8]) -> &[u8]

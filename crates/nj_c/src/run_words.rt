@@ -9,15 +9,12 @@ use std::alloc::{AllocError, Global};
 /// The arguments of a text; each ends before a zero byte or at the end of the text.
 pub(crate) fn words_in(alloc: Global, text: &[u8]) -> Result<Vec<String>, Status>
     ensures words { IfOk result (λ words. map string_bytes words.items ≡ given_words text.now) }
-    ensures refused { IfErr result (λ status. WordsRefused text.now status) }
+    ensures refused { IfErr result (WordsRefused text.now) }
 {
     let Ok(text) = str::from_utf8(text) else {
         return Err(Status::NotUtf8);
     };
-    match split_words(alloc, text) {
-        Ok(words) => Ok(words),
-        Err(_) => Err(Status::OutOfMemory),
-    }
+    Ok(split_words(alloc, text)?)
 }
 
 fn split_words(alloc: Global, text: &str) -> Result<Vec<String>, AllocError>

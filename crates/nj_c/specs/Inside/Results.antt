@@ -19,9 +19,9 @@ AreStatements (Err fault) entries = ⊤
 
 -- a fault is kept, unless an allocation failed
 abbrev pub KeepsFault : (before after : Kept) → GraphFault → Status → Type 0
-KeepsFault before after fault Fault = (fault ≢ no_memory) × (after ≡ record before { fault = Some fault })
-KeepsFault before after fault OutOfMemory = after ≡ before
-KeepsFault before after fault other = ⊥
+KeepsFault before after fault status =
+    ((status ≡ Fault) × (fault ≢ no_memory) × (after ≡ record before { fault = Some fault }))
+    ⊎ ((status ≡ OutOfMemory) × (after ≡ before))
 
 -- the graph or the fault of a load is kept
 abbrev pub KeepsResult : (before after : Kept) → Result GraphModel GraphFault → Status → Type 0

@@ -1,4 +1,4 @@
-use Rattle.std.proofs.Common.{◌≡◌, false, rules}
+use Rattle.std.proofs.Common.{◌≡◌, false, inl, refl, rules}
 use Rattle.std.specs.Str.{is_utf8}
 use Rattle.nj_c.proofs.run_words.words_in.Goals as goal
 
@@ -6,4 +6,4 @@ pub returns-in_default-clause-refused : goal.returns-in_default-clause-refused
 unfolding is_utf8
 returns-in_default-clause-refused c =
     let text : is_utf8 c.args.text.now ≡ false = search rules in
-    text
+    inl (refl, text)
