@@ -1,29 +1,22 @@
 -- The result of joining inputs that are named for edges: the graph of the statements with these
 -- inputs, or a cycle.
-use Rattle.std.proofs.Common.{◌≡◌, ◌<◌, ℕ, Some, Ok, List, length, slice_get, sym, ap, subst, ◌∙◌}
+use Rattle.std.proofs.Common.{◌≡◌, ℕ, Ok, List, length, sym, subst, ◌∙◌}
 use Rattle.std.proofs.lemmas.List.{length-map}
 use Rattle.nj_scope.specs.Readings.{IsPrefix}
 use Rattle.nj_scope.specs.ReadingList.{ReadStatement}
-use Rattle.nj_cycles.specs.Cycles.{IsAcyclic, IsLeastOnCycle}
+use Rattle.nj_cycles.specs.Cycles.{IsAcyclic}
 use Rattle.nj_edges.specs.EdgeGraphs.{EdgeGraph}
-use Rattle.nj_edges.specs.declared.graph.CycleEdge.{CycleEdge}
 use Rattle.nj_edges.specs.declared.graph.Finished.{Finished}
-use Rattle.nj_edges.specs.declared.graph.Finished.TheVariants.{Graph, Cycle}
 use Rattle.nj_edges.specs.Graph.{FinishesAs}
 use Rattle.nj_edges.specs.Joining.{join_of}
-use Rattle.nj_edges.specs.Edges.{edge_at, outputs_of}
-use Rattle.nj_edges.specs.MoreInputs.{InputTable, with_inputs_added}
+use Rattle.nj_edges.specs.MoreInputs.{InputTable}
 use Rattle.nj_edges.specs.Needs.{makers_of_inputs}
-use Rattle.nj_faults.specs.declared.fault.GraphFault.{GraphFault}
-use Rattle.nj_faults.specs.declared.fault.Cause.TheVariants as cause
-use Rattle.nj_faults.specs.Faults.{fault_at}
 use Rattle.nj_statements.specs.EdgeList.{edges_read, paths_of_edges}
-use Rattle.nj_statements.specs.Built.{BuiltModel, ComesTo, IsBuiltOf, IsCycleFault, detail_at}
+use Rattle.nj_statements.specs.Built.{BuiltModel, ComesTo, IsBuiltOf}
 use Rattle.nj_statements.specs.Records.{AreOfGraph, RecordsModel, with_graph}
 use Rattle.nj_statements.proofs.DiscoverLemmas.{declared-same}
 use Rattle.nj_statements.proofs.LoggedLemmas.{all-named, all_edges-named, as_read-named, built-named}
-use Rattle.nj_statements.proofs.LoggedLemmas.{details-named, paths-named}
-use Rattle.nj_statements.proofs.RecordLemmas.{are-longer, cycle-at, same-longer}
+use Rattle.nj_statements.proofs.RecordLemmas.{are-longer, same-longer}
 use Rattle.nj_graph.specs.DepsLogs.{with_named}
 use Rattle.nj_graph.specs.Graph.{GraphModel, IsOpenScope, HasRule, IsGraphOf}
 use Rattle.nj_graph.specs.Inside.InputSteps.{AreNamed, FinishesWith, edges_with, joined_edges}
@@ -33,35 +26,19 @@ use Rattle.nj_graph.proofs.OriginLemmas.{origins-named}
 
 module _ (inputs : List (List (List ℕ))) (graph : EdgeGraph) (records : RecordsModel)
     (fits : AreOfGraph graph records) (as_many : length inputs ≡ length graph.edges)
-    (named : ℕ → List (List ℕ)) (stated : List ReadStatement)
-    (is : IsBuiltOf (with_graph graph records) stated) (are : AreNamed named inputs) where
-  edges-are : edges_with inputs graph.edges ≡ with_inputs_added (news named stated) 0 graph.edges
-  edges-are = named-edges named stated inputs graph.edges is.paths as_many are
+    (files : List (List ℕ)) (longer : IsPrefix graph.files files) where
+  abbrev joined : EdgeGraph
+  joined = record { files = files; edges = edges_with inputs graph.edges }
 
-  paths-are : edges_with inputs graph.edges ≡ paths_of_edges (edges_read (with_named named stated))
-  paths-are = edges-are ∙ ap (with_inputs_added (news named stated) 0) is.paths
-      ∙ sym (paths-named (news named stated) stated)
+  pub joined-fits : AreOfGraph joined records
+  joined-fits = are-longer graph joined records fits longer (length-with inputs graph.edges as_many)
 
-  pub with-built : (joined : EdgeGraph) → joined.edges ≡ edges_with inputs graph.edges
-      → IsPrefix graph.files joined.files
-      → IsAcyclic (makers_of_inputs (edges_with inputs graph.edges)) (length (edges_with inputs graph.edges))
-      → ComesTo (with_named named stated) (Ok (with_graph joined records))
-  with-built joined edges files acyclic = (
-    built-named (news named stated) (with_graph graph records) (with_graph joined records) stated is
-        (edges ∙ edges-are) (same-longer graph joined records fits files),
-    subst (λ n. IsAcyclic (makers_of_inputs (paths_of_edges (edges_read (with_named named stated)))) n)
-        (length-map (edges_read (with_named named stated)) (λ e. e.paths))
-        (subst (λ es. IsAcyclic (makers_of_inputs es) (length es)) paths-are acyclic),
-  )
-
-  pub with-cycle : (n : ℕ) (output : List ℕ) (fault : GraphFault) → n < length (edges_with inputs graph.edges)
-      → IsLeastOnCycle (makers_of_inputs (edges_with inputs graph.edges)) n
-      → slice_get (outputs_of (edge_at (edges_with inputs graph.edges) n)) 0 ≡ Some output
-      → fault ≡ fault_at (detail_at records.details n).file (detail_at records.details n).spot
-      (cause.Cycle output) → IsCycleFault (edges_read (with_named named stated)) fault
-  with-cycle n output fault below least first same =
-      cycle-at records.details (edges_with inputs graph.edges) (with_named named stated) n output fault
-      (is.details ∙ sym (details-named (news named stated) stated)) paths-are below least first same
+  pub joined-built : (named : ℕ → List (List ℕ)) (stated : List ReadStatement)
+      → IsBuiltOf (with_graph graph records) stated → AreNamed named inputs
+      → IsBuiltOf (with_graph joined records) (with_named named stated)
+  joined-built named stated is are = built-named (news named stated) (with_graph graph records)
+      (with_graph joined records) stated is (named-edges named stated inputs graph.edges is.paths as_many are)
+      (same-longer graph joined records fits longer)
 
 -- ---- the finished graph
 
@@ -77,18 +54,6 @@ finishes inputs graph t finished is as_many done =
       finishes =
           subst (λ es. FinishesAs t.table.files es finished) joined.0 done;
     }
-
-module _ (inputs : List (List (List ℕ))) (graph : EdgeGraph) (records : RecordsModel)
-    (fits : AreOfGraph graph records) (as_many : length inputs ≡ length graph.edges) where
-  pub with-fits : (joined : EdgeGraph) → FinishesWith inputs graph (Graph joined) → AreOfGraph joined records
-  with-fits joined done = are-longer graph joined records fits
-      (subst (IsPrefix graph.files) (sym (ap (λ (g : EdgeGraph). g.files) done.finishes.0)) done.longer)
-      (ap (λ (g : EdgeGraph). length g.edges) done.finishes.0 ∙ length-with inputs graph.edges as_many)
-
-  pub cycle-within : (cycle : CycleEdge) → FinishesWith inputs graph (Cycle cycle)
-      → cycle.edge.0 < length records.details
-  cycle-within cycle done = subst (λ n. cycle.edge.0 < n)
-      (length-with inputs graph.edges as_many ∙ sym fits.as_many) done.finishes.0
 
 -- ---- the graph
 

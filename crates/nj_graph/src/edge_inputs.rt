@@ -8,7 +8,7 @@ ghost use Rattle.nj_graph.specs.DepsLogs.{with_named};
 ghost use Rattle.nj_graph.specs.Inside.InputSteps.{AreNamed, FinishesWith};
 
 use nj_edges::{EdgeGraph, Finished, JoiningInputs};
-use nj_faults::{GraphFault, Name};
+use nj_faults::GraphFault;
 use nj_statements::Built;
 use std::alloc::{AllocError, Global};
 
@@ -43,13 +43,8 @@ pub(crate) fn join_built<N: EdgeInputs>(
     ensures files { IfOk result (λ joined. IsPrefix built.graph.files joined.graph.files) }
 {
     let (graph, records) = built.into_parts();
-    match joined_graph(alloc, graph, named)? {
-        Finished::Graph(joined) => Ok(records.with_graph(joined)),
-        Finished::Cycle(cycle) => {
-            let output = Name::from(cycle.output);
-            Err(records.cycle_fault(alloc, cycle.edge, output))
-        }
-    }
+    let finished = joined_graph(alloc, graph, named)?;
+    records.finish(alloc, finished)
 }
 
 // The graph with the inputs that are named for each edge.

@@ -2,14 +2,17 @@
 use Rattle.std.proofs.Common.{◌≡◌, ◌⊎◌, inl, inr, take, ℕ, ◌+◌, ◌<◌, ◌≤◌, ◌==◌, Bool, true, false, true≢false}
 use Rattle.std.proofs.Common.{if◌then◌else◌, List, [], ◌∷◌, ◌++◌, length, get_or, Option, Some, None, is_some}
 use Rattle.std.proofs.Common.{unwrap_or, Result, Ok, Err, OnOk, OnErr, IsErrAnd, map, slice_get, refl, sym}
-use Rattle.std.proofs.Common.{ap, subst, ◌∙◌, arith, ◌≢◌, suc}
+use Rattle.std.proofs.Common.{ap, subst, ◌∙◌, arith, ◌≢◌, IfSome}
+use Rattle.std.specs.List.{AllByRecursion}
 use Rattle.std.specs.Option.{option_or}
 use Rattle.std.proofs.lemmas.List.{append_assoc, append-nil, length-append, length-map, get_or_past}
-use Rattle.std.proofs.lemmas.List.{map-append, take_more}
+use Rattle.std.proofs.lemmas.List.{map-append, map-id, take_more}
+use Rattle.std.proofs.lemmas.Simd.{map-map}
 use Rattle.std.proofs.lemmas.Bool.{cases_lt}
 use Rattle.std.proofs.lemmas.Bool.Decides.{eqb_tells}
 use Rattle.std.proofs.Math.Seq.{get_or-append_seam}
-use Rattle.std.proofs.lemmas.Option.{slice_get_past, slice_get-get_or}
+use Rattle.std.proofs.lemmas.Option.{slice_get_past, slice_get-get_or, slice_get_within}
+use Rattle.std.proofs.lemmas.Option.{get_or_from_slice_get}
 use Rattle.std.proofs.Math.ListN.{get_or-append}
 use Rattle.nj_text.specs.declared.word.Word.{Word}
 use Rattle.nj_text.specs.Words.{WordModel, word_model}
@@ -23,41 +26,76 @@ use Rattle.nj_scope.specs.Readings.{IsPrefix}
 use Rattle.nj_scope.specs.ReadingList.{ReadStatement, scope_of, value_after, rules_read}
 use Rattle.nj_edge_env.specs.Blocks.{BlocksModel, bound_in, names_in}
 use Rattle.nj_names.specs.declared.files.FileNo.{FileNo}
-use Rattle.nj_edges.specs.EdgeTables.{no_files}
-use Rattle.nj_names.specs.Files.{AreFiles}
+use Rattle.nj_edges.specs.EdgeTables.{EdgeTable, no_files}
+use Rattle.nj_edges.specs.Inside.EdgesHeld.{AreNumbers, paths_at}
+use Rattle.nj_edges.proofs.EdgeLemmas.{all-append, all-of, all-push}
+use Rattle.nj_edges.proofs.GraphLemmas.{files-numbers}
+use Rattle.nj_names.specs.Files.{AreFiles, path_at}
 use Rattle.nj_faults.specs.declared.fault.GraphFault.{GraphFault}
 use Rattle.nj_faults.specs.Faults.{IsFault}
-use Rattle.nj_statements.specs.EdgeList.{Values, Block, EdgeModel, Pending, build_block, path_given}
+use Rattle.nj_statements.specs.EdgeList.{AssignedModel, Values, Block, EdgeModel, build_block, path_given}
 use Rattle.nj_statements.specs.EdgeList.{paths_given, edge_of_build, edges_read, defaults_read, dyndep_of}
 use Rattle.nj_statements.specs.EdgeList.{pending_at, pending_read, block_at, block_names_at, names_bound}
 use Rattle.nj_statements.specs.EdgeList.{block_of_edge, assigned_of, assigned_read, restats_read}
-use Rattle.nj_statements.specs.declared.building.DyndepEdge.{DyndepEdge}
-use Rattle.nj_statements.specs.Answers.{BuildingModel, ArePending, HasEdges, DetailModel, IsDetail}
-use Rattle.nj_statements.specs.Answers.{AreDetails, IsAssigned, AreAssigned, ReadsStatement, HasReferences}
+use Rattle.nj_statements.specs.EdgeList.{paths_of_edges}
+use Rattle.nj_statements.specs.declared.edge_record.Detail.{Detail}
+use Rattle.nj_statements.specs.declared.records.DyndepEdge.{DyndepEdge}
+use Rattle.nj_statements.specs.Built.{detail_of}
+use Rattle.nj_statements.specs.Records.{IsNumbered, RecordsModel, assigned_named, detail_named, numbered}
+use Rattle.nj_statements.specs.Records.{numbered_at}
+use Rattle.nj_names.specs.NameTables.{name_at}
+use Rattle.nj_statements.specs.Records.{pending_named, spot_of}
+use Rattle.nj_statements.specs.Answers.{AddsNothing, BuildingModel, HasEdges, HasReferences, KeepsRead}
+use Rattle.nj_statements.specs.Answers.{ReadsStatement}
 use Rattle.nj_statements.specs.Inside.EdgeSteps.{IsFileGiven, with_dyndep, AddsEdge, AddsTargets}
-use Rattle.nj_statements.proofs.AssignedLemmas.{assigned-more}
+use Rattle.nj_edge_env.specs.ReferencesHeld.{ReferringKeyModel}
 use Rattle.nj_statements.proofs.Lists.{get-longer}
+use Rattle.nj_statements.proofs.RecordLemmas.{all-assigned-same, assigned-more, details-same, files-more}
+use Rattle.nj_statements.proofs.RecordLemmas.{names-more, paths-same, pending-more, pending-same}
 use Rattle.nj_statements.proofs.ReferenceLemmas.{references-none, references-longer}
 
+-- there are as many records as edges
+pub details-count : (held : BuildingModel) (before : List ReadStatement) → HasEdges held before
+    → length held.records.details ≡ length (edges_read before)
+details-count held before has = has.fits.as_many ∙ ap length has.built.paths
+    ∙ length-map (edges_read before) (λ (e : EdgeModel). e.paths)
+
 pub has-none : (held : BuildingModel) → held.table ≡ record { files = []; edges = []; «open» = no_files }
-    → ((edge : ℕ) (name : List ℕ) → bound_in held.blocks edge name ≡ None)
-    → ((edge : ℕ) → names_in held.blocks edge ≡ []) → held.details ≡ [] → held.defaults ≡ []
-    → held.dyndeps ≡ [] → held.references ≡ [] → HasEdges held []
+    → ((edge : ℕ) (name : List ℕ) → bound_in held.records.blocks edge name ≡ None)
+    → ((edge : ℕ) → names_in held.records.blocks edge ≡ []) → held.records.details ≡ []
+    → held.records.defaults ≡ [] → held.records.dyndeps ≡ [] → held.references ≡ [] → HasEdges held []
 unfolding edges_read defaults_read pending_read assigned_read restats_read
 has-none held table blocks block_names details defaults dyndeps references = record {
-  edges = ap (λ t. t.edges) table;
   none_open = ap (λ t. t.«open») table;
-  blocks = blocks;
-  block_names = block_names;
-  details = subst (λ ds. AreDetails held.names ds []) (sym details) tt;
-  assigned = subst (λ ds. AreAssigned held.names ds []) (sym details) tt;
-  restats = ap (map (λ (d : DetailModel). d.restat)) details;
-  defaults = subst (λ ds. AreFiles held.table.files ds []) (sym defaults) refl;
-  dyndeps = subst (λ ds. ArePending held.table.files ds []) (sym dyndeps)
-      (record { edges_are = refl; files_are = refl });
+  fits = record {
+    as_many = ap length details ∙ sym (ap (λ t. length t.edges) table);
+    names_known = subst (AllByRecursion (λ (d : Detail). d.file < length names)) (sym details) tt;
+    assigned_known = subst (AllByRecursion
+        (λ (d : Detail). IsNumbered names d.pool × IsNumbered names d.dyndep))
+        (sym details) tt;
+    defaults_known = subst (AreNumbers (length held.table.files)) (sym defaults) tt;
+    files_known = subst (AllByRecursion (λ (p : DyndepEdge). p.file.0 < length held.table.files))
+        (sym dyndeps)
+        tt;
+    edges_known = subst (AllByRecursion (λ (p : DyndepEdge). p.edge < length held.table.edges)) (sym dyndeps)
+        tt;
+  };
+  built = record {
+    paths = ap (λ t. t.edges) table;
+    details = ap (map (detail_named names)) details;
+    blocks = blocks;
+    block_names = block_names;
+    defaults = ap (paths_at held.table.files) defaults;
+    pending = ap (map (pending_named held.table.files)) dyndeps;
+    assigned = ap (map (assigned_named names)) details;
+    restats = ap (map (λ (d : Detail). d.restat)) details;
+  };
   references = subst (λ kept. HasReferences kept (rules_read [])) (sym references)
       (references-none (rules_read []));
 }
+  where
+    names : List (List ℕ)
+    names = held.records.names
 
 pub on-ok : {X Y P Q : Type 0} (r : Result X Y) → OnOk r P → (P → Q) → OnOk r Q
 on-ok (Ok x) h then_so = then_so h
@@ -66,6 +104,48 @@ on-ok (Err e) h then_so = tt
 pub on-err : {X Y P : Type 0} (r : Result X Y) → P → OnErr r P
 on-err (Ok x) p = tt
 on-err (Err e) p = p
+
+-- no edge is added after a fault of its statement, where room was made for it
+pub refuses : {X Y : Type 0} (r : Result X Y) (old b : BuildingModel) → old ≡ b
+    → (table : EdgeTable) (blocks : BlocksModel) (names : List (List ℕ)) (details : List Detail)
+    (dyndeps : List DyndepEdge) (references : List (Option (List ReferringKeyModel)))
+    → KeepsRead old.table table → IsPrefix old.records.names names → details ≡ old.records.details
+    → dyndeps ≡ old.records.dyndeps
+    → ((number : ℕ) (name : List ℕ) → number < length old.records.details
+    → bound_in blocks number name ≡ bound_in old.records.blocks number name)
+    → ((number : ℕ) → number < length old.records.details
+    → names_in blocks number ≡ names_in old.records.blocks number)
+    → OnErr r (AddsNothing b (record {
+      table = table;
+      records = record {
+        blocks = blocks;
+        names = names;
+        details = details;
+        defaults = old.records.defaults;
+        dyndeps = dyndeps;
+      };
+      references = references;
+    }))
+refuses r old b is table blocks names details dyndeps references keeps grows same unbound bound named =
+    on-err r (subst (λ x. AddsNothing x (record {
+      table = table;
+      records = record {
+        blocks = blocks;
+        names = names;
+        details = details;
+        defaults = old.records.defaults;
+        dyndeps = dyndeps;
+      };
+      references = references;
+    })) is (record {
+      edges = keeps;
+      blocks = bound;
+      block_names = named;
+      names = grows;
+      details = same;
+      defaults = refl;
+      dyndeps = unbound;
+    }))
 
 pub reads-err : (after : BuildingModel) (expected : Option GraphFault) (e : ReadStatement)
     (before : List ReadStatement) (r : Result (Unit {0}) GraphFault) (f : GraphFault)
@@ -79,23 +159,13 @@ pub get-prefix : {X : Type 0} (xs ys : List X) (i : ℕ) (x : X) → IsPrefix xs
     → slice_get ys i ≡ Some x
 get-prefix xs ys i x (more, is) h = subst (λ zs. slice_get zs i ≡ Some x) (sym is) (get-longer xs more i x h)
 
-files-longer : (files longer : List (List ℕ)) (ns : List FileNo) (paths : List (List ℕ))
-    → IsPrefix files longer → AreFiles files ns paths → AreFiles longer ns paths
-files-longer files longer [] [] grows are = refl
-files-longer files longer [] (p ∷ paths) grows are = absurd (omega (arith, ap length are))
-files-longer files longer (n ∷ ns) [] grows are = absurd (omega (arith, ap length are))
-files-longer files longer (n ∷ ns) (p ∷ paths) grows are =
-    ap (λ o. o ∷ map (λ file. slice_get longer file.0) ns)
-    (get-prefix files longer n.0 p grows (ap first are))
-    ∙ ap (λ os. Some p ∷ os) (files-longer files longer ns paths grows (ap rest are))
-  where
-    first : List (Option (List ℕ)) → Option (List ℕ)
-    first [] = None
-    first (o ∷ os) = o
-
-    rest : List (Option (List ℕ)) → List (Option (List ℕ))
-    rest [] = []
-    rest (o ∷ os) = os
+-- files have the paths of their numbers
+files-paths : (files : List (List ℕ)) (ns : List FileNo) (paths : List (List ℕ)) → AreFiles files ns paths
+    → paths_at files ns ≡ paths
+files-paths files ns paths are =
+    sym (map-map (λ (o : Option (List ℕ)). unwrap_or o []) (λ (f : FileNo). slice_get files f.0) ns)
+    ∙ ap (map (λ (o : Option (List ℕ)). unwrap_or o [])) are
+    ∙ map-map (λ (o : Option (List ℕ)). unwrap_or o []) Some paths ∙ map-id paths
 
 files-append : (files : List (List ℕ)) (ns ms : List FileNo) (ps qs : List (List ℕ)) → AreFiles files ns ps
     → AreFiles files ms qs → AreFiles files (ns ++ ms) (ps ++ qs)
@@ -129,60 +199,75 @@ targets-turn values files before held new file words i word below at adds is the
         ∙ ap (map (path_given values)) (map-append word_model (take i words) (word ∷ []))
         ∙ map-append (path_given values) (words_model (take i words)) (word_model word ∷ [])
 
-pub has-default : (old new : BuildingModel) (e : ReadStatement) (before : List ReadStatement)
-    (words : List WordModel) → HasEdges old before
-    → new.table ≡ old.table → new.blocks ≡ old.blocks → new.names ≡ old.names → new.details ≡ old.details
-    → AddsTargets old.table.files old.defaults new.defaults
+pub has-default : (old : BuildingModel) (targets : List FileNo) (e : ReadStatement)
+    (before : List ReadStatement) (words : List WordModel) → HasEdges old before
+    → AddsTargets old.table.files old.records.defaults targets
     (paths_given (value_after before (scope_of e)) words)
-    → new.dyndeps ≡ old.dyndeps → new.references ≡ old.references
-    → HasEdges new (record e { item = DefaultModel words } ∷ before)
+    → HasEdges (record old { records = record old.records { defaults = targets } })
+    (record e { item = DefaultModel words } ∷ before)
 unfolding edges_read defaults_read pending_read assigned_read restats_read
-has-default old new e before words has table blocks names details adds dyndeps references = record {
-  edges = ap (λ t. t.edges) table ∙ has.edges;
-  none_open = ap (λ t. t.«open») table ∙ has.none_open;
-  blocks = λ number name. ap (λ b. bound_in b number name) blocks ∙ has.blocks number name;
-  block_names = λ number. ap (λ b. names_in b number) blocks ∙ has.block_names number;
-  details = subst (λ ns. AreDetails ns new.details (edges_read before)) (sym names)
-      (subst (λ ds. AreDetails old.names ds (edges_read before)) (sym details) has.details);
-  assigned = subst (λ ns. AreAssigned ns new.details (assigned_read before)) (sym names)
-      (subst (λ ds. AreAssigned old.names ds (assigned_read before)) (sym details) has.assigned);
-  restats = ap (map (λ (d : DetailModel). d.restat)) details ∙ has.restats;
-  defaults = subst (λ t. AreFiles t.files new.defaults
-      (defaults_read before ++ paths_given (value_after before (scope_of e)) words)) (sym table)
-      (subst (λ ns. AreFiles old.table.files ns
-      (defaults_read before ++ paths_given (value_after before (scope_of e)) words)) (sym adds.after_is)
-      (files-append old.table.files old.defaults adds.added (defaults_read before)
-      (paths_given (value_after before (scope_of e)) words) has.defaults adds.are));
-  dyndeps = subst (λ t. ArePending t.files new.dyndeps (pending_read before)) (sym table)
-      (subst (λ ds. ArePending old.table.files ds (pending_read before)) (sym dyndeps) has.dyndeps);
-  references = subst (λ kept. HasReferences kept (rules_read before)) (sym references) has.references;
+has-default old targets e before words has adds = record {
+  none_open = has.none_open;
+  fits = record {
+    as_many = has.fits.as_many;
+    names_known = has.fits.names_known;
+    assigned_known = has.fits.assigned_known;
+    files_known = has.fits.files_known;
+    edges_known = has.fits.edges_known;
+    defaults_known = subst (AreNumbers (length files)) (sym adds.after_is)
+        (all-append (λ (f : FileNo). f.0 < length files) old.records.defaults adds.added
+        has.fits.defaults_known (files-numbers files adds.added paths adds.are));
+  };
+  built = record {
+    paths = has.built.paths;
+    details = has.built.details;
+    blocks = has.built.blocks;
+    block_names = has.built.block_names;
+    pending = has.built.pending;
+    assigned = has.built.assigned;
+    restats = has.built.restats;
+    defaults = ap (paths_at files) adds.after_is
+        ∙ map-append (path_at files) old.records.defaults adds.added
+        ∙ ap (λ ps. ps ++ paths_at files adds.added) has.built.defaults
+        ∙ ap (λ ps. defaults_read before ++ ps) (files-paths files adds.added paths adds.are);
+  };
+  references = has.references;
 }
+  where
+    files : List (List ℕ)
+    files = old.table.files
+
+    paths : List (List ℕ)
+    paths = paths_given (value_after before (scope_of e)) words
 
 -- ---- a build statement
 
-pub details-count : (names : List (List ℕ)) (ds : List DetailModel) (es : List EdgeModel)
-    → AreDetails names ds es → length ds ≡ length es
-details-count names [] [] are = refl
-details-count names [] (e ∷ es) are = absurd are
-details-count names (d ∷ ds) [] are = absurd are
-details-count names (d ∷ ds) (e ∷ es) (is, are) = ap suc (details-count names ds es are)
+-- the detail is that of the edge, with this assignment, before a dyndep file is joined to it
+pub record IsRecordOf (names : List (List ℕ)) (d : Detail) (e : EdgeModel) (a : AssignedModel) : Type 0 where
+  pub file : slice_get names d.file ≡ Some e.file
+  pub spot : spot_of d ≡ e.spot
+  pub scope : d.scope ≡ e.scope
+  pub rule : d.rule ≡ e.rule
+  pub pool : slice_get (numbered names) d.pool ≡ Some a.pool
+  pub dyndep : slice_get (numbered names) d.dyndep ≡ Some a.dyndep
+  pub restat : d.restat ≡ false
 
-details-more : (names longer : List (List ℕ)) (ds : List DetailModel) (es : List EdgeModel) (d : DetailModel)
-    (e : EdgeModel)
-    → IsPrefix names longer → AreDetails names ds es → IsDetail longer d e
-    → AreDetails longer (ds ++ d ∷ []) (es ++ e ∷ [])
-details-more names longer [] [] d e grows are is = (is, tt)
-details-more names longer [] (f ∷ es) d e grows are is = absurd are
-details-more names longer (c ∷ ds) [] d e grows are is = absurd are
-details-more names longer (c ∷ ds) (f ∷ es) d e grows (of, are) is = (
-  record {
-    file = get-prefix names longer c.file f.file grows of.file;
-    spot = of.spot;
-    scope = of.scope;
-    rule = of.rule;
-  },
-  details-more names longer ds es d e grows are is,
-)
+detail-is : (names : List (List ℕ)) (d : Detail) (e : EdgeModel) (a : AssignedModel) → IsRecordOf names d e a
+    → detail_named names d ≡ detail_of e
+detail-is names d e a is =
+    let file : name_at names d.file ≡ e.file = ap (λ o. unwrap_or o []) is.file in
+    let spot = is.spot in
+    let scope = is.scope in
+    let rule = is.rule in
+    cc
+
+assigned-is : (names : List (List ℕ)) (d : Detail) (e : EdgeModel) (a : AssignedModel)
+    → IsRecordOf names d e a → assigned_named names d ≡ a
+assigned-is names d e a is =
+    ap (λ o. record { pool = o; dyndep = numbered_at names d.dyndep })
+    (get_or_from_slice_get (numbered names) d.pool a.pool None is.pool)
+    ∙ ap (λ o. record { pool = a.pool; dyndep = o })
+    (get_or_from_slice_get (numbered names) d.dyndep a.dyndep None is.dyndep)
 
 -- the blocks of one more edge
 abbrev bound-by : Option EdgeModel → (name : List ℕ) → Option (List ℕ)
@@ -221,11 +306,11 @@ block-more edges e n name = by (eqb_tells n (length edges)) (cases_lt n (length 
         ∙ sym (slice_get_past (edges ++ e ∷ []) n (omega (arith, above, apart, whole))))
 
 -- the names of one more block
-names-more : (edges : List EdgeModel) (e : EdgeModel) (n : ℕ) → (new old : List (List ℕ))
+names-next : (edges : List EdgeModel) (e : EdgeModel) (n : ℕ) → (new old : List (List ℕ))
     → old ≡ block_names_at edges n
     → (n ≡ length edges → new ≡ e.block_names) → ((n == length edges) ≡ false → new ≡ old)
     → new ≡ block_names_at (edges ++ e ∷ []) n
-names-more edges e n new old was here others = by (eqb_tells n (length edges)) (cases_lt n (length edges))
+names-next edges e n new old was here others = by (eqb_tells n (length edges)) (cases_lt n (length edges))
   where
     all : List (List (List ℕ))
     all = map (λ (x : EdgeModel). x.block_names) edges
@@ -255,40 +340,34 @@ names-more edges e n new old was here others = by (eqb_tells n (length edges)) (
         ∙ sym (get_or_past (all ++ one) n [] (omega (arith, above, apart, whole, count))) ∙ sym appended
 
 -- the pending edges with one more edge
-pending-more : (files longer : List (List ℕ)) (held : List DyndepEdge) (expected : List Pending) (edge : ℕ)
-    (number : Option FileNo) (file : Option (List ℕ))
-    → IsPrefix files longer → ArePending files held expected → IsFileGiven longer number file
-    → ArePending longer (with_dyndep edge number held) (expected ++ pending_at edge false file)
-pending-more files longer held expected edge None None grows are meant =
-    subst (ArePending longer held) (sym (append-nil expected))
-    (record {
-      edges_are = are.edges_are;
-      files_are =
-          files-longer files longer (map (λ d. d.file) held) (map (λ p. p.file) expected) grows are.files_are;
-    })
-pending-more files longer held expected edge None (Some path) grows are meant =
-    absurd (true≢false (sym (ap is_some meant)))
-pending-more files longer held expected edge (Some file) None grows are meant =
-    absurd (true≢false (ap is_some meant))
-pending-more files longer held expected edge (Some file) (Some path) grows are meant = record {
-  edges_are = map-append (λ (d : DyndepEdge). d.edge) held (added ∷ [])
-      ∙ ap (λ es. es ++ edge ∷ []) are.edges_are
-      ∙ sym (map-append (λ (p : Pending). p.edge) expected (pends ∷ []));
-  files_are = subst (λ fs. AreFiles longer fs (map (λ p. p.file) (expected ++ pends ∷ [])))
-      (sym (map-append (λ (d : DyndepEdge). d.file) held (added ∷ [])))
-      (subst (AreFiles longer (map (λ d. d.file) held ++ file ∷ []))
-      (sym (map-append (λ (p : Pending). p.file) expected (pends ∷ [])))
-      (files-append longer (map (λ d. d.file) held) (file ∷ []) (map (λ p. p.file) expected) (path ∷ [])
-      (files-longer files longer (map (λ d. d.file) held) (map (λ p. p.file) expected) grows
-      are.files_are)
-      (ap (λ o. o ∷ []) (ap (λ o. unwrap_or o None) meant))));
-}
-  where
-    added : DyndepEdge
-    added = record { edge = edge; file = file }
+dyndep-all : (P : DyndepEdge → Type 0) (edge : ℕ) (file : Option FileNo) (held : List DyndepEdge)
+    → AllByRecursion P held → IfSome file (λ f. P (record { edge = edge; file = f }))
+    → AllByRecursion P (with_dyndep edge file held)
+dyndep-all P edge None held all one = all
+dyndep-all P edge (Some file) held all one = all-push P held (record { edge = edge; file = file }) all one
 
-    pends : Pending
-    pends = record { edge = edge; file = path }
+file-known : (files : List (List ℕ)) (number : Option FileNo) (file : Option (List ℕ))
+    → IsFileGiven files number file → IfSome number (λ f. f.0 < length files)
+file-known files None file meant = tt
+file-known files (Some f) None meant = absurd (true≢false (ap is_some meant))
+file-known files (Some f) (Some path) meant =
+    slice_get_within files f.0 path (ap (λ (o : Option (Option (List ℕ))). unwrap_or o None) meant)
+
+any-known : {P : Type 0} (number : Option FileNo) → P → IfSome number (λ f. P)
+any-known None p = tt
+any-known (Some f) p = p
+
+pending-next : (files : List (List ℕ)) (held : List DyndepEdge) (edge : ℕ) (number : Option FileNo)
+    (file : Option (List ℕ)) → IsFileGiven files number file
+    → map (pending_named files) (with_dyndep edge number held)
+    ≡ map (pending_named files) held ++ pending_at edge false file
+pending-next files held edge None None meant = sym (append-nil (map (pending_named files) held))
+pending-next files held edge None (Some path) meant = absurd (true≢false (sym (ap is_some meant)))
+pending-next files held edge (Some f) None meant = absurd (true≢false (ap is_some meant))
+pending-next files held edge (Some f) (Some path) meant =
+    map-append (pending_named files) held (record { edge = edge; file = f } ∷ [])
+    ∙ ap (λ p. map (pending_named files) held ++ record { edge = edge; file = p } ∷ [])
+    (ap (λ (o : Option (Option (List ℕ))). unwrap_or (unwrap_or o None) []) meant)
 
 -- a statement to which nothing was joined
 abbrev fresh : ReadStatement → ReadStatement
@@ -296,18 +375,20 @@ fresh e = record e { was_joined = false; discovered = None }
 
 pub has-build : (old new : BuildingModel) (e : ReadStatement) (before : List ReadStatement)
     (outputs : OutputsModel) (rule : NameModel) (inputs : InputsModel) (lines : List LineModel)
-    (d : DetailModel) (dyndep : Option FileNo) → HasEdges old before
+    (d : Detail) (dyndep : Option FileNo) → HasEdges old before
     → AddsEdge old.table new.table (edge_of_build (fresh e) before outputs rule inputs lines).paths
-    → ((n : ℕ) (name : List ℕ) → bound_in new.blocks n name
-    ≡ (if n == length old.details then option_or (build_block e before lines name)
-    (bound_in old.blocks n name) else bound_in old.blocks n name))
-    → ((n : ℕ) → n ≡ length old.details → names_in new.blocks n ≡ names_bound lines)
-    → ((n : ℕ) → (n == length old.details) ≡ false → names_in new.blocks n ≡ names_in old.blocks n)
-    → IsPrefix old.names new.names → new.details ≡ old.details ++ d ∷ []
-    → IsDetail new.names d (edge_of_build (fresh e) before outputs rule inputs lines)
-    → IsAssigned new.names d (assigned_of before (edge_of_build (fresh e) before outputs rule inputs lines))
-    → d.restat ≡ false → new.defaults ≡ old.defaults
-    → new.dyndeps ≡ with_dyndep (length old.details) dyndep old.dyndeps
+    → ((n : ℕ) (name : List ℕ) → bound_in new.records.blocks n name
+    ≡ (if n == length old.records.details then option_or (build_block e before lines name)
+    (bound_in old.records.blocks n name) else bound_in old.records.blocks n name))
+    → ((n : ℕ) → n ≡ length old.records.details → names_in new.records.blocks n ≡ names_bound lines)
+    → ((n : ℕ) → (n == length old.records.details) ≡ false
+    → names_in new.records.blocks n ≡ names_in old.records.blocks n)
+    → IsPrefix old.records.names new.records.names
+    → new.records.details ≡ old.records.details ++ d ∷ []
+    → IsRecordOf new.records.names d (edge_of_build (fresh e) before outputs rule inputs lines)
+    (assigned_of before (edge_of_build (fresh e) before outputs rule inputs lines))
+    → new.records.defaults ≡ old.records.defaults
+    → new.records.dyndeps ≡ with_dyndep (length old.records.details) dyndep old.records.dyndeps
     → IsFileGiven new.table.files dyndep (dyndep_of before
     (edge_of_build (fresh e) before outputs rule inputs lines))
     → HasReferences new.references (rules_read before)
@@ -319,75 +400,132 @@ pub has-build : (old new : BuildingModel) (e : ReadStatement) (before : List Rea
     } ∷ before)
 unfolding edges_read defaults_read pending_read assigned_read restats_read
 has-build old new e before outputs rule inputs lines d dyndep has adds blocks own_names other_names names
-    details is assigned restat defaults dyndeps meant references = record {
-      edges = adds.edges ∙ ap (λ es. es ++ edge.paths ∷ []) has.edges
-          ∙ sym (map-append (λ (x : EdgeModel). x.paths) (edges_read before) (edge ∷ []));
+    details is defaults dyndeps meant references = record {
       none_open = adds.none_open;
-      blocks = λ n name.
-          blocks n name
-          ∙ ap (λ count. if n == count then option_or (edge.block name) (bound_in old.blocks n name) else
-          bound_in
-          old.blocks n name) (details-count old.names old.details (edges_read before) has.details)
-          ∙ ap (λ o. if n == length (edges_read before) then option_or (edge.block name) o else o)
-          (has.blocks n name)
-          ∙ block-more (edges_read before) edge n name;
-      block_names = λ n. names-more (edges_read before) edge n (names_in new.blocks n) (names_in old.blocks n)
-          (has.block_names n)
-          (λ is. own_names n (is ∙ sym (details-count old.names old.details (edges_read before) has.details)))
-          (λ other. other_names n (ap (λ count. n == count)
-          (details-count old.names old.details (edges_read before) has.details) ∙ other));
-      details = subst (λ ds. AreDetails new.names ds (edges_read before ++ edge ∷ [])) (sym details)
-          (details-more old.names new.names old.details (edges_read before) d edge names has.details is);
-      assigned = subst (λ ds. AreAssigned new.names ds (assigned_read before ++ assigned_of before edge ∷ []))
-          (sym details) (assigned-more old.names new.names old.details (assigned_read before) d
-          (assigned_of before edge) names has.assigned assigned);
-      restats =
-          ap (map (λ (x : DetailModel). x.restat)) details
-          ∙ map-append (λ (x : DetailModel). x.restat) old.details (d ∷ [])
-          ∙ ap (λ rs. rs ++ d.restat ∷ []) has.restats ∙ ap (λ r. restats_read before ++ r ∷ []) restat;
-      defaults = subst (λ ns. AreFiles new.table.files ns (defaults_read before)) (sym defaults)
-          (files-longer old.table.files new.table.files old.defaults (defaults_read before) adds.files
-          has.defaults);
-      dyndeps = subst (λ n. ArePending new.table.files new.dyndeps
-          (pending_read before ++ pending_at n false (dyndep_of before edge)))
-          (details-count old.names old.details (edges_read before) has.details)
-          (subst (λ ds. ArePending new.table.files ds
-          (pending_read before ++ pending_at (length old.details) false (dyndep_of before edge)))
-          (sym dyndeps)
-          (pending-more old.table.files new.table.files old.dyndeps (pending_read before) (length old.details)
-          dyndep (dyndep_of before edge) adds.files has.dyndeps meant));
+      fits = record {
+        as_many = ap length details ∙ length-append was.details (d ∷ []) ∙ ap (λ n. n + 1) has.fits.as_many
+            ∙ sym edges;
+        names_known = subst (AllByRecursion (λ (x : Detail). x.file < length strings)) (sym details)
+            (all-push (λ (x : Detail). x.file < length strings) was.details d
+            (names-more was.names strings names was.details has.fits.names_known)
+            (slice_get_within strings d.file edge.file is.file));
+        assigned_known = subst (AllByRecursion AreNumbered) (sym details)
+            (all-push AreNumbered was.details d
+            (assigned-more was.names strings names was.details has.fits.assigned_known) (
+              slice_get_within (numbered strings) d.pool (assigned_of before edge).pool is.pool,
+              slice_get_within (numbered strings) d.dyndep (assigned_of before edge).dyndep is.dyndep,
+            ));
+        defaults_known = subst (AreNumbers (length files)) (sym defaults)
+            (files-more old.table.files files adds.files was.defaults has.fits.defaults_known);
+        files_known = subst (AllByRecursion (λ (p : DyndepEdge). p.file.0 < length files)) (sym dyndeps)
+            (dyndep-all (λ (p : DyndepEdge). p.file.0 < length files) number dyndep was.dyndeps
+            (pending-more old.table.files files adds.files was.dyndeps has.fits.files_known)
+            (file-known files dyndep (dyndep_of before edge) meant));
+        edges_known = subst (AllByRecursion (λ (p : DyndepEdge). p.edge < length new.table.edges))
+            (sym dyndeps) (dyndep-all (λ (p : DyndepEdge). p.edge < length new.table.edges) number dyndep
+            was.dyndeps
+            (all-of (λ (p : DyndepEdge). p.edge < length old.table.edges)
+            (λ (p : DyndepEdge). p.edge < length new.table.edges)
+            (λ p below. let count = edges in omega (arith, below, count)) was.dyndeps has.fits.edges_known)
+            (any-known dyndep (let count = edges in let many = has.fits.as_many
+            in omega (arith, count, many))));
+      };
+      built = record {
+        paths = adds.edges ∙ ap (λ es. es ++ edge.paths ∷ []) has.built.paths
+            ∙ sym (map-append (λ (x : EdgeModel). x.paths) (edges_read before) (edge ∷ []));
+        details =
+            ap (map (detail_named strings)) details ∙ map-append (detail_named strings) was.details (d ∷ [])
+            ∙ ap (λ xs. xs ++ detail_named strings d ∷ [])
+            (details-same was.names strings names was.details has.fits.names_known ∙ has.built.details)
+            ∙ ap (λ x. map detail_of (edges_read before) ++ x ∷ [])
+            (detail-is strings d edge (assigned_of before edge) is)
+            ∙ sym (map-append detail_of (edges_read before) (edge ∷ []));
+        blocks = λ n name.
+            blocks n name
+            ∙ ap (λ count. if n == count then option_or (edge.block name) (bound_in was.blocks n name) else
+            bound_in was.blocks n name) count
+            ∙ ap (λ o. if n == length (edges_read before) then option_or (edge.block name) o else o)
+            (has.built.blocks n name)
+            ∙ block-more (edges_read before) edge n name;
+        block_names = λ n. names-next (edges_read before) edge n (names_in new.records.blocks n)
+            (names_in was.blocks n) (has.built.block_names n) (λ here. own_names n (here ∙ sym count))
+            (λ other. other_names n (ap (λ count. n == count) count ∙ other));
+        defaults = ap (paths_at files) defaults
+            ∙ paths-same old.table.files files adds.files was.defaults has.fits.defaults_known
+            ∙ has.built.defaults;
+        pending =
+            ap (map (pending_named files)) dyndeps
+            ∙ pending-next files was.dyndeps number dyndep (dyndep_of before edge) meant
+            ∙ ap (λ ps. ps ++ pending_at number false (dyndep_of before edge))
+            (pending-same old.table.files files adds.files was.dyndeps has.fits.files_known
+            ∙ has.built.pending)
+            ∙ ap (λ n. pending_read before ++ pending_at n false (dyndep_of before edge)) count;
+        assigned =
+            ap (map (assigned_named strings)) details
+            ∙ map-append (assigned_named strings) was.details (d ∷ [])
+            ∙ ap (λ xs. xs ++ assigned_named strings d ∷ [])
+            (all-assigned-same was.names strings names was.details has.fits.assigned_known
+            ∙ has.built.assigned)
+            ∙ ap (λ x. assigned_read before ++ x ∷ [])
+            (assigned-is strings d edge (assigned_of before edge) is);
+        restats =
+            ap (map (λ (x : Detail). x.restat)) details
+            ∙ map-append (λ (x : Detail). x.restat) was.details (d ∷ [])
+            ∙ ap (λ rs. rs ++ d.restat ∷ []) has.built.restats
+            ∙ ap (λ r. restats_read before ++ r ∷ []) is.restat;
+      };
       references = references;
     }
   where
     edge : EdgeModel
     edge = edge_of_build (fresh e) before outputs rule inputs lines
 
+    was : RecordsModel
+    was = old.records
+
+    number : ℕ
+    number = length was.details
+
+    strings : List (List ℕ)
+    strings = new.records.names
+
+    files : List (List ℕ)
+    files = new.table.files
+
+    AreNumbered : Detail → Type 0
+    AreNumbered x = IsNumbered strings x.pool × IsNumbered strings x.dyndep
+
+    edges : length new.table.edges ≡ length old.table.edges + 1
+    edges = ap length adds.edges ∙ length-append old.table.edges (edge.paths ∷ [])
+
+    count : number ≡ length (edges_read before)
+    count = details-count old before has
+
 -- the edge that would be read next binds nothing
 pub no-block : (held : BuildingModel) (before : List ReadStatement) (edge : ℕ) → HasEdges held before
-    → edge ≡ length held.details → (name : List ℕ) → bound_in held.blocks edge name ≡ None
+    → edge ≡ length held.records.details → (name : List ℕ)
+    → bound_in held.records.blocks edge name ≡ None
 no-block held before edge has is name =
-    has.blocks edge name ∙ ap (λ o. bound-by o name)
-    (slice_get_past (edges_read before) edge (omega (arith, is, count)))
-  where
-    count : length held.details ≡ length (edges_read before)
-    count = details-count held.names held.details (edges_read before) has.details
+    has.built.blocks edge name ∙ ap (λ o. bound-by o name)
+    (slice_get_past (edges_read before) edge (omega (arith, is, details-count held before has)))
 
 pub no-names : (held : BuildingModel) (before : List ReadStatement) (edge : ℕ) → HasEdges held before
-    → edge ≡ length held.details → names_in held.blocks edge ≡ []
-no-names held before edge has is = has.block_names edge
+    → edge ≡ length held.records.details → names_in held.records.blocks edge ≡ []
+no-names held before edge has is = has.built.block_names edge
     ∙ get_or_past (map (λ (x : EdgeModel). x.block_names) (edges_read before)) edge []
     (omega (
       arith,
       is,
-      details-count held.names held.details (edges_read before) has.details,
+      details-count held before has,
       length-map (edges_read before) (λ (x : EdgeModel). x.block_names),
     ))
 
 -- the bindings of the block of the edge that is being read
 pub open-block : (old : BuildingModel) (before : List ReadStatement) (block : Block) (new : BlocksModel)
-    (edge : ℕ) → HasEdges old before → edge ≡ length old.details
+    (edge : ℕ) → HasEdges old before → edge ≡ length old.records.details
     → ((n : ℕ) (name : List ℕ) → bound_in new n name
-    ≡ (if n == edge then option_or (block name) (bound_in old.blocks n name) else bound_in old.blocks n name))
+    ≡ (if n == edge then option_or (block name) (bound_in old.records.blocks n name) else bound_in
+    old.records.blocks n name))
     → (name : List ℕ) → bound_in new edge name ≡ block name
 open-block old before block new edge has is bound name =
     bound edge name ∙ by (eqb_tells edge edge)
@@ -399,10 +537,11 @@ open-block old before block new edge has is bound name =
     with-none None = refl
 
     by : ((edge == edge) ≡ true × (edge ≡ edge)) ⊎ ((edge == edge) ≡ false × (edge ≢ edge))
-        → (if edge == edge then option_or (block name) (bound_in old.blocks edge name) else bound_in
-        old.blocks edge name) ≡ option_or (block name) (bound_in old.blocks edge name)
-    by (inl (same, h)) = ap (λ b. if b then option_or (block name) (bound_in old.blocks edge name) else
-        bound_in old.blocks edge name) same
+        → (if edge == edge then option_or (block name) (bound_in old.records.blocks edge name) else bound_in
+        old.records.blocks edge name) ≡ option_or (block name) (bound_in old.records.blocks edge name)
+    by (inl (same, h)) = ap (λ b. if b then option_or (block name) (bound_in old.records.blocks edge name)
+        else
+        bound_in old.records.blocks edge name) same
     by (inr (other, apart)) = absurd (apart refl)
 
 -- ---- any other statement
@@ -413,81 +552,45 @@ names_files (BuildModel outputs rule inputs lines) = true
 names_files (DefaultModel words) = true
 names_files item = false
 
+-- statements with the same edges and defaults
+same-edges : (held : BuildingModel) (entries before : List ReadStatement) → HasEdges held before
+    → edges_read entries ≡ edges_read before → defaults_read entries ≡ defaults_read before
+    → pending_read entries ≡ pending_read before → assigned_read entries ≡ assigned_read before
+    → restats_read entries ≡ restats_read before → HasReferences held.references (rules_read entries)
+    → HasEdges held entries
+same-edges held entries before has edges defaults pending assigned restats references = record {
+  none_open = has.none_open;
+  fits = has.fits;
+  built = record {
+    paths = has.built.paths ∙ sym (ap paths_of_edges edges);
+    details = has.built.details ∙ sym (ap (map detail_of) edges);
+    blocks = λ n name. has.built.blocks n name ∙ sym (ap (λ es. block_at es n name) edges);
+    block_names = λ n. has.built.block_names n ∙ sym (ap (λ es. block_names_at es n) edges);
+    defaults = has.built.defaults ∙ sym defaults;
+    pending = has.built.pending ∙ sym pending;
+    assigned = has.built.assigned ∙ sym assigned;
+    restats = has.built.restats ∙ sym restats;
+  };
+  references = references;
+}
+
 has-item : (held : BuildingModel) (e : ReadStatement) (before : List ReadStatement) (item : StatementModel)
     → names_files item ≡ false → HasEdges held before → HasEdges held (record e { item = item } ∷ before)
 unfolding edges_read defaults_read pending_read assigned_read restats_read
 has-item held e before (BindingModel bound word) other has =
-    record {
-      edges = has.edges;
-      none_open = has.none_open;
-      blocks = has.blocks;
-      block_names = has.block_names;
-      details = has.details;
-      assigned = has.assigned;
-      restats = has.restats;
-      defaults = has.defaults;
-      dyndeps =
-          has.dyndeps;
-      references = has.references;
-    }
+    same-edges held _ before has refl refl refl refl refl has.references
 has-item held e before (RuleModel declared lines) other has =
-    record {
-      edges = has.edges;
-      none_open = has.none_open;
-      blocks = has.blocks;
-      block_names = has.block_names;
-      details = has.details;
-      assigned = has.assigned;
-      restats = has.restats;
-      defaults = has.defaults;
-      dyndeps = has.dyndeps;
-      references = references-longer held.references (rules_read before)
-          (record { scope = e.scope; name = declared.name; lines = map line_kept lines } ∷ []) has.references;
-    }
+    same-edges held _ before has refl refl refl refl refl
+    (references-longer held.references (rules_read before)
+    (record { scope = e.scope; name = declared.name; lines = map line_kept lines } ∷ []) has.references)
 has-item held e before (PoolModel declared lines) other has =
-    record {
-      edges = has.edges;
-      none_open = has.none_open;
-      blocks = has.blocks;
-      block_names = has.block_names;
-      details = has.details;
-      assigned = has.assigned;
-      restats = has.restats;
-      defaults = has.defaults;
-      dyndeps =
-          has.dyndeps;
-      references = has.references;
-    }
+    same-edges held _ before has refl refl refl refl refl has.references
 has-item held e before (BuildModel outputs rule inputs lines) other has = absurd (true≢false other)
 has-item held e before (DefaultModel words) other has = absurd (true≢false other)
 has-item held e before (IncludeModel word) other has =
-    record {
-      edges = has.edges;
-      none_open = has.none_open;
-      blocks = has.blocks;
-      block_names = has.block_names;
-      details = has.details;
-      assigned = has.assigned;
-      restats = has.restats;
-      defaults = has.defaults;
-      dyndeps =
-          has.dyndeps;
-      references = has.references;
-    }
+    same-edges held _ before has refl refl refl refl refl has.references
 has-item held e before (SubninjaModel word) other has =
-    record {
-      edges = has.edges;
-      none_open = has.none_open;
-      blocks = has.blocks;
-      block_names = has.block_names;
-      details = has.details;
-      assigned = has.assigned;
-      restats = has.restats;
-      defaults = has.defaults;
-      dyndeps =
-          has.dyndeps;
-      references = has.references;
-    }
+    same-edges held _ before has refl refl refl refl refl has.references
 
 -- The fields stay right after a statement that names no files.
 pub kept-other : (held : BuildingModel) (e : ReadStatement) (before : List ReadStatement)

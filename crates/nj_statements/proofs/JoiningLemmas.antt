@@ -8,7 +8,7 @@ use Rattle.nj_scope.specs.Scopes.{first_given}
 use Rattle.std.specs.Bool.{then_some}
 use Rattle.std.specs.Option.{option_or}
 use Rattle.std.specs.List.{AllByRecursion, IsDistinct, filter}
-use Rattle.std.proofs.lemmas.List.{get_or_read, length-map, length-append, length-set, get_or-set_same}
+use Rattle.std.proofs.lemmas.List.{get_or_read, length-map, length-set, get_or-set_same}
 use Rattle.std.proofs.lemmas.List.{get_or-set_other}
 use Rattle.std.proofs.lemmas.Bool.Decides.{eqb_tells}
 use Rattle.std.proofs.lemmas.Option.{same_Some, slice_get-get_or, slice_get_within, slice_get-map}
@@ -17,32 +17,33 @@ use Rattle.nj_text.specs.Words.{WordModel}
 use Rattle.nj_manifest.specs.Dyndeps.{EntryModel}
 use Rattle.nj_scope.specs.Readings.{IsPrefix}
 use Rattle.nj_scope.specs.ReadingList.{Discovered, ReadStatement}
-use Rattle.nj_edge_env.specs.Blocks.{BlocksModel}
 use Rattle.nj_names.specs.declared.files.FileNo.{FileNo}
 use Rattle.nj_edges.specs.Edges.{EdgePaths, edge_at, outputs_of, first_edge, maker_of}
-use Rattle.nj_edges.specs.Inside.EdgesHeld.{AreNumbers, paths_at}
+use Rattle.nj_edges.specs.Inside.EdgesHeld.{paths_at}
 use Rattle.nj_names.specs.Files.{path_at, AreFiles}
 use Rattle.nj_edges.specs.Joining.{AddedFiles, JoinTable, changed_at, with_added, with_joined, is_joined}
-use Rattle.nj_edges.proofs.EdgeLemmas.{same-number}
+use Rattle.nj_edges.proofs.EdgeLemmas.{path_at-more, same-number}
 use Rattle.nj_faults.specs.declared.fault.GraphFault.{GraphFault}
 use Rattle.nj_faults.specs.declared.fault.Cause.TheVariants.{DyndepExtra, DyndepTwice, DyndepNoStatement}
 use Rattle.nj_faults.specs.Faults.{IsFault, fault_at}
 use Rattle.nj_statements.specs.declared.edge_record.Detail.{Detail}
-use Rattle.nj_statements.specs.declared.building.DyndepEdge.{DyndepEdge}
+use Rattle.nj_statements.specs.declared.records.DyndepEdge.{DyndepEdge}
 use Rattle.nj_statements.specs.EdgeList.{Pending, EdgeModel, path_given, edges_read, paths_of_edges}
 use Rattle.nj_statements.specs.EdgeList.{pending_read}
 use Rattle.nj_statements.specs.BuildFaults.{empty_path, outputs_fault}
 use Rattle.nj_statements.specs.Built.{EdgeDetail, detail_at, detail_of}
-use Rattle.nj_statements.specs.Inside.BuiltHeld.{detail_named, assigned_named, pending_named}
 use Rattle.nj_statements.specs.Joining.{no_values, discover, discovered_by, edge_meant, with_entry}
 use Rattle.nj_statements.specs.Joining.{pending_on, meaning_fault, entry_fault, no_statement, lacking_fault}
 use Rattle.nj_statements.specs.JoiningHeld.{unless_joined, still_pending, pending_from, left_pending_from}
 use Rattle.nj_statements.specs.JoiningHeld.{KeepsEdges, JoiningModel, HasJoined, JoinsEntry, JoinsNothing}
-use Rattle.nj_statements.specs.Inside.Details.{IsNumbered}
-use Rattle.nj_statements.specs.Inside.JoiningSteps.{also_restat, is_bound_to, count_pending, fault_of_pending}
+use Rattle.nj_statements.specs.Inside.JoiningSteps.{also_restat, with_restat, is_bound_to, count_pending}
+use Rattle.nj_statements.specs.Inside.JoiningSteps.{fault_of_pending}
 use Rattle.nj_statements.specs.Inside.JoiningSteps.{file_named, if_bound, maker_fault, edge_bound, IsMeant}
-use Rattle.nj_statements.specs.Inside.JoiningSteps.{joining_of, JoiningIsHeld, discover_for}
-use Rattle.nj_statements.proofs.Lists.{get-longer}
+use Rattle.nj_statements.specs.Inside.JoiningSteps.{discover_for}
+use Rattle.nj_statements.specs.Inside.JoiningFields.{JoiningFields, JoiningIsHeld, graph_stated, joining_of}
+use Rattle.nj_statements.proofs.RecordLemmas.{are-longer, paths-same, pending-more, pending-same}
+use Rattle.nj_statements.proofs.RecordLemmas.{strings-more}
+use Rattle.nj_statements.specs.Records.{RecordsModel, detail_named, assigned_named, pending_named, IsNumbered}
 use Rattle.nj_statements.proofs.PendingLemmas.{is_path, find-first, find-none, none-first, first-passes}
 use Rattle.nj_statements.proofs.PendingLemmas.{still-at, still-length, still-map, still-changed, unjoined-at}
 use Rattle.nj_statements.proofs.PendingLemmas.{without-one, count-removed, count-less}
@@ -170,45 +171,15 @@ was-other (suc n) (w ∷ was) (suc m) below h =
 
 -- ---- files that are named besides
 
-path-kept : (files more : List (List ℕ)) (f : FileNo) → IsPrefix files more → f.0 < length files
-    → path_at more f ≡ path_at files f
-path-kept files more f (added, is) below =
-    ap (λ o. unwrap_or o []) (ap (λ fs. slice_get fs f.0) is
-    ∙ get-longer files added f.0 (path_at files f) (path-there files f below))
-
-numbers-kept : (files more : List (List ℕ)) (ns : List FileNo) → IsPrefix files more
-    → AreNumbers (length files) ns → paths_at more ns ≡ paths_at files ns
-numbers-kept files more [] grows known = refl
-numbers-kept files more (n ∷ ns) grows (here, known) =
-    ap (λ p. p ∷ paths_at more ns) (path-kept files more n grows here)
-    ∙ ap (λ ps. path_at files n ∷ ps) (numbers-kept files more ns grows known)
-
-firsts-kept : (files more : List (List ℕ)) (ds : List DyndepEdge) → IsPrefix files more
-    → AllByRecursion (λ d. d.file.0 < length files) ds
-    → map (pending_named more) ds ≡ map (pending_named files) ds
-firsts-kept files more [] grows known = refl
-firsts-kept files more (d ∷ ds) grows (here, known) =
-    ap (λ p. record { edge = d.edge; file = p } ∷ map (pending_named more) ds)
-    (path-kept files more d.file grows here)
-    ∙ ap (λ ps. pending_named files d ∷ ps) (firsts-kept files more ds grows known)
-
 bound-kept : (files more : List (List ℕ)) (bs : List (Option FileNo)) → IsPrefix files more
     → AreKnown (length files) bs → map (file_named more) bs ≡ map (file_named files) bs
 bound-kept files more [] grows known = refl
 bound-kept files more (None ∷ bs) grows (here, known) =
     ap (λ os. None ∷ os) (bound-kept files more bs grows known)
 bound-kept files more (Some f ∷ bs) grows (here, known) =
-    ap (λ p. Some p ∷ map (file_named more) bs) (path-kept files more f grows here)
+    ap (λ p. Some p ∷ map (file_named more) bs)
+    (ap (λ fs. path_at fs f) grows.1 ∙ path_at-more files grows.0 f here)
     ∙ ap (λ os. Some (path_at files f) ∷ os) (bound-kept files more bs grows known)
-
-longer : (files more : List (List ℕ)) → IsPrefix files more → length files ≤ length more
-longer files more (added, is) = let count = ap length is ∙ length-append files added in omega (arith, count)
-
-all-below : {X : Type 0} (of : X → ℕ) (count more : ℕ) → count ≤ more → (xs : List X)
-    → AllByRecursion (λ x. of x < count) xs → AllByRecursion (λ x. of x < more) xs
-all-below of count more rises [] known = tt
-all-below of count more rises (x ∷ xs) (here, known) =
-    (omega (arith, here, rises), all-below of count more rises xs known)
 
 -- the edge that is meant is bound to the file
 pub meant-binds : (bound : List (Option FileNo)) (file : FileNo) (edge : ℕ) (maker : Option ℕ)
@@ -247,27 +218,26 @@ all-same-at P f kept zero (x ∷ xs) (here, all) = (kept x here, all)
 all-same-at P f kept (suc n) (x ∷ xs) (here, all) = (here, all-same-at P f kept n xs all)
 
 -- the fields hold whatever a dyndep file binds
-pub noted-held : (table : JoinTable) (names : List (List ℕ)) (details : List Detail) (defaults : List FileNo)
-    (firsts : List DyndepEdge) (bound : List (Option FileNo)) (unjoined : List ℕ)
-    → JoiningIsHeld table names details defaults firsts bound unjoined
-    → (restat : Bool) (edge : ℕ) (noted : List Detail)
-    → noted ≡ changed_at (also_restat restat) edge details
-    → JoiningIsHeld table names noted defaults firsts bound unjoined
-noted-held table names details defaults firsts bound unjoined held restat edge noted is =
-    subst (λ ds. JoiningIsHeld table names ds defaults firsts bound unjoined) (sym is) (record {
+pub noted-held : (j : JoiningFields) → JoiningIsHeld j → (restat : Bool) (edge : ℕ) (noted : RecordsModel)
+    → noted ≡ with_restat restat edge j.records → JoiningIsHeld (record j { records = noted })
+noted-held j held restat edge noted is =
+    subst (λ r. JoiningIsHeld (record j { records = r })) (sym is) (record {
       each_path_once = held.each_path_once;
       as_many_joined = held.as_many_joined;
       as_many_was = held.as_many_was;
-      as_many_details = length-changed (also_restat restat) edge details ∙ held.as_many_details;
       as_many_bound = held.as_many_bound;
       unchanged = held.unchanged;
-      names_known = all-same-at (λ (d : Detail). d.file < length names) (also_restat restat)
-          (λ d known. known) edge details held.names_known;
-      assigned_known =
-          all-same-at (λ (d : Detail). IsNumbered names d.pool × IsNumbered names d.dyndep)
-          (also_restat restat) (λ d known. known)
-          edge details held.assigned_known;
-      defaults_known = held.defaults_known;
+      fits = record {
+        as_many = length-changed (also_restat restat) edge j.records.details ∙ held.fits.as_many;
+        names_known = all-same-at (λ (d : Detail). d.file < length j.records.names) (also_restat restat)
+            (λ d known. known) edge j.records.details held.fits.names_known;
+        assigned_known = all-same-at
+            (λ (d : Detail). IsNumbered j.records.names d.pool × IsNumbered j.records.names d.dyndep)
+            (also_restat restat) (λ d known. known) edge j.records.details held.fits.assigned_known;
+        defaults_known = held.fits.defaults_known;
+        files_known = held.fits.files_known;
+        edges_known = held.fits.edges_known;
+      };
       dyndep_files_known = held.dyndep_files_known;
       dyndep_edges_known = held.dyndep_edges_known;
       bound_known = held.bound_known;
@@ -276,76 +246,76 @@ noted-held table names details defaults firsts bound unjoined held restat edge n
     })
 
 -- the details without what a dyndep file binds
-pub noted-details : (names : List (List ℕ)) (details noted : List Detail) (restat : Bool) (edge : ℕ)
-    → noted ≡ changed_at (also_restat restat) edge details
-    → map (detail_named names) noted ≡ map (detail_named names) details
-noted-details names details noted restat edge is =
-    ap (map (detail_named names)) is ∙ map-same-at (detail_named names) (also_restat restat) (λ d. refl) edge
-    details
+pub noted-details : (r noted : RecordsModel) (restat : Bool) (edge : ℕ) → noted ≡ with_restat restat edge r
+    → map (detail_named noted.names) noted.details ≡ map (detail_named r.names) r.details
+noted-details r noted restat edge is =
+    ap (λ (x : RecordsModel). map (detail_named x.names) x.details) is
+    ∙ map-same-at (detail_named r.names) (also_restat restat) (λ d. refl) edge r.details
 
 -- ---- the fields
 
-module _ (table : JoinTable) (blocks : BlocksModel) (names : List (List ℕ)) (details : List Detail)
-    (defaults : List FileNo) (firsts : List DyndepEdge) (bound : List (Option FileNo)) (unjoined : List ℕ)
-    (held : JoiningIsHeld table names details defaults firsts bound unjoined) where
-  pub bound-files : AreKnown (length table.files) bound
-  bound-files = known-weaker (length unjoined) (length table.files) bound held.pending_known held.bound_known
+module _ (j : JoiningFields) (held : JoiningIsHeld j) where
+  pub bound-files : AreKnown (length j.table.files) j.bound
+  bound-files = known-weaker (length j.unjoined) (length j.table.files) j.bound held.pending_known
+      held.bound_known
 
   pub unjoined-known : (file : FileNo) (edge : ℕ)
-      → first_edge (λ w. is_bound_to w file) (still_pending bound table.was_joined) ≡ Some edge
-      → edge < length table.stated
+      → first_edge (λ w. is_bound_to w file) (still_pending j.bound j.table.was_joined) ≡ Some edge
+      → edge < length j.table.stated
   unjoined-known file edge first =
-      let h = (first-passes (λ (w : Option FileNo). is_bound_to w file) (still_pending bound table.was_joined)
+      let h = (first-passes (λ (w : Option FileNo). is_bound_to w file)
+      (still_pending j.bound j.table.was_joined)
       edge None first).0 in
-      let a = still-length bound table.was_joined in
+      let a = still-length j.bound j.table.was_joined in
       let b = held.as_many_bound in
       omega (arith, h, a, b)
 
   -- ---- without an edge more
 
-  module _ (after : JoinTable) (keeps : KeepsEdges table after) where
-    pub still-held : JoiningIsHeld after names details defaults firsts bound unjoined
+  module _ (after : JoinTable) (keeps : KeepsEdges j.table after) where
+    pub still-held : JoiningIsHeld (record j { table = after })
     still-held =
-        let rises = longer table.files after.files keeps.files in
+        let rises = strings-more j.table.files after.files keeps.files in
         let known = held.pending_known in
         record {
           each_path_once = keeps.each_path_once held.each_path_once;
           as_many_joined = ap length keeps.joined ∙ held.as_many_joined ∙ sym (ap length keeps.stated);
           as_many_was = ap length keeps.was_joined ∙ held.as_many_was ∙ sym (ap length keeps.stated);
-          as_many_details = held.as_many_details ∙ sym (ap length keeps.stated);
           as_many_bound = held.as_many_bound ∙ sym (ap length keeps.stated);
           unchanged = λ n h. ap (λ (es : List EdgePaths). slice_get es n) keeps.joined
               ∙ held.unchanged n (ap (λ was. get_or was n false) (sym keeps.was_joined) ∙ h)
               ∙ ap (λ (es : List EdgePaths). slice_get es n) (sym keeps.stated);
-          names_known = held.names_known;
-          assigned_known = held.assigned_known;
-          defaults_known = all-below (λ (f : FileNo). f.0) (length table.files) (length after.files) rises
-              defaults held.defaults_known;
-          dyndep_files_known = all-below (λ (d : DyndepEdge). d.file.0) (length table.files)
-              (length after.files) rises firsts held.dyndep_files_known;
+          fits = are-longer (graph_stated j.table) (graph_stated after) j.records held.fits keeps.files
+              (ap length keeps.stated);
+          dyndep_files_known = pending-more j.table.files after.files keeps.files j.dyndep_files
+              held.dyndep_files_known;
           dyndep_edges_known = subst (λ (es : List EdgePaths). AllByRecursion
-              (λ (d : DyndepEdge). d.edge < length es) firsts) (sym keeps.stated) held.dyndep_edges_known;
+              (λ (d : DyndepEdge). d.edge < length es) j.dyndep_files) (sym keeps.stated)
+              held.dyndep_edges_known;
           bound_known = held.bound_known;
           pending_known = omega (arith, rises, known);
-          enough_pending = λ file. subst (λ was. count_pending file (still_pending bound was) ≤ get_or
-              unjoined file.0 0) (sym keeps.was_joined) (held.enough_pending file);
+          enough_pending = λ file. subst (λ was. count_pending file (still_pending j.bound was) ≤ get_or
+              j.unjoined file.0 0) (sym keeps.was_joined) (held.enough_pending file);
         }
 
-    pub same-defaults : paths_at after.files defaults ≡ paths_at table.files defaults
-    same-defaults = numbers-kept table.files after.files defaults keeps.files held.defaults_known
+    pub same-defaults : paths_at after.files j.records.defaults ≡ paths_at j.table.files j.records.defaults
+    same-defaults = paths-same j.table.files after.files keeps.files j.records.defaults
+        held.fits.defaults_known
 
-    pub same-firsts : map (pending_named after.files) firsts ≡ map (pending_named table.files) firsts
-    same-firsts = firsts-kept table.files after.files firsts keeps.files held.dyndep_files_known
+    pub same-firsts : map (pending_named after.files) j.dyndep_files
+        ≡ map (pending_named j.table.files) j.dyndep_files
+    same-firsts = pending-same j.table.files after.files keeps.files j.dyndep_files
+        held.dyndep_files_known
 
-    pub same-bound : map (file_named after.files) bound ≡ map (file_named table.files) bound
-    same-bound = bound-kept table.files after.files bound keeps.files bound-files
+    pub same-bound : map (file_named after.files) j.bound ≡ map (file_named j.table.files) j.bound
+    same-bound = bound-kept j.table.files after.files j.bound keeps.files bound-files
 
     -- the fields then
-    pub joins-nothing : (b : JoiningModel) → joining_of table blocks names details defaults firsts bound ≡ b
-        → JoinsNothing b (joining_of after blocks names details defaults firsts bound)
+    pub joins-nothing : (b : JoiningModel) → joining_of j ≡ b
+        → JoinsNothing b (joining_of (record j { table = after }))
     joins-nothing b is =
         subst (λ (h : JoiningModel). JoinsNothing h
-        (joining_of after blocks names details defaults firsts bound)) is
+        (joining_of (record j { table = after }))) is
         (record {
           edges = keeps;
           blocks = refl;
@@ -360,176 +330,185 @@ module _ (table : JoinTable) (blocks : BlocksModel) (names : List (List ℕ)) (d
 
   -- ---- with one
 
-  module _ (edge : ℕ) (file : FileNo) (below : edge < length table.stated)
-      (first : is_joined table edge ≡ false) (binds : is_bound_to (get_or bound edge None) file ≡ true) where
-    pends : is_bound_to (get_or (still_pending bound table.was_joined) edge None) file ≡ true
-    pends = ap (λ b. is_bound_to b file) (still-at bound table.was_joined edge
-        ∙ ap (unless_joined (get_or bound edge None)) first) ∙ binds
+  module _ (edge : ℕ) (file : FileNo) (below : edge < length j.table.stated)
+      (first : is_joined j.table edge ≡ false) (binds : is_bound_to (get_or j.bound edge None) file ≡ true)
+    where
+      pends : is_bound_to (get_or (still_pending j.bound j.table.was_joined) edge None) file ≡ true
+      pends = ap (λ b. is_bound_to b file) (still-at j.bound j.table.was_joined edge
+          ∙ ap (unless_joined (get_or j.bound edge None)) first) ∙ binds
 
-    inside : edge < length table.was_joined
-    inside = subst (λ n. edge < n) (sym held.as_many_was) below
+      inside : edge < length j.table.was_joined
+      inside = subst (λ n. edge < n) (sym held.as_many_was) below
 
-    left : still_pending bound (with_joined table edge).was_joined
-        ≡ changed_at (λ w. None) edge (still_pending bound table.was_joined)
-    left = still-changed bound table.was_joined edge inside
+      left : still_pending j.bound (with_joined j.table edge).was_joined
+          ≡ changed_at (λ w. None) edge (still_pending j.bound j.table.was_joined)
+      left = still-changed j.bound j.table.was_joined edge inside
 
-    pub unjoined-inside : file.0 < length unjoined
-    unjoined-inside = by (get_or bound edge None) binds
-        (known-at (length unjoined) bound held.bound_known edge)
-      where
-        by : (b : Option FileNo) → is_bound_to b file ≡ true → IfSome b (λ f. f.0 < length unjoined)
-            → file.0 < length unjoined
-        by None h known = absurd (true≢false (sym h))
-        by (Some f) h known = same (eqb_tells f.0 file.0) known
-          where
-            same : ((f.0 == file.0) ≡ true × (f.0 ≡ file.0)) ⊎ ((f.0 == file.0) ≡ false × (f.0 ≢ file.0))
-                → f.0 < length unjoined → file.0 < length unjoined
-            same (inl (is, e)) known = subst (λ n. n < length unjoined) e known
-            same (inr (is, apart)) known = absurd (true≢false (sym h ∙ is))
+      pub unjoined-inside : file.0 < length j.unjoined
+      unjoined-inside = by (get_or j.bound edge None) binds
+          (known-at (length j.unjoined) j.bound held.bound_known edge)
+        where
+          by : (b : Option FileNo) → is_bound_to b file ≡ true → IfSome b (λ f. f.0 < length j.unjoined)
+              → file.0 < length j.unjoined
+          by None h known = absurd (true≢false (sym h))
+          by (Some f) h known = same (eqb_tells f.0 file.0) known
+            where
+              same : ((f.0 == file.0) ≡ true × (f.0 ≡ file.0)) ⊎ ((f.0 == file.0) ≡ false × (f.0 ≢ file.0))
+                  → f.0 < length j.unjoined → file.0 < length j.unjoined
+              same (inl (is, e)) known = subst (λ n. n < length j.unjoined) e known
+              same (inr (is, apart)) known = absurd (true≢false (sym h ∙ is))
 
-    pub unjoined-some : 0 < get_or unjoined file.0 0
-    unjoined-some =
-        let enough = held.enough_pending file in
-        let one = count-removed file (still_pending bound table.was_joined) edge pends in
-        omega (arith, enough, one)
+      pub unjoined-some : 0 < get_or j.unjoined file.0 0
+      unjoined-some =
+          let enough = held.enough_pending file in
+          let one = count-removed file (still_pending j.bound j.table.was_joined) edge pends in
+          omega (arith, enough, one)
 
-    pub joined-held : (count : ℕ) → count ≡ get_or unjoined file.0 0
-        → JoiningIsHeld (with_joined table edge) names details defaults firsts bound
-        (set unjoined file.0 (count - 1))
-    joined-held count is = record {
-      each_path_once = held.each_path_once;
-      as_many_joined = length-changed (with_added table.«open») edge table.joined ∙ held.as_many_joined;
-      as_many_was = length-changed (λ was. true) edge table.was_joined ∙ held.as_many_was;
-      as_many_details = held.as_many_details;
-      as_many_bound = held.as_many_bound;
-      unchanged = λ n h.
-          let other = was-other edge table.was_joined n inside h in
-          changed-other (with_added table.«open») edge table.joined n other.0 ∙ held.unchanged n other.1;
-      names_known = held.names_known;
-      assigned_known = held.assigned_known;
-      defaults_known = held.defaults_known;
-      dyndep_files_known = held.dyndep_files_known;
-      dyndep_edges_known = held.dyndep_edges_known;
-      bound_known = subst (λ n. AreKnown n bound) (sym (length-set unjoined file.0 (count - 1)))
-          held.bound_known;
-      pending_known = subst (λ n. n ≤ length table.files) (sym (length-set unjoined file.0 (count - 1)))
-          held.pending_known;
-      enough_pending = λ other. subst (λ ws. count_pending other ws ≤ get_or (set unjoined file.0 (count - 1))
-          other.0 0) (sym left) (enough other (eqb_tells file.0 other.0));
-    }
-      where
-        ws : List (Option FileNo)
-        ws = still_pending bound table.was_joined
+      pub joined-held : (count : ℕ) → count ≡ get_or j.unjoined file.0 0
+          → JoiningIsHeld (record j {
+            table = with_joined j.table edge;
+            unjoined =
+                set j.unjoined file.0 (count - 1);
+          })
+      joined-held count is = record {
+        each_path_once = held.each_path_once;
+        as_many_joined = length-changed (with_added j.table.«open») edge j.table.joined ∙ held.as_many_joined;
+        as_many_was = length-changed (λ was. true) edge j.table.was_joined ∙ held.as_many_was;
+        as_many_bound = held.as_many_bound;
+        unchanged = λ n h.
+            let other = was-other edge j.table.was_joined n inside h in
+            changed-other (with_added j.table.«open») edge j.table.joined n other.0
+            ∙ held.unchanged n other.1;
+        fits = held.fits;
+        dyndep_files_known = held.dyndep_files_known;
+        dyndep_edges_known = held.dyndep_edges_known;
+        bound_known = subst (λ n. AreKnown n j.bound) (sym (length-set j.unjoined file.0 (count - 1)))
+            held.bound_known;
+        pending_known = subst (λ n. n ≤ length j.table.files) (sym (length-set j.unjoined file.0 (count - 1)))
+            held.pending_known;
+        enough_pending = λ other. subst (λ ws. count_pending other ws ≤ get_or
+            (set j.unjoined file.0 (count - 1))
+            other.0 0) (sym left) (enough other (eqb_tells file.0 other.0));
+      }
+        where
+          ws : List (Option FileNo)
+          ws = still_pending j.bound j.table.was_joined
 
-        enough : (other : FileNo) → ((file.0 == other.0) ≡ true × (file.0 ≡ other.0))
-            ⊎ ((file.0 == other.0) ≡ false × (file.0 ≢ other.0))
-            → count_pending other (changed_at (λ w. None) edge ws) ≤ get_or (set unjoined file.0 (count - 1))
-            other.0 0
-        enough other (inl (same, e)) =
-            let now : get_or (set unjoined file.0 (count - 1)) other.0 0 ≡ count - 1 =
-            ap (λ n. get_or (set unjoined file.0 (count - 1)) n 0) (sym e)
-            ∙ get_or-set_same unjoined file.0 (count - 1) 0 unjoined-inside in
-            let one = count-removed other ws edge (same-bound-to (get_or ws edge None) e pends) in
-            let most = held.enough_pending other in
-            let was : count ≡ get_or unjoined other.0 0 = is ∙ ap (λ n. get_or unjoined n 0) e in
-            omega (arith, now, one, most, was)
-          where
-            same-bound-to : (b : Option FileNo) → file.0 ≡ other.0 → is_bound_to b file ≡ true
-                → is_bound_to b other ≡ true
-            same-bound-to None e h = h
-            same-bound-to (Some f) e h = ap (λ n. f.0 == n) (sym e) ∙ h
-        enough other (inr (differ, apart)) =
-            let now = get_or-set_other unjoined file.0 other.0 (count - 1) 0 (λ e. apart (sym e)) in
-            let less = count-less other ws edge in
-            let most = held.enough_pending other in
-            omega (arith, now, less, most)
+          enough : (other : FileNo) → ((file.0 == other.0) ≡ true × (file.0 ≡ other.0))
+              ⊎ ((file.0 == other.0) ≡ false × (file.0 ≢ other.0))
+              → count_pending other (changed_at (λ w. None) edge ws) ≤ get_or
+              (set j.unjoined file.0 (count - 1))
+              other.0 0
+          enough other (inl (same, e)) =
+              let now : get_or (set j.unjoined file.0 (count - 1)) other.0 0 ≡ count - 1 =
+              ap (λ n. get_or (set j.unjoined file.0 (count - 1)) n 0) (sym e)
+              ∙ get_or-set_same j.unjoined file.0 (count - 1) 0 unjoined-inside in
+              let one = count-removed other ws edge (same-bound-to (get_or ws edge None) e pends) in
+              let most = held.enough_pending other in
+              let was : count ≡ get_or j.unjoined other.0 0 = is ∙ ap (λ n. get_or j.unjoined n 0) e in
+              omega (arith, now, one, most, was)
+            where
+              same-bound-to : (b : Option FileNo) → file.0 ≡ other.0 → is_bound_to b file ≡ true
+                  → is_bound_to b other ≡ true
+              same-bound-to None e h = h
+              same-bound-to (Some f) e h = ap (λ n. f.0 == n) (sym e) ∙ h
+          enough other (inr (differ, apart)) =
+              let now = get_or-set_other j.unjoined file.0 other.0 (count - 1) 0 (λ e. apart (sym e)) in
+              let less = count-less other ws edge in
+              let most = held.enough_pending other in
+              omega (arith, now, less, most)
 
   -- ---- by the statements
 
   module _ (stated joined : List ReadStatement)
-      (has : HasJoined (joining_of table blocks names details defaults firsts bound) stated joined) where
-    module _ (file : FileNo) (name : List ℕ) (here : slice_get table.files file.0 ≡ Some name) where
+      (has : HasJoined (joining_of j) stated joined) where
+    module _ (file : FileNo) (name : List ℕ) (here : slice_get j.table.files file.0 ≡ Some name) where
       pub bound-pends : (edge : ℕ) → pending_on name (pending_read stated) (Some edge)
-          ≡ is_bound_to (get_or bound edge None) file
+          ≡ is_bound_to (get_or j.bound edge None) file
       bound-pends edge =
           ap (λ ps. pending_on name ps (Some edge)) has.bound
-          ∙ unjoined-at name 0 (map (file_named table.files) bound) edge edge
+          ∙ unjoined-at name 0 (map (file_named j.table.files) j.bound) edge edge
           (let e : edge ≡ 0 + edge = omega arith in e)
-          ∙ ap (λ o. is_path o name) (get-named table.files bound edge)
-          ∙ path-bound table.files held.each_path_once (get_or bound edge None) file name here
-          (known-at (length table.files) bound bound-files edge)
+          ∙ ap (λ o. is_path o name) (get-named j.table.files j.bound edge)
+          ∙ path-bound j.table.files held.each_path_once (get_or j.bound edge None) file name here
+          (known-at (length j.table.files) j.bound bound-files edge)
 
       pub still-pends : (edge : ℕ) → pending_on name (pending_read joined) (Some edge)
-          ≡ is_bound_to (unless_joined (get_or bound edge None) (is_joined table edge)) file
+          ≡ is_bound_to (unless_joined (get_or j.bound edge None) (is_joined j.table edge)) file
       still-pends edge =
-          let ws = still_pending bound table.was_joined in
+          let ws = still_pending j.bound j.table.was_joined in
           ap (λ ps. pending_on name ps (Some edge))
           (has.unjoined ∙ ap (pending_from 0)
-          (sym (still-map (path_at table.files) bound table.was_joined)))
-          ∙ unjoined-at name 0 (map (file_named table.files) ws) edge edge
+          (sym (still-map (path_at j.table.files) j.bound j.table.was_joined)))
+          ∙ unjoined-at name 0 (map (file_named j.table.files) ws) edge edge
           (let e : edge ≡ 0 + edge = omega arith in e)
-          ∙ ap (λ o. is_path o name) (get-named table.files ws edge)
-          ∙ path-bound table.files held.each_path_once (get_or ws edge None) file name here
-          (known-at (length table.files) ws (known-still (length table.files) bound table.was_joined
+          ∙ ap (λ o. is_path o name) (get-named j.table.files ws edge)
+          ∙ path-bound j.table.files held.each_path_once (get_or ws edge None) file name here
+          (known-at (length j.table.files) ws (known-still (length j.table.files) j.bound j.table.was_joined
           bound-files) edge)
-          ∙ ap (λ b. is_bound_to b file) (still-at bound table.was_joined edge)
+          ∙ ap (λ b. is_bound_to b file) (still-at j.bound j.table.was_joined edge)
 
       -- the first edge that is pending on a file
       pub first-lacking : find (λ p. bytes_eq p.file name) (pending_read joined)
           ≡ find (λ p. bytes_eq p.file name) (pending_from 0
-          (map (file_named table.files) (still_pending bound table.was_joined)))
+          (map (file_named j.table.files) (still_pending j.bound j.table.was_joined)))
       first-lacking = ap (find (λ (p : Pending). bytes_eq p.file name))
-          (has.unjoined ∙ ap (pending_from 0) (sym (still-map (path_at table.files) bound table.was_joined)))
+          (has.unjoined ∙ ap (pending_from 0)
+          (sym (still-map (path_at j.table.files) j.bound j.table.was_joined)))
 
       pub first-unjoined : first_edge (λ w. is_path w name)
-          (map (file_named table.files) (still_pending bound table.was_joined))
-          ≡ first_edge (λ w. is_bound_to w file) (still_pending bound table.was_joined)
-      first-unjoined = first-path table.files held.each_path_once (still_pending bound table.was_joined) file
-          name here (known-still (length table.files) bound table.was_joined bound-files)
+          (map (file_named j.table.files) (still_pending j.bound j.table.was_joined))
+          ≡ first_edge (λ w. is_bound_to w file) (still_pending j.bound j.table.was_joined)
+      first-unjoined = first-path j.table.files held.each_path_once (still_pending j.bound j.table.was_joined)
+          file
+          name here (known-still (length j.table.files) j.bound j.table.was_joined bound-files)
 
-      pub none-lacks : first_edge (λ w. is_bound_to w file) (still_pending bound table.was_joined) ≡ None
+      pub none-lacks : first_edge (λ w. is_bound_to w file) (still_pending j.bound j.table.was_joined) ≡ None
           → lacking_fault name joined ≡ None
       none-lacks none =
           ap (λ o. option_and_then (λ (p : Pending). option_map (no_statement name)
           (slice_get (edges_read joined) p.edge)) o)
-          (first-lacking ∙ find-none name 0 (map (file_named table.files)
-          (still_pending bound table.was_joined)) (first-unjoined ∙ none))
+          (first-lacking ∙ find-none name 0 (map (file_named j.table.files)
+          (still_pending j.bound j.table.was_joined)) (first-unjoined ∙ none))
 
-      pub zero-lacks : get_or unjoined file.0 0 ≡ 0 → lacking_fault name joined ≡ None
+      pub zero-lacks : get_or j.unjoined file.0 0 ≡ 0 → lacking_fault name joined ≡ None
       zero-lacks zero_is =
           let enough = held.enough_pending file in
-          none-lacks (none-first file (still_pending bound table.was_joined)
-          (let e : count_pending file (still_pending bound table.was_joined) ≡ 0 =
+          none-lacks (none-first file (still_pending j.bound j.table.was_joined)
+          (let e : count_pending file (still_pending j.bound j.table.was_joined) ≡ 0 =
           omega (arith, enough, zero_is) in e))
 
-      pub one-lacks : (edge : ℕ) → first_edge (λ w. is_bound_to w file) (still_pending bound table.was_joined)
+      pub one-lacks : (edge : ℕ) → first_edge (λ w. is_bound_to w file)
+          (still_pending j.bound j.table.was_joined)
           ≡ Some edge
           → lacking_fault name joined ≡ Some (fault_of_pending name
-          (detail_at (map (detail_named names) details) edge) (edge_at table.stated edge))
+          (detail_at (map (detail_named j.records.names) j.records.details) edge)
+          (edge_at j.table.stated edge))
       one-lacks edge first =
           ap (λ o. option_and_then (λ (p : Pending). option_map (no_statement name)
           (slice_get (edges_read joined) p.edge)) o)
-          (first-lacking ∙ find-first name 0 (map (file_named table.files) ws) edge edge path
+          (first-lacking ∙ find-first name 0 (map (file_named j.table.files) ws) edge edge path
           (let e : edge ≡ 0 + edge = omega arith in e) (first-unjoined ∙ first)
-          (get-named table.files ws edge ∙ path-is))
+          (get-named j.table.files ws edge ∙ path-is))
           ∙ ap (option_map (no_statement name)) there.1
           ∙ ap Some (
           ap (λ (d : EdgeDetail). fault_at d.file d.spot
           (DyndepNoStatement (unwrap_or (slice_get (outputs_of there.0.paths) 0) []) name))
           (sym detail-is)
-          ∙ ap (λ (p : EdgePaths). fault_at (detail_at (map (detail_named names) details) edge).file
-          (detail_at (map (detail_named names) details) edge).spot
+          ∙ ap (λ (p : EdgePaths). fault_at (detail_at (map (detail_named j.records.names) j.records.details)
+          edge).file
+          (detail_at (map (detail_named j.records.names) j.records.details) edge).spot
           (DyndepNoStatement (unwrap_or (slice_get (outputs_of p) 0) []) name)) (sym paths-are)
           )
         where
           ws : List (Option FileNo)
-          ws = still_pending bound table.was_joined
+          ws = still_pending j.bound j.table.was_joined
 
           passes : (edge < length ws) × (is_bound_to (get_or ws edge None) file ≡ true)
           passes = first-passes (λ (w : Option FileNo). is_bound_to w file) ws edge None first
 
-          below : edge < length table.stated
-          below = let h = passes.0 in let a = still-length bound table.was_joined in let b =
+          below : edge < length j.table.stated
+          below = let h = passes.0 in let a = still-length j.bound j.table.was_joined in let b =
               held.as_many_bound in omega (arith, h, a, b)
 
           free : (b : Option FileNo) (was : Bool) → is_bound_to (unless_joined b was) file ≡ true
@@ -537,9 +516,9 @@ module _ (table : JoinTable) (blocks : BlocksModel) (names : List (List ℕ)) (d
           free b false h = refl
           free b true h = absurd (true≢false (sym h))
 
-          not-joined : is_joined table edge ≡ false
-          not-joined = free (get_or bound edge None) (is_joined table edge)
-              (ap (λ b. is_bound_to b file) (sym (still-at bound table.was_joined edge)) ∙ passes.1)
+          not-joined : is_joined j.table edge ≡ false
+          not-joined = free (get_or j.bound edge None) (is_joined j.table edge)
+              (ap (λ b. is_bound_to b file) (sym (still-at j.bound j.table.was_joined edge)) ∙ passes.1)
 
           named : (b : Option FileNo) → is_bound_to b file ≡ true → (f : FileNo) × (b ≡ Some f)
           named None h = absurd (true≢false (sym h))
@@ -549,12 +528,12 @@ module _ (table : JoinTable) (blocks : BlocksModel) (names : List (List ℕ)) (d
           bound-file = named (get_or ws edge None) passes.1
 
           path : List ℕ
-          path = path_at table.files bound-file.0
+          path = path_at j.table.files bound-file.0
 
-          path-is : file_named table.files (get_or ws edge None) ≡ Some path
-          path-is = ap (file_named table.files) bound-file.1
+          path-is : file_named j.table.files (get_or ws edge None) ≡ Some path
+          path-is = ap (file_named j.table.files) bound-file.1
 
-          edges-count : length table.stated ≡ length (edges_read joined)
+          edges-count : length j.table.stated ≡ length (edges_read joined)
           edges-count = sym held.as_many_joined ∙ ap length has.joined_paths
               ∙ length-map (edges_read joined) (λ (e : EdgeModel). e.paths)
 
@@ -567,16 +546,17 @@ module _ (table : JoinTable) (blocks : BlocksModel) (names : List (List ℕ)) (d
           there : (e : EdgeModel) × (slice_get (edges_read joined) edge ≡ Some e)
           there = get-some (edges_read joined) edge (subst (λ n. edge < n) edges-count below)
 
-          detail-is : detail_at (map (detail_named names) details) edge ≡ detail_of there.0
+          detail-is : detail_at (map (detail_named j.records.names) j.records.details) edge
+              ≡ detail_of there.0
           detail-is =
               ap (λ ds. detail_at ds edge) has.details
               ∙ get_or_from_slice_get (map detail_of (edges_read joined)) edge (detail_of there.0)
               (record { file = []; spot = record { line = 0; column = 0 }; scope = 0; rule = 0 })
               (slice_get-map detail_of (edges_read joined) edge ∙ ap (option_map detail_of) there.1)
 
-          paths-are : edge_at table.stated edge ≡ there.0.paths
+          paths-are : edge_at j.table.stated edge ≡ there.0.paths
           paths-are =
-              get_or_from_slice_get table.stated edge there.0.paths
+              get_or_from_slice_get j.table.stated edge there.0.paths
               (record {
                 explicit_outputs = [];
                 implicit_outputs = [];
@@ -593,10 +573,10 @@ module _ (table : JoinTable) (blocks : BlocksModel) (names : List (List ℕ)) (d
 
       -- which statement an entry means
       pub meaning-held : (entry : EntryModel)
-          → maker_fault name entry.out table (edge_bound table bound file entry.out)
+          → maker_fault name entry.out j.table (edge_bound j.table j.bound file entry.out)
           ≡ meaning_fault name stated joined entry
       meaning-held entry =
-          by (maker_of table.stated path)
+          by (maker_of j.table.stated path)
           ∙ ap (λ (es : List EdgePaths). option_or
           (then_some (not (pending_on name (pending_read stated) (maker_of es path))) extra)
           (then_some (not (pending_on name (pending_read joined) (maker_of es path))) twice)) has.stated_paths
@@ -615,29 +595,29 @@ module _ (table : JoinTable) (blocks : BlocksModel) (names : List (List ℕ)) (d
           unless b true h = refl
           unless b false h = h
 
-          step : (edge : ℕ) (binds : Bool) → is_bound_to (get_or bound edge None) file ≡ binds
-              → maker_fault name entry.out table (if binds then Some edge else None)
+          step : (edge : ℕ) (binds : Bool) → is_bound_to (get_or j.bound edge None) file ≡ binds
+              → maker_fault name entry.out j.table (if binds then Some edge else None)
               ≡ option_or (then_some (not binds) extra)
-              (then_some (not (is_bound_to (unless_joined (get_or bound edge None) (is_joined table edge))
+              (then_some (not (is_bound_to (unless_joined (get_or j.bound edge None) (is_joined j.table edge))
               file)) twice)
           step edge false is = refl
           step edge true is = sym (ap (λ b. then_some (not b) twice)
-              (unless (get_or bound edge None) (is_joined table edge) is)
-              ∙ ap (λ b. then_some b twice) (not-not (is_joined table edge)))
+              (unless (get_or j.bound edge None) (is_joined j.table edge) is)
+              ∙ ap (λ b. then_some b twice) (not-not (is_joined j.table edge)))
             where
               not-not : (b : Bool) → not (not b) ≡ b
               not-not true = refl
               not-not false = refl
 
           by : (maker : Option ℕ)
-              → maker_fault name entry.out table (if_bound bound file maker)
+              → maker_fault name entry.out j.table (if_bound j.bound file maker)
               ≡ option_or (then_some (not (pending_on name (pending_read stated) maker)) extra)
               (then_some (not (pending_on name (pending_read joined) maker)) twice)
           by None = refl
           by (Some edge) =
-              step edge (is_bound_to (get_or bound edge None) file) refl
+              step edge (is_bound_to (get_or j.bound edge None) file) refl
               ∙ ap (λ b. option_or (then_some (not b) extra)
-              (then_some (not (is_bound_to (unless_joined (get_or bound edge None) (is_joined table edge))
+              (then_some (not (is_bound_to (unless_joined (get_or j.bound edge None) (is_joined j.table edge))
               file)) twice)) (sym (bound-pends edge))
               ∙ ap (λ b. option_or (then_some (not (pending_on name (pending_read stated) (Some edge))) extra)
               (then_some (not b) twice)) (sym (still-pends edge))
@@ -646,8 +626,8 @@ module _ (table : JoinTable) (blocks : BlocksModel) (names : List (List ℕ)) (d
       pub fault-is : (entry : EntryModel)
           → entry_fault name stated joined entry
           ≡ option_or (option_or (empty_path name no_values entry.out)
-          (maker_fault name entry.out table (edge_bound table bound file entry.out)))
-          (option_or (outputs_fault name no_values table.joined table.«open».outputs entry.outs)
+          (maker_fault name entry.out j.table (edge_bound j.table j.bound file entry.out)))
+          (option_or (outputs_fault name no_values j.table.joined j.table.«open».outputs entry.outs)
           (first_given (empty_path name no_values) entry.ins))
       fault-is entry =
           ap (λ o. option_or (empty_path name no_values entry.out)
@@ -657,13 +637,13 @@ module _ (table : JoinTable) (blocks : BlocksModel) (names : List (List ℕ)) (d
           (option_or meaning (option_or (outputs_fault name no_values es [] entry.outs) inputs)))
           (sym has.joined_paths)
           ∙ ap (λ (added : AddedFiles). option_or (empty_path name no_values entry.out)
-          (option_or meaning (option_or (outputs_fault name no_values table.joined added.outputs entry.outs)
+          (option_or meaning (option_or (outputs_fault name no_values j.table.joined added.outputs entry.outs)
           inputs))) (sym has.none_open)
           ∙ sym (or_then-assoc (empty_path name no_values entry.out) meaning
-          (option_or (outputs_fault name no_values table.joined table.«open».outputs entry.outs) inputs))
+          (option_or (outputs_fault name no_values j.table.joined j.table.«open».outputs entry.outs) inputs))
         where
           meaning : Option GraphFault
-          meaning = maker_fault name entry.out table (edge_bound table bound file entry.out)
+          meaning = maker_fault name entry.out j.table (edge_bound j.table j.bound file entry.out)
 
           inputs : Option GraphFault
           inputs = first_given (empty_path name no_values) entry.ins
@@ -674,23 +654,24 @@ module _ (table : JoinTable) (blocks : BlocksModel) (names : List (List ℕ)) (d
           or_then-assoc None b d = refl
 
       -- the statements with the additions of an entry
-      pub joined-has : (entry : EntryModel) (edge : ℕ) → IsMeant table bound file entry.out edge
-          → (after last : JoinTable) → KeepsEdges table after
+      pub joined-has : (entry : EntryModel) (edge : ℕ) → IsMeant j.table j.bound file entry.out edge
+          → (after last : JoinTable) → KeepsEdges j.table after
           → after.«open» ≡ record {
             outputs = (discovered_by entry).outputs;
             inputs =
                 (discovered_by entry).inputs;
           } → last ≡ with_joined after edge
-          → (noted : List Detail) → noted ≡ changed_at (also_restat entry.restat) edge details
-          → HasJoined (joining_of last blocks names noted defaults firsts bound) stated
+          → (noted : RecordsModel) → noted ≡ with_restat entry.restat edge j.records
+          → HasJoined (joining_of (record j { table = last; records = noted })) stated
           (with_entry stated joined entry)
       joined-has entry edge meant after last keeps opens is noted noted_are =
-          subst (λ (t : JoinTable). HasJoined (joining_of t blocks names noted defaults firsts bound) stated
+          subst (λ (t : JoinTable). HasJoined (joining_of (record j { table = t; records = noted }))
+          stated
           (with_entry stated joined entry)) (sym is)
-          (subst (λ es. HasJoined (joining_of (with_joined after edge) blocks names noted defaults firsts
-          bound) stated es)
+          (subst (λ es. HasJoined (joining_of
+          (record j { table = with_joined after edge; records = noted })) stated es)
           (sym (ap (λ m. discover_for m found joined) means))
-          (subst (λ ds. HasJoined (joining_of (with_joined after edge) blocks names ds defaults firsts bound)
+          (subst (λ r. HasJoined (joining_of (record j { table = with_joined after edge; records = r }))
           stated (discover edge found joined))
           (sym noted_are) has-after))
         where
@@ -700,44 +681,45 @@ module _ (table : JoinTable) (blocks : BlocksModel) (names : List (List ℕ)) (d
           also : Detail → Detail
           also = also_restat entry.restat
 
-          same-details : map (detail_named names) (changed_at also edge details)
-              ≡ map (detail_named names) details
-          same-details = map-same-at (detail_named names) also (λ d. refl) edge details
+          same-details : map (detail_named j.records.names) (changed_at also edge j.records.details)
+              ≡ map (detail_named j.records.names) j.records.details
+          same-details = map-same-at (detail_named j.records.names) also (λ d. refl) edge j.records.details
 
-          of : (maker_of table.stated (path_given no_values entry.out) ≡ Some edge)
-              × (is_bound_to (get_or bound edge None) file ≡ true)
-          of = meant-binds bound file edge (maker_of table.stated (path_given no_values entry.out)) meant.is
+          of : (maker_of j.table.stated (path_given no_values entry.out) ≡ Some edge)
+              × (is_bound_to (get_or j.bound edge None) file ≡ true)
+          of = meant-binds j.bound file edge (maker_of j.table.stated (path_given no_values entry.out))
+              meant.is
 
           means : edge_meant stated entry ≡ Some edge
           means = ap (λ (es : List EdgePaths). maker_of es (path_given no_values entry.out))
               (sym has.stated_paths) ∙ of.0
 
           waited : pending_on name (pending_read joined) (Some edge) ≡ true
-          waited = still-pends edge ∙ ap (λ was. is_bound_to (unless_joined (get_or bound edge None) was)
+          waited = still-pends edge ∙ ap (λ was. is_bound_to (unless_joined (get_or j.bound edge None) was)
               file) meant.first ∙ of.1
 
-          inside : edge < length table.was_joined
+          inside : edge < length j.table.was_joined
           inside = subst (λ n. edge < n) (sym held.as_many_was) meant.known
 
           named : List (Option (List ℕ))
-          named = map (file_named table.files) bound
+          named = map (file_named j.table.files) j.bound
 
           unjoined-after : pending_read (discover edge found joined)
-              ≡ left_pending_from 0 (map (file_named after.files) bound)
+              ≡ left_pending_from 0 (map (file_named after.files) j.bound)
               (changed_at (λ was. true) edge after.was_joined)
           unjoined-after =
               pending-discover edge found joined
               ∙ ap (filter (λ (p : Pending). not (p.edge == edge))) has.unjoined
-              ∙ without-one 0 (still_pending named table.was_joined) edge edge
+              ∙ without-one 0 (still_pending named j.table.was_joined) edge edge
               (let e : edge ≡ 0 + edge = omega arith in e)
-              ∙ ap (pending_from 0) (sym (still-changed named table.was_joined edge inside))
+              ∙ ap (pending_from 0) (sym (still-changed named j.table.was_joined edge inside))
               ∙ ap (λ (bs : List (Option (List ℕ))). left_pending_from 0 bs
-              (changed_at (λ was. true) edge table.was_joined)) (sym (same-bound after keeps))
-              ∙ ap (λ was. left_pending_from 0 (map (file_named after.files) bound)
+              (changed_at (λ was. true) edge j.table.was_joined)) (sym (same-bound after keeps))
+              ∙ ap (λ was. left_pending_from 0 (map (file_named after.files) j.bound)
               (changed_at (λ w. true) edge was)) (sym keeps.was_joined)
 
-          has-after : HasJoined (joining_of (with_joined after edge) blocks names
-              (changed_at also edge details) defaults firsts bound) stated
+          has-after : HasJoined (joining_of (record j
+              { table = with_joined after edge; records = with_restat entry.restat edge j.records })) stated
               (discover edge found joined)
           has-after = record {
             stated_paths = keeps.stated ∙ has.stated_paths;
@@ -759,51 +741,51 @@ module _ (table : JoinTable) (blocks : BlocksModel) (names : List (List ℕ)) (d
             bound = has.bound ∙ ap (pending_from 0) (sym (same-bound after keeps));
             unjoined = unjoined-after;
             assigned =
-                map-same-at (assigned_named names) also (λ d. refl) edge details
+                map-same-at (assigned_named j.records.names) also (λ d. refl) edge j.records.details
                 ∙ has.assigned ∙ sym (assigned-discover edge found joined);
             restats =
                 map-changed (λ (d : Detail). d.restat) also (λ had. had || entry.restat) (λ d. refl) edge
-                details
+                j.records.details
                 ∙ ap (changed_at (λ had. had || entry.restat) edge) has.restats
                 ∙ sym (restats-discover edge found joined);
           }
 
+-- the dyndep files after an entry
+pub entry-keeps : (j : JoiningFields) → JoiningIsHeld j → (edge : ℕ) (after last : JoinTable)
+    → KeepsEdges j.table after → last ≡ with_joined after edge
+    → map (pending_named last.files) j.dyndep_files ≡ map (pending_named j.table.files) j.dyndep_files
+entry-keeps j held edge after last keeps is =
+    ap (λ (t : JoinTable). map (pending_named t.files) j.dyndep_files) is ∙ same-firsts j held after keeps
+
 -- the fields after an entry, whose files were collected
-module _ (table : JoinTable) (blocks : BlocksModel) (names : List (List ℕ)) (details : List Detail)
-    (defaults : List FileNo) (firsts : List DyndepEdge) (bound : List (Option FileNo)) (unjoined : List ℕ)
-    (held : JoiningIsHeld table names details defaults firsts bound unjoined) (file : FileNo)
-    (word : WordModel) (edge : ℕ) (meant : IsMeant table bound file word edge) where
-  binds : is_bound_to (get_or bound edge None) file ≡ true
-  binds = (meant-binds bound file edge (maker_of table.stated (path_given no_values word)) meant.is).1
+module _ (j : JoiningFields) (held : JoiningIsHeld j) (given : List (Option FileNo)) (same : given ≡ j.bound)
+    (file : FileNo) (word : WordModel) (edge : ℕ) (means : IsMeant j.table given file word edge) where
+  meant : IsMeant j.table j.bound file word edge
+  meant = subst (λ (bs : List (Option FileNo)). IsMeant j.table bs file word edge) same means
 
-  pub entry-inside : file.0 < length unjoined
-  entry-inside = unjoined-inside table blocks names details defaults firsts bound unjoined held edge file
-      meant.known meant.first binds
+  binds : is_bound_to (get_or j.bound edge None) file ≡ true
+  binds = (meant-binds j.bound file edge (maker_of j.table.stated (path_given no_values word)) meant.is).1
 
-  pub entry-pends : (count : ℕ) → count ≡ get_or unjoined file.0 count → count ≡ get_or unjoined file.0 0
-  entry-pends count is = get_or_read unjoined file.0 count entry-inside is 0
+  pub entry-inside : file.0 < length j.unjoined
+  entry-inside = unjoined-inside j held edge file meant.known meant.first binds
 
-  pub entry-some : (count : ℕ) → count ≡ get_or unjoined file.0 count → 1 ≤ count
+  pub entry-pends : (count : ℕ) → count ≡ get_or j.unjoined file.0 count → count ≡ get_or j.unjoined file.0 0
+  entry-pends count is = get_or_read j.unjoined file.0 count entry-inside is 0
+
+  pub entry-some : (count : ℕ) → count ≡ get_or j.unjoined file.0 count → 1 ≤ count
   entry-some count is =
-      let some = unjoined-some table blocks names details defaults firsts bound unjoined held edge file
-      meant.known meant.first binds in
-      let same = entry-pends count is in
-      omega (arith, some, same)
+      let some = unjoined-some j held edge file meant.known meant.first binds in
+      let left = entry-pends count is in
+      omega (arith, some, left)
 
-  pub entry-held : (after last : JoinTable) (count : ℕ) → KeepsEdges table after
-      → last ≡ with_joined after edge → count ≡ get_or unjoined file.0 count
-      → JoiningIsHeld last names details defaults firsts bound (set unjoined file.0 (count - 1))
+  pub entry-held : (after last : JoinTable) (count : ℕ) → KeepsEdges j.table after
+      → last ≡ with_joined after edge → count ≡ get_or j.unjoined file.0 count
+      → JoiningIsHeld (record j { table = last; unjoined = set j.unjoined file.0 (count - 1) })
   entry-held after last count keeps is now =
-      subst (λ (t : JoinTable). JoiningIsHeld t names details defaults firsts bound
-      (set unjoined file.0 (count - 1))) (sym is)
-      (joined-held after blocks names details defaults firsts bound unjoined
-      (still-held table blocks names details defaults firsts bound unjoined held after keeps) edge file
+      subst (λ (t : JoinTable). JoiningIsHeld
+      (record j { table = t; unjoined = set j.unjoined file.0 (count - 1) })) (sym is)
+      (joined-held (record j { table = after })
+      (still-held j held after keeps) edge file
       (subst (λ (es : List EdgePaths). edge < length es) (sym keeps.stated) meant.known)
       (ap (λ was. get_or was edge false) keeps.was_joined ∙ meant.first) binds count
       (entry-pends count now))
-
-  pub entry-keeps : (after last : JoinTable) → KeepsEdges table after → last ≡ with_joined after edge
-      → map (pending_named last.files) firsts ≡ map (pending_named table.files) firsts
-  entry-keeps after last keeps is =
-      ap (λ (t : JoinTable). map (pending_named t.files) firsts) is
-      ∙ same-firsts table blocks names details defaults firsts bound unjoined held after keeps

@@ -16,7 +16,6 @@ pub mod LoggedLemmas
 pub mod DistinctOutputs
 pub mod DyndepFiles
 pub mod Rows
-pub mod Finishing
 pub mod BuiltRows
 pub mod PendingLemmas
 pub mod AddedLemmas

@@ -16,13 +16,13 @@ use Rattle.nj_edges.specs.Edges.{first_edge}
 use Rattle.nj_names.specs.Files.{path_at}
 use Rattle.nj_edges.specs.Joining.{changed_at}
 use Rattle.nj_edges.proofs.EdgeLemmas.{same-number}
-use Rattle.nj_statements.specs.declared.building.DyndepEdge.{DyndepEdge}
+use Rattle.nj_statements.specs.declared.records.DyndepEdge.{DyndepEdge}
 use Rattle.nj_statements.specs.EdgeList.{Pending}
-use Rattle.nj_statements.specs.Inside.BuiltHeld.{pending_named}
 use Rattle.nj_statements.specs.Joining.{dyndep_files, pending_on}
 use Rattle.nj_statements.specs.JoiningHeld.{unless_joined, still_pending, pending_of, pending_from}
 use Rattle.nj_statements.specs.Inside.JoiningSteps.{is_bound_to, one_if, count_pending, count_bound, bind_all}
 use Rattle.nj_statements.specs.Inside.JoiningSteps.{first_edges, numbered_of, numbered_from, file_named}
+use Rattle.nj_statements.specs.Records.{pending_named}
 
 -- ---- edges that are still pending
 

@@ -1,10 +1,12 @@
 //! The edges that were read so far, and the defaults.
 
 ghost use Rattle.std.specs.Prelude.{◌≡◌, ℕ, ◌<◌, List, [], ◌∷◌, Some, option_map, length, slice_get, vec_len, vec_capacity, OnOk, OnErr, IfSome};
-ghost use Rattle.nj_statements.specs.Cited.{option_or, words_model, outputs_model, used_rule, inputs_model, lines_model, build_model, DefaultModel, IsPrefix, IsScope, parent_at, first_given, DeclaredBy, ReadStatement, rule_in_force, rules_read, no_files, Values, paths_given, line_values, edge_of_build, edges_read, paths_of_edges, paths_fault, late_fault, target_fault, build_fault, default_fault, Checks, HasEdges, AddsNothing, ReadsStatement, entry_at_place, SeesNames, AddsTargets, with_dyndep};
+ghost use Rattle.nj_statements.specs.Cited.{option_or, words_model, outputs_model, used_rule, inputs_model, lines_model, build_model, DefaultModel, IsPrefix, IsScope, parent_at, first_given, DeclaredBy, ReadStatement, rule_in_force, rules_read, no_files, Values, paths_given, line_values, edge_of_build, edges_read, paths_of_edges, paths_fault, late_fault, target_fault, build_fault, default_fault, Checks, HasEdges, ComesTo, AddsNothing, ReadsStatement, entry_at_place, SeesNames, AddsTargets, with_dyndep};
 
+use crate::built::Built;
 use crate::context::Context;
 use crate::edge_record::Detail;
+use crate::records::{DyndepEdge, EdgeRecords};
 use crate::rule_references::{UsedRule, keep_references, rule_references};
 use crate::scratch::Capacity;
 use crate::stated_block::bind_block;
@@ -20,46 +22,29 @@ use nj_text::Word;
 use std::alloc::Global;
 use std::marker::Model;
 
-// An edge that is bound to a dyndep file ("Dynamic Dependencies" in the Ninja manual).
-#[derive(Clone, Copy)]
-pub(crate) struct DyndepEdge {
-    pub(crate) edge: usize,
-    pub(crate) file: FileNo,
-}
-
 /// The edges of the build statements that were read so far, and the defaults ("Build statements"
 /// and "Default target statements" in the Ninja manual).
 #[derive(Drop)]
 pub struct Building {
-    pub(crate) edges: Edges,
-    pub(crate) block_values: Blocks,
-    pub(crate) names: Names,
-    pub(crate) details: Vec<Detail>,
-    pub(crate) defaults: Vec<FileNo>,
-    pub(crate) dyndeps: Vec<DyndepEdge>,
+    edges: Edges,
+    records: EdgeRecords,
     // of each rule by number, which of its variables refer to which, where an edge has used it
     references: Vec<Option<KeyReferences>>,
     capacity: Capacity,
 }
 
 impl Model for Building {
-    ghost use Rattle.std.specs.Prelude.{◌≤◌, length, map};
+    ghost use Rattle.std.specs.Prelude.{◌≤◌, length};
     ghost use Rattle.nj_statements.specs.Answers.{BuildingModel};
-    ghost use Rattle.nj_statements.specs.Inside.EdgeSteps.{AreClean, detail_model};
+    ghost use Rattle.nj_statements.specs.Inside.EdgeSteps.{AreClean};
 
     ghost Value = { BuildingModel };
 
-    ghost view = { λ b. record {
-      table = b.edges;
-      blocks = b.block_values;
-      names = b.names;
-      details = map detail_model b.details.items;
-      defaults = b.defaults.items;
-      dyndeps = b.dyndeps.items;
-      references = b.references.items;
-    } };
+    ghost use Rattle.nj_statements.specs.Inside.BuildingFields.{building_of};
 
-    ghost invariant = { λ b. (b.block_values.last ≤ length b.details.items)
+    ghost view = { building_of };
+
+    ghost invariant = { λ b. (b.records.blocks.last ≤ length b.records.details)
         × AreClean b.edges.files };
 }
 
@@ -70,11 +55,13 @@ impl Building {
     {
         Building {
             edges: Edges::new(alloc, keys),
-            block_values: Blocks::new(alloc, keys),
-            names: Names::new(alloc, keys),
-            details: Vec::new(alloc),
-            defaults: Vec::new(alloc),
-            dyndeps: Vec::new(alloc),
+            records: EdgeRecords {
+                blocks: Blocks::new(alloc, keys),
+                names: Names::new(alloc, keys),
+                details: Vec::new(alloc),
+                defaults: Vec::new(alloc),
+                dyndeps: Vec::new(alloc),
+            },
             references: Vec::new(alloc),
             capacity: Capacity::new(alloc),
         }
@@ -152,15 +139,16 @@ impl Building {
             e entries result }
         ensures refused { OnErr result (AddsNothing self.old self.new) }
     {
-        let edge = self.details.as_slice().len();
+        let records = &mut self.records;
+        let edge = records.details.as_slice().len();
         // Capacity is made first, so that nothing can fail once the edge is there.
-        self.details.reserve(1)?;
-        self.dyndeps.reserve(1)?;
-        let file = file_number(&mut self.names, self.details.last(), place.file)?;
+        records.details.reserve(1)?;
+        records.dyndeps.reserve(1)?;
+        let file = file_number(&mut records.names, records.details.last(), place.file)?;
         let detail = Detail::new(file, place.spot, scope, rule.number)?;
         keep_references(alloc, &mut self.references, rule)?;
         bind_block(
-            &mut self.block_values,
+            &mut records.blocks,
             &mut self.capacity.text,
             declarations,
             scope,
@@ -172,7 +160,7 @@ impl Building {
             place,
             scope,
             declarations,
-            blocks: &self.block_values,
+            blocks: &records.blocks,
             edge,
         };
         let references = rule_references(&self.references, rule.number);
@@ -180,13 +168,13 @@ impl Building {
             context,
             &mut self.capacity,
             &mut self.edges,
-            &mut self.names,
+            &mut records.names,
             build,
             rule,
             references,
         )?;
-        push_dyndep(&mut self.dyndeps, edge, assigned.file);
-        self.details.push_reserved(detail.with(assigned));
+        push_dyndep(&mut records.dyndeps, edge, assigned.file);
+        records.details.push_reserved(detail.with(assigned));
         Ok(())
     }
 
@@ -215,28 +203,46 @@ impl Building {
             e entries result }
         ensures refused { OnErr result (self.new ≡ self.old) }
     {
+        let records = &mut self.records;
         let context = Context {
             alloc,
             place,
             scope,
             declarations,
-            blocks: &self.block_values,
-            edge: self.details.as_slice().len(),
+            blocks: &records.blocks,
+            edge: records.details.as_slice().len(),
         };
-        let count = self.defaults.as_slice().len();
+        let count = records.defaults.as_slice().len();
         match add_targets(
             context,
             &mut self.capacity,
             &self.edges,
-            &mut self.defaults,
+            &mut records.defaults,
             words,
         ) {
             Ok(()) => Ok(()),
             Err(fault) => {
-                self.defaults.truncate(count);
+                records.defaults.truncate(count);
                 Err(fault)
             }
         }
+    }
+
+    /// The result of the statements, which must be without faults. Takes time in proportion to the
+    /// edges and their inputs.
+    ///
+    /// # Errors
+    ///
+    /// A dependency cycle: at the statement of the lowest-numbered edge that lies on one itself,
+    /// with the first output of that edge. An edge that only leads into a cycle is not named.
+    pub fn finish(self, alloc: Global) -> Result<Built, GraphFault>
+        requires { (entries : List ReadStatement) × HasEdges self entries }
+        ensures { (entries : List ReadStatement) → HasEdges self entries
+            → ComesTo entries result }
+    {
+        let Building { edges, records, .. } = self;
+        let finished = edges.finish(alloc)?;
+        records.finish(alloc, finished)
     }
 }
 

@@ -1,17 +1,14 @@
 //! The additions of dyndep files to the edges of a run.
 
 ghost use Rattle.std.specs.Prelude.{◌≡◌, ◌<◌, ◌==◌, List, [], Some, None, option_map, unwrap_or, length, slice_get, replicate, slice_index_or, false, bytes_eq, IfOk, IfSome, OnOk, OnErr};
-ghost use Rattle.nj_statements.specs.Cited.{first_given, option_or, AllByRecursion, IsDistinct, word_model, words_model, entry_model, IsPrefix, ReadStatement, edge_at, first_output, first_edge, maker_of, path_at, changed_at, join_of, none_added, IsFault, fault_at, path_given, paths_given, empty_path, outputs_fault, ComesTo, IsBuiltOf, detail_at, no_values, entry_fault, with_entry, lacking_fault, Checks, HasJoined, JoinsEntry, JoinsNothing, KeepsEdges, has_pending, still_pending, unless_joined, IsMeant, also_restat, fault_of_pending, bind_all, first_edges, count_bound, numbered_from, is_bound_to, if_bound, maker_fault, edge_bound, with_added_outputs, with_added_inputs};
+ghost use Rattle.nj_statements.specs.Cited.{first_given, option_or, AllByRecursion, IsDistinct, word_model, words_model, entry_model, IsPrefix, ReadStatement, edge_at, first_output, first_edge, maker_of, path_at, join_of, none_added, IsFault, fault_at, path_given, paths_given, empty_path, outputs_fault, ComesTo, IsBuiltOf, detail_at, no_values, entry_fault, with_entry, lacking_fault, Checks, HasJoined, JoinsEntry, JoinsNothing, KeepsEdges, has_pending, still_pending, unless_joined, IsMeant, fault_of_pending, bind_all, first_edges, count_bound, numbered_from, is_bound_to, if_bound, maker_fault, edge_bound, with_added_outputs, with_added_inputs};
 
-use crate::building::DyndepEdge;
-use crate::built::{Built, cycle_fault, place_of};
-use crate::edge_record::Detail;
+use crate::built::Built;
+use crate::records::{DyndepEdge, EdgeRecords, place_of};
 use crate::scratch::Capacity;
-use nj_edge_env::Blocks;
-use nj_edges::{EdgeGraph, EdgeNo, FileNo, Finished, JoiningEdges};
+use nj_edges::{EdgeGraph, EdgeNo, FileNo, JoiningEdges};
 use nj_faults::{Cause, GraphFault, Name, PlaceRef};
 use nj_manifest::{Entry, Word};
-use nj_names::Names;
 use nj_text::{Spot, TextFault};
 use std::alloc::{AllocError, Global};
 use std::marker::Model;
@@ -30,10 +27,7 @@ pub struct DyndepFile<'a> {
 #[derive(Drop)]
 pub struct Joining {
     edges: JoiningEdges,
-    blocks: Blocks,
-    names: Names,
-    details: Vec<Detail>,
-    defaults: Vec<FileNo>,
+    records: EdgeRecords,
     // the dyndep files, each with its first edge
     dyndep_files: Vec<DyndepEdge>,
     // for each edge, the dyndep file to which it is bound
@@ -45,15 +39,14 @@ pub struct Joining {
 
 impl Model for Joining {
     ghost use Rattle.nj_statements.specs.JoiningHeld.{JoiningModel};
-    ghost use Rattle.nj_statements.specs.Inside.JoiningSteps.{JoiningIsHeld, joining_of};
 
     ghost Value = { JoiningModel };
 
-    ghost view = { λ j. joining_of j.edges j.blocks j.names j.details.items j.defaults.items
-        j.dyndep_files.items j.bound.items };
+    ghost use Rattle.nj_statements.specs.Inside.JoiningFields.{JoiningIsHeld, fields_of, joining_of};
 
-    ghost invariant = { λ j. JoiningIsHeld j.edges j.names j.details.items j.defaults.items
-        j.dyndep_files.items j.bound.items j.unjoined.items };
+    ghost view = { λ j. joining_of (fields_of j) };
+
+    ghost invariant = { λ j. JoiningIsHeld (fields_of j) };
 }
 
 impl Built {
@@ -61,7 +54,7 @@ impl Built {
     pub fn has_pending(&self) -> bool
         ensures { result ≡ has_pending self.now.pending }
     {
-        !self.dyndeps.as_slice().is_empty()
+        !self.records.dyndeps.as_slice().is_empty()
     }
 
     /// The edges, to which dyndep files can be joined.
@@ -69,26 +62,16 @@ impl Built {
         ensures { (stated : List ReadStatement) → IsBuiltOf self stated
             → IfOk result (λ joining. HasJoined joining stated stated) }
     {
-        let Built {
-            graph,
-            blocks,
-            names,
-            details,
-            defaults,
-            dyndeps,
-        } = self;
+        let Built { graph, records } = self;
         let Start {
             edges,
             dyndep_files,
             bound,
             unjoined,
-        } = start_of(alloc, graph, &dyndeps)?;
+        } = start_of(alloc, graph, &records.dyndeps)?;
         Ok(Joining {
             edges,
-            blocks,
-            names,
-            details,
-            defaults,
+            records,
             dyndep_files,
             bound,
             unjoined,
@@ -216,7 +199,7 @@ impl Joining {
         ensures file { result.file.now ≡ (detail_at self.now.details edge.0).file }
         ensures spot { result.spot ≡ (detail_at self.now.details edge.0).spot }
     {
-        place_of(&self.names, self.details[edge.0])
+        place_of(&self.records.names, self.records.details[edge.0])
     }
 
     /// Joins an entry of this dyndep file, which was opened under this name.
@@ -248,7 +231,7 @@ impl Joining {
         line.add_outputs(&mut self.capacity, &mut self.edges, entry.outs.as_slice())?;
         line.add_inputs(&mut self.capacity, &mut self.edges, entry.ins.as_slice())?;
         self.edges.end_join(edge);
-        note_restat(&mut self.details, edge, entry.restat);
+        self.records.note_restat(edge, entry.restat);
         self.unjoined[file.0] -= 1;
         Ok(())
     }
@@ -304,38 +287,14 @@ impl Joining {
     {
         let Joining {
             edges,
-            blocks,
-            names,
-            details,
-            defaults,
+            mut records,
             bound,
             ..
         } = self;
-        let dyndeps = unjoined_edges(alloc, &edges, &bound)?;
-        match edges.finish(alloc)? {
-            Finished::Graph(graph) => Ok(Built {
-                graph,
-                blocks,
-                names,
-                details,
-                defaults,
-                dyndeps,
-            }),
-            Finished::Cycle(cycle) => {
-                let detail = details[cycle.edge.0];
-                let output = Name::from(cycle.output);
-                Err(cycle_fault(alloc, &names, detail, output))
-            }
-        }
+        records.dyndeps = unjoined_edges(alloc, &edges, &bound)?;
+        let finished = edges.finish(alloc)?;
+        records.finish(alloc, finished)
     }
-}
-
-// Notes whether an entry binds `restat` for an edge.
-fn note_restat(details: &mut Vec<Detail>, edge: EdgeNo, restat: bool)
-    requires { edge.0 < length details.old.items }
-    ensures { details.new.items ≡ changed_at (also_restat restat) edge.0 details.old.items }
-{
-    details[edge.0].restat |= restat;
 }
 
 // The edges that are still pending, by number, each with the dyndep file to which it is bound.

@@ -21,13 +21,14 @@ use Rattle.nj_edge_env.specs.LateStrings.{LateNames, asked_text}
 use Rattle.nj_edge_env.specs.LateEdges.{late_names}
 use Rattle.nj_edge_env.specs.ReferencesHeld.{ReferringKeyModel}
 use Rattle.nj_statements.specs.declared.context.Context.{Context}
+use Rattle.nj_statements.specs.declared.edge_record.Assigned.{Assigned}
 use Rattle.nj_statements.specs.declared.edge_record.Detail.{Detail}
-use Rattle.nj_statements.specs.declared.building.DyndepEdge.{DyndepEdge}
+use Rattle.nj_statements.specs.declared.records.DyndepEdge.{DyndepEdge}
 use Rattle.nj_statements.specs.EdgeList.{Values, Block, AssignedModel, on_line, paths_given, name_given, file_given}
 use Rattle.nj_faults.specs.declared.fault.GraphFault.{GraphFault}
 use Rattle.nj_statements.specs.BuildFaults.{variable_cycle_fault, unknown_pool, dyndep_not_input}
-use Rattle.nj_statements.specs.Answers.{DetailModel, KeepsRead}
-use Rattle.nj_statements.specs.Inside.Details.{spot_of}
+use Rattle.nj_statements.specs.Answers.{KeepsRead}
+use Rattle.nj_statements.specs.Records.{numbered, spot_of}
 
 -- the faults of an edge's names in their order, where these pools are declared and the edge has these inputs
 abbrev pub names_fault : (file : List ℕ) → Spot → (declared inputs : List (List ℕ)) → LateNames → Option GraphFault
@@ -138,8 +139,18 @@ IsFileGiven files number path = option_map (λ f. slice_get files f.0) number �
 abbrev pub SameReferences : (kept others : List (Option (List ReferringKeyModel))) → Type 0
 SameReferences kept others = (number : ℕ) → slice_index_or kept number None ≡ slice_index_or others number None
 
-abbrev pub detail_model : Detail → DetailModel
-detail_model d = record { file = d.file; spot = spot_of d; scope = d.scope; rule = d.rule; pool = d.pool; dyndep = d.dyndep; restat = d.restat }
+-- the detail of an edge at this place, before anything is assigned to it and a dyndep file is joined to it
+pub record IsDetailOf (file : ℕ) (spot : Spot) (scope rule : ℕ) (d : Detail) : Type 0 where
+  pub file_is : d.file ≡ file
+  pub spot_is : spot_of d ≡ spot
+  pub scope_is : d.scope ≡ scope
+  pub rule_is : d.rule ≡ rule
+  pub restat_is : d.restat ≡ false
+
+-- the numbers of an assignment
+pub record AreNumbersOf (names : List (List ℕ)) (a : Assigned) (meant : AssignedModel) : Type 0 where
+  pub pool : slice_get (numbered names) a.pool ≡ Some meant.pool
+  pub dyndep : slice_get (numbered names) a.dyndep ≡ Some meant.dyndep
 
 -- with the edge of this number, if it is bound to a dyndep file
 abbrev pub with_dyndep : (edge : ℕ) → Option FileNo → List DyndepEdge → List DyndepEdge

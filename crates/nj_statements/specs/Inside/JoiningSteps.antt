@@ -1,27 +1,22 @@
 -- How the code joins the discoveries of dyndep files, step by step.
-use Rattle.std.specs.Prelude.{◌≡◌, ℕ, ◌+◌, ◌<◌, ◌≤◌, ◌==◌, Bool, true, false, ◌||◌, not, if◌then◌else◌, Option, Some, None, option_map, unwrap_or, IfSome}
+use Rattle.std.specs.Prelude.{◌≡◌, ℕ, ◌+◌, ◌<◌, ◌==◌, Bool, true, false, ◌||◌, not, if◌then◌else◌, Option, Some, None, option_map, unwrap_or}
 use Rattle.std.specs.Bool.{then_some}
-use Rattle.std.specs.Prelude.{List, [], ◌∷◌, ◌++◌, map, filter, length, set, slice_get, slice_index_or, bytes_eq}
-use Rattle.std.specs.List.{AllByRecursion, IsDistinct}
+use Rattle.std.specs.Prelude.{List, [], ◌∷◌, ◌++◌, filter, length, set, slice_index_or}
 use Rattle.nj_text.specs.Words.{WordModel}
-use Rattle.nj_edge_env.specs.Blocks.{BlocksModel}
 use Rattle.nj_names.specs.declared.files.FileNo.{FileNo}
 use Rattle.nj_edges.specs.Edges.{EdgePaths, first_output, maker_of}
-use Rattle.nj_edges.specs.Inside.EdgesHeld.{AreNumbers, paths_at}
 use Rattle.nj_names.specs.Files.{path_at}
-use Rattle.nj_edges.specs.Joining.{JoinTable, with_added_output, with_added_input, is_joined}
+use Rattle.nj_edges.specs.Joining.{changed_at, JoinTable, with_added_output, with_added_input, is_joined}
 use Rattle.nj_faults.specs.declared.fault.GraphFault.{GraphFault}
 use Rattle.nj_faults.specs.declared.fault.Cause.TheVariants.{DyndepExtra, DyndepTwice, DyndepNoStatement}
 use Rattle.nj_faults.specs.Faults.{fault_at}
 use Rattle.nj_statements.specs.declared.edge_record.Detail.{Detail}
-use Rattle.nj_statements.specs.declared.building.DyndepEdge.{DyndepEdge}
+use Rattle.nj_statements.specs.declared.records.DyndepEdge.{DyndepEdge}
 use Rattle.nj_statements.specs.EdgeList.{path_given}
 use Rattle.nj_statements.specs.Built.{EdgeDetail}
-use Rattle.nj_statements.specs.Inside.BuiltHeld.{detail_named, assigned_named, pending_named}
-use Rattle.nj_statements.specs.Inside.Details.{IsNumbered}
-use Rattle.nj_statements.specs.Joining.{no_values, discover, dyndep_files}
+use Rattle.nj_statements.specs.Records.{RecordsModel}
+use Rattle.nj_statements.specs.Joining.{no_values, discover}
 use Rattle.nj_scope.specs.ReadingList.{Discovered, ReadStatement}
-use Rattle.nj_statements.specs.JoiningHeld.{still_pending, JoiningModel}
 
 abbrev pub discover_for : Option ℕ → Discovered → List ReadStatement → List ReadStatement
 discover_for edge found joined = unwrap_or (option_map (λ edge. discover edge found joined) edge) joined
@@ -95,6 +90,10 @@ fault_of_pending path detail e =
 abbrev pub also_restat : Bool → Detail → Detail
 also_restat restat d = record d { restat = d.restat || restat }
 
+-- the records where a dyndep file binds `restat` for this edge or does not
+abbrev pub with_restat : Bool → (edge : ℕ) → RecordsModel → RecordsModel
+with_restat restat edge r = record r { details = changed_at (also_restat restat) edge r.details }
+
 abbrev pub with_added_outputs : JoinTable → (paths : List (List ℕ)) → JoinTable
 with_added_outputs t [] = t
 with_added_outputs t (path ∷ paths) = with_added_outputs (with_added_output t path) paths
@@ -102,35 +101,3 @@ with_added_outputs t (path ∷ paths) = with_added_outputs (with_added_output t 
 abbrev pub with_added_inputs : JoinTable → (paths : List (List ℕ)) → JoinTable
 with_added_inputs t [] = t
 with_added_inputs t (path ∷ paths) = with_added_inputs (with_added_input t path) paths
-
-abbrev pub joining_of : JoinTable → BlocksModel → (names : List (List ℕ)) → List Detail → (defaults : List FileNo)
-    → (dyndep_files : List DyndepEdge) → (bound : List (Option FileNo)) → JoiningModel
-joining_of table blocks names details defaults dyndep_files bound = record {
-  table = table;
-  blocks = blocks;
-  details = map (detail_named names) details;
-  defaults = paths_at table.files defaults;
-  dyndep_files = map (pending_named table.files) dyndep_files;
-  bound = map (file_named table.files) bound;
-  assigned = map (assigned_named names) details;
-  restats = map (λ d. d.restat) details;
-}
-
--- For each edge there are a detail and its additions. All numbers are numbers of files and edges. For each file at most as many edges
--- are pending as are counted.
-pub record JoiningIsHeld (table : JoinTable) (names : List (List ℕ)) (details : List Detail) (defaults : List FileNo)
-    (dyndep_files : List DyndepEdge) (bound : List (Option FileNo)) (unjoined : List ℕ) : Type 0 where
-  pub each_path_once : IsDistinct bytes_eq table.files
-  pub as_many_joined : length table.joined ≡ length table.stated
-  pub as_many_was : length table.was_joined ≡ length table.stated
-  pub as_many_details : length details ≡ length table.stated
-  pub as_many_bound : length bound ≡ length table.stated
-  pub unchanged : (edge : ℕ) → is_joined table edge ≡ false → slice_get table.joined edge ≡ slice_get table.stated edge
-  pub names_known : AllByRecursion (λ d. d.file < length names) details
-  pub assigned_known : AllByRecursion (λ d. IsNumbered names d.pool × IsNumbered names d.dyndep) details
-  pub defaults_known : AreNumbers (length table.files) defaults
-  pub dyndep_files_known : AllByRecursion (λ d. d.file.0 < length table.files) dyndep_files
-  pub dyndep_edges_known : AllByRecursion (λ d. d.edge < length table.stated) dyndep_files
-  pub bound_known : AllByRecursion (λ file. IfSome file (λ f. f.0 < length unjoined)) bound
-  pub pending_known : length unjoined ≤ length table.files
-  pub enough_pending : (file : FileNo) → count_pending file (still_pending bound table.was_joined) ≤ slice_index_or unjoined file.0 0

@@ -3,7 +3,7 @@ use Rattle.std.proofs.Common.{◌∙◌}
 use Rattle.std.proofs.lemmas.List.{length-set, length-take, get_or_read}
 use Rattle.std.specs.Global.{Global}
 use Rattle.nj_names.specs.declared.files.FileNo.{FileNo}
-use Rattle.nj_statements.specs.declared.building.DyndepEdge.{DyndepEdge}
+use Rattle.nj_statements.specs.declared.records.DyndepEdge.{DyndepEdge}
 use Rattle.nj_statements.proofs.PendingLemmas.{count-most, default-edge, first-next, counts-next, rest-known}
 use Rattle.nj_statements.proofs.dyndep_entries.awaited_files.Goals as goal
 use Rattle.nj_statements.proofs.dyndep_entries.awaited_files.Goals.{then-index-eq0+in_ok-push, else-index-eq0}

@@ -10,6 +10,7 @@ use Rattle.nj_faults.specs.Faults.{IsFault}
 use Rattle.nj_statements.specs.Built.{detail_at}
 use Rattle.nj_statements.specs.Joining.{lacking_fault}
 use Rattle.nj_statements.specs.JoiningHeld.{JoiningModel, HasJoined, still_pending}
+use Rattle.nj_statements.specs.Inside.JoiningFields.{fields_of}
 use Rattle.nj_statements.specs.Inside.JoiningSteps.{fault_of_pending, is_bound_to}
 use Rattle.nj_statements.proofs.JoiningLemmas.{path-there, unjoined-known, none-lacks, zero-lacks, one-lacks}
 use Rattle.nj_statements.proofs.dyndep_entries.Joining.end_file.Goals as goal
@@ -32,9 +33,7 @@ returns-then-is_zero c = λ stated joined has'.
     let path : name ≡ path_at c.args.self.now.table.files c.args.file =
     ap (λ (h : JoiningModel). path_at h.table.files c.args.file) c.self.view_is in
     ap (λ p. lacking_fault p joined) (sym path)
-    ∙ zero-lacks c.self.inside.edges c.self.inside.blocks c.self.inside.names c.self.inside.details.items
-    c.self.inside.defaults.items c.self.inside.dyndep_files.items c.self.inside.bound.items
-    c.self.inside.unjoined.items c.self.invariant stated joined has c.args.file name here
+    ∙ zero-lacks (fields_of c.self.inside) c.self.invariant stated joined has c.args.file name here
     (subst (λ ws. get_or ws c.args.file.0 0 ≡ 0) c.deref.ensures.value
     (is-zero (get_or c.deref.result.now c.args.file.0 0) c.if-is_zero.ensures))
 
@@ -53,17 +52,13 @@ returns-in-None c = λ stated joined has'.
     c.pending_edge.ensures ∙ ap (λ bs. first_edge (λ (w : Option FileNo). is_bound_to w c.args.file)
     (still_pending bs t.was_joined)) c.deref-2.ensures.value in
     ap (λ p. lacking_fault p joined) (sym path)
-    ∙ none-lacks c.self.inside.edges c.self.inside.blocks c.self.inside.names c.self.inside.details.items
-    c.self.inside.defaults.items c.self.inside.dyndep_files.items c.self.inside.bound.items
-    c.self.inside.unjoined.items c.self.invariant stated joined has c.args.file name here
+    ∙ none-lacks (fields_of c.self.inside) c.self.invariant stated joined has c.args.file name here
     (sym first ∙ ap (option_map (λ (e : EdgeNo). e.0)) c.in-None.is)
 
 pub no_statement-requires-clause-edge : goal.no_statement-requires-clause-edge
 no_statement-requires-clause-edge c =
     subst (λ (h : JoiningModel). c.in-Some.edge.0 < length h.table.stated) c.self.view_is
-    (unjoined-known c.self.inside.edges c.self.inside.blocks c.self.inside.names c.self.inside.details.items
-    c.self.inside.defaults.items c.self.inside.dyndep_files.items c.self.inside.bound.items
-    c.self.inside.unjoined.items c.self.invariant c.args.file c.in-Some.edge.0
+    (unjoined-known (fields_of c.self.inside) c.self.invariant c.args.file c.in-Some.edge.0
     (subst (λ bs. first_edge (λ (w : Option FileNo). is_bound_to w c.args.file)
     (still_pending bs c.self.inside.edges.was_joined) ≡ Some c.in-Some.edge.0) c.deref-2.ensures.value
     (sym c.pending_edge.ensures ∙ ap (option_map (λ (e : EdgeNo). e.0)) c.in-Some.is)))
@@ -82,9 +77,7 @@ returns-in_ok-no_statement-in-Some c = λ stated joined has'.
     ≡ first_edge (λ w. is_bound_to w c.args.file) (still_pending c.self.inside.bound.items t.was_joined) =
     c.pending_edge.ensures ∙ ap (λ bs. first_edge (λ (w : Option FileNo). is_bound_to w c.args.file)
     (still_pending bs t.was_joined)) c.deref-2.ensures.value in
-    let is = one-lacks c.self.inside.edges c.self.inside.blocks c.self.inside.names
-    c.self.inside.details.items c.self.inside.defaults.items c.self.inside.dyndep_files.items
-    c.self.inside.bound.items c.self.inside.unjoined.items c.self.invariant stated joined has c.args.file
+    let is = one-lacks (fields_of c.self.inside) c.self.invariant stated joined has c.args.file
     name here c.in-Some.edge.0 (sym first ∙ ap (option_map (λ (e : EdgeNo). e.0)) c.in-Some.is) in
     let lacks = ap (λ p. lacking_fault p joined) (sym path) ∙ is
     ∙ ap (λ (h : JoiningModel). Some (fault_of_pending (path_at h.table.files c.args.file)

@@ -9,6 +9,7 @@ use Rattle.nj_statements.specs.EdgeList.{paths_given}
 use Rattle.nj_statements.specs.BuildFaults.{empty_path, outputs_fault}
 use Rattle.nj_statements.specs.Joining.{no_values, entry_fault, with_entry}
 use Rattle.nj_statements.specs.JoiningHeld.{JoiningModel, HasJoined, KeepsEdges}
+use Rattle.nj_statements.specs.Inside.JoiningFields.{fields_of}
 use Rattle.nj_statements.specs.Inside.JoiningSteps.{IsMeant, maker_fault, edge_bound, with_added_outputs}
 use Rattle.nj_statements.specs.Inside.JoiningSteps.{with_added_inputs}
 use Rattle.nj_statements.proofs.Faults.{fault-first, fault-second, both-none}
@@ -37,9 +38,7 @@ returns-in_err-edge-clause-joins c = λ stated joined has'.
     let outputs = outputs_fault name no_values t.joined t.«open».outputs entry.outs in
     let inputs = first_given (empty_path name no_values) entry.ins in
     let is : expected ≡ option_or first (option_or outputs inputs) =
-    fault-is c.self.inside.edges c.self.inside.blocks c.self.inside.names c.self.inside.details.items
-    c.self.inside.defaults.items c.self.inside.dyndep_files.items c.self.inside.bound.items
-    c.self.inside.unjoined.items c.self.invariant stated joined has c.args.file name here entry in
+    fault-is (fields_of c.self.inside) c.self.invariant stated joined has c.args.file name here entry in
     let f = c.in_err-edge.field-0.0 in
     joins-err _ expected stated (with_entry stated joined entry) c.from_residual.result f
     c.from_residual.ensures.1
@@ -52,9 +51,8 @@ returns-in_err-edge-clause-joins c = λ stated joined has'.
 
 pub invariant_of-self-in_err-add_outputs : goal.invariant_of-self-in_err-add_outputs
 invariant_of-self-in_err-add_outputs c =
-    still-held c.self.inside.edges c.self.inside.blocks c.self.inside.names c.self.inside.details.items
-    c.self.inside.defaults.items c.self.inside.dyndep_files.items c.self.inside.bound.items
-    c.self.inside.unjoined.items c.self.invariant c.add_outputs.new.edges c.in_err-add_outputs.ensures.keeps
+    still-held (fields_of c.self.inside) c.self.invariant c.add_outputs.new.edges
+    c.in_err-add_outputs.ensures.keeps
 
 pub returns-in_err-add_outputs-clause-joins : goal.returns-in_err-add_outputs-clause-joins
 returns-in_err-add_outputs-clause-joins c = λ stated joined has'.
@@ -72,9 +70,7 @@ returns-in_err-add_outputs-clause-joins c = λ stated joined has'.
     let outputs = outputs_fault name no_values t.joined t.«open».outputs entry.outs in
     let inputs = first_given (empty_path name no_values) entry.ins in
     let is : expected ≡ option_or first (option_or outputs inputs) =
-    fault-is c.self.inside.edges c.self.inside.blocks c.self.inside.names c.self.inside.details.items
-    c.self.inside.defaults.items c.self.inside.dyndep_files.items c.self.inside.bound.items
-    c.self.inside.unjoined.items c.self.invariant stated joined has c.args.file name here entry in
+    fault-is (fields_of c.self.inside) c.self.invariant stated joined has c.args.file name here entry in
     let none : first ≡ None = subst (λ bs. option_or (empty_path name no_values entry.out)
     (maker_fault name entry.out t (edge_bound t bs c.args.file entry.out)) ≡ None) c.deref.ensures.value
     c.in_ok-edge.ensures.fault in
@@ -88,9 +84,8 @@ returns-in_err-add_outputs-clause-joins c = λ stated joined has'.
 
 pub returns-in_err-add_outputs-clause-dyndep_files : goal.returns-in_err-add_outputs-clause-dyndep_files
 returns-in_err-add_outputs-clause-dyndep_files c =
-    same-firsts c.self.inside.edges c.self.inside.blocks c.self.inside.names c.self.inside.details.items
-    c.self.inside.defaults.items c.self.inside.dyndep_files.items c.self.inside.bound.items
-    c.self.inside.unjoined.items c.self.invariant c.add_outputs.new.edges c.in_err-add_outputs.ensures.keeps
+    same-firsts (fields_of c.self.inside) c.self.invariant c.add_outputs.new.edges
+    c.in_err-add_outputs.ensures.keeps
     ∙ ap (λ (h : JoiningModel). h.dyndep_files) c.self.view_is
 
 -- ---- its inputs
@@ -100,9 +95,7 @@ invariant_of-self-in_err-add_inputs c =
     let keeps : KeepsEdges c.self.inside.edges c.add_inputs.new.edges =
     keeps-trans c.self.inside.edges c.add_outputs.new.edges c.add_inputs.new.edges
     c.in_ok-add_outputs.ensures.keeps c.in_err-add_inputs.ensures.keeps in
-    still-held c.self.inside.edges c.self.inside.blocks c.self.inside.names c.self.inside.details.items
-    c.self.inside.defaults.items c.self.inside.dyndep_files.items c.self.inside.bound.items
-    c.self.inside.unjoined.items c.self.invariant c.add_inputs.new.edges keeps
+    still-held (fields_of c.self.inside) c.self.invariant c.add_inputs.new.edges keeps
 
 pub returns-in_err-add_inputs-clause-joins : goal.returns-in_err-add_inputs-clause-joins
 returns-in_err-add_inputs-clause-joins c = λ stated joined has'.
@@ -120,9 +113,7 @@ returns-in_err-add_inputs-clause-joins c = λ stated joined has'.
     let outputs = outputs_fault name no_values t.joined t.«open».outputs entry.outs in
     let inputs = first_given (empty_path name no_values) entry.ins in
     let is : expected ≡ option_or first (option_or outputs inputs) =
-    fault-is c.self.inside.edges c.self.inside.blocks c.self.inside.names c.self.inside.details.items
-    c.self.inside.defaults.items c.self.inside.dyndep_files.items c.self.inside.bound.items
-    c.self.inside.unjoined.items c.self.invariant stated joined has c.args.file name here entry in
+    fault-is (fields_of c.self.inside) c.self.invariant stated joined has c.args.file name here entry in
     let none : first ≡ None = subst (λ bs. option_or (empty_path name no_values entry.out)
     (maker_fault name entry.out t (edge_bound t bs c.args.file entry.out)) ≡ None) c.deref.ensures.value
     c.in_ok-edge.ensures.fault in
@@ -142,24 +133,20 @@ returns-in_err-add_inputs-clause-dyndep_files c =
     let keeps : KeepsEdges c.self.inside.edges c.add_inputs.new.edges =
     keeps-trans c.self.inside.edges c.add_outputs.new.edges c.add_inputs.new.edges
     c.in_ok-add_outputs.ensures.keeps c.in_err-add_inputs.ensures.keeps in
-    same-firsts c.self.inside.edges c.self.inside.blocks c.self.inside.names c.self.inside.details.items
-    c.self.inside.defaults.items c.self.inside.dyndep_files.items c.self.inside.bound.items
-    c.self.inside.unjoined.items c.self.invariant c.add_inputs.new.edges keeps
+    same-firsts (fields_of c.self.inside) c.self.invariant c.add_inputs.new.edges keeps
     ∙ ap (λ (h : JoiningModel). h.dyndep_files) c.self.view_is
 
 pub returns-in_err-edge-clause-refused : goal.returns-in_err-edge-clause-refused
 returns-in_err-edge-clause-refused c = on-err c.from_residual.result
-    (joins-nothing c.self.inside.edges c.self.inside.blocks c.self.inside.names c.self.inside.details.items
-    c.self.inside.defaults.items c.self.inside.dyndep_files.items c.self.inside.bound.items
-    c.self.inside.unjoined.items c.self.invariant c.self.inside.edges (keeps-nothing c.self.inside.edges) _
+    (joins-nothing (fields_of c.self.inside) c.self.invariant c.self.inside.edges
+    (keeps-nothing c.self.inside.edges) _
     c.self.view_is)
 
 pub returns-in_err-add_outputs-clause-refused : goal.returns-in_err-add_outputs-clause-refused
 returns-in_err-add_outputs-clause-refused c =
     on-err c.from_residual-in_err-add_outputs.result
-    (joins-nothing c.self.inside.edges c.self.inside.blocks c.self.inside.names c.self.inside.details.items
-    c.self.inside.defaults.items c.self.inside.dyndep_files.items c.self.inside.bound.items
-    c.self.inside.unjoined.items c.self.invariant c.add_outputs.new.edges c.in_err-add_outputs.ensures.keeps _
+    (joins-nothing (fields_of c.self.inside) c.self.invariant c.add_outputs.new.edges
+    c.in_err-add_outputs.ensures.keeps _
     c.self.view_is)
 
 pub returns-in_err-add_inputs-clause-refused : goal.returns-in_err-add_inputs-clause-refused
@@ -168,67 +155,42 @@ returns-in_err-add_inputs-clause-refused c =
     keeps-trans c.self.inside.edges c.add_outputs.new.edges c.add_inputs.new.edges
     c.in_ok-add_outputs.ensures.keeps c.in_err-add_inputs.ensures.keeps in
     on-err c.from_residual-in_err-add_inputs.result
-    (joins-nothing c.self.inside.edges c.self.inside.blocks c.self.inside.names
-    c.self.inside.details.items c.self.inside.defaults.items c.self.inside.dyndep_files.items
-    c.self.inside.bound.items c.self.inside.unjoined.items c.self.invariant c.add_inputs.new.edges keeps _
+    (joins-nothing (fields_of c.self.inside) c.self.invariant c.add_inputs.new.edges keeps _
     c.self.view_is)
 
 -- ---- the entry is joined
 
 pub index_mut-requires : goal.index_mut-requires
 index_mut-requires c =
-    let meant : IsMeant c.self.inside.edges c.self.inside.bound.items c.args.file
-    (entry_model c.args.entry.now).out c.in_ok-edge.edge.0 =
-    subst (λ bs. IsMeant c.self.inside.edges bs c.args.file (entry_model c.args.entry.now).out
-    c.in_ok-edge.edge.0) c.deref.ensures.value c.in_ok-edge.ensures.edge in
     let same = c.self.inside.unjoined.ok.0 in
     subst (λ n. c.args.file.0 < n) (sym same)
-    (entry-inside c.self.inside.edges c.self.inside.blocks c.self.inside.names c.self.inside.details.items
-    c.self.inside.defaults.items c.self.inside.dyndep_files.items c.self.inside.bound.items
-    c.self.inside.unjoined.items c.self.invariant c.args.file (entry_model c.args.entry.now).out
-    c.in_ok-edge.edge.0 meant)
+    (entry-inside (fields_of c.self.inside) c.self.invariant _ c.deref.ensures.value c.args.file
+    (entry_model c.args.entry.now).out c.in_ok-edge.edge.0 c.in_ok-edge.ensures.edge)
 
 pub overflow_sub-index_mut : goal.overflow_sub-index_mut
 overflow_sub-index_mut c =
-    let meant : IsMeant c.self.inside.edges c.self.inside.bound.items c.args.file
-    (entry_model c.args.entry.now).out c.in_ok-edge.edge.0 =
-    subst (λ bs. IsMeant c.self.inside.edges bs c.args.file (entry_model c.args.entry.now).out
-    c.in_ok-edge.edge.0) c.deref.ensures.value c.in_ok-edge.ensures.edge in
-    entry-some c.self.inside.edges c.self.inside.blocks c.self.inside.names c.self.inside.details.items
-    c.self.inside.defaults.items c.self.inside.dyndep_files.items c.self.inside.bound.items
-    c.self.inside.unjoined.items c.self.invariant c.args.file (entry_model c.args.entry.now).out
-    c.in_ok-edge.edge.0 meant c.index_mut.result.now c.index_mut.ensures.value
+    entry-some (fields_of c.self.inside) c.self.invariant _ c.deref.ensures.value c.args.file
+    (entry_model c.args.entry.now).out c.in_ok-edge.edge.0 c.in_ok-edge.ensures.edge c.index_mut.result.now
+    c.index_mut.ensures.value
 
 pub invariant_of-self-2 : goal.invariant_of-self-2
 invariant_of-self-2 c =
-    let meant : IsMeant c.self.inside.edges c.self.inside.bound.items c.args.file
-    (entry_model c.args.entry.now).out c.in_ok-edge.edge.0 =
-    subst (λ bs. IsMeant c.self.inside.edges bs c.args.file (entry_model c.args.entry.now).out
-    c.in_ok-edge.edge.0) c.deref.ensures.value c.in_ok-edge.ensures.edge in
     let keeps : KeepsEdges c.self.inside.edges c.add_inputs.new.edges =
     keeps-trans c.self.inside.edges c.add_outputs.new.edges c.add_inputs.new.edges
     c.in_ok-add_outputs.ensures.keeps c.in_ok-add_inputs.ensures.keeps in
-    let all = entry-held c.self.inside.edges c.self.inside.blocks c.self.inside.names
-    c.self.inside.details.items c.self.inside.defaults.items c.self.inside.dyndep_files.items
-    c.self.inside.bound.items c.self.inside.unjoined.items c.self.invariant c.args.file
-    (entry_model c.args.entry.now).out c.in_ok-edge.edge.0 meant c.add_inputs.new.edges
+    let all = entry-held (fields_of c.self.inside) c.self.invariant _ c.deref.ensures.value c.args.file
+    (entry_model c.args.entry.now).out c.in_ok-edge.edge.0 c.in_ok-edge.ensures.edge c.add_inputs.new.edges
     c.end_join.new.self c.index_mut.result.now keeps c.end_join.ensures c.index_mut.ensures.value in
-    noted-held _ _ c.self.inside.details.items _ _ _ _ all c.args.entry.now.restat c.in_ok-edge.edge.0
-    c.note_restat.new.details.items c.note_restat.ensures
+    noted-held _ all c.args.entry.now.restat c.in_ok-edge.edge.0
+    c.note_restat.new.self c.note_restat.ensures
 
 pub returns-clause-dyndep_files : goal.returns-clause-dyndep_files
 returns-clause-dyndep_files c =
-    let meant : IsMeant c.self.inside.edges c.self.inside.bound.items c.args.file
-    (entry_model c.args.entry.now).out c.in_ok-edge.edge.0 =
-    subst (λ bs. IsMeant c.self.inside.edges bs c.args.file (entry_model c.args.entry.now).out
-    c.in_ok-edge.edge.0) c.deref.ensures.value c.in_ok-edge.ensures.edge in
     let keeps : KeepsEdges c.self.inside.edges c.add_inputs.new.edges =
     keeps-trans c.self.inside.edges c.add_outputs.new.edges c.add_inputs.new.edges
     c.in_ok-add_outputs.ensures.keeps c.in_ok-add_inputs.ensures.keeps in
-    entry-keeps c.self.inside.edges c.self.inside.blocks c.self.inside.names c.self.inside.details.items
-    c.self.inside.defaults.items c.self.inside.dyndep_files.items c.self.inside.bound.items
-    c.self.inside.unjoined.items c.self.invariant c.args.file (entry_model c.args.entry.now).out
-    c.in_ok-edge.edge.0 meant c.add_inputs.new.edges c.end_join.new.self keeps c.end_join.ensures
+    entry-keeps (fields_of c.self.inside) c.self.invariant c.in_ok-edge.edge.0 c.add_inputs.new.edges
+    c.end_join.new.self keeps c.end_join.ensures
     ∙ ap (λ (h : JoiningModel). h.dyndep_files) c.self.view_is
 
 pub returns-clause-joins : goal.returns-clause-joins
@@ -247,9 +209,7 @@ returns-clause-joins c = λ stated joined has'.
     let outputs = outputs_fault name no_values t.joined t.«open».outputs entry.outs in
     let inputs = first_given (empty_path name no_values) entry.ins in
     let is : expected ≡ option_or first (option_or outputs inputs) =
-    fault-is c.self.inside.edges c.self.inside.blocks c.self.inside.names c.self.inside.details.items
-    c.self.inside.defaults.items c.self.inside.dyndep_files.items c.self.inside.bound.items
-    c.self.inside.unjoined.items c.self.invariant stated joined has c.args.file name here entry in
+    fault-is (fields_of c.self.inside) c.self.invariant stated joined has c.args.file name here entry in
     let none : first ≡ None = subst (λ bs. option_or (empty_path name no_values entry.out)
     (maker_fault name entry.out t (edge_bound t bs c.args.file entry.out)) ≡ None) c.deref.ensures.value
     c.in_ok-edge.ensures.fault in
@@ -282,15 +242,12 @@ returns-clause-joins c = λ stated joined has'.
     (outputs-open t outs ∙ ap (λ (o : AddedFiles). record o { outputs = o.outputs ++ outs }) has.none_open)
     in (
       is ∙ both-none first (option_or outputs inputs) none (both-none outputs inputs no_outputs no_inputs),
-      joined-has c.self.inside.edges c.self.inside.blocks c.self.inside.names c.self.inside.details.items
-          c.self.inside.defaults.items c.self.inside.dyndep_files.items c.self.inside.bound.items
-          c.self.inside.unjoined.items c.self.invariant stated joined has c.args.file name here entry
+      joined-has (fields_of c.self.inside) c.self.invariant stated joined has c.args.file name here entry
           c.in_ok-edge.edge.0 meant c.add_inputs.new.edges c.end_join.new.self keeps opens c.end_join.ensures
-          c.note_restat.new.details.items c.note_restat.ensures,
+          c.note_restat.new.self c.note_restat.ensures,
     )
 
 pub returns-clause-details : goal.returns-clause-details
 returns-clause-details c =
-    noted-details c.self.inside.names c.self.inside.details.items c.note_restat.new.details.items
-    c.args.entry.now.restat
+    noted-details c.self.inside.records c.note_restat.new.self c.args.entry.now.restat
     c.in_ok-edge.edge.0 c.note_restat.ensures ∙ ap (λ (h : JoiningModel). h.details) c.self.view_is
