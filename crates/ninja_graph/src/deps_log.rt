@@ -1,7 +1,7 @@
 //! The deps log that the options request.
 
-ghost use Rattle.std.specs.Prelude.{◌≡◌, ◌∷◌, List, [], codes, option_copied, IfOk};
-ghost use Rattle.ninja_graph.specs.Cited.{IsGraphOf, ReadStatement, value_if_bound, cut_line, log_path};
+ghost use Rattle.std.specs.Prelude.{◌≡◌, ◌∷◌, [], codes, option_copied, IfOk};
+ghost use Rattle.ninja_graph.specs.Cited.{OfStatements, value_if_bound, cut_line, log_path};
 
 use crate::failure::{Failure, LogFault};
 use clap::ArgMatches;
@@ -156,9 +156,8 @@ fn check_type(rt: HostRuntime, path: &str) -> Result<(), Failure> {
 /// Where Ninja has its deps log: `.ninja_deps`, in the directory that the main scope's `builddir`
 /// names after all statements ("Deps" in the Ninja manual).
 fn log_path(alloc: Global, graph: &Graph) -> Result<Vec<u8>, AllocError>
-    ensures { (entries : List ReadStatement) → IsGraphOf graph.now entries
-        → IfOk result (λ path. path.items
-        ≡ log_path (value_if_bound entries (0 ∷ []) (codes "builddir"))) }
+    ensures { OfStatements graph.now (λ entries. IfOk result (λ path. path.items
+        ≡ log_path (value_if_bound entries (0 ∷ []) (codes "builddir")))) }
 {
     let mut path = Vec::new(alloc);
     if let Some(folder) = builddir(graph) {
@@ -173,8 +172,8 @@ fn log_path(alloc: Global, graph: &Graph) -> Result<Vec<u8>, AllocError>
 
 /// The value of `builddir` in the main scope after all statements.
 fn builddir(graph: &Graph) -> Option<&[u8]>
-    ensures { (entries : List ReadStatement) → IsGraphOf graph.now entries
-        → option_copied result ≡ value_if_bound entries (0 ∷ []) (codes "builddir") }
+    ensures { OfStatements graph.now (λ entries.
+        option_copied result ≡ value_if_bound entries (0 ∷ []) (codes "builddir")) }
 {
     let count = graph.scope_count();
     if count == 0 {

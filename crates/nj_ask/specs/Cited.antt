@@ -1,6 +1,6 @@
 -- What the contracts of this crate cite: each name comes from the module in its line.
 pub use Rattle.nj_graph.specs.Chains.{PathIs}
-pub use Rattle.nj_graph.specs.Graph.{edges_of, files_of, IsGraphOf}
+pub use Rattle.nj_graph.specs.Graph.{edges_of, files_of, IsGraphOf, OfStatements}
 pub use Rattle.nj_ask.specs.Chains.{chain_line, chain_lines, kind_end, kind_word, place_text, WritesChain}
 pub use Rattle.std.specs.List.{filter_map, flat_map, filter, list_any, range_with_len}
 pub use Rattle.nj_ask.specs.Affected.{changed_file, clean_name, path_in, asked_of, is_asked_for, is_of_rules, line, line_of_output}

@@ -1,7 +1,7 @@
 //! From which changed files the manifest itself is made.
 
-ghost use Rattle.std.specs.Prelude.{◌≡◌, ◌↔◌, ◌<◌, List, All, IfOk, IfSome, false, length, map, true, option_copied, option_map, option_and_then, slice_get, slice_index_or};
-ghost use Rattle.nj_ask.specs.Cited.{filter, filter_map, flat_map, list_any, ReadStatement, edge_at, inputs_of, maker_of, path_at, edges_of, files_of, IsGraphOf, clean_name, number_at, path_in, has_generator, is_named_in, makers_of_opened, makes_manifest, opened_files, IsMadeFrom, AreFeeds, AreFlags};
+ghost use Rattle.std.specs.Prelude.{◌≡◌, ◌↔◌, ◌<◌, All, IfOk, IfSome, false, length, map, true, option_copied, option_map, option_and_then, slice_get, slice_index_or};
+ghost use Rattle.nj_ask.specs.Cited.{OfStatements, filter, filter_map, flat_map, list_any, edge_at, inputs_of, maker_of, path_at, edges_of, files_of, clean_name, number_at, path_in, has_generator, is_named_in, makers_of_opened, makes_manifest, opened_files, IsMadeFrom, AreFeeds, AreFlags};
 
 use crate::changes::{clean_in, find_file};
 use crate::opened::opened_paths;
@@ -31,8 +31,8 @@ impl Manifest {
         edges: &[EdgeNo],
     ) -> Result<Manifest, AllocError>
         requires { All (λ edge. edge.0 < length (edges_of graph.now)) edges.now }
-        ensures reached { (entries : List ReadStatement) → IsGraphOf graph.now entries
-            → IfOk result (IsReached graph.now entries (map (λ edge. edge.0) edges.now)) }
+        ensures reached { OfStatements graph.now (λ entries.
+            IfOk result (IsReached graph.now entries (map (λ edge. edge.0) edges.now))) }
         ensures names { IfOk result (λ manifest. AreOpened graph.now manifest.names) }
     {
         let names = opened_paths(alloc, graph, keys)?;
@@ -68,10 +68,10 @@ impl Manifest {
     /// an edge that feeds the manifest.
     pub fn is_made_from(&self, graph: &Graph, file: FileNo) -> bool
         requires file { file.0 < length (files_of graph.now) }
-        requires tells { (entries : List ReadStatement) → IsGraphOf graph.now entries
-            → CanTell graph.now entries file.0 self.now }
-        ensures { (entries : List ReadStatement) → IsGraphOf graph.now entries
-            → (result ≡ true) ↔ IsMadeFrom graph.now entries file.0 }
+        requires tells { OfStatements graph.now (λ entries.
+            CanTell graph.now entries file.0 self.now) }
+        ensures { OfStatements graph.now (λ entries.
+            (result ≡ true) ↔ IsMadeFrom graph.now entries file.0) }
     {
         is_set(&self.opened, file.0) || has_flag(&self.feeds, graph.users(file))
     }
@@ -149,9 +149,9 @@ fn makers_among(
 ) -> Result<Vec<EdgeNo>, AllocError>
     requires edges { All (λ edge. edge.0 < length (edges_of graph.now)) edges.now }
     requires flags { AreFlags (length (edges_of graph.now)) (makers_of_opened graph.now) flags.now }
-    ensures makers { (entries : List ReadStatement) → IsGraphOf graph.now entries
-        → IfOk result (λ makers. map (λ edge. edge.0) makers.items
-        ≡ filter (makes_manifest graph.now entries) (map (λ edge. edge.0) edges.now)) }
+    ensures makers { OfStatements graph.now (λ entries.
+        IfOk result (λ makers. map (λ edge. edge.0) makers.items
+        ≡ filter (makes_manifest graph.now entries) (map (λ edge. edge.0) edges.now))) }
     ensures known { IfOk result (λ makers.
         All (λ edge. edge.0 < length (edges_of graph.now)) makers.items) }
 {
@@ -174,8 +174,8 @@ fn makes_manifest(
 ) -> Result<bool, AllocError>
     requires edge { edge.0 < length (edges_of graph.now) }
     requires flags { AreFlags (length (edges_of graph.now)) (makers_of_opened graph.now) flags.now }
-    ensures { (entries : List ReadStatement) → IsGraphOf graph.now entries
-        → IfOk result (λ makes. makes ≡ makes_manifest graph.now entries edge.0) }
+    ensures { OfStatements graph.now (λ entries.
+        IfOk result (λ makes. makes ≡ makes_manifest graph.now entries edge.0)) }
 {
     if is_set(flags, edge.0) {
         return Ok(true);
@@ -186,8 +186,8 @@ fn makes_manifest(
 /// Whether the `generator` of an edge is not empty.
 fn has_generator(alloc: Global, graph: &Graph, edge: EdgeNo) -> Result<bool, AllocError>
     requires { edge.0 < length (edges_of graph.now) }
-    ensures { (entries : List ReadStatement) → IsGraphOf graph.now entries
-        → IfOk result (λ has. has ≡ has_generator entries edge.0) }
+    ensures { OfStatements graph.now (λ entries.
+        IfOk result (λ has. has ≡ has_generator entries edge.0)) }
 {
     let generator = graph.variable(alloc, edge, b"generator")?;
     Ok(!generator.is_empty())

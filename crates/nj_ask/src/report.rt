@@ -1,7 +1,7 @@
 //! A report about a change of files.
 
 ghost use Rattle.std.specs.Prelude.{◌≡◌, ◌≢◌, ◌⊎◌, ◌<◌, ◌++◌, List, [], All, IfOk, OnOk, false, length, map, true};
-ghost use Rattle.nj_ask.specs.Cited.{ReadStatement, IsAffected, path_at, edges_of, files_of, IsGraphOf, asked_of, IsTouched, made_from_line, no_path_line, question_of, DoneMissesNothing, HasWarnings, IsReport, Reports, WarningsAreUnique, HasEdges, AddsWarning, AreAffected, AreOpened, AreTouched, CanTellAll, CanTellAt, unnamed_warning};
+ghost use Rattle.nj_ask.specs.Cited.{OfStatements, ReadStatement, IsAffected, path_at, edges_of, files_of, IsGraphOf, asked_of, IsTouched, made_from_line, no_path_line, question_of, DoneMissesNothing, HasWarnings, IsReport, Reports, WarningsAreUnique, HasEdges, AddsWarning, AreAffected, AreOpened, AreTouched, CanTellAll, CanTellAt, unnamed_warning};
 
 use crate::changes::{find_file, known_files};
 use crate::discovered::DiscoveredGraph;
@@ -83,9 +83,9 @@ pub fn write_report<O: Sink, E: Sink>(
     err: &mut E,
 ) -> Result<Status, Error>
     requires { HasEdges known.now }
-    ensures { (entries : List ReadStatement) → IsGraphOf known.now.graph entries
-        → Reports (IsReport known.now entries (question_of change.entry) (asked_of listed.entry))
-        (O.state out.old) (O.state out.new) (E.state err.old) (E.state err.new) result }
+    ensures { OfStatements known.now.graph (λ entries.
+        Reports (IsReport known.now entries (question_of change.entry) (asked_of listed.entry))
+        (O.state out.old) (O.state out.new) (E.state err.old) (E.state err.new) result) }
 {
     let report = report_of(alloc, known, change, listed)?;
     write_both(&report.outputs, &report.warnings, out, err)
@@ -99,9 +99,9 @@ fn report_of(
     listed: Listed<'_>,
 ) -> Result<Report, AllocError>
     requires { HasEdges known.now }
-    ensures { (entries : List ReadStatement) → IsGraphOf known.now.graph entries
-        → IfOk result (λ report. IsReport known.now entries (question_of change.entry)
-        (asked_of listed.entry) report.outputs.items report.warnings.items) }
+    ensures { OfStatements known.now.graph (λ entries.
+        IfOk result (λ report. IsReport known.now entries (question_of change.entry)
+        (asked_of listed.entry) report.outputs.items report.warnings.items)) }
 {
     let graph = &known.graph;
     let changed = known_files(alloc, graph, change.source_dir, change.paths)?;
@@ -156,9 +156,9 @@ fn warnings_of(
     requires known { All (λ edge. edge.0 < length (edges_of known.now.graph)) affected.now }
     requires affected { AreAffected known.now.graph (question_of change)
         (map (λ edge. edge.0) affected.now) }
-    ensures { (entries : List ReadStatement) → IsGraphOf known.now.graph entries
-        → IfOk result (λ text. HasWarnings known.now.graph entries (question_of change.entry)
-        (map (λ path. path.items) change.entry.paths.now) text.items) }
+    ensures { OfStatements known.now.graph (λ entries.
+        IfOk result (λ text. HasWarnings known.now.graph entries (question_of change.entry)
+        (map (λ path. path.items) change.entry.paths.now) text.items)) }
 {
     let manifest = Manifest::new(alloc, &known.graph, known.keys, affected)?;
     warnings_about(alloc, &known.graph, change, &manifest)
@@ -171,12 +171,12 @@ fn warnings_about(
     change: Change<'_>,
     manifest: &Manifest,
 ) -> Result<Vec<u8>, AllocError>
-    requires tells { (entries : List ReadStatement) → IsGraphOf graph.now entries
-        → CanTellAll graph.now entries (question_of change) manifest.now }
+    requires tells { OfStatements graph.now (λ entries.
+        CanTellAll graph.now entries (question_of change) manifest.now) }
     requires names { AreOpened graph.now manifest.now.names }
-    ensures { (entries : List ReadStatement) → IsGraphOf graph.now entries
-        → IfOk result (λ text. HasWarnings graph.now entries (question_of change.entry)
-        (map (λ path. path.items) change.entry.paths.now) text.items) }
+    ensures { OfStatements graph.now (λ entries.
+        IfOk result (λ text. HasWarnings graph.now entries (question_of change.entry)
+        (map (λ path. path.items) change.entry.paths.now) text.items)) }
 {
     let mut warnings = Vec::new(alloc);
     'paths: for path in change.paths {
@@ -194,12 +194,12 @@ fn push_warning(
     path: &[u8],
     warnings: &mut Vec<u8>,
 ) -> Result<(), AllocError>
-    requires tells { (entries : List ReadStatement) → IsGraphOf graph.now entries
-        → CanTellAt graph.now entries (question_of change) path.now manifest.now }
+    requires tells { OfStatements graph.now (λ entries.
+        CanTellAt graph.now entries (question_of change) path.now manifest.now) }
     requires names { AreOpened graph.now manifest.now.names }
-    ensures { (entries : List ReadStatement) → IsGraphOf graph.now entries
-        → OnOk result (AddsWarning graph.now entries (question_of change.entry)
-        path.now warnings.old.items warnings.new.items) }
+    ensures { OfStatements graph.now (λ entries.
+        OnOk result (AddsWarning graph.now entries (question_of change.entry)
+        path.now warnings.old.items warnings.new.items)) }
 {
     let Some(file) = find_file(alloc, graph, change.source_dir, path)? else {
         return push_unnamed(alloc, change, manifest, path, warnings);

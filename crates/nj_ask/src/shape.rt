@@ -1,7 +1,7 @@
 //! The files that shape the graph, where they may change.
 
 ghost use Rattle.std.specs.Prelude.{◌≡◌, ◌++◌, ◌<◌, ℕ, List, All, IfOk, IfSome, OnOk, length, map, option_map};
-ghost use Rattle.nj_ask.specs.Cited.{flat_map, range_with_len, edges_of, files_of, IsGraphOf, ReadStatement, line, caveat_text, dyndep_files, dyndep_of, dyndep_text, line_if_changes, lines_of_changing, may_change, remade_text, shape_text, unjoined_files, is_made_flag, AreMarks};
+ghost use Rattle.nj_ask.specs.Cited.{OfStatements, flat_map, range_with_len, edges_of, files_of, line, caveat_text, dyndep_files, dyndep_of, dyndep_text, line_if_changes, lines_of_changing, may_change, remade_text, shape_text, unjoined_files, is_made_flag, AreMarks};
 
 use crate::discovered::DiscoveredGraph;
 use crate::listing::push_line;
@@ -24,8 +24,8 @@ struct Marks {
 /// not known of these, and the dyndep files that were not joined. It is empty if they were not
 /// requested.
 pub fn caveat_lines(alloc: Global, known: &DiscoveredGraph) -> Result<Vec<u8>, AllocError>
-    ensures { (entries : List ReadStatement) → IsGraphOf known.now.graph entries
-        → IfOk result (λ lines. lines.items ≡ caveat_text known.now entries) }
+    ensures { OfStatements known.now.graph (λ entries.
+        IfOk result (λ lines. lines.items ≡ caveat_text known.now entries)) }
 {
     let mut lines = Vec::from_slice(alloc, &known.caveats)?;
     if known.has_discovered {
@@ -45,9 +45,9 @@ pub fn shape_lines(
 ) -> Result<Vec<u8>, AllocError>
     requires changed { All (λ file. file.0 < length (files_of known.now.graph)) changed.now }
     requires touched { All (λ edge. edge.0 < length (edges_of known.now.graph)) touched.now }
-    ensures { (entries : List ReadStatement) → IsGraphOf known.now.graph entries
-        → IfOk result (λ lines. lines.items ≡ shape_text known.now entries
-        (map (λ file. file.0) changed.now) (map (λ edge. edge.0) touched.now)) }
+    ensures { OfStatements known.now.graph (λ entries.
+        IfOk result (λ lines. lines.items ≡ shape_text known.now entries
+        (map (λ file. file.0) changed.now) (map (λ edge. edge.0) touched.now))) }
 {
     let mut lines = dyndep_lines(alloc, &known.graph, changed, touched)?;
     lines.extend_from_slice(&remade_lines(alloc, known, touched)?)?;
@@ -63,9 +63,9 @@ fn dyndep_lines(
 ) -> Result<Vec<u8>, AllocError>
     requires changed { All (λ file. file.0 < length (files_of graph.now)) changed.now }
     requires touched { All (λ edge. edge.0 < length (edges_of graph.now)) touched.now }
-    ensures { (entries : List ReadStatement) → IsGraphOf graph.now entries
-        → IfOk result (λ lines. lines.items ≡ dyndep_text graph.now entries
-        (map (λ file. file.0) changed.now) (map (λ edge. edge.0) touched.now)) }
+    ensures { OfStatements graph.now (λ entries.
+        IfOk result (λ lines. lines.items ≡ dyndep_text graph.now entries
+        (map (λ file. file.0) changed.now) (map (λ edge. edge.0) touched.now))) }
 {
     let files = dyndep_files(alloc, graph)?;
     let uncertain = uncertain_files(alloc, graph, changed)?;
@@ -119,9 +119,8 @@ fn marks_of(
 
 /// The dyndep files of all edges, as often as edges are bound to them.
 fn dyndep_files(alloc: Global, graph: &Graph) -> Result<Vec<FileNo>, AllocError>
-    ensures files { (entries : List ReadStatement) → IsGraphOf graph.now entries
-        → IfOk result (λ files. map (λ file. file.0) files.items
-        ≡ dyndep_files graph.now entries) }
+    ensures files { OfStatements graph.now (λ entries.
+        IfOk result (λ files. map (λ file. file.0) files.items ≡ dyndep_files graph.now entries)) }
     ensures known { IfOk result (λ files.
         All (λ file. file.0 < length (files_of graph.now)) files.items) }
 {
@@ -144,9 +143,9 @@ fn uncertain_files(
     changed: &[FileNo],
 ) -> Result<Vec<FileNo>, AllocError>
     requires { All (λ file. file.0 < length (files_of graph.now)) changed.now }
-    ensures files { (entries : List ReadStatement) → IsGraphOf graph.now entries
-        → IfOk result (λ files. map (λ file. file.0) files.items
-        ≡ unjoined_files graph.now entries ++ map (λ file. file.0) changed.now) }
+    ensures files { OfStatements graph.now (λ entries.
+        IfOk result (λ files. map (λ file. file.0) files.items
+        ≡ unjoined_files graph.now entries ++ map (λ file. file.0) changed.now)) }
     ensures known { IfOk result (λ files.
         All (λ file. file.0 < length (files_of graph.now)) files.items) }
 {
@@ -157,9 +156,9 @@ fn uncertain_files(
 
 /// The dyndep files that were not joined, as often as edges are pending on them.
 fn unjoined_files(alloc: Global, graph: &Graph) -> Result<Vec<FileNo>, AllocError>
-    ensures files { (entries : List ReadStatement) → IsGraphOf graph.now entries
-        → IfOk result (λ files. map (λ file. file.0) files.items
-        ≡ unjoined_files graph.now entries) }
+    ensures files { OfStatements graph.now (λ entries.
+        IfOk result (λ files. map (λ file. file.0) files.items
+        ≡ unjoined_files graph.now entries)) }
     ensures known { IfOk result (λ files.
         All (λ file. file.0 < length (files_of graph.now)) files.items) }
 {
@@ -177,8 +176,8 @@ fn unjoined_files(alloc: Global, graph: &Graph) -> Result<Vec<FileNo>, AllocErro
 /// The dyndep file of an edge, if it has one.
 fn dyndep_file(graph: &Graph, edge: EdgeNo) -> Option<FileNo>
     requires { edge.0 < length (edges_of graph.now) }
-    ensures file { (entries : List ReadStatement) → IsGraphOf graph.now entries
-        → option_map (λ file. file.0) result ≡ dyndep_of graph.now entries edge.0 }
+    ensures file { OfStatements graph.now (λ entries.
+        option_map (λ file. file.0) result ≡ dyndep_of graph.now entries edge.0) }
     ensures known { IfSome result (λ file. file.0 < length (files_of graph.now)) }
 {
     match graph.dyndep(edge) {

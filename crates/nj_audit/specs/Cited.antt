@@ -1,13 +1,13 @@
 -- What the contracts of this crate cite: each name comes from the module in its line.
+pub use Rattle.nj_graph.specs.Graph.{OfStatements, edges_of, files_of, IsGraphOf}
 pub use Rattle.std.specs.List.{flat_map, cons_option, position_or_len, AllZip}
-pub use Rattle.nj_scope.specs.ReadingList.{ReadStatement}
-pub use Rattle.nj_graph.specs.Graph.{IsGraphOf, edges_of, files_of}
 pub use Rattle.nj_graph.specs.Undeclared.{input_of_edge}
 pub use Rattle.nj_audit.specs.Audits.{IsAudit}
 pub use Rattle.nj_audit.specs.Inside.ByKind.{asked_of, findings_of}
 pub use Rattle.nj_audit.specs.Kinds.{all_kinds, AskFor, contains, first_unknown, is_asked_for, is_on_by_default, is_taken, is_unknown}
 pub use Rattle.nj_audit.specs.Kinds.{name_of, texts}
 pub use Rattle.nj_audit.specs.LoggedInputs.{AreFoundIf, AreUndeclaredFindings, IsNamedUnordered, finding_of_input}
+pub use Rattle.nj_scope.specs.ReadingList.{ReadStatement}
 pub use Rattle.nj_graph.specs.Edges.{is_among, maker_of}
 pub use Rattle.nj_audit.specs.Audit.{command_of, commands_at, has_command, repeated_commands, has_depfile_without_deps}
 pub use Rattle.nj_audit.specs.Audit.{depfiles_without_deps, repeated_inputs, repeated_inputs_at, path_of, defaults_of, first_output_at}

@@ -1,7 +1,7 @@
 //! The findings of the requested kinds.
 
-ghost use Rattle.std.specs.Prelude.{◌≡◌, ◌<◌, ◌++◌, List, IfOk, OnOk, length, map, All};
-ghost use Rattle.nj_audit.specs.Cited.{flat_map, ReadStatement, IsGraphOf, edges_of, files_of, input_of_edge, IsAudit, asked_of, findings_of, all_kinds, AreFoundIf};
+ghost use Rattle.std.specs.Prelude.{◌≡◌, ◌<◌, ◌++◌, IfOk, OnOk, length, map, All};
+ghost use Rattle.nj_audit.specs.Cited.{OfStatements, flat_map, edges_of, files_of, input_of_edge, IsAudit, asked_of, findings_of, all_kinds, AreFoundIf};
 
 use crate::commands::find_repeated_commands;
 use crate::depfiles::find_depfiles_without_deps;
@@ -37,9 +37,9 @@ pub fn audit<'a>(
 ) -> Result<Findings<'a>, AllocError>
     requires edges { All (λ input. input.edge.0 < length (edges_of graph.now)) logged.now }
     requires files { All (λ input. input.file.0 < length (files_of graph.now)) logged.now }
-    ensures { (entries : List ReadStatement) → IsGraphOf graph.now entries
-        → IfOk result (IsAudit graph.now entries missing.now folder.now
-        (map (input_of_edge (files_of graph.now)) logged.now) kinds) }
+    ensures { OfStatements graph.now (λ entries.
+        IfOk result (IsAudit graph.now entries missing.now folder.now
+        (map (input_of_edge (files_of graph.now)) logged.now) kinds)) }
 {
     let edges = serving_edges(alloc, graph)?;
     let is_asked = kinds.contains(Kind::UndeclaredInput);
@@ -56,9 +56,9 @@ fn find_all<'a>(
     undeclared: &Findings<'a>,
     kinds: Kinds,
 ) -> Result<Findings<'a>, AllocError>
-    ensures { (entries : List ReadStatement) → IsGraphOf graph.now entries
-        → IfOk result (λ found. found ≡ flat_map (asked_of kinds
-        (findings_of graph.now entries missing.now serving.now undeclared.entry.now)) all_kinds) }
+    ensures { OfStatements graph.now (λ entries.
+        IfOk result (λ found. found ≡ flat_map (asked_of kinds
+        (findings_of graph.now entries missing.now serving.now undeclared.entry.now)) all_kinds)) }
 {
     let mut found = Findings::new(alloc);
     'all: for kind in Kind::ALL {
@@ -79,9 +79,9 @@ fn undeclared_if<'a>(
 ) -> Result<Findings<'a>, AllocError>
     requires edges { All (λ input. input.edge.0 < length (edges_of graph.now)) logged.now }
     requires files { All (λ input. input.file.0 < length (files_of graph.now)) logged.now }
-    ensures { (entries : List ReadStatement) → IsGraphOf graph.now entries
-        → IfOk result (AreFoundIf is_asked graph.now entries folder.now
-        (map (input_of_edge (files_of graph.now)) logged.now)) }
+    ensures { OfStatements graph.now (λ entries.
+        IfOk result (AreFoundIf is_asked graph.now entries folder.now
+        (map (input_of_edge (files_of graph.now)) logged.now))) }
 {
     if is_asked {
         find_undeclared_inputs(alloc, graph, folder, logged)
@@ -100,9 +100,9 @@ fn find<'a>(
     kind: Kind,
     found: &mut Findings<'a>,
 ) -> Result<(), AllocError>
-    ensures { (entries : List ReadStatement) → IsGraphOf graph.entry.now entries → OnOk result
+    ensures { OfStatements graph.entry.now (λ entries. OnOk result
         (found.new ≡ found.old ++ findings_of graph.entry.now entries missing.now serving.now
-        undeclared.entry.now kind) }
+        undeclared.entry.now kind)) }
 {
     match kind {
         Kind::UnusedOutput => find_unused_outputs(alloc, graph, found),

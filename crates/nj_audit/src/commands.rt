@@ -1,7 +1,7 @@
 //! Edges with the command of an earlier edge.
 
 ghost use Rattle.std.specs.Prelude.{◌≡◌, ◌&&◌, ◌++◌, ◌<◌, ℕ, List, IfOk, OnOk, length};
-ghost use Rattle.nj_audit.specs.Cited.{ReadStatement, is_among, IsGraphOf, edges_of, command_of, commands_at, has_command, repeated_commands};
+ghost use Rattle.nj_audit.specs.Cited.{OfStatements, ReadStatement, is_among, IsGraphOf, edges_of, command_of, commands_at, has_command, repeated_commands};
 
 use crate::findings::Findings;
 use crate::kinds::Kind;
@@ -16,8 +16,8 @@ pub fn find_repeated_commands<'a>(
     graph: &'a Graph,
     found: &mut Findings<'a>,
 ) -> Result<(), AllocError>
-    ensures { (entries : List ReadStatement) → IsGraphOf graph.entry.now entries
-        → OnOk result (found.new ≡ found.old ++ repeated_commands graph.entry.now entries) }
+    ensures { OfStatements graph.entry.now (λ entries.
+        OnOk result (found.new ≡ found.old ++ repeated_commands graph.entry.now entries)) }
 {
     let mut commands = Names::new(alloc);
     'edges: for number in 0..graph.edge_count() {
@@ -42,9 +42,9 @@ fn repeats_command(
     commands: &mut Names,
 ) -> Result<bool, AllocError>
     requires { edge.0 < length (edges_of graph.now) }
-    ensures repeats { (entries : List ReadStatement) → IsGraphOf graph.now entries
-        → IfOk result (λ repeats. repeats ≡ (has_command graph.now edge.0
-        && is_among commands.old (command_of entries edge.0))) }
+    ensures repeats { OfStatements graph.now (λ entries.
+        IfOk result (λ repeats. repeats ≡ (has_command graph.now edge.0
+        && is_among commands.old (command_of entries edge.0)))) }
     ensures added { (entries : List ReadStatement) (command : List ℕ) → IsGraphOf graph.now entries
         → OnOk result (is_among commands.new command
         ≡ is_among (commands.old ++ commands_at graph.now entries edge.0) command) }

@@ -1,7 +1,7 @@
 //! Edges with a depfile that stays on the disk.
 
-ghost use Rattle.std.specs.Prelude.{◌≡◌, ◌++◌, ◌<◌, List, IfOk, OnOk, length};
-ghost use Rattle.nj_audit.specs.Cited.{ReadStatement, IsGraphOf, edges_of, has_depfile_without_deps, depfiles_without_deps};
+ghost use Rattle.std.specs.Prelude.{◌≡◌, ◌++◌, ◌<◌, IfOk, OnOk, length};
+ghost use Rattle.nj_audit.specs.Cited.{OfStatements, edges_of, has_depfile_without_deps, depfiles_without_deps};
 
 use crate::findings::Findings;
 use crate::kinds::Kind;
@@ -15,8 +15,8 @@ pub fn find_depfiles_without_deps<'a>(
     graph: &'a Graph,
     found: &mut Findings<'a>,
 ) -> Result<(), AllocError>
-    ensures { (entries : List ReadStatement) → IsGraphOf graph.entry.now entries
-        → OnOk result (found.new ≡ found.old ++ depfiles_without_deps graph.entry.now entries) }
+    ensures { OfStatements graph.entry.now (λ entries.
+        OnOk result (found.new ≡ found.old ++ depfiles_without_deps graph.entry.now entries)) }
 {
     'edges: for number in 0..graph.edge_count() {
         let edge = EdgeNo(number);
@@ -35,8 +35,8 @@ pub fn find_depfiles_without_deps<'a>(
 /// Whether an edge has a `depfile` and no `deps`.
 fn has_depfile_without_deps(alloc: Global, graph: &Graph, edge: EdgeNo) -> Result<bool, AllocError>
     requires { edge.0 < length (edges_of graph.now) }
-    ensures { (entries : List ReadStatement) → IsGraphOf graph.now entries
-        → IfOk result (λ has. has ≡ has_depfile_without_deps entries edge.0) }
+    ensures { OfStatements graph.now (λ entries.
+        IfOk result (λ has. has ≡ has_depfile_without_deps entries edge.0)) }
 {
     let depfile = graph.variable(alloc, edge, b"depfile")?;
     let deps = graph.variable(alloc, edge, b"deps")?;

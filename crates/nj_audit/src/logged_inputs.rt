@@ -1,7 +1,7 @@
 //! Inputs that a deps log names, beside those that commands name.
 
-ghost use Rattle.std.specs.Prelude.{◌≡◌, ◌↔◌, ◌<◌, ◌++◌, ◌∷◌, [], if◌then◌else◌, List, IfOk, IsTrue, OnOk, length, map, All, Contains};
-ghost use Rattle.nj_audit.specs.Cited.{ReadStatement, path_at, IsGraphOf, edges_of, files_of, input_of_edge, path_of, files_named, AreUndeclaredFindings, IsNamedUnordered, finding_of_input, AreKnown, AddsLogged};
+ghost use Rattle.std.specs.Prelude.{◌≡◌, ◌↔◌, ◌<◌, ◌++◌, ◌∷◌, [], if◌then◌else◌, IfOk, IsTrue, OnOk, length, map, All, Contains};
+ghost use Rattle.nj_audit.specs.Cited.{OfStatements, path_at, edges_of, files_of, input_of_edge, path_of, files_named, AreUndeclaredFindings, IsNamedUnordered, finding_of_input, AreKnown, AddsLogged};
 
 use crate::findings::Findings;
 use crate::kinds::Kind;
@@ -20,9 +20,9 @@ pub fn find_undeclared_inputs<'a>(
 ) -> Result<Findings<'a>, AllocError>
     requires edges { All (λ input. input.edge.0 < length (edges_of graph.now)) logged.now }
     requires files { All (λ input. input.file.0 < length (files_of graph.now)) logged.now }
-    ensures { (entries : List ReadStatement) → IsGraphOf graph.now entries
-        → IfOk result (AreUndeclaredFindings graph.now entries folder.now
-        (map (input_of_edge (files_of graph.now)) logged.now)) }
+    ensures { OfStatements graph.now (λ entries.
+        IfOk result (AreUndeclaredFindings graph.now entries folder.now
+        (map (input_of_edge (files_of graph.now)) logged.now))) }
 {
     let mut found = find_unordered_files(alloc, graph, folder)?;
     push_logged(alloc, graph, folder, logged, &mut found)?;
@@ -40,9 +40,9 @@ fn push_logged<'a>(
 ) -> Result<(), AllocError>
     requires edges { All (λ input. input.edge.0 < length (edges_of graph.now)) logged.now }
     requires files { All (λ input. input.file.0 < length (files_of graph.now)) logged.now }
-    ensures { (entries : List ReadStatement) → IsGraphOf graph.entry.now entries
-        → OnOk result (AddsLogged graph.entry.now entries folder.now
-        (map (input_of_edge (files_of graph.entry.now)) logged.now) found.old found.new) }
+    ensures { OfStatements graph.entry.now (λ entries.
+        OnOk result (AddsLogged graph.entry.now entries folder.now
+        (map (input_of_edge (files_of graph.entry.now)) logged.now) found.old found.new)) }
 {
     let mut makers = NeedsSearch::new(alloc, graph.edge_graph());
     let mut users = NeedsSearch::new(alloc, graph.edge_graph());
@@ -89,9 +89,9 @@ fn is_named_unordered(
     requires file { input.file.0 < length (files_of graph.now) }
     requires makers { makers.old ≡ edges_of graph.now }
     requires users { users.old ≡ edges_of graph.now }
-    ensures named { (entries : List ReadStatement) → IsGraphOf graph.now entries
-        → IfOk result (λ is_named. IsTrue is_named ↔ IsNamedUnordered graph.now entries folder.now
-        (input_of_edge (files_of graph.now) input)) }
+    ensures named { OfStatements graph.now (λ entries.
+        IfOk result (λ is_named. IsTrue is_named ↔ IsNamedUnordered graph.now entries folder.now
+        (input_of_edge (files_of graph.now) input))) }
     ensures makers { OnOk result (makers.new ≡ edges_of graph.now) }
     ensures users { OnOk result (users.new ≡ edges_of graph.now) }
 {
@@ -110,10 +110,10 @@ fn names_file(
 ) -> Result<bool, AllocError>
     requires edge { input.edge.0 < length (edges_of graph.now) }
     requires file { input.file.0 < length (files_of graph.now) }
-    ensures { (entries : List ReadStatement) → IsGraphOf graph.now entries
-        → IfOk result (λ names. IsTrue names ↔ Contains (map (path_of graph.now)
+    ensures { OfStatements graph.now (λ entries.
+        IfOk result (λ names. IsTrue names ↔ Contains (map (path_of graph.now)
         (files_named graph.now entries folder.now input.edge.0))
-        (path_at (files_of graph.now) input.file)) }
+        (path_at (files_of graph.now) input.file))) }
 {
     let files = named_files(alloc, graph, folder, input.edge)?;
     Ok(has_path(graph.edge_graph(), &files, input.file))

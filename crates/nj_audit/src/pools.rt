@@ -1,7 +1,7 @@
 //! Pools that no edge uses.
 
 ghost use Rattle.std.specs.Prelude.{◌≡◌, ◌++◌, ℕ, List, [], IfOk, OnOk};
-ghost use Rattle.nj_audit.specs.Cited.{cons_option, ReadStatement, is_among, IsGraphOf, pools_of_edges, unused_pool, unused_pools};
+ghost use Rattle.nj_audit.specs.Cited.{OfStatements, cons_option, ReadStatement, is_among, IsGraphOf, pools_of_edges, unused_pool, unused_pools};
 
 use crate::findings::Findings;
 use crate::kinds::Kind;
@@ -15,8 +15,8 @@ pub fn find_unused_pools<'a>(
     graph: &'a Graph,
     found: &mut Findings<'a>,
 ) -> Result<(), AllocError>
-    ensures { (entries : List ReadStatement) → IsGraphOf graph.entry.now entries
-        → OnOk result (found.new ≡ found.old ++ unused_pools graph.entry.now entries) }
+    ensures { OfStatements graph.entry.now (λ entries.
+        OnOk result (found.new ≡ found.old ++ unused_pools graph.entry.now entries)) }
 {
     let used = used_pools(alloc, graph)?;
     'pools: for pool in 0..graph.pool_count() {
@@ -34,9 +34,8 @@ fn push_if_unused<'a>(
 ) -> Result<(), AllocError>
     requires { (entries : List ReadStatement) (name : List ℕ) → IsGraphOf graph.now entries
         → is_among used.now name ≡ is_among (pools_of_edges graph.now entries) name }
-    ensures { (entries : List ReadStatement) → IsGraphOf graph.entry.now entries
-        → OnOk result (found.new
-        ≡ found.old ++ cons_option (unused_pool graph.entry.now entries pool) []) }
+    ensures { OfStatements graph.entry.now (λ entries. OnOk result (found.new
+        ≡ found.old ++ cons_option (unused_pool graph.entry.now entries pool) [])) }
 {
     let Some(name) = graph.pool_name(pool) else {
         return Ok(());

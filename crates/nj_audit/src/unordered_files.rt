@@ -1,7 +1,7 @@
 //! Files that the commands of edges name, and that other edges make, unordered with them.
 
-ghost use Rattle.std.specs.Prelude.{◌≡◌, ◌↔◌, ◌<◌, ℕ, List, Some, IfOk, IfSome, IsTrue, OnOk, length, map, option_map};
-ghost use Rattle.nj_audit.specs.Cited.{ReadStatement, maker_of, path_at, IsGraphOf, edges_of, files_of, edge_numbers, AreNamedUnordered, IsOther, IsTwin, IsUnordered, files_named, response_of, AreKnown, AddsUnordered, AddsOnce};
+ghost use Rattle.std.specs.Prelude.{◌≡◌, ◌↔◌, ◌<◌, ℕ, Some, IfOk, IfSome, IsTrue, OnOk, length, map, option_map};
+ghost use Rattle.nj_audit.specs.Cited.{OfStatements, maker_of, path_at, edges_of, files_of, edge_numbers, AreNamedUnordered, IsOther, IsTwin, IsUnordered, files_named, response_of, AreKnown, AddsUnordered, AddsOnce};
 
 use crate::findings::Findings;
 use crate::kinds::Kind;
@@ -18,8 +18,8 @@ pub fn find_unordered_files<'a>(
     graph: &'a Graph,
     folder: &[u8],
 ) -> Result<Findings<'a>, AllocError>
-    ensures { (entries : List ReadStatement) → IsGraphOf graph.now entries
-        → IfOk result (AreNamedUnordered graph.now entries folder.now (edge_numbers graph.now)) }
+    ensures { OfStatements graph.now (λ entries.
+        IfOk result (AreNamedUnordered graph.now entries folder.now (edge_numbers graph.now))) }
 {
     let mut found = Findings::new(alloc);
     let mut makers = NeedsSearch::new(alloc, graph.edge_graph());
@@ -48,9 +48,9 @@ pub fn named_files(
     edge: EdgeNo,
 ) -> Result<Vec<FileNo>, AllocError>
     requires { edge.0 < length (edges_of graph.now) }
-    ensures named { (entries : List ReadStatement) → IsGraphOf graph.now entries
-        → IfOk result (λ files. map (λ file. file.0) files.items
-        ≡ files_named graph.now entries folder.now edge.0) }
+    ensures named { OfStatements graph.now (λ entries.
+        IfOk result (λ files. map (λ file. file.0) files.items
+        ≡ files_named graph.now entries folder.now edge.0)) }
     ensures known { IfOk result (λ files. AreKnown (files_of graph.now) files.items) }
 {
     let mut files = Vec::new(alloc);
@@ -67,8 +67,8 @@ pub fn named_files(
 /// The contents of an edge's response file, if it has a name.
 fn response(alloc: Global, graph: &Graph, edge: EdgeNo) -> Result<Vec<u8>, AllocError>
     requires { edge.0 < length (edges_of graph.now) }
-    ensures { (entries : List ReadStatement) → IsGraphOf graph.now entries
-        → IfOk result (λ text. text.items ≡ response_of entries edge.0) }
+    ensures { OfStatements graph.now (λ entries.
+        IfOk result (λ text. text.items ≡ response_of entries edge.0)) }
 {
     let file = graph.variable(alloc, edge, b"rspfile")?;
     if file.as_slice().is_empty() {

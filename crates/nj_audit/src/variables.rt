@@ -1,7 +1,7 @@
 //! Variables of edges to which no line of their rules refers.
 
 ghost use Rattle.std.specs.Prelude.{◌≡◌, ◌++◌, ◌<◌, ℕ, List, [], ◌∷◌, IfOk, OnOk, length};
-ghost use Rattle.nj_audit.specs.Cited.{AllZip, ReadStatement, is_among, IsGraphOf, edges_of, is_known, names_in, rule_at, unused_names, unused_variables, unused_variables_at, HasReferences};
+ghost use Rattle.nj_audit.specs.Cited.{OfStatements, AllZip, is_among, edges_of, is_known, names_in, rule_at, unused_names, unused_variables, unused_variables_at, HasReferences};
 
 use crate::findings::Findings;
 use crate::kinds::Kind;
@@ -16,8 +16,8 @@ pub fn find_unused_variables<'a>(
     graph: &'a Graph,
     found: &mut Findings<'a>,
 ) -> Result<(), AllocError>
-    ensures { (entries : List ReadStatement) → IsGraphOf graph.entry.now entries
-        → OnOk result (found.new ≡ found.old ++ unused_variables graph.entry.now entries) }
+    ensures { OfStatements graph.entry.now (λ entries.
+        OnOk result (found.new ≡ found.old ++ unused_variables graph.entry.now entries)) }
 {
     let references = references_of_rules(alloc, graph.rules())?;
     'edges: for number in 0..graph.edge_count() {
@@ -36,8 +36,8 @@ fn push_unused_variables<'a>(
 ) -> Result<(), AllocError>
     requires edge { edge.0 < length (edges_of graph.now) }
     requires references { HasReferences references.now (rule_at graph.now edge.0) }
-    ensures { (entries : List ReadStatement) → IsGraphOf graph.entry.now entries → OnOk result
-        (found.new ≡ found.old ++ unused_variables_at graph.entry.now entries edge.0) }
+    ensures { OfStatements graph.entry.now (λ entries.
+        OnOk result (found.new ≡ found.old ++ unused_variables_at graph.entry.now entries edge.0)) }
 {
     'names: for index in 0..graph.block_name_count(edge) {
         if let Some(name) = graph.block_name(edge, index) {

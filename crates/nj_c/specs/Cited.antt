@@ -5,7 +5,7 @@ pub use Rattle.nj_c.specs.Asking.{GivesValue}
 pub use Rattle.nj_c.specs.Statuses.{code_of}
 pub use Rattle.nj_edges.specs.Edges.{edge_at, inputs_of, outputs_of, users_of, kind_at, maker_of, validation_users_of, roots_of}
 pub use Rattle.nj_names.specs.Files.{path_at, AreFiles}
-pub use Rattle.nj_graph.specs.Graph.{edges_of, files_of, main_rules, GraphModel, IsGraphOf, rule_name_at}
+pub use Rattle.nj_graph.specs.Graph.{edges_of, files_of, main_rules, GraphModel, IsGraphOf, rule_name_at, OfStatements}
 pub use Rattle.nj_c.specs.declared.status.Status.TheVariants.{Done, Nothing, OutOfMemory}
 pub use Rattle.nj_c.specs.Buffers.{filled, kinds_of, GivesFiles, GivesNumbers}
 pub use Rattle.nj_c.specs.JoinedLogs.{read_of, JoinsDeps}

@@ -1,7 +1,7 @@
 //! The files that a load wants.
 
 ghost use Rattle.std.specs.Prelude.{◌≡◌, List, map, bytes_eq, if◌then◌else◌, IfOk, OnOk};
-ghost use Rattle.nj_c.specs.Cited.{filter, with_name, each_once, ReadStatement, IsGraphOf, wanted_paths, ReadsAsSupplied, dyndeps_of, is_lacking, lacking_dyndeps, paths_or, paths_to_load, AreStatements};
+ghost use Rattle.nj_c.specs.Cited.{OfStatements, filter, with_name, each_once, ReadStatement, wanted_paths, ReadsAsSupplied, dyndeps_of, is_lacking, lacking_dyndeps, paths_or, paths_to_load, AreStatements};
 
 use crate::supplied_files::SuppliedFiles;
 use nj_edges::{FileNo, Files};
@@ -51,9 +51,9 @@ fn wanted_with(
     graph: &Graph,
     joins: bool,
 ) -> Result<Vec<Vec<u8>>, AllocError>
-    ensures wanted { (entries : List ReadStatement) → IsGraphOf graph.now entries
-        → IfOk result (λ paths. map (λ p. p.items) paths.items
-        ≡ paths_or (wanted_paths files.now) (lacking_dyndeps files.now joins graph.now)) }
+    ensures wanted { OfStatements graph.now (λ entries.
+        IfOk result (λ paths. map (λ p. p.items) paths.items
+        ≡ paths_or (wanted_paths files.now) (lacking_dyndeps files.now joins graph.now))) }
     ensures found { ReadsAsSupplied files.now }
 {
     let wanted = files.wanted(alloc)?;
@@ -70,9 +70,9 @@ fn dyndeps_to_load(
     files: &SuppliedFiles,
     graph: &Graph,
 ) -> Result<Vec<Vec<u8>>, AllocError>
-    ensures { (entries : List ReadStatement) → IsGraphOf graph.now entries
-        → IfOk result (λ paths. map (λ p. p.items) paths.items
-        ≡ each_once bytes_eq (filter (is_lacking files.now) (dyndeps_of graph.now))) }
+    ensures { OfStatements graph.now (λ entries.
+        IfOk result (λ paths. map (λ p. p.items) paths.items
+        ≡ each_once bytes_eq (filter (is_lacking files.now) (dyndeps_of graph.now)))) }
 {
     let lacking = lacking_dyndeps(alloc, files, graph)?;
     let paths = copied_paths(alloc, &lacking);
@@ -82,9 +82,8 @@ fn dyndeps_to_load(
 
 // The same, in a table.
 fn lacking_dyndeps(alloc: Global, files: &SuppliedFiles, graph: &Graph) -> Result<Files, AllocError>
-    ensures { (entries : List ReadStatement) → IsGraphOf graph.now entries
-        → IfOk result (λ lacking. lacking
-        ≡ each_once bytes_eq (filter (is_lacking files.now) (dyndeps_of graph.now))) }
+    ensures { OfStatements graph.now (λ entries. IfOk result (λ lacking. lacking
+        ≡ each_once bytes_eq (filter (is_lacking files.now) (dyndeps_of graph.now)))) }
 {
     let mut lacking = Files::new(alloc, files.hash_keys());
     'edges: for number in 0..graph.edge_count() {

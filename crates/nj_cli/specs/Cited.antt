@@ -1,7 +1,6 @@
 -- What the contracts of this crate cite: each name comes from the module in its line.
 pub use Rattle.nj_cli.specs.Headline.{WritesTheNeeded, PageStringsJoin, StoppedRunsContinue, OneEnding}
-pub use Rattle.nj_scope.specs.ReadingList.{ReadStatement}
-pub use Rattle.nj_graph.specs.Graph.{IsGraphOf, files_of}
+pub use Rattle.nj_graph.specs.Graph.{OfStatements, files_of}
 pub use Rattle.nj_requests.specs.Actions.{action_model, commands, single_commands, request_model}
 pub use Rattle.nj_cli.specs.Inside.RunSteps.{follows_validations, ReturnsFor, mark_line, Concludes, ReportsLine, ReportsMark, ReportsMisuse}
 pub use Rattle.nj_cli.specs.Inside.RunSteps.{ReadsGraph}

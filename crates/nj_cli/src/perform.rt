@@ -1,7 +1,7 @@
 //! Performs a run's action on the graph of its files.
 
-ghost use Rattle.std.specs.Prelude.{◌≡◌, List, map, string_bytes};
-ghost use Rattle.nj_cli.specs.Cited.{ReadStatement, IsGraphOf, action_model, commands, single_commands, follows_validations, ReturnsFor};
+ghost use Rattle.std.specs.Prelude.{◌≡◌, map, string_bytes};
+ghost use Rattle.nj_cli.specs.Cited.{OfStatements, action_model, commands, single_commands, follows_validations, ReturnsFor};
 ghost use Rattle.nj_requests.specs.Actions as ask;
 
 use crate::run_targets::targets_of;
@@ -22,8 +22,8 @@ pub(crate) fn perform<O: Sink>(
     action: &Action,
     out: &mut O,
 ) -> Result<Option<Mark>, Error>
-    ensures { (entries : List ReadStatement) → IsGraphOf graph.now entries
-        → ReturnsFor entries (action_model action.now) (O.state out.old) (O.state out.new) result }
+    ensures { OfStatements graph.now (λ entries.
+        ReturnsFor entries (action_model action.now) (O.state out.old) (O.state out.new) result) }
 {
     match action {
         Action::Commands {
@@ -69,9 +69,9 @@ fn run_commands<O: Sink>(
     start: &Mark,
     out: &mut O,
 ) -> Result<Option<Mark>, Error>
-    ensures { (entries : List ReadStatement) → IsGraphOf graph.now entries
-        → ReturnsFor entries (commands (map string_bytes words.now) validations take start.now)
-        (O.state out.old) (O.state out.new) result }
+    ensures { OfStatements graph.now (λ entries.
+        ReturnsFor entries (commands (map string_bytes words.now) validations take start.now)
+        (O.state out.old) (O.state out.new) result) }
 {
     let targets = targets_of(alloc, graph, words, validations)?;
     let mut needs = Needs::resume(alloc, graph.edge_graph(), &targets, start)?;
@@ -86,9 +86,9 @@ fn run_single_commands<O: Sink>(
     words: &[String],
     out: &mut O,
 ) -> Result<Option<Mark>, Error>
-    ensures { (entries : List ReadStatement) → IsGraphOf graph.now entries
-        → ReturnsFor entries (single_commands (map string_bytes words.now))
-        (O.state out.old) (O.state out.new) result }
+    ensures { OfStatements graph.now (λ entries.
+        ReturnsFor entries (single_commands (map string_bytes words.now))
+        (O.state out.old) (O.state out.new) result) }
 {
     let targets = targets_of(alloc, graph, words, false)?;
     write_single_commands(alloc, graph, &targets, out)?;
@@ -104,9 +104,9 @@ fn run_inputs<O: Sink>(
     style: InputsStyle,
     out: &mut O,
 ) -> Result<Option<Mark>, Error>
-    ensures { (entries : List ReadStatement) → IsGraphOf graph.now entries
-        → ReturnsFor entries (ask.inputs (map string_bytes words.now) validations style)
-        (O.state out.old) (O.state out.new) result }
+    ensures { OfStatements graph.now (λ entries.
+        ReturnsFor entries (ask.inputs (map string_bytes words.now) validations style)
+        (O.state out.old) (O.state out.new) result) }
 {
     let targets = targets_of(alloc, graph, words, validations)?;
     write_inputs(alloc, graph, &targets, style, out)?;
@@ -120,8 +120,8 @@ fn run_targets<O: Sink>(
     view: &TargetsView,
     out: &mut O,
 ) -> Result<Option<Mark>, Error>
-    ensures { (entries : List ReadStatement) → IsGraphOf graph.now entries
-        → ReturnsFor entries (ask.targets view.now) (O.state out.old) (O.state out.new) result }
+    ensures { OfStatements graph.now (λ entries.
+        ReturnsFor entries (ask.targets view.now) (O.state out.old) (O.state out.new) result) }
 {
     write_targets(alloc, graph, view, out)?;
     Ok(None)
@@ -134,9 +134,9 @@ fn run_query<O: Sink>(
     words: &[String],
     out: &mut O,
 ) -> Result<Option<Mark>, Error>
-    ensures { (entries : List ReadStatement) → IsGraphOf graph.now entries
-        → ReturnsFor entries (ask.query (map string_bytes words.now))
-        (O.state out.old) (O.state out.new) result }
+    ensures { OfStatements graph.now (λ entries.
+        ReturnsFor entries (ask.query (map string_bytes words.now))
+        (O.state out.old) (O.state out.new) result) }
 {
     let files = graph.pick_named(alloc, words)?;
     write_query(alloc, graph, &files, out)?;
@@ -150,8 +150,8 @@ fn run_rules<O: Sink>(
     descriptions: bool,
     out: &mut O,
 ) -> Result<Option<Mark>, Error>
-    ensures { (entries : List ReadStatement) → IsGraphOf graph.now entries
-        → ReturnsFor entries (ask.rules descriptions) (O.state out.old) (O.state out.new) result }
+    ensures { OfStatements graph.now (λ entries.
+        ReturnsFor entries (ask.rules descriptions) (O.state out.old) (O.state out.new) result) }
 {
     write_rules(alloc, graph, descriptions, out)?;
     Ok(None)
@@ -166,9 +166,9 @@ fn run_compdb<O: Sink>(
     expand: bool,
     out: &mut O,
 ) -> Result<Option<Mark>, Error>
-    ensures { (entries : List ReadStatement) → IsGraphOf graph.now entries
-        → ReturnsFor entries (ask.compdb (map string_bytes rules.now) directory.now expand)
-        (O.state out.old) (O.state out.new) result }
+    ensures { OfStatements graph.now (λ entries.
+        ReturnsFor entries (ask.compdb (map string_bytes rules.now) directory.now expand)
+        (O.state out.old) (O.state out.new) result) }
 {
     write_compdb(alloc, graph, directory, rules, expand, out)?;
     Ok(None)

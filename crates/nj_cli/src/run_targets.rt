@@ -1,7 +1,7 @@
 //! The targets of a run.
 
-ghost use Rattle.std.specs.Prelude.{◌<◌, List, All, IfOk, length, map, string_bytes};
-ghost use Rattle.nj_cli.specs.Cited.{ReadStatement, files_of, IsGraphOf, PicksTargets, targets_of};
+ghost use Rattle.std.specs.Prelude.{◌<◌, All, IfOk, length, map, string_bytes};
+ghost use Rattle.nj_cli.specs.Cited.{OfStatements, files_of, PicksTargets, targets_of};
 
 use nj_graph::{FileNo, Graph, GraphFault};
 use nj_needs::grow_targets;
@@ -20,9 +20,8 @@ pub(crate) fn targets_of(
     words: &[String],
     validations: bool,
 ) -> Result<Vec<FileNo>, GraphFault>
-    ensures picks { (entries : List ReadStatement) → IsGraphOf graph.now entries
-        → PicksTargets (files_of graph.now)
-        (targets_of entries validations (map string_bytes words.now)) result }
+    ensures picks { OfStatements graph.now (λ entries. PicksTargets (files_of graph.now)
+        (targets_of entries validations (map string_bytes words.now)) result) }
     ensures known { IfOk result (λ files.
         All (λ file. file.0 < length (files_of graph.now)) files.items) }
 {

@@ -1,10 +1,8 @@
 -- What the contracts of this crate cite: each name comes from the module in its line.
-pub use Rattle.nj_scope.specs.ReadingList.{ReadStatement, gathered, files_opened, pools, rules_read, scope_of, scopes_opened}
-pub use Rattle.nj_scope.specs.ReadingList.{value_if_bound}
-pub use Rattle.nj_statements.specs.EdgeList.{block_at, block_names_at, edges_read, assigned_at, assigned_read}
-pub use Rattle.nj_graph.specs.Graph.{IsGraphOf, edges_of, files_of, is_dyndep_restat, late_text_of, main_rules, main_rule_at, rule_name}
-pub use Rattle.nj_graph.specs.Graph.{description, has_description, description_text, NamesRise, ListsMainRules, rule_name_at}
+pub use Rattle.nj_graph.specs.Graph.{OfStatements, edges_of, files_of, IsGraphOf, is_dyndep_restat, late_text_of, main_rules, main_rule_at}
+pub use Rattle.nj_graph.specs.Graph.{rule_name, description, has_description, description_text, NamesRise, ListsMainRules, rule_name_at}
 pub use Rattle.nj_graph.specs.Graph.{rule_number_at, scope_number_at}
+pub use Rattle.nj_statements.specs.EdgeList.{block_at, block_names_at, edges_read, assigned_at, assigned_read}
 pub use Rattle.nj_manifest.specs.Contents.{words_model, build_model, rule_model, pool_model, lines_model, placed_model}
 pub use Rattle.nj_manifest.specs.Statements.{DefaultModel, BindingModel}
 pub use Rattle.nj_graph.specs.Reading.{entry_at, depth_fault, expanded_in, path_fault, opened_in, text_read, statement_read, main_read}
@@ -17,6 +15,8 @@ pub use Rattle.nj_graph.specs.Origins.{place_text, rule_place_at, origins_read, 
 pub use Rattle.std.specs.List.{AllByRecursion, IsDistinct, Contains}
 pub use Rattle.nj_text.specs.Paths.{clean_path_of}
 pub use Rattle.nj_names.specs.NameTables.{name_at, is_among}
+pub use Rattle.nj_scope.specs.ReadingList.{ReadStatement, gathered, files_opened, pools, rules_read, scope_of, scopes_opened}
+pub use Rattle.nj_scope.specs.ReadingList.{value_if_bound}
 pub use Rattle.nj_scope.specs.Readings.{IsPrefix}
 pub use Rattle.nj_edges.specs.Edges.{edge_at, first_output}
 pub use Rattle.nj_edges.specs.MoreInputs.{with_new_input}

@@ -54,6 +54,10 @@ pub record IsGraphOf (g : GraphModel) (entries : List ReadStatement) : Type 0 wh
   pub acyclic : IsAcyclic (makers_of_inputs (edges_of g)) (length (edges_of g))
   pub origins : g.origins ≡ origins_read (main_of g.origins) entries
 
+-- This holds of the graph by any statements that it is the graph of.
+abbrev pub OfStatements : GraphModel → (List ReadStatement → Type 0) → Type 0
+OfStatements g holds = (entries : List ReadStatement) → IsGraphOf g entries → holds entries
+
 -- ---- late strings
 
 -- A dyndep file that binds `restat` for an edge gives it the value 1, whatever the edge's statement and rule bind to it.

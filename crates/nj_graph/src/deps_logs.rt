@@ -1,7 +1,7 @@
 //! Joins deps logs to the graph of a run.
 
 ghost use Rattle.std.specs.Prelude.{◌≡◌, List, ◌<◌, fold, length, map, position, bytes_eq, option_and_then, IfOk, OnOk};
-ghost use Rattle.nj_graph.specs.Cited.{AllByRecursion, clean_path_of, name_at, ReadStatement, IsPrefix, edge_at, first_output, with_new_input, edges_of, files_of, IsGraphOf, JoinsLog, inputs_logged, number_logged, joined_edges, AreNumbersLogged, inputs_by_numbers};
+ghost use Rattle.nj_graph.specs.Cited.{OfStatements, AllByRecursion, clean_path_of, name_at, ReadStatement, IsPrefix, edge_at, first_output, with_new_input, edges_of, files_of, IsGraphOf, JoinsLog, inputs_logged, number_logged, joined_edges, AreNumbersLogged, inputs_by_numbers};
 
 use crate::edge_inputs::{EdgeInputs, join_built};
 use crate::graph::Graph;
@@ -52,8 +52,8 @@ impl Graph {
     ) -> Result<Vec<Option<usize>>, AllocError>
         ensures count { IfOk result (λ numbers.
             length numbers.items ≡ length (edges_of self.now)) }
-        ensures numbers { (entries : List ReadStatement) → IsGraphOf self.now entries
-            → IfOk result (λ numbers. AreNumbersLogged log.now entries numbers.items) }
+        ensures numbers { OfStatements self.now (λ entries.
+            IfOk result (λ numbers. AreNumbersLogged log.now entries numbers.items)) }
     {
         let edge_count = self.edge_graph().edge_count();
         let mut numbers = Vec::with_capacity(alloc, edge_count)?;
@@ -74,8 +74,8 @@ impl Graph {
         edge: EdgeNo,
     ) -> Result<Option<usize>, AllocError>
         requires { edge.0 < length (edges_of self.now) }
-        ensures { (entries : List ReadStatement) → IsGraphOf self.now entries
-            → IfOk result (λ number. number ≡ number_logged log.now entries edge.0) }
+        ensures { OfStatements self.now (λ entries.
+            IfOk result (λ number. number ≡ number_logged log.now entries edge.0)) }
     {
         deps.clear();
         self.append_variable(deps, edge, b"deps")?;

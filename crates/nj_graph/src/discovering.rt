@@ -1,7 +1,7 @@
 //! What builds discovered for the edges of a graph.
 
-ghost use Rattle.std.specs.Prelude.{◌≡◌, List, IfOk, length};
-ghost use Rattle.nj_graph.specs.Cited.{ReadStatement, IsLater, edges_of, IsGraphOf, AreDiscovered};
+ghost use Rattle.std.specs.Prelude.{◌≡◌, IfOk, length};
+ghost use Rattle.nj_graph.specs.Cited.{OfStatements, IsLater, edges_of, AreDiscovered};
 
 use crate::graph::Graph;
 use nj_deps::DepsLog;
@@ -32,9 +32,9 @@ impl Graph {
         ensures later { IsLater (S.state files.old) (S.state files.new) }
         ensures count { IfOk result (λ found.
             length found.edges ≡ length (edges_of self.now)) }
-        ensures discovered { (entries : List ReadStatement) → IsGraphOf self.now entries
-            → IfOk result (AreDiscovered (S.state files.old) (S.state files.new)
-            (T.times times.now) log.now entries) }
+        ensures discovered { OfStatements self.now (λ entries.
+            IfOk result (AreDiscovered (S.state files.old) (S.state files.new)
+            (T.times times.now) log.now entries)) }
     {
         let graph = self.edge_graph();
         let mut finder = Finder::new(alloc, files.hash_keys(), graph, log)?;

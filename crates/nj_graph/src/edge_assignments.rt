@@ -1,7 +1,7 @@
 //! The assignments of edges: pools and dyndep files.
 
-ghost use Rattle.std.specs.Prelude.{◌≡◌, List, Some, ◌<◌, length, option_copied, option_map, slice_get};
-ghost use Rattle.nj_graph.specs.Cited.{ReadStatement, assigned_at, assigned_read, edges_of, IsGraphOf};
+ghost use Rattle.std.specs.Prelude.{◌≡◌, Some, ◌<◌, length, option_copied, option_map, slice_get};
+ghost use Rattle.nj_graph.specs.Cited.{OfStatements, assigned_at, assigned_read, edges_of};
 
 use crate::graph::Graph;
 use nj_edges::EdgeNo;
@@ -12,8 +12,8 @@ impl Graph {
     /// name had in its file by then. `None` if it is empty.
     pub fn pool(&self, edge: EdgeNo) -> Option<&[u8]>
         requires { edge.0 < length (edges_of self.now) }
-        ensures { (entries : List ReadStatement) → IsGraphOf self.now entries
-            → option_copied result ≡ (assigned_at (assigned_read entries) edge.0).pool }
+        ensures { OfStatements self.now (λ entries.
+            option_copied result ≡ (assigned_at (assigned_read entries) edge.0).pool) }
     {
         self.built.pool(edge)
     }
@@ -23,8 +23,8 @@ impl Graph {
     /// stays the same after it was joined. `None` if the value is empty.
     pub fn dyndep(&self, edge: EdgeNo) -> Option<&[u8]>
         requires { edge.0 < length (edges_of self.now) }
-        ensures { (entries : List ReadStatement) → IsGraphOf self.now entries
-            → option_copied result ≡ (assigned_at (assigned_read entries) edge.0).dyndep }
+        ensures { OfStatements self.now (λ entries.
+            option_copied result ≡ (assigned_at (assigned_read entries) edge.0).dyndep) }
     {
         self.built.dyndep(edge)
     }

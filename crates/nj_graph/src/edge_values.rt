@@ -1,7 +1,7 @@
 //! The values of rules' variables when an edge uses them.
 
-ghost use Rattle.std.specs.Prelude.{◌≡◌, ◌<◌, ◌++◌, List, Some, length, slice_get, codes, IfOk, OnOk, OnErr};
-ghost use Rattle.nj_graph.specs.Cited.{detail_at, ReadStatement, edges_of, is_dyndep_restat, IsGraphOf, late_text_of, command_with_rsp_of};
+ghost use Rattle.std.specs.Prelude.{◌≡◌, ◌<◌, ◌++◌, Some, length, slice_get, codes, IfOk, OnOk, OnErr};
+ghost use Rattle.nj_graph.specs.Cited.{OfStatements, detail_at, edges_of, is_dyndep_restat, late_text_of, command_with_rsp_of};
 
 use crate::graph::Graph;
 use crate::response_files::with_content;
@@ -27,9 +27,8 @@ impl Graph {
         name: &[u8],
     ) -> Result<(), AllocError>
         requires { edge.0 < length (edges_of self.now) }
-        ensures appended { (entries : List ReadStatement) → IsGraphOf self.now entries
-            → OnOk result (out.new.items
-            ≡ out.old.items ++ late_text_of entries edge.0 name.now) }
+        ensures appended { OfStatements self.now (λ entries.
+            OnOk result (out.new.items ≡ out.old.items ++ late_text_of entries edge.0 name.now)) }
         ensures refused { OnErr result (out.new.items ≡ out.old.items) }
     {
         if self.is_dyndep_restat(edge, name) {
@@ -52,8 +51,8 @@ impl Graph {
     // Whether this is `restat`, and a dyndep file binds it for an edge.
     fn is_dyndep_restat(&self, edge: EdgeNo, name: &[u8]) -> bool
         requires { edge.0 < length (edges_of self.now) }
-        ensures { (entries : List ReadStatement) → IsGraphOf self.now entries
-            → result ≡ is_dyndep_restat entries edge.0 name.now }
+        ensures { OfStatements self.now (λ entries.
+            result ≡ is_dyndep_restat entries edge.0 name.now) }
     {
         name == b"restat".as_slice() && self.built.has_dyndep_restat(edge)
     }
@@ -71,9 +70,8 @@ impl Graph {
     /// block's, else empty.
     pub fn command(&self, alloc: Global, edge: EdgeNo) -> Result<Vec<u8>, AllocError>
         requires { edge.0 < length (edges_of self.now) }
-        ensures { (entries : List ReadStatement) → IsGraphOf self.now entries
-            → IfOk result (λ text.
-            text.items ≡ late_text_of entries edge.0 (codes "command")) }
+        ensures { OfStatements self.now (λ entries.
+            IfOk result (λ text. text.items ≡ late_text_of entries edge.0 (codes "command"))) }
     {
         self.variable(alloc, edge, b"command")
     }
@@ -89,8 +87,8 @@ impl Graph {
     /// If an allocation failed.
     pub fn command_with_rsp(&self, alloc: Global, edge: EdgeNo) -> Result<Vec<u8>, AllocError>
         requires { edge.0 < length (edges_of self.now) }
-        ensures { (entries : List ReadStatement) → IsGraphOf self.now entries
-            → IfOk result (λ text. text.items ≡ command_with_rsp_of entries edge.0) }
+        ensures { OfStatements self.now (λ entries.
+            IfOk result (λ text. text.items ≡ command_with_rsp_of entries edge.0)) }
     {
         let command = self.command(alloc, edge)?;
         let file = self.variable(alloc, edge, b"rspfile")?;
@@ -110,8 +108,8 @@ impl Graph {
     /// If an allocation failed.
     pub fn variable(&self, alloc: Global, edge: EdgeNo, name: &[u8]) -> Result<Vec<u8>, AllocError>
         requires { edge.0 < length (edges_of self.now) }
-        ensures { (entries : List ReadStatement) → IsGraphOf self.now entries
-            → IfOk result (λ text. text.items ≡ late_text_of entries edge.0 name.now) }
+        ensures { OfStatements self.now (λ entries.
+            IfOk result (λ text. text.items ≡ late_text_of entries edge.0 name.now)) }
     {
         let mut text = Vec::new(alloc);
         self.append_variable(&mut text, edge, name)?;

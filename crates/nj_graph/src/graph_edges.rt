@@ -1,7 +1,7 @@
 //! The edges of a graph and the files that they name.
 
-ghost use Rattle.std.specs.Prelude.{◌≡◌, List, ◌<◌, length, All};
-ghost use Rattle.nj_graph.specs.Cited.{AreFiles, defaults_in_force, detail_at, ReadStatement, edges_of, files_of, IsGraphOf, rule_name, rule_name_at};
+ghost use Rattle.std.specs.Prelude.{◌≡◌, ◌<◌, length, All};
+ghost use Rattle.nj_graph.specs.Cited.{OfStatements, AreFiles, defaults_in_force, detail_at, edges_of, files_of, rule_name, rule_name_at};
 
 use crate::graph::{Graph, rule_name};
 use nj_edges::{EdgeGraph, EdgeNo, FileNo};
@@ -34,8 +34,8 @@ impl Graph {
         requires { edge.0 < length (edges_of self.now) }
         ensures held { result.now ≡ rule_name self.now.declarations.rules
             (detail_at self.now.built.details edge.0).rule }
-        ensures stated { (entries : List ReadStatement) → IsGraphOf self.now entries
-            → result.now ≡ rule_name_at entries edge.0 }
+        ensures stated { OfStatements self.now (λ entries.
+            result.now ≡ rule_name_at entries edge.0) }
     {
         rule_name(self.declared.declarations.rules(), self.built.rule(edge).0)
     }

@@ -1,7 +1,7 @@
 //! The files that were opened.
 
-ghost use Rattle.std.specs.Prelude.{◌≡◌, List, length, option_map, slice_get};
-ghost use Rattle.nj_graph.specs.Cited.{ReadStatement, files_opened, main_of, opening_model, openings_read, IsGraphOf};
+ghost use Rattle.std.specs.Prelude.{◌≡◌, length, option_map, slice_get};
+ghost use Rattle.nj_graph.specs.Cited.{OfStatements, files_opened, main_of, opening_model, openings_read};
 
 use crate::graph::Graph;
 use crate::origins::Opening;
@@ -11,8 +11,7 @@ impl Graph {
     /// statement, also where it opens a file again ("Ninja file reference" in the Ninja manual).
     pub fn opening_count(&self) -> usize
         ensures held { result ≡ length self.now.origins.openings }
-        ensures stated { (entries : List ReadStatement) → IsGraphOf self.now entries
-            → result ≡ files_opened entries }
+        ensures stated { OfStatements self.now (λ entries. result ≡ files_opened entries) }
     {
         self.declared.origins.opening_count()
     }
@@ -21,9 +20,8 @@ impl Graph {
     /// `None` past the last one.
     pub fn opening(&self, index: usize) -> Option<Opening<'_>>
         ensures held { option_map opening_model result ≡ slice_get self.now.origins.openings index }
-        ensures stated { (entries : List ReadStatement) → IsGraphOf self.now entries
-            → option_map opening_model result
-            ≡ slice_get (openings_read (main_of self.now.origins) entries) index }
+        ensures stated { OfStatements self.now (λ entries. option_map opening_model result
+            ≡ slice_get (openings_read (main_of self.now.origins) entries) index) }
     {
         self.declared.origins.opening(index)
     }

@@ -1,7 +1,7 @@
 //! The pools that were declared, with their places and depths.
 
-ghost use Rattle.std.specs.Prelude.{◌≡◌, List, length, slice_get, option_copied, option_map};
-ghost use Rattle.nj_graph.specs.Cited.{ReadStatement, pools, place_text, pool_details, IsGraphOf};
+ghost use Rattle.std.specs.Prelude.{◌≡◌, length, slice_get, option_copied, option_map};
+ghost use Rattle.nj_graph.specs.Cited.{OfStatements, pools, place_text, pool_details};
 
 use crate::graph::Graph;
 use nj_faults::PlaceRef;
@@ -11,8 +11,7 @@ impl Graph {
     /// and has the depth 1, is not among them.
     pub fn pool_count(&self) -> usize
         ensures held { result ≡ length self.now.declarations.pools }
-        ensures stated { (entries : List ReadStatement) → IsGraphOf self.now entries
-            → result ≡ length (pools entries) }
+        ensures stated { OfStatements self.now (λ entries. result ≡ length (pools entries)) }
     {
         self.declared.declarations.pool_count()
     }
@@ -21,8 +20,8 @@ impl Graph {
     /// the last one.
     pub fn pool_name(&self, index: usize) -> Option<&[u8]>
         ensures held { option_copied result ≡ slice_get self.now.declarations.pools index }
-        ensures stated { (entries : List ReadStatement) → IsGraphOf self.now entries
-            → option_copied result ≡ slice_get (pools entries) index }
+        ensures stated { OfStatements self.now (λ entries.
+            option_copied result ≡ slice_get (pools entries) index) }
     {
         self.declared.declarations.pool_name(index)
     }
@@ -33,9 +32,8 @@ impl Graph {
     pub fn pool_place(&self, index: usize) -> Option<PlaceRef<'_>>
         ensures held { option_map place_text result
             ≡ option_map (λ p. p.place) (slice_get self.now.origins.pools index) }
-        ensures stated { (entries : List ReadStatement) → IsGraphOf self.now entries
-            → option_map place_text result
-            ≡ option_map (λ p. p.place) (slice_get (pool_details entries) index) }
+        ensures stated { OfStatements self.now (λ entries. option_map place_text result
+            ≡ option_map (λ p. p.place) (slice_get (pool_details entries) index)) }
     {
         self.declared.origins.pool_place(index)
     }
@@ -46,8 +44,8 @@ impl Graph {
     /// the last pool.
     pub fn pool_depth(&self, index: usize) -> Option<u64>
         ensures held { result ≡ option_map (λ p. p.depth) (slice_get self.now.origins.pools index) }
-        ensures stated { (entries : List ReadStatement) → IsGraphOf self.now entries
-            → result ≡ option_map (λ p. p.depth) (slice_get (pool_details entries) index) }
+        ensures stated { OfStatements self.now (λ entries.
+            result ≡ option_map (λ p. p.depth) (slice_get (pool_details entries) index)) }
     {
         self.declared.origins.pool_depth(index)
     }

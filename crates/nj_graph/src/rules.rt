@@ -1,7 +1,7 @@
 //! The rules of all scopes with their places, and the rules of edges.
 
-ghost use Rattle.std.specs.Prelude.{◌≡◌, ◌<◌, List, length, option_map};
-ghost use Rattle.nj_graph.specs.Cited.{ReadStatement, rules_read, detail_at, place_text, rule_place_at, rule_places, edges_of, IsGraphOf, rule_number_at};
+ghost use Rattle.std.specs.Prelude.{◌≡◌, ◌<◌, length, option_map};
+ghost use Rattle.nj_graph.specs.Cited.{OfStatements, rules_read, detail_at, place_text, rule_place_at, rule_places, edges_of, rule_number_at};
 
 use crate::graph::Graph;
 use nj_edges::EdgeNo;
@@ -15,8 +15,7 @@ impl Graph {
     /// kept as they were written: `LateValue::written` gives a value as a text.
     pub fn rules(&self) -> &[Rule]
         ensures held { result.now ≡ self.now.declarations.rules }
-        ensures stated { (entries : List ReadStatement) → IsGraphOf self.now entries
-            → result.now ≡ rules_read entries }
+        ensures stated { OfStatements self.now (λ entries. result.now ≡ rules_read entries) }
     {
         self.declared.declarations.rules()
     }
@@ -26,8 +25,8 @@ impl Graph {
     /// which no statement declares, and past the last rule.
     pub fn rule_place(&self, rule: RuleNo) -> Option<PlaceRef<'_>>
         ensures held { option_map place_text result ≡ rule_place_at self.now.origins.rules rule.0 }
-        ensures stated { (entries : List ReadStatement) → IsGraphOf self.now entries
-            → option_map place_text result ≡ rule_place_at (rule_places entries) rule.0 }
+        ensures stated { OfStatements self.now (λ entries.
+            option_map place_text result ≡ rule_place_at (rule_places entries) rule.0) }
     {
         self.declared.origins.rule_place(rule)
     }
@@ -38,8 +37,8 @@ impl Graph {
         requires { edge.0 < length (edges_of self.now) }
         ensures there { result.0 < length self.now.declarations.rules }
         ensures held { result.0 ≡ (detail_at self.now.built.details edge.0).rule }
-        ensures stated { (entries : List ReadStatement) → IsGraphOf self.now entries
-            → result.0 ≡ rule_number_at entries edge.0 }
+        ensures stated { OfStatements self.now (λ entries.
+            result.0 ≡ rule_number_at entries edge.0) }
     {
         self.built.rule(edge)
     }

@@ -1,7 +1,7 @@
 //! The scopes of a graph, and their bindings after all statements.
 
 ghost use Rattle.std.specs.Prelude.{◌≡◌, ◌<◌, ℕ, List, [], ◌∷◌, length, option_copied};
-ghost use Rattle.nj_graph.specs.Cited.{Contains, ReadStatement, scope_of, scopes_opened, value_if_bound, IsScope, parent_at, detail_at, edges_of, IsGraphOf, scope_number_at};
+ghost use Rattle.nj_graph.specs.Cited.{OfStatements, Contains, ReadStatement, scope_of, scopes_opened, value_if_bound, IsScope, parent_at, detail_at, edges_of, IsGraphOf, scope_number_at};
 
 use crate::graph::Graph;
 use nj_edges::EdgeNo;
@@ -13,8 +13,7 @@ impl Graph {
     /// in the Ninja manual).
     pub fn scope_count(&self) -> usize
         ensures held { result ≡ length self.now.declarations.scopes }
-        ensures stated { (entries : List ReadStatement) → IsGraphOf self.now entries
-            → result ≡ scopes_opened entries }
+        ensures stated { OfStatements self.now (λ entries. result ≡ scopes_opened entries) }
     {
         self.declared.declarations.scope_count()
     }
@@ -24,8 +23,8 @@ impl Graph {
         requires { edge.0 < length (edges_of self.now) }
         ensures there { result.0 < length self.now.declarations.scopes }
         ensures held { result.0 ≡ (detail_at self.now.built.details edge.0).scope }
-        ensures stated { (entries : List ReadStatement) → IsGraphOf self.now entries
-            → result.0 ≡ scope_number_at entries edge.0 }
+        ensures stated { OfStatements self.now (λ entries.
+            result.0 ≡ scope_number_at entries edge.0) }
     {
         self.built.scope(edge)
     }
@@ -35,8 +34,8 @@ impl Graph {
     /// scoping" in the Ninja manual). `None` if none of them binds the name.
     pub fn scope_value(&self, scope: ScopeNo, name: &[u8]) -> Option<&[u8]>
         requires { scope.0 < length self.now.declarations.scopes }
-        ensures main { (entries : List ReadStatement) → IsGraphOf self.now entries → scope.0 ≡ 0
-            → option_copied result ≡ value_if_bound entries (0 ∷ []) name.now }
+        ensures main { OfStatements self.now (λ entries.
+            scope.0 ≡ 0 → option_copied result ≡ value_if_bound entries (0 ∷ []) name.now) }
         ensures stated { (entries : List ReadStatement) (e : ReadStatement)
             → IsGraphOf self.now entries → Contains entries e → e.scope ≡ scope.0
             → option_copied result ≡ value_if_bound entries (scope_of e) name.now }

@@ -1,7 +1,7 @@
 //! Inputs that deps logs name for edges, and that these do not declare.
 
-ghost use Rattle.std.specs.Prelude.{◌≡◌, ◌<◌, List, [], length, map, All, IfOk, OnOk, bytes_eq};
-ghost use Rattle.nj_graph.specs.Cited.{AllByRecursion, IsDistinct, clean_path_of, is_among, name_at, has, ReadStatement, each_once, edges_of, files_of, IsGraphOf, AreThose, AreUndeclared, IsUndeclared, input_of_edge, paths_of_output, AreMade, IsFound, IsKnownIfAny, inputs_by_number};
+ghost use Rattle.std.specs.Prelude.{◌≡◌, ◌<◌, [], length, map, All, IfOk, OnOk, bytes_eq};
+ghost use Rattle.nj_graph.specs.Cited.{OfStatements, AllByRecursion, IsDistinct, clean_path_of, is_among, name_at, has, each_once, edges_of, files_of, AreThose, AreUndeclared, IsUndeclared, input_of_edge, paths_of_output, AreMade, IsFound, IsKnownIfAny, inputs_by_number};
 
 use crate::found_inputs::FoundInputs;
 use crate::graph::Graph;
@@ -31,9 +31,9 @@ pub fn undeclared_inputs(
     graph: &Graph,
     log: &DepsLog,
 ) -> Result<Vec<UndeclaredInput>, AllocError>
-    ensures undeclared { (entries : List ReadStatement) → IsGraphOf graph.now entries
-        → IfOk result (λ inputs. AreUndeclared log.now entries
-        (map (input_of_edge (files_of graph.now)) inputs.items)) }
+    ensures undeclared { OfStatements graph.now (λ entries.
+        IfOk result (λ inputs. AreUndeclared log.now entries
+        (map (input_of_edge (files_of graph.now)) inputs.items))) }
     ensures edges { IfOk result (λ inputs.
         All (λ input. input.edge.0 < length (edges_of graph.now)) inputs.items) }
     ensures files { IfOk result (λ inputs.

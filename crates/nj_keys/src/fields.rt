@@ -1,7 +1,7 @@
 //! The contents of an edge's key.
 
-ghost use Rattle.std.specs.Prelude.{◌≡◌, ◌<◌, ◌++◌, List, codes, IfOk, OnOk, length, map};
-ghost use Rattle.nj_keys.specs.Cited.{flat_map, ReadStatement, edge_at, outputs_of, maker_of, path_at, edges_of, files_of, IsGraphOf, mapped, bars, field, fields_of, fields_text, input_text, inputs_with_keys, maker_key, number, response_of, variable_of, kept_key};
+ghost use Rattle.std.specs.Prelude.{◌≡◌, ◌<◌, ◌++◌, codes, IfOk, OnOk, length, map};
+ghost use Rattle.nj_keys.specs.Cited.{OfStatements, flat_map, edge_at, outputs_of, maker_of, path_at, edges_of, files_of, mapped, bars, field, fields_of, fields_text, input_text, inputs_with_keys, maker_key, number, response_of, variable_of, kept_key};
 
 use crate::bases::Bases;
 use itoa::Buffer;
@@ -20,9 +20,8 @@ pub(crate) fn fields_text(
     edge: EdgeNo,
 ) -> Result<Vec<u8>, AllocError>
     requires { edge.0 < length (edges_of graph.now) }
-    ensures { (entries : List ReadStatement) → IsGraphOf graph.now entries
-        → IfOk result (λ text. text.items ≡ fields_text
-        (fields_of bases.now (edges_of graph.now) entries (kept_key keys.now) edge.0)) }
+    ensures { OfStatements graph.now (λ entries. IfOk result (λ text. text.items ≡ fields_text
+        (fields_of bases.now (edges_of graph.now) entries (kept_key keys.now) edge.0))) }
 {
     let mut text = Vec::new(alloc);
     push_command(&mut text, graph, bases, edge)?;
@@ -40,9 +39,9 @@ fn push_command(
     edge: EdgeNo,
 ) -> Result<(), AllocError>
     requires { edge.0 < length (edges_of graph.now) }
-    ensures { (entries : List ReadStatement) → IsGraphOf graph.now entries
-        → OnOk result (text.new.items ≡ text.old.items ++ field (mapped bases.now
-        (variable_of (edges_of graph.now) entries edge.0 (codes "command")))) }
+    ensures { OfStatements graph.now (λ entries.
+        OnOk result (text.new.items ≡ text.old.items ++ field (mapped bases.now
+        (variable_of (edges_of graph.now) entries edge.0 (codes "command"))))) }
 {
     let command = variable_of(*text.allocator(), graph, edge, b"command")?;
     push_mapped(text, bases, &command)
@@ -56,10 +55,10 @@ fn push_response(
     edge: EdgeNo,
 ) -> Result<(), AllocError>
     requires { edge.0 < length (edges_of graph.now) }
-    ensures { (entries : List ReadStatement) → IsGraphOf graph.now entries
-        → OnOk result (text.new.items ≡ text.old.items ++ field (mapped bases.now
+    ensures { OfStatements graph.now (λ entries.
+        OnOk result (text.new.items ≡ text.old.items ++ field (mapped bases.now
         (variable_of (edges_of graph.now) entries edge.0 (codes "rspfile")))
-        ++ field (mapped bases.now (response_of (edges_of graph.now) entries edge.0))) }
+        ++ field (mapped bases.now (response_of (edges_of graph.now) entries edge.0)))) }
 {
     let file = variable_of(*text.allocator(), graph, edge, b"rspfile")?;
     push_mapped(text, bases, &file)?;
@@ -78,9 +77,8 @@ fn variable_of(
     name: &[u8],
 ) -> Result<Vec<u8>, AllocError>
     requires { edge.0 < length (edges_of graph.now) }
-    ensures { (entries : List ReadStatement) → IsGraphOf graph.now entries
-        → IfOk result (λ text. text.items
-        ≡ variable_of (edges_of graph.now) entries edge.0 name.now) }
+    ensures { OfStatements graph.now (λ entries. IfOk result (λ text. text.items
+        ≡ variable_of (edges_of graph.now) entries edge.0 name.now)) }
 {
     if graph.is_phony(edge) {
         return Ok(Vec::new(alloc));

@@ -1,7 +1,7 @@
 //! The keys of edges, each from those of the edges that make its inputs.
 
-ghost use Rattle.std.specs.Prelude.{◌≡◌, ℕ, ◌<◌, ◌≤◌, List, None, Some, IfNone, IfOk, IfSome, OnOk, length, slice_get};
-ghost use Rattle.nj_keys.specs.Cited.{ReadStatement, edges_of, IsGraphOf, IsKey, Needs, IsAcyclic, IsKept, KeepsKeys, KeepsMakers};
+ghost use Rattle.std.specs.Prelude.{◌≡◌, ℕ, ◌<◌, ◌≤◌, None, Some, IfNone, IfOk, IfSome, OnOk, length, slice_get};
+ghost use Rattle.nj_keys.specs.Cited.{OfStatements, edges_of, IsKey, Needs, IsAcyclic, IsKept, KeepsKeys, KeepsMakers};
 
 use crate::bases::Bases;
 use crate::fields::{Key, fields_text};
@@ -28,9 +28,9 @@ pub(crate) fn keep_key(
     requires edge { edge.0 < length (edges_of graph.now) }
     requires count { length keys.old ≡ length (edges_of graph.now) }
     requires acyclic { IsAcyclic (edges_of graph.now) }
-    ensures keys { (entries : List ReadStatement) → IsGraphOf graph.now entries
-        → KeepsKeys bases.now (edges_of graph.now) entries keys.old
-        → KeepsKeys bases.now (edges_of graph.now) entries keys.new }
+    ensures keys { OfStatements graph.now (λ entries.
+        KeepsKeys bases.now (edges_of graph.now) entries keys.old
+        → KeepsKeys bases.now (edges_of graph.now) entries keys.new) }
     ensures kept { OnOk result (IsKept keys.new edge.0) }
 {
     if keys[edge.0].is_some() {
@@ -95,9 +95,9 @@ fn key_of(
     requires edge { edge.0 < length (edges_of graph.now) }
     requires makers { (maker : ℕ) → Needs (edges_of graph.now) edge.0 maker
         → IsKept keys.now maker }
-    ensures { (entries : List ReadStatement) → IsGraphOf graph.now entries
-        → KeepsKeys bases.now (edges_of graph.now) entries keys.now
-        → IfOk result (λ key. IsKey bases.now (edges_of graph.now) entries edge.0 key) }
+    ensures { OfStatements graph.now (λ entries.
+        KeepsKeys bases.now (edges_of graph.now) entries keys.now
+        → IfOk result (λ key. IsKey bases.now (edges_of graph.now) entries edge.0 key)) }
 {
     let fields = fields_text(alloc, graph, bases, keys, edge)?;
     Ok(Sha256::digest(fields.as_slice()))

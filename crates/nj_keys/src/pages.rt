@@ -1,7 +1,7 @@
 //! The lines of commands, in pages.
 
-ghost use Rattle.std.specs.Prelude.{◌≡◌, ◌<◌, ◌++◌, ◌⊎◌, [], true, false, All, List, IfErr, IfOk, OnOk, length, unwrap_or};
-ghost use Rattle.nj_keys.specs.Cited.{ReadStatement, edge_at, first_output, makers_of, row_of, is_valid, rest_of, BeginsAt, WalkState, written, StopsAt, edges_of, files_of, IsGraphOf, line, ListsKeys, kept_key};
+ghost use Rattle.std.specs.Prelude.{◌≡◌, ◌<◌, ◌++◌, ◌⊎◌, [], true, false, All, IfErr, IfOk, OnOk, length, unwrap_or};
+ghost use Rattle.nj_keys.specs.Cited.{OfStatements, edge_at, first_output, makers_of, row_of, is_valid, rest_of, BeginsAt, WalkState, written, StopsAt, edges_of, files_of, line, ListsKeys, kept_key};
 
 use crate::bases::Bases;
 use crate::fields::{Key, kept_key};
@@ -39,9 +39,9 @@ pub fn page_from(
     ensures refused { IfErr result (λ fault. (fault ≡ MarkFault.OutOfMemory)
         ⊎ ((fault ≡ MarkFault.MarkOutOfRange) × (is_valid (makers_of graph.now.built.graph)
         (row_of graph.now.built.graph targets.now) mark.now ≡ false))) }
-    ensures lines { (entries : List ReadStatement) → IsGraphOf graph.now entries
-        → IfOk result (λ page. ListsKeys bases.now (edges_of graph.now) entries
-        (written take (rest_of graph.now.built.graph targets.now mark.now)) page.lines.items) }
+    ensures lines { OfStatements graph.now (λ entries.
+        IfOk result (λ page. ListsKeys bases.now (edges_of graph.now) entries
+        (written take (rest_of graph.now.built.graph targets.now mark.now)) page.lines.items)) }
     ensures mark { IfOk result (λ page. (walk : WalkState)
         × BeginsAt graph.now.built.graph targets.now mark.now walk
         × StopsAt walk take page.mark) }
@@ -60,9 +60,9 @@ fn next_page(
     take: Option<u64>,
 ) -> Result<Page, AllocError>
     requires { needs.old.graph ≡ graph.now.built.graph }
-    ensures lines { (entries : List ReadStatement) → IsGraphOf graph.now entries
-        → IfOk result (λ page. ListsKeys bases.now (edges_of graph.now) entries
-        (written take needs.old.left) page.lines.items) }
+    ensures lines { OfStatements graph.now (λ entries.
+        IfOk result (λ page. ListsKeys bases.now (edges_of graph.now) entries
+        (written take needs.old.left) page.lines.items)) }
     ensures mark { IfOk result (λ page. StopsAt needs.old take page.mark) }
 {
     let mut kept: Vec<Option<Key>> = vec![in alloc; None; graph.edge_count()]?;

@@ -1,8 +1,7 @@
 -- What the contracts of this crate cite: each name comes from the module in its line.
 pub use Rattle.nj_tools.specs.Compdb.{is_chosen, text_fault, has_object, compilation_of, objects_text, held_before, compdb_text}
 pub use Rattle.nj_tools.specs.Compdb.{unheld_edge, WritesCompdb, json_string}
-pub use Rattle.nj_scope.specs.ReadingList.{ReadStatement}
-pub use Rattle.nj_graph.specs.Graph.{edges_of, files_of, IsGraphOf, main_rules, main_rule_at}
+pub use Rattle.nj_graph.specs.Graph.{OfStatements, edges_of, files_of, main_rules, main_rule_at}
 pub use Rattle.nj_tools.specs.Inside.Outputs.{IsSame, PutsText}
 pub use Rattle.nj_needs.specs.Order.{made_by}
 pub use Rattle.nj_needs.specs.PageWalks.{written, StopsAt}

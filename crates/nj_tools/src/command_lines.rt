@@ -1,7 +1,7 @@
 //! The commands of edges, a line each.
 
 ghost use Rattle.std.specs.Prelude.{◌≡◌, ℕ, ◌<◌, ◌++◌, List, [], ◌∷◌, length, All, IfOk, IfSome};
-ghost use Rattle.nj_tools.specs.Cited.{ReadStatement, edges_of, files_of, IsGraphOf, IsSame, PutsText, made_by, written, StopsAt, number_of, command_lines, own_commands, single, own_makers, command_line, AreSeen, new_commands, WritesText};
+ghost use Rattle.nj_tools.specs.Cited.{OfStatements, edges_of, files_of, IsSame, PutsText, made_by, written, StopsAt, number_of, command_lines, own_commands, single, own_makers, command_line, AreSeen, new_commands, WritesText};
 
 use crate::output::Output;
 use crate::sinks::Sink;
@@ -27,9 +27,9 @@ pub fn write_commands<S: Sink>(
     out: &mut S,
 ) -> Result<Option<Mark>, ToolFault>
     requires { needs.old.graph ≡ graph.now.built.graph }
-    ensures writes { (entries : List ReadStatement) → IsGraphOf graph.now entries
-        → WritesText (S.state out.old) (S.state out.new)
-        (command_lines entries (written take needs.old.left)) result }
+    ensures writes { OfStatements graph.now (λ entries.
+        WritesText (S.state out.old) (S.state out.new)
+        (command_lines entries (written take needs.old.left)) result) }
     ensures mark { IfOk result (λ mark. StopsAt needs.old take mark) }
 {
     let mut text = Vec::new(alloc);
@@ -55,9 +55,8 @@ pub fn write_single_commands<S: Sink>(
     out: &mut S,
 ) -> Result<(), ToolFault>
     requires { All (λ file. file.0 < length (files_of graph.now)) targets.now }
-    ensures { (entries : List ReadStatement) → IsGraphOf graph.now entries
-        → WritesText (S.state out.old) (S.state out.new)
-        (command_lines entries (own_commands graph.now.built.graph targets.now)) result }
+    ensures { OfStatements graph.now (λ entries. WritesText (S.state out.old) (S.state out.new)
+        (command_lines entries (own_commands graph.now.built.graph targets.now)) result) }
 {
     let mut seen = vec![in alloc; false; graph.edge_count()]?;
     let mut text = Vec::new(alloc);
@@ -101,8 +100,8 @@ fn write_command<S: Sink>(
 ) -> Result<(), ToolFault>
     requires { edge.0 < length (edges_of graph.now) }
     ensures same { IsSame out.old out.new }
-    ensures text { (entries : List ReadStatement) → IsGraphOf graph.now entries
-        → PutsText S.state out.old out.new (command_line entries edge.0) result }
+    ensures text { OfStatements graph.now (λ entries.
+        PutsText S.state out.old out.new (command_line entries edge.0) result) }
 {
     graph.append_variable(out.pending, edge, b"command")?;
     out.ended(b"", b'\n')

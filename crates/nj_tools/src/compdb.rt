@@ -1,7 +1,7 @@
 //! Compilation databases.
 
 ghost use Rattle.std.specs.Prelude.{◌≡◌, ◌<◌, ◌++◌, ℕ, List, All, Some, length, map, option_map, slice_get, string_bytes, IfOk, IfSome, OnOk};
-ghost use Rattle.nj_tools.specs.Cited.{text_fault, Refuses, ReadStatement, AreFiles, edges_read, edges_of, files_of, IsGraphOf, IsSame, PutsText, has_object, compilation_of, objects_text, held_before, compdb_text, unheld_edge, WritesCompdb, command_text, first_path, held_compilation, list_text, object_of_strings};
+ghost use Rattle.nj_tools.specs.Cited.{OfStatements, text_fault, Refuses, AreFiles, edges_read, edges_of, files_of, IsSame, PutsText, has_object, compilation_of, objects_text, held_before, compdb_text, unheld_edge, WritesCompdb, command_text, first_path, held_compilation, list_text, object_of_strings};
 
 use crate::chosen_rules::ChosenRules;
 use crate::json_strings::{held_string, json_string};
@@ -31,11 +31,10 @@ pub fn write_compdb<S: Sink>(
     expand: bool,
     out: &mut S,
 ) -> Result<(), ToolFault>
-    ensures { (entries : List ReadStatement) → IsGraphOf graph.now entries
-        → WritesCompdb (S.state out.old) (S.state out.new)
+    ensures { OfStatements graph.now (λ entries. WritesCompdb (S.state out.old) (S.state out.new)
         (compdb_text entries directory.now (map string_bytes rules.now) expand)
         (option_map (text_fault entries) (unheld_edge entries (map string_bytes rules.now) expand))
-        result }
+        result) }
 {
     let chosen = ChosenRules::new(alloc, rules)?;
     let directory = json_string(alloc, directory)?;
@@ -49,8 +48,8 @@ pub fn write_compdb<S: Sink>(
 /// Refuses an edge that JSON cannot contain, if there is one. The fault is at its build statement.
 pub(crate) fn refuse(alloc: Global, graph: &Graph, unheld: Option<EdgeNo>) -> Result<(), ToolFault>
     requires { IfSome unheld (λ edge. edge.0 < length (edges_of graph.now)) }
-    ensures { (entries : List ReadStatement) → IsGraphOf graph.now entries → Refuses
-        (option_map (text_fault entries) (option_map (λ edge. edge.0) unheld)) result }
+    ensures { OfStatements graph.now (λ entries.
+        Refuses (option_map (text_fault entries) (option_map (λ edge. edge.0) unheld)) result) }
 {
     let Some(edge) = unheld else {
         return Ok(());
@@ -73,12 +72,11 @@ fn write_list<S: Sink>(
     out: &mut Output<'_, S>,
 ) -> Result<Option<EdgeNo>, ToolFault>
     ensures same { IsSame out.old out.new }
-    ensures text { (entries : List ReadStatement) → IsGraphOf graph.now entries
-        → PutsText S.state out.old out.new
-        (list_text entries directory.now chosen.now expand) result }
-    ensures unheld { (entries : List ReadStatement) → IsGraphOf graph.now entries
-        → IfOk result (λ edge. option_map (λ edge. edge.0) edge
-        ≡ unheld_edge entries chosen.now expand) }
+    ensures text { OfStatements graph.now (λ entries. PutsText S.state out.old out.new
+        (list_text entries directory.now chosen.now expand) result) }
+    ensures unheld { OfStatements graph.now (λ entries.
+        IfOk result (λ edge. option_map (λ edge. edge.0) edge
+        ≡ unheld_edge entries chosen.now expand)) }
     ensures known { IfOk result (λ edge.
         IfSome edge (λ edge. edge.0 < length (edges_of graph.now))) }
 {
@@ -103,12 +101,11 @@ fn write_objects<S: Sink>(
     out: &mut Output<'_, S>,
 ) -> Result<Option<EdgeNo>, ToolFault>
     ensures same { IsSame out.old out.new }
-    ensures text { (entries : List ReadStatement) → IsGraphOf graph.now entries
-        → PutsText S.state out.old out.new
-        (objects_text directory.now (held_before entries chosen.now expand)) result }
-    ensures unheld { (entries : List ReadStatement) → IsGraphOf graph.now entries
-        → IfOk result (λ edge. option_map (λ edge. edge.0) edge
-        ≡ unheld_edge entries chosen.now expand) }
+    ensures text { OfStatements graph.now (λ entries. PutsText S.state out.old out.new
+        (objects_text directory.now (held_before entries chosen.now expand)) result) }
+    ensures unheld { OfStatements graph.now (λ entries.
+        IfOk result (λ edge. option_map (λ edge. edge.0) edge
+        ≡ unheld_edge entries chosen.now expand)) }
     ensures known { IfOk result (λ edge.
         IfSome edge (λ edge. edge.0 < length (edges_of graph.now))) }
 {
@@ -129,9 +126,9 @@ fn write_objects<S: Sink>(
 // Whether an edge has an object: it has a command and an input, and its rule is chosen.
 fn has_object(graph: &Graph, edge: EdgeNo, chosen: &ChosenRules<'_>) -> bool
     requires { edge.0 < length (edges_of graph.now) }
-    ensures { (entries : List ReadStatement) → IsGraphOf graph.now entries
-        → Some result ≡ option_map (has_object entries chosen.now)
-        (slice_get (edges_read entries) edge.0) }
+    ensures { OfStatements graph.now (λ entries.
+        Some result ≡ option_map (has_object entries chosen.now)
+        (slice_get (edges_read entries) edge.0)) }
 {
     !graph.is_phony(edge)
         && !graph.inputs(edge).is_empty()
@@ -166,8 +163,8 @@ fn strings_of(
     expand: bool,
 ) -> Result<Option<Strings>, AllocError>
     requires { edge.0 < length (edges_of graph.now) }
-    ensures { (entries : List ReadStatement) → IsGraphOf graph.now entries → IfOk result (λ strings.
-        strings ≡ held_compilation (compilation_of entries expand edge.0)) }
+    ensures { OfStatements graph.now (λ entries. IfOk result (λ strings.
+        strings ≡ held_compilation (compilation_of entries expand edge.0))) }
 {
     let command = command_text(alloc, graph, edge, expand)?;
     let Some(command) = held_string(alloc, &command)? else {
@@ -195,8 +192,8 @@ fn command_text(
     expand: bool,
 ) -> Result<Vec<u8>, AllocError>
     requires { edge.0 < length (edges_of graph.now) }
-    ensures { (entries : List ReadStatement) → IsGraphOf graph.now entries
-        → IfOk result (λ text. text.items ≡ command_text entries expand edge.0) }
+    ensures { OfStatements graph.now (λ entries.
+        IfOk result (λ text. text.items ≡ command_text entries expand edge.0)) }
 {
     if expand {
         graph.command_with_rsp(alloc, edge)

@@ -1,7 +1,7 @@
 //! The edges of a graph as objects of JSON.
 
-ghost use Rattle.std.specs.Prelude.{◌≡◌, ◌<◌, List, IfOk, IfSome, OnOk, length, option_map};
-ghost use Rattle.nj_tools.specs.Cited.{text_fault, fold, print, ReadStatement, edge_at, edges_of, IsGraphOf, WritesCompdb, edge_lines, edge_object, file_members, head_members, unwritable_edge, value_member, value_members, IsSame, PutsText, and_member, held_text};
+ghost use Rattle.std.specs.Prelude.{◌≡◌, ◌<◌, IfOk, IfSome, OnOk, length, option_map};
+ghost use Rattle.nj_tools.specs.Cited.{OfStatements, text_fault, fold, print, edge_at, edges_of, WritesCompdb, edge_lines, edge_object, file_members, head_members, unwritable_edge, value_member, value_members, IsSame, PutsText, and_member, held_text};
 
 use crate::compdb::refuse;
 use crate::object_text::ObjectText;
@@ -26,9 +26,9 @@ pub fn write_edge_objects<S: Sink>(
     graph: &Graph,
     out: &mut S,
 ) -> Result<(), ToolFault>
-    ensures { (entries : List ReadStatement) → IsGraphOf graph.now entries
-        → WritesCompdb (S.state out.old) (S.state out.new) (edge_lines entries)
-        (option_map (text_fault entries) (unwritable_edge entries)) result }
+    ensures { OfStatements graph.now (λ entries.
+        WritesCompdb (S.state out.old) (S.state out.new) (edge_lines entries)
+        (option_map (text_fault entries) (unwritable_edge entries)) result) }
 {
     let mut text = Vec::new(alloc);
     let mut output = Output::new(out, &mut text);
@@ -45,11 +45,10 @@ fn write_lines<S: Sink>(
     out: &mut Output<'_, S>,
 ) -> Result<Option<EdgeNo>, ToolFault>
     ensures same { IsSame out.old out.new }
-    ensures text { (entries : List ReadStatement) → IsGraphOf graph.now entries
-        → PutsText S.state out.old out.new
-        (edge_lines entries) result }
-    ensures unwritable { (entries : List ReadStatement) → IsGraphOf graph.now entries
-        → IfOk result (λ edge. option_map (λ edge. edge.0) edge ≡ unwritable_edge entries) }
+    ensures text { OfStatements graph.now (λ entries.
+        PutsText S.state out.old out.new (edge_lines entries) result) }
+    ensures unwritable { OfStatements graph.now (λ entries.
+        IfOk result (λ edge. option_map (λ edge. edge.0) edge ≡ unwritable_edge entries)) }
     ensures known { IfOk result (λ edge.
         IfSome edge (λ edge. edge.0 < length (edges_of graph.now))) }
 {
@@ -66,9 +65,9 @@ fn write_lines<S: Sink>(
 // The text of the object of an edge; `None` if a string of it is not UTF-8.
 fn object_of(alloc: Global, graph: &Graph, edge: EdgeNo) -> Result<Option<Vec<u8>>, AllocError>
     requires { edge.0 < length (edges_of graph.now) }
-    ensures { (entries : List ReadStatement) → IsGraphOf graph.now entries
-        → IfOk result (λ text. option_map (λ text. text.items) text
-        ≡ option_map print (held_text (edge_object entries edge.0))) }
+    ensures { OfStatements graph.now (λ entries.
+        IfOk result (λ text. option_map (λ text. text.items) text
+        ≡ option_map print (held_text (edge_object entries edge.0)))) }
 {
     let mut object = ObjectText::new(alloc)?;
     add_head(&mut object, graph, edge)?;
@@ -80,9 +79,8 @@ fn object_of(alloc: Global, graph: &Graph, edge: EdgeNo) -> Result<Option<Vec<u8
 // Adds the number of an edge, the place of its build statement, and its rule.
 fn add_head(object: &mut ObjectText, graph: &Graph, edge: EdgeNo) -> Result<(), AllocError>
     requires { edge.0 < length (edges_of graph.now) }
-    ensures { (entries : List ReadStatement) → IsGraphOf graph.now entries
-        → OnOk result (object.new
-        ≡ fold and_member object.old (head_members entries edge.0)) }
+    ensures { OfStatements graph.now (λ entries.
+        OnOk result (object.new ≡ fold and_member object.old (head_members entries edge.0))) }
 {
     object.add_number("edge", edge.0)?;
     object.add_place("place", graph.edge_place(edge))?;
@@ -117,9 +115,8 @@ fn add_values(
     edge: EdgeNo,
 ) -> Result<(), AllocError>
     requires { edge.0 < length (edges_of graph.now) }
-    ensures { (entries : List ReadStatement) → IsGraphOf graph.now entries
-        → OnOk result (object.new
-        ≡ fold and_member object.old (value_members entries edge.0)) }
+    ensures { OfStatements graph.now (λ entries.
+        OnOk result (object.new ≡ fold and_member object.old (value_members entries edge.0))) }
 {
     add_value(alloc, object, graph, edge, "command")?;
     add_value(alloc, object, graph, edge, "description")?;
@@ -142,9 +139,8 @@ fn add_value(
     name: &str,
 ) -> Result<(), AllocError>
     requires { edge.0 < length (edges_of graph.now) }
-    ensures { (entries : List ReadStatement) → IsGraphOf graph.now entries
-        → OnOk result (object.new
-        ≡ and_member object.old (value_member entries edge.0 name.now)) }
+    ensures { OfStatements graph.now (λ entries.
+        OnOk result (object.new ≡ and_member object.old (value_member entries edge.0 name.now))) }
 {
     let value = graph.variable(alloc, edge, name.as_bytes())?;
     object.add_string(name, &value)

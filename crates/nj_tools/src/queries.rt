@@ -1,7 +1,7 @@
 //! The files from which files are made, and those made from them.
 
-ghost use Rattle.std.specs.Prelude.{◌<◌, ◌++◌, List, All, IfSome, length, map, option_map, codes};
-ghost use Rattle.nj_tools.specs.Cited.{ReadStatement, edge_at, path_at, edges_of, files_of, IsGraphOf, IsSame, PutsText, line, lines_after, query_text, query_in, maker_text, inputs_by_kind, outputs_of_all, validations_section, validated_section, WritesText};
+ghost use Rattle.std.specs.Prelude.{◌<◌, ◌++◌, All, IfSome, length, map, option_map, codes};
+ghost use Rattle.nj_tools.specs.Cited.{OfStatements, edge_at, path_at, edges_of, files_of, IsSame, PutsText, line, lines_after, query_text, query_in, maker_text, inputs_by_kind, outputs_of_all, validations_section, validated_section, WritesText};
 
 use crate::output::Output;
 use crate::sinks::Sink;
@@ -23,9 +23,8 @@ pub fn write_query<S: Sink>(
     out: &mut S,
 ) -> Result<(), ToolFault>
     requires { All (λ file. file.0 < length (files_of graph.now)) files.now }
-    ensures { (entries : List ReadStatement) → IsGraphOf graph.now entries
-        → WritesText (S.state out.old) (S.state out.new)
-        (query_text entries (map (path_at (files_of graph.now)) files.now)) result }
+    ensures { OfStatements graph.now (λ entries. WritesText (S.state out.old) (S.state out.new)
+        (query_text entries (map (path_at (files_of graph.now)) files.now)) result) }
 {
     let mut text = Vec::new(alloc);
     let mut output = Output::new(out, &mut text);
@@ -43,9 +42,8 @@ fn write_file<S: Sink>(
 ) -> Result<(), ToolFault>
     requires { file.0 < length (files_of graph.now) }
     ensures same { IsSame out.old out.new }
-    ensures text { (entries : List ReadStatement) → IsGraphOf graph.now entries
-        → PutsText S.state out.old out.new
-        (query_in entries (edges_of graph.now) (path_at (files_of graph.now) file)) result }
+    ensures text { OfStatements graph.now (λ entries. PutsText S.state out.old out.new
+        (query_in entries (edges_of graph.now) (path_at (files_of graph.now) file)) result) }
 {
     out.line(b"", graph.path(file), b":")?;
     write_maker(graph, graph.maker(file), out)?;
@@ -61,9 +59,8 @@ fn write_maker<S: Sink>(
 ) -> Result<(), ToolFault>
     requires { IfSome maker (λ edge. edge.0 < length (edges_of graph.now)) }
     ensures same { IsSame out.old out.new }
-    ensures text { (entries : List ReadStatement) → IsGraphOf graph.now entries
-        → PutsText S.state out.old out.new
-        (maker_text entries (edges_of graph.now) (option_map (λ edge. edge.0) maker)) result }
+    ensures text { OfStatements graph.now (λ entries. PutsText S.state out.old out.new
+        (maker_text entries (edges_of graph.now) (option_map (λ edge. edge.0) maker)) result) }
 {
     let Some(edge) = maker else {
         return Ok(());

@@ -1,7 +1,7 @@
 //! The rules of the main file.
 
-ghost use Rattle.std.specs.Prelude.{◌≡◌, ◌<◌, ◌++◌, List, length, OnOk};
-ghost use Rattle.nj_tools.specs.Cited.{ReadStatement, IsGraphOf, main_rules, main_rule_at, IsSame, PutsText, rule_line, rules_text, WritesText};
+ghost use Rattle.std.specs.Prelude.{◌≡◌, ◌<◌, ◌++◌, length, OnOk};
+ghost use Rattle.nj_tools.specs.Cited.{OfStatements, main_rules, main_rule_at, IsSame, PutsText, rule_line, rules_text, WritesText};
 
 use crate::output::Output;
 use crate::sinks::Sink;
@@ -23,8 +23,8 @@ pub fn write_rules<S: Sink>(
     descriptions: bool,
     out: &mut S,
 ) -> Result<(), ToolFault>
-    ensures { (entries : List ReadStatement) → IsGraphOf graph.now entries
-        → WritesText (S.state out.old) (S.state out.new) (rules_text entries descriptions) result }
+    ensures { OfStatements graph.now (λ entries.
+        WritesText (S.state out.old) (S.state out.new) (rules_text entries descriptions) result) }
 {
     let mut text = Vec::new(alloc);
     let mut output = Output::new(out, &mut text);

@@ -1,7 +1,7 @@
 //! Lists of targets.
 
-ghost use Rattle.std.specs.Prelude.{◌≡◌, ◌<◌, List, All, length, map, filter, flat_map, is_none, IfOk, OnOk};
-ghost use Rattle.nj_tools.specs.Cited.{ReadStatement, maker_of, path_at, edges_of, files_of, IsGraphOf, IsSame, PutsText, AreOf, with_files, lines, sorted, made_line, outputs_of_rule, sources_in, outputs_text, targets_text, WritesText};
+ghost use Rattle.std.specs.Prelude.{◌≡◌, ◌<◌, All, length, map, filter, flat_map, is_none, IfOk, OnOk};
+ghost use Rattle.nj_tools.specs.Cited.{OfStatements, maker_of, path_at, edges_of, files_of, IsSame, PutsText, AreOf, with_files, lines, sorted, made_line, outputs_of_rule, sources_in, outputs_text, targets_text, WritesText};
 
 use crate::file_list::Collected;
 use crate::output::Output;
@@ -25,8 +25,8 @@ pub fn write_targets<S: Sink>(
     view: &TargetsView,
     out: &mut S,
 ) -> Result<(), ToolFault>
-    ensures { (entries : List ReadStatement) → IsGraphOf graph.now entries
-        → WritesText (S.state out.old) (S.state out.new) (targets_text entries view.now) result }
+    ensures { OfStatements graph.now (λ entries.
+        WritesText (S.state out.old) (S.state out.new) (targets_text entries view.now) result) }
 {
     let mut text = Vec::new(alloc);
     let mut output = Output::new(out, &mut text);
@@ -42,9 +42,8 @@ fn write_view<S: Sink>(
     out: &mut Output<'_, S>,
 ) -> Result<(), ToolFault>
     ensures same { IsSame out.old out.new }
-    ensures text { (entries : List ReadStatement) → IsGraphOf graph.now entries
-        → PutsText S.state out.old out.new
-        (targets_text entries view.now) result }
+    ensures text { OfStatements graph.now (λ entries.
+        PutsText S.state out.old out.new (targets_text entries view.now) result) }
 {
     match view {
         TargetsView::OfRule(rule) => {
@@ -64,9 +63,8 @@ fn write_view<S: Sink>(
 fn outputs_of_rule(alloc: Global, graph: &Graph, rule: &[u8]) -> Result<Vec<FileNo>, AllocError>
     ensures known { IfOk result (λ files.
         All (λ file. file.0 < length (files_of graph.now)) files.items) }
-    ensures files { (entries : List ReadStatement) → IsGraphOf graph.now entries
-        → IfOk result (λ files.
-        AreOf (files_of graph.now) files.items (outputs_of_rule entries rule.now)) }
+    ensures files { OfStatements graph.now (λ entries. IfOk result (λ files.
+        AreOf (files_of graph.now) files.items (outputs_of_rule entries rule.now))) }
 {
     let mut outputs = Collected::new(alloc, graph.file_count())?;
     'edges: for number in 0..graph.edge_count() {
@@ -136,9 +134,8 @@ fn write_sorted<S: Sink>(
 // Writes all outputs with the rules that make them.
 fn write_all<S: Sink>(graph: &Graph, out: &mut Output<'_, S>) -> Result<(), ToolFault>
     ensures same { IsSame out.old out.new }
-    ensures text { (entries : List ReadStatement) → IsGraphOf graph.now entries
-        → PutsText S.state out.old out.new
-        (outputs_text entries) result }
+    ensures text { OfStatements graph.now (λ entries.
+        PutsText S.state out.old out.new (outputs_text entries) result) }
 {
     'edges: for number in 0..graph.edge_count() {
         let edge = EdgeNo(number);

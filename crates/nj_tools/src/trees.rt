@@ -1,7 +1,7 @@
 //! Trees of targets' inputs.
 
-ghost use Rattle.std.specs.Prelude.{◌≡◌, ◌<◌, ◌+◌, ◌++◌, List, [], ◌∷◌, All, length, map, OnOk};
-ghost use Rattle.nj_tools.specs.Cited.{ReadStatement, maker_of, path_at, edges_of, files_of, IsGraphOf, IsSame, PutsText, file_line, indent, inputs_of_maker, levels_of, trees_text, rows_of, AreKnown, rows_after};
+ghost use Rattle.std.specs.Prelude.{◌≡◌, ◌<◌, ◌+◌, ◌++◌, [], ◌∷◌, All, length, map, OnOk};
+ghost use Rattle.nj_tools.specs.Cited.{OfStatements, maker_of, path_at, edges_of, files_of, IsSame, PutsText, file_line, indent, inputs_of_maker, levels_of, trees_text, rows_of, AreKnown, rows_after};
 
 use crate::output::Output;
 use crate::sinks::Sink;
@@ -18,9 +18,8 @@ pub(crate) fn write_trees<S: Sink>(
     out: &mut Output<'_, S>,
 ) -> Result<(), ToolFault>
     ensures same { IsSame out.old out.new }
-    ensures text { (entries : List ReadStatement) → IsGraphOf graph.now entries
-        → PutsText S.state out.old out.new
-        (trees_text entries depth) result }
+    ensures text { OfStatements graph.now (λ entries.
+        PutsText S.state out.old out.new (trees_text entries depth) result) }
 {
     let below = levels_below(graph, depth);
     // The rest of each row of files: the roots at the bottom, the deepest row on top.
@@ -93,11 +92,10 @@ fn write_at_depth<S: Sink>(
 ) -> Result<(), ToolFault>
     requires { file.0 < length (files_of graph.now) }
     ensures same { IsSame out.old out.new }
-    ensures text { (entries : List ReadStatement) → IsGraphOf graph.now entries
-        → PutsText S.state out.old out.new
+    ensures text { OfStatements graph.now (λ entries. PutsText S.state out.old out.new
         (indent depth ++ file_line entries
         (maker_of (edges_of graph.now) (path_at (files_of graph.now) file))
-        (path_at (files_of graph.now) file)) result }
+        (path_at (files_of graph.now) file)) result) }
 {
     append_indent(out.pending, depth)?;
     match graph.maker(file) {
