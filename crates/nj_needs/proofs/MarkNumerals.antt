@@ -1,5 +1,6 @@
 -- Numbers without leading zeros.
-use Rattle.std.proofs.Common.{rules, ◌≡◌, ◌≢◌, ℕ, zero, suc, ◌^◌, ◌<◌, Bool, true, false, not, eqb, leb, Some, None}
+use Rattle.std.proofs.Common.{rules, ◌≡◌, ◌≢◌, ℕ, zero, suc, ◌^◌, ◌<◌, Bool, true, false, not, eqb, leb, Some}
+use Rattle.std.proofs.Common.{None}
 use Rattle.std.proofs.Common.{Ok, Err, List, [], ◌∷◌, ◌++◌, length, get_or, refl, sym, ap, ◌∙◌, subst, arith}
 use Rattle.std.specs.Prelude.{◌&&◌, decimal, codes}
 use Rattle.std.specs.Char.{is_ascii_digit}

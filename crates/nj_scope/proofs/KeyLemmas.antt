@@ -1,6 +1,7 @@
 -- Lemmas on the last lines of the keys of a rule.
 use Rattle.std.proofs.lemmas.Grind.{common_steps}
-use Rattle.std.proofs.Common.{rules, ◌≡◌, ◌<◌, ◌≤◌, ◌+◌, ◌-◌, ◌⊎◌, inl, inr, ℕ, zero, suc, Bool, true, false, ◌||◌}
+use Rattle.std.proofs.Common.{rules, ◌≡◌, ◌<◌, ◌≤◌, ◌+◌, ◌-◌, ◌⊎◌, inl, inr, ℕ, zero, suc, Bool, true, false}
+use Rattle.std.proofs.Common.{◌||◌}
 use Rattle.std.proofs.Common.{if◌then◌else◌, List, [], ◌∷◌, ◌++◌, map, length, drop, slice_get, get_or}
 use Rattle.std.proofs.Common.{Option, Some, None, is_some, option_map, unwrap_or, bytes_eq, refl, sym, ap}
 use Rattle.std.proofs.Common.{subst, ◌∙◌, true≢false, arith}

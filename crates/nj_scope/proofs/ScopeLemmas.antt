@@ -1,6 +1,7 @@
 -- Lemmas on the contents of scopes.
 use Rattle.std.proofs.lemmas.Grind.{common_steps}
-use Rattle.std.proofs.Common.{arith, ◌≡◌, ℕ, zero, suc, ◌<◌, nat_eq, Bool, true, false, cond, ◌&&◌, ◌⊎◌, inl, inr}
+use Rattle.std.proofs.Common.{arith, ◌≡◌, ℕ, zero, suc, ◌<◌, nat_eq, Bool, true, false, cond, ◌&&◌, ◌⊎◌, inl}
+use Rattle.std.proofs.Common.{inr}
 use Rattle.std.proofs.Common.{◌≢◌, List, [], ◌∷◌, ◌++◌, map, length, get_or, slice_set, slice_get, Option}
 use Rattle.std.proofs.Common.{Some, None, is_some, option_map, option_and_then, IfSome, bytes_eq, refl, sym}
 use Rattle.std.proofs.Common.{ap, subst, ◌∙◌, true≢false}

@@ -1,5 +1,6 @@
 -- The look-up of a name, from a scope to those around it.
-use Rattle.std.proofs.Common.{arith, ◌≡◌, ℕ, suc, ◌<◌, List, Option, Some, None, unwrap_or, is_some, IfSome, length}
+use Rattle.std.proofs.Common.{arith, ◌≡◌, ℕ, suc, ◌<◌, List, Option, Some, None, unwrap_or, is_some, IfSome}
+use Rattle.std.proofs.Common.{length}
 use Rattle.std.proofs.Common.{refl, sym, ap, ◌∙◌, subst, true≢false}
 use Rattle.std.specs.Option.{option_or}
 use Rattle.std.proofs.Math.Nat.{lt_trans, zero-lt-suc, suc-lt_of_lt-pred}
